@@ -1,0 +1,4 @@
+pub mod Lengths
+pub mod Rects
+pub mod Reading
+pub mod Texts

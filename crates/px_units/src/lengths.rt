@@ -1,0 +1,82 @@
+ghost use Rattle.std.specs.Prelude.{◌≡◌, ◌≤ℤ◌, pos, unsigned_abs, option_map, codes, IfOk, IfErr, OnErr};
+ghost use Rattle.word_model.specs.Numbers.{signed_of, signed_percent_of};
+ghost use Rattle.px_units.specs.Lengths.{resolved, seen_length, IsNotNegative};
+ghost use Rattle.px_units.specs.Reading.{fault_of};
+
+use crate::{Length, Percent, Px};
+use thiserror::Error;
+
+/// Why a text is no length or percentage.
+#[derive(Clone, Copy, Debug, PartialEq, Eq, Error)]
+pub enum LengthFault {
+    /// The text isn't a decimal number with the unit.
+    #[error("NotALength")]
+    NotALength,
+    /// It is one, but with too many digits or above the bound.
+    #[error("OutOfRange")]
+    OutOfRange,
+}
+
+/// The largest resolved length, in units of 1/64 pixel.
+const CAP: u64 = 2_147_483_647;
+
+/// The length in units of 1/64 pixel against a basis in units (CSS 2.2, 10.2): a percentage is cut to units, and each
+/// length is at most 2,147,483,647 units. None exactly for `auto`.
+pub fn resolve(length: Length, basis: i64) -> Option<i64>
+    requires not_negative { IsNotNegative length }
+    requires low { pos 0 ≤ℤ basis }
+    requires high { basis ≤ℤ pos 2147483647 }
+    ensures { result ≡ option_map pos (resolved (seen_length length) (unsigned_abs basis)) }
+{
+    match length {
+        Length::Auto => None,
+        Length::Px(px) => Some(px.0.unsigned_abs().min(CAP) as i64),
+        Length::Percent(percent) => {
+            let part = basis.unsigned_abs() * u64::from(percent.0.unsigned_abs()) / 10_000;
+            Some(part.min(CAP) as i64)
+        }
+    }
+}
+
+/// The fault of a text that is no length or percentage.
+fn fault(unit: &[u8], text: &[u8]) -> LengthFault
+    ensures { result ≡ fault_of unit.now text.now }
+{
+    if word_model::is_decimal_with(unit, text) {
+        LengthFault::OutOfRange
+    } else {
+        LengthFault::NotALength
+    }
+}
+
+/// A length in pixels with an optional `-`, cut toward zero to units of 1/64 pixel: 1 to 7 digits, optionally a point
+/// and 1 or 2 digits, then `px`; at most 1,000,000 pixels.
+///
+/// `OutOfRange` exactly where the text is of no such form, but a decimal number with the unit `px`; `NotALength` for
+/// any other text.
+pub fn read_px(text: &[u8]) -> Result<Px, LengthFault>
+    ensures ok { IfOk result (λ px. signed_of text.now ≡ Some px.0) }
+    ensures none { OnErr result (signed_of text.now ≡ None) }
+    ensures err { IfErr result (λ fault. fault ≡ fault_of (codes "px") text.now) }
+{
+    match word_model::signed_length(text) {
+        Some(units) => Ok(Px(units)),
+        None => Err(fault(b"px", text)),
+    }
+}
+
+/// A percentage with an optional `-`, in hundredths of a percent: 1 to 7 digits, optionally a point and 1 or 2 digits,
+/// then `%`; at most 10,000 percent.
+///
+/// `OutOfRange` exactly where the text is of no such form, but a decimal number with the unit `%`; `NotALength` for
+/// any other text.
+pub fn read_percent(text: &[u8]) -> Result<Percent, LengthFault>
+    ensures ok { IfOk result (λ percent. signed_percent_of text.now ≡ Some percent.0) }
+    ensures none { OnErr result (signed_percent_of text.now ≡ None) }
+    ensures err { IfErr result (λ fault. fault ≡ fault_of (codes "%") text.now) }
+{
+    match word_model::signed_percent(text) {
+        Some(hundredths) => Ok(Percent(hundredths as i32)),
+        None => Err(fault(b"%", text)),
+    }
+}
