@@ -1,0 +1,81 @@
+//! The step counter with which a contract bounds how much work a call does. It takes no bytes at run time.
+#![tactic(auto)]
+
+ghost use Rattle.std.specs.Prelude.{◌≡◌, ◌+◌, ◌<◌};
+
+use std::marker::Model;
+use std::sync::ledger::{Blank, Book, Ledger, Share};
+
+/// How many steps were taken. A contract sees it as that number. It takes no bytes, and only `tick`
+/// changes it.
+#[derive(Drop)]
+pub struct Steps<L: Ledger> {
+    book: Book<L>,
+    share: Share<L>,
+}
+
+impl<L: Ledger> Model for Steps<L> {
+    ghost use Rattle.std.specs.Prelude.{ℕ, ◌<◌};
+
+    ghost Value = { ℕ };
+
+    ghost view = { λ s. s.book.total };
+
+    ghost invariant = { λ s. 0 < s.share.parts };
+}
+
+impl<L: Ledger> Steps<L> {
+    /// A counter at 0, over the ledger that `blank` opens.
+    ///
+    /// A caller that counts nothing writes a function that takes a `Blank` and makes its steps from it, calls that
+    /// function at the ledger `Brand` with `Blank::new(1)`, and picks the blank's name and parts for
+    /// the ledger in its proofs.
+    pub fn new(blank: Blank) -> Steps<L>
+        requires name { blank.name ≡ L.name }
+        requires parts { blank.parts ≡ L.parts }
+        requires one_part { 0 < blank.parts }
+        ensures { result ≡ 0 }
+    {
+        let (book, share) = blank.open::<L>();
+        Steps { book, share }
+    }
+
+    /// Takes one step.
+    pub fn tick(&mut self)
+        ensures { self.new ≡ self.old + 1 }
+    {
+        self.book.add(&mut self.share, 1);
+    }
+}
+
+#[cfg(test)]
+mod tests {
+    use super::*;
+    use std::marker::Brand;
+
+    // Ticks twice, over any ledger.
+    fn ticks_twice<L: Ledger>(blank: Blank) -> u64
+        requires name { blank.name ≡ L.name }
+        requires parts { blank.parts ≡ L.parts }
+        requires one_part { 0 < blank.parts }
+        ensures { result ≡ 2 }
+    {
+        let mut steps = Steps::<L>::new(blank);
+        steps.tick();
+        steps.tick();
+        counted(&steps, 2)
+    }
+
+    // The number that its caller knows the counter to stand at.
+    fn counted<L: Ledger>(steps: &Steps<L>, number: u64) -> u64
+        requires { steps.now ≡ number }
+        ensures { result ≡ steps.now }
+    {
+        number
+    }
+
+    #[test]
+    fn two_ticks_are_two_steps(rt: HostRuntime) {
+        assert_eq!(rt; ticks_twice::<Brand>(Blank::new(1)), 2);
+    }
+}

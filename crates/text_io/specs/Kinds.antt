@@ -1,0 +1,44 @@
+-- The words by which scripts and traces name limits, exceptions and events.
+use Rattle.std.specs.Prelude.{ℕ, List, codes}
+use Rattle.text_io.specs.declared.kinds.LimitKind.{LimitKind}
+use Rattle.text_io.specs.declared.kinds.LimitKind.TheVariants.{Script, Line, Handlers, Nesting, Commands, Nodes, Depth, Documents, ResizeObservers, IntersectionObservers, ResizeObservations, IntersectionObservations, Listeners, Timers, FrameCallbacks, Tasks, Queries}
+use Rattle.text_io.specs.declared.kinds.ThrowKind.{ThrowKind}
+use Rattle.text_io.specs.declared.kinds.ThrowKind.TheVariants.{ReferenceError, TypeError, HierarchyRequestError, NotFoundError, SyntaxError, RangeError}
+use Rattle.text_io.specs.declared.kinds.EventKind.{EventKind}
+use Rattle.text_io.specs.declared.kinds.EventKind.TheVariants.{Resize, Scroll, Error, Change}
+
+-- this project's own words
+abbrev pub limit_word : LimitKind → List ℕ
+limit_word Script = codes "script"
+limit_word Line = codes "line"
+limit_word Handlers = codes "handlers"
+limit_word Nesting = codes "nesting"
+limit_word Commands = codes "commands"
+limit_word Nodes = codes "nodes"
+limit_word Depth = codes "depth"
+limit_word Documents = codes "documents"
+limit_word ResizeObservers = codes "resize-observers"
+limit_word IntersectionObservers = codes "intersection-observers"
+limit_word ResizeObservations = codes "resize-observations"
+limit_word IntersectionObservations = codes "intersection-observations"
+limit_word Listeners = codes "listeners"
+limit_word Timers = codes "timers"
+limit_word FrameCallbacks = codes "frame-callbacks"
+limit_word Tasks = codes "tasks"
+limit_word Queries = codes "queries"
+
+-- the names of the exceptions (WebIDL)
+abbrev pub throw_word : ThrowKind → List ℕ
+throw_word ReferenceError = codes "ReferenceError"
+throw_word TypeError = codes "TypeError"
+throw_word HierarchyRequestError = codes "HierarchyRequestError"
+throw_word NotFoundError = codes "NotFoundError"
+throw_word SyntaxError = codes "SyntaxError"
+throw_word RangeError = codes "RangeError"
+
+-- the types of the events (CSSOM View, HTML)
+abbrev pub event_word : EventKind → List ℕ
+event_word Resize = codes "resize"
+event_word Scroll = codes "scroll"
+event_word Error = codes "error"
+event_word Change = codes "change"

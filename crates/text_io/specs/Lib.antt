@@ -1,0 +1,4 @@
+pub mod Kinds
+pub mod Streams
+pub mod Memory
+pub mod Edges

@@ -1,0 +1,128 @@
+ghost use Rattle.std.specs.Prelude.{◌≡◌};
+ghost use Rattle.text_io.specs.Kinds.{limit_word, throw_word, event_word};
+
+/// What a run has a limit of. The first four are met while the script is read, the others by a command.
+#[derive(Clone, Copy, Debug, PartialEq, Eq, Hash)]
+pub enum LimitKind {
+    /// Bytes of the script.
+    Script,
+    /// Bytes of a line.
+    Line,
+    /// Handlers of the script.
+    Handlers,
+    /// Blocks inside one another.
+    Nesting,
+    /// Commands begun.
+    Commands,
+    /// Nodes made, in all.
+    Nodes,
+    /// Elements on the path to a root.
+    Depth,
+    /// Documents made, the outermost counted.
+    Documents,
+    /// Resize observers made.
+    ResizeObservers,
+    /// Intersection observers made.
+    IntersectionObservers,
+    /// Resize observations held.
+    ResizeObservations,
+    /// Intersection observations held.
+    IntersectionObservations,
+    /// Listeners held.
+    Listeners,
+    /// Timers pending.
+    Timers,
+    /// Frame callbacks pending.
+    FrameCallbacks,
+    /// Posted tasks that wait.
+    Tasks,
+    /// Query lists made.
+    Queries,
+}
+
+impl LimitKind {
+    /// The word for it in a trace.
+    pub fn text(&self) -> &'static str
+        ensures { result.now ≡ limit_word self.now }
+    {
+        match self {
+            LimitKind::Script => "script",
+            LimitKind::Line => "line",
+            LimitKind::Handlers => "handlers",
+            LimitKind::Nesting => "nesting",
+            LimitKind::Commands => "commands",
+            LimitKind::Nodes => "nodes",
+            LimitKind::Depth => "depth",
+            LimitKind::Documents => "documents",
+            LimitKind::ResizeObservers => "resize-observers",
+            LimitKind::IntersectionObservers => "intersection-observers",
+            LimitKind::ResizeObservations => "resize-observations",
+            LimitKind::IntersectionObservations => "intersection-observations",
+            LimitKind::Listeners => "listeners",
+            LimitKind::Timers => "timers",
+            LimitKind::FrameCallbacks => "frame-callbacks",
+            LimitKind::Tasks => "tasks",
+            LimitKind::Queries => "queries",
+        }
+    }
+}
+
+/// The exceptions of DOM and WebIDL that a command can throw.
+#[derive(Clone, Copy, Debug, PartialEq, Eq, Hash)]
+pub enum ThrowKind {
+    /// A name stands for nothing.
+    ReferenceError,
+    /// A value is of another kind than is asked for.
+    TypeError,
+    /// A node can't stand there in the tree.
+    HierarchyRequestError,
+    /// A node isn't where it is looked for.
+    NotFoundError,
+    /// A text doesn't parse.
+    SyntaxError,
+    /// A number is out of its range.
+    RangeError,
+}
+
+impl ThrowKind {
+    /// The name of the exception, as a trace gives it.
+    pub fn text(&self) -> &'static str
+        ensures { result.now ≡ throw_word self.now }
+    {
+        match self {
+            ThrowKind::ReferenceError => "ReferenceError",
+            ThrowKind::TypeError => "TypeError",
+            ThrowKind::HierarchyRequestError => "HierarchyRequestError",
+            ThrowKind::NotFoundError => "NotFoundError",
+            ThrowKind::SyntaxError => "SyntaxError",
+            ThrowKind::RangeError => "RangeError",
+        }
+    }
+}
+
+/// The events that listeners can be registered for.
+#[derive(Clone, Copy, Debug, PartialEq, Eq, Hash)]
+pub enum EventKind {
+    /// A viewport has another size (CSSOM View, resize steps).
+    Resize,
+    /// A position was scrolled to (CSSOM View, scroll steps).
+    Scroll,
+    /// Observations were left undelivered (Resize Observer).
+    Error,
+    /// A media query list matches otherwise than before (CSSOM View).
+    Change,
+}
+
+impl EventKind {
+    /// The type of the event, as scripts and traces give it.
+    pub fn text(&self) -> &'static str
+        ensures { result.now ≡ event_word self.now }
+    {
+        match self {
+            EventKind::Resize => "resize",
+            EventKind::Scroll => "scroll",
+            EventKind::Error => "error",
+            EventKind::Change => "change",
+        }
+    }
+}

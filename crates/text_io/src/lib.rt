@@ -1,0 +1,17 @@
+//! Bytes in and out: sources and sinks with a count of their faults, whole texts read and written, and the
+//! names and kinds that scripts and traces share.
+#![tactic(auto)]
+
+mod kinds;
+mod memory;
+mod name;
+mod std_streams;
+mod streams;
+#[cfg(test)]
+mod tests;
+
+pub use kinds::{EventKind, LimitKind, ThrowKind};
+pub use memory::{MemorySink, MemorySource};
+pub use name::Name;
+pub use std_streams::{StdSink, StdSource};
+pub use streams::{Failed, Sink, Source, TextFault, read_all, write_all};

@@ -1,0 +1,87 @@
+ghost use Rattle.std.specs.Prelude.{◌≡◌};
+
+use crate::streams::{Failed, Sink, Source};
+use std::io::{Read, Write};
+use std::marker::Model;
+
+/// A reader of std as a source. It tells the bytes left where the reader tells them, and counts each read that
+/// failed. A contract sees it as these two.
+#[derive(Drop)]
+pub struct StdSource<R: Read> {
+    inner: R,
+    faults: u64,
+}
+
+impl<R: Read> Model for StdSource<R> {
+    ghost use Rattle.text_io.specs.Edges.{Reading};
+
+    ghost Value = { Reading };
+
+    ghost view = { λ s. record { left = R.remaining s.inner; faults = s.faults } };
+}
+
+impl<R: Read> StdSource<R> {
+    /// A source that reads from `inner`, with no fault yet.
+    pub fn new(inner: R) -> StdSource<R>
+        ensures { result ≡ record { left = R.remaining inner; faults = 0 } }
+    {
+        StdSource { inner, faults: 0 }
+    }
+}
+
+impl<R: Read> Source for StdSource<R> {
+    ghost left = { λ s. s.left };
+
+    ghost faults = { λ s. s.faults };
+
+    fn read(&mut self, into: &mut [u8]) -> Result<usize, Failed> {
+        match self.inner.read(into) {
+            Ok(count) => Ok(count),
+            Err(_) => {
+                self.faults = self.faults.saturating_add(1);
+                Err(Failed)
+            }
+        }
+    }
+}
+
+/// A writer of std as a sink. It tells the bytes taken where the writer tells them, and counts each write that
+/// failed or took no byte. A contract sees it as these two.
+#[derive(Drop)]
+pub struct StdSink<W: Write> {
+    inner: W,
+    faults: u64,
+}
+
+impl<W: Write> Model for StdSink<W> {
+    ghost use Rattle.text_io.specs.Edges.{Writing};
+
+    ghost Value = { Writing };
+
+    ghost view = { λ s. record { taken = W.contents s.inner; faults = s.faults } };
+}
+
+impl<W: Write> StdSink<W> {
+    /// A sink that writes to `inner`, with no fault yet.
+    pub fn new(inner: W) -> StdSink<W>
+        ensures { result ≡ record { taken = W.contents inner; faults = 0 } }
+    {
+        StdSink { inner, faults: 0 }
+    }
+}
+
+impl<W: Write> Sink for StdSink<W> {
+    ghost taken = { λ s. s.taken };
+
+    ghost faults = { λ s. s.faults };
+
+    fn write(&mut self, piece: &[u8]) -> Result<usize, Failed> {
+        match self.inner.write(piece) {
+            Ok(count) if count > 0 => Ok(count),
+            _ => {
+                self.faults = self.faults.saturating_add(1);
+                Err(Failed)
+            }
+        }
+    }
+}
