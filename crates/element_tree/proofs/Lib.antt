@@ -1,0 +1,17 @@
+pub mod Closed
+pub mod Chain
+pub mod Depths
+pub mod Lists
+pub mod Nodes
+pub mod Levels
+pub mod Relevel
+pub mod Shape
+pub mod Joins
+pub mod Leaving
+pub mod Entering
+pub mod Standing
+pub mod Moves
+pub mod Same
+pub mod Closing
+pub mod Walks
+pub mod Facts

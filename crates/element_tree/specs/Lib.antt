@@ -1,0 +1,5 @@
+pub mod Forest
+pub mod Edits
+pub mod Links
+pub mod Answers
+pub mod Lends
