@@ -1,0 +1,11 @@
+mod Rows
+mod Paths
+mod Handed
+mod Inputs
+mod Caps
+mod Sums
+mod Offsets
+mod Trees
+mod Reaches
+mod Attained
+mod Limits

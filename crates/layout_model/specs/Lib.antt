@@ -1,0 +1,9 @@
+pub mod Styles
+pub mod Items
+pub mod Nodes
+pub mod Boxes
+pub mod Points
+pub mod Clips
+pub mod Reach
+pub mod Places
+pub mod Unclipped
