@@ -1,0 +1,10 @@
+mod LineScan
+mod Runs
+mod LineWords
+mod LineLaw
+mod LineNumbers
+mod LineEnds
+mod Spaces
+mod Impossible
+mod ReadLater
+mod ReadLaw

@@ -1,0 +1,159 @@
+-- The forms that parts of a line have, and the reading of a line's parts from left to right. A fault is the column of the
+-- first word that doesn't fit, or the column after the line's last word where a word is missing. The forms are this
+-- project's own choice.
+use Rattle.std.specs.Prelude.{ℕ, ℤ, ◌+◌, ◌-◌, cond, List, [], ◌∷◌, drop, Option, Result, Ok, Err, bytes_eq, codes}
+use Rattle.std.specs.List.{join_with_byte}
+use Rattle.word_model.specs.Numbers.{whole_of, length_of, signed_of, number_of}
+use Rattle.px_units.specs.declared.BoxKind.{BoxKind}
+use Rattle.layout_model.specs.Styles.{Declaration}
+use Rattle.script_model.specs.Kinds.{EventName}
+use Rattle.script_model.specs.Queries.{MediaQuery}
+use Rattle.script_model.specs.Syntax.{Operand, Aim, Dimension}
+use Rattle.script_model.specs.Readers.{◌>>=◌, or_fault, with_fault}
+use Rattle.script_model.specs.Keywords.{lookup}
+use Rattle.script_model.specs.Lexing.{Word, Row}
+use Rattle.script_model.specs.Words.{name_of, node_of, aim_of, or_dash, just, events, boxes, dimensions}
+use Rattle.script_model.specs.Properties.{property_of}
+use Rattle.script_model.specs.Media.{query_list}
+
+-- what a reader reads of a line, with the words that are left
+abbrev pub Taken : Type 0 → Type 0
+Taken A = Result (A × Row) ℕ
+
+unfoldable pub next_in : List Word → Row → Taken Word
+next_in [] row = Err row.after
+next_in (w ∷ ws) row = Ok (w, record row { left = ws })
+
+-- the next word, which is missing where none is left
+unfoldable pub next_of : Row → Taken Word
+unfolding next_in
+next_of row = next_in row.left row
+
+-- a word that this reader reads
+unfoldable pub word_as : {A : Type 0} → (List ℕ → Option A) → Row → Taken A
+unfolding next_of
+word_as of row =
+    next_of row >>= λ next. or_fault next.0.column (of next.0.text) >>= λ value. Ok (value, next.1)
+
+unfoldable pub none_in : List Word → Result (Unit {0}) ℕ
+none_in [] = Ok tt
+none_in (w ∷ ws) = Err w.column
+
+-- no word is too many
+unfoldable pub none_left : Row → Result (Unit {0}) ℕ
+unfolding none_in
+none_left row = none_in row.left
+
+-- a property and a value of it
+unfoldable pub declaration_as : Row → Taken Declaration
+unfolding word_as property_of
+declaration_as row = word_as property_of row >>= λ property. word_as property.0 property.1
+
+-- the words before the first one that is this word
+unfoldable pub words_before : List ℕ → List Word → List (List ℕ)
+words_before stop [] = []
+words_before stop (w ∷ ws) = cond (bytes_eq w.text stop) [] (w.text ∷ words_before stop ws)
+
+-- that word with those after it
+unfoldable pub words_from : List ℕ → List Word → List Word
+words_from stop [] = []
+words_from stop (w ∷ ws) = cond (bytes_eq w.text stop) (w ∷ ws) (words_from stop ws)
+
+-- the words before `threshold`, joined by one space
+unfoldable pub margin_as : Row → Taken (List ℕ)
+unfolding words_before words_from
+margin_as row =
+    Ok (
+      join_with_byte 32 (words_before (codes "threshold") row.left),
+      record row { left = words_from (codes "threshold") row.left },
+    )
+
+unfoldable pub numbers_of : List Word → Result (List ℤ) ℕ
+unfolding number_of
+numbers_of [] = Ok []
+numbers_of (w ∷ ws) =
+    or_fault w.column (number_of w.text) >>= λ number. numbers_of ws >>= λ others. Ok (number ∷ others)
+
+-- all words that are left, each a number
+unfoldable pub numbers_as : Row → Taken (List ℤ)
+unfolding numbers_of
+numbers_as row = numbers_of row.left >>= λ numbers. Ok (numbers, record row { left = [] })
+
+-- the text from this word to the end of the line's last word, as media queries
+unfoldable pub query_from : Word → Row → Taken (List MediaQuery)
+unfolding query_list
+query_from first row =
+    with_fault (λ column. first.column + (column - 1)) (query_list (drop (first.column - 1) row.bytes)) >>= λ queries.
+    Ok (queries, record row { left = [] })
+
+unfoldable pub query_as : Row → Taken (List MediaQuery)
+unfolding next_of query_from
+query_as row = next_of row >>= λ next. query_from next.0 row
+
+pub data Form : Type 0 where
+  NameForm : Form
+  NodeForm : Form
+  AimForm : Form
+  HandlerForm : Form
+  RootForm : Form
+  LengthForm : Form
+  SignedForm : Form
+  WholeForm : Form
+  EventForm : Form
+  BoxForm : Form
+  DimensionForm : Form
+  DeclarationForm : Form
+  JustForm : (word : List ℕ) → Form
+  MarginForm : Form
+  NumbersForm : Form
+  QueryForm : Form
+
+-- what a part of this form stands for
+abbrev pub Meant : Form → Type 0
+Meant NameForm = List ℕ
+Meant NodeForm = Operand
+Meant AimForm = Aim
+Meant HandlerForm = Option (List ℕ)
+Meant RootForm = Option Operand
+Meant LengthForm = ℕ
+Meant SignedForm = ℤ
+Meant WholeForm = ℕ
+Meant EventForm = EventName
+Meant BoxForm = BoxKind
+Meant DimensionForm = Dimension
+Meant DeclarationForm = Declaration
+Meant (JustForm word) = Unit {0}
+Meant MarginForm = List ℕ
+Meant NumbersForm = List ℤ
+Meant QueryForm = List MediaQuery
+
+-- the part of this form that stands next in a line
+unfoldable pub part_as : (form : Form) → Row → Taken (Meant form)
+unfolding word_as name_of node_of aim_of or_dash length_of signed_of whole_of lookup declaration_as just margin_as numbers_as query_as
+part_as NameForm row = word_as name_of row
+part_as NodeForm row = word_as node_of row
+part_as AimForm row = word_as aim_of row
+part_as HandlerForm row = word_as (or_dash name_of) row
+part_as RootForm row = word_as (or_dash node_of) row
+part_as LengthForm row = word_as length_of row
+part_as SignedForm row = word_as signed_of row
+part_as WholeForm row = word_as whole_of row
+part_as EventForm row = word_as (lookup events) row
+part_as BoxForm row = word_as (lookup boxes) row
+part_as DimensionForm row = word_as (lookup dimensions) row
+part_as DeclarationForm row = declaration_as row
+part_as (JustForm word) row = word_as (just word) row
+part_as MarginForm row = margin_as row
+part_as NumbersForm row = numbers_as row
+part_as QueryForm row = query_as row
+
+-- what makes a value of the parts of these forms
+abbrev pub From : List Form → Type 0 → Type 0
+From [] A = A
+From (form ∷ forms) A = Meant form → From forms A
+
+-- the value that the words of a line make, all of them
+unfoldable pub made : {A : Type 0} (forms : List Form) → From forms A → Row → Result A ℕ
+unfolding none_left part_as
+made [] value row = none_left row >>= λ end. Ok value
+made (form ∷ forms) makes row = part_as form row >>= λ part. made forms (makes part.0) part.1

@@ -1,0 +1,154 @@
+-- The reading of a text: the script that it is, or the first fault or limit in the order of its lines. In one line the
+-- bytes come before the words, and the words before the limits of handlers and nested blocks. All of this is this
+-- project's own choice.
+use Rattle.std.specs.Prelude.{ℕ, ◌+◌, Bool, true, false, cond, ◌==◌, nat_lt, List, [], ◌∷◌, length, take, reverse, count_by, Result, Ok, Err}
+use Rattle.script_model.specs.Kinds.{Limit, ScriptLimit, LineLimit, HandlersLimit, NestingLimit}
+use Rattle.script_model.specs.Limits.{limit_number}
+use Rattle.script_model.specs.Syntax.{Condition, Command, Simple, Each, When, Block, NoMore, Then, Item, Outside, Tick, Handler}
+use Rattle.script_model.specs.TraceLines.{TraceLine, LimitLine, SyntaxLine}
+use Rattle.script_model.specs.Readers.{◌>>=◌, with_fault, is_empty}
+use Rattle.script_model.specs.Lexing.{Line, Ending, Whole, BadByte, LongLine, Lexed, lexed}
+use Rattle.script_model.specs.Statements.{Statement, Does, Ticks, OpensEach, OpensWhen, OpensHandler, Ends, Standing, statement_of, version_as}
+
+-- a fault at a column of a line, or a limit that a line meets
+pub data Refusal : Type 0 where
+  SyntaxAt : (line column : ℕ) → Refusal
+  LimitAt : (limit : Limit) (line : ℕ) → Refusal
+
+-- the trace of a text that is refused
+abbrev pub refusal_line : Refusal → TraceLine
+refusal_line (SyntaxAt line column) = SyntaxLine line column
+refusal_line (LimitAt limit line) = LimitLine limit line (limit_number limit)
+
+-- what a line opened that an `end` will close
+pub data Opening : Type 0 where
+  EachBlock : Opening
+  WhenBlock : (condition : Condition) → Opening
+  HandlerBlock : (name : List ℕ) → Opening
+
+-- something open: its line, and the commands that it has so far, the last one first
+pub record Frame : Type 0 where
+  pub line : ℕ
+  pub opening : Opening
+  pub commands : List Command
+
+-- what was read so far: what is open, innermost first; the items, last first; and the names of the handlers
+pub record State : Type 0 where
+  pub frames : List Frame
+  pub items : List Item
+  pub names : List (List ℕ)
+
+abbrev pub nothing_read : State
+nothing_read = record { frames = []; items = []; names = [] }
+
+unfoldable pub put_in : List Frame → Command → State → State
+put_in [] command s = record s { items = Outside command ∷ s.items }
+put_in (f ∷ fs) command s = record s { frames = record f { commands = command ∷ f.commands } ∷ fs }
+
+-- a command belongs to the innermost block or handler that is open
+unfoldable pub put : Command → State → State
+unfolding put_in
+put command s = put_in s.frames command s
+
+-- a block of commands, which stand last first, before those of a block
+unfoldable pub block_before : List Command → Block → Block
+block_before [] others = others
+block_before (c ∷ cs) others = block_before cs (Then c others)
+
+abbrev pub is_block : Opening → Bool
+is_block EachBlock = true
+is_block (WhenBlock condition) = true
+is_block (HandlerBlock name) = false
+
+unfoldable pub opened : ℕ → Opening → State → State
+opened line opening s =
+    record s { frames = record { line = line; opening = opening; commands = [] } ∷ s.frames }
+
+-- a block, which may stand in 15 others at the most, the handler not counted
+unfoldable pub open_block : ℕ → Opening → State → Result State Refusal
+unfolding opened
+open_block line opening s =
+    cond (nat_lt (count_by (λ frame. is_block frame.opening) s.frames) (limit_number NestingLimit))
+    (Ok (opened line opening s)) (Err (LimitAt NestingLimit line))
+
+unfoldable pub open_handler : ℕ → List ℕ → State → Result State Refusal
+unfolding opened
+open_handler line name s =
+    cond (nat_lt (length s.names) (limit_number HandlersLimit))
+    (Ok (opened line (HandlerBlock name) (record s { names = name ∷ s.names })))
+    (Err (LimitAt HandlersLimit line))
+
+-- what an opening has become once its block is closed; a handler is an item
+unfoldable pub closed : Opening → ℕ → Block → ℕ → State → State
+unfolding put
+closed EachBlock line block end_line s = put (Each line block end_line) s
+closed (WhenBlock condition) line block end_line s = put (When line condition block end_line) s
+closed (HandlerBlock name) line block end_line s =
+    record s { items = Handler line name block end_line ∷ s.items }
+
+-- the innermost block or handler ends; a line `end` is read only where there is one
+unfoldable pub close_in : List Frame → ℕ → State → State
+unfolding closed block_before
+close_in [] end_line s = s
+close_in (f ∷ fs) end_line s =
+    closed f.opening f.line (block_before f.commands NoMore) end_line (record s { frames = fs })
+
+unfoldable pub placed : ℕ → Statement → State → Result State Refusal
+unfolding put open_block open_handler close_in
+placed line (Does action) s = Ok (put (Simple line action) s)
+placed line (Ticks time) s = Ok (record s { items = Tick line time ∷ s.items })
+placed line OpensEach s = open_block line EachBlock s
+placed line (OpensWhen condition) s = open_block line (WhenBlock condition) s
+placed line (OpensHandler name) s = open_handler line name s
+placed line Ends s = Ok (close_in s.frames line s)
+
+unfoldable pub standing : State → Standing
+unfolding is_empty
+standing s = record { outside = is_empty s.frames; names = s.names }
+
+unfoldable pub step : State → Line → Result State Refusal
+unfolding standing statement_of placed
+step s line =
+    with_fault (SyntaxAt line.number) (statement_of (standing s) line.row) >>= λ statement.
+    placed line.number statement s
+
+unfoldable pub steps : State → List Line → Result State Refusal
+unfolding step
+steps s [] = Ok s
+steps s (l ∷ ls) = step s l >>= λ next. steps next ls
+
+-- the refusal of a text that is no script up to its ending
+abbrev pub refused_at : Ending → Refusal
+refused_at (Whole next_line) = SyntaxAt next_line 1
+refused_at (BadByte line column) = SyntaxAt line column
+refused_at (LongLine line) = LimitAt LineLimit line
+
+-- nothing may be open at the end
+unfoldable pub finished : List Frame → List Item → Ending → Result (List Item) Refusal
+finished [] items (Whole next_line) = Ok (reverse items)
+finished frames items ending = Err (refused_at ending)
+
+-- the first line that has words is `script 1`
+unfoldable pub read_lines : List Line → Ending → Result (List Item) Refusal
+unfolding version_as steps finished
+read_lines [] ending = Err (refused_at ending)
+read_lines (l ∷ ls) ending =
+    with_fault (SyntaxAt l.number) (version_as l.row) >>= λ version.
+    steps nothing_read ls >>= λ s. finished s.frames s.items ending
+
+unfoldable pub read_lexed : Lexed → Result (List Item) Refusal
+unfolding read_lines
+read_lexed text = read_lines text.lines text.ending
+
+-- the line of the first byte that a text has too many
+unfoldable pub last_line : ℕ → List ℕ → ℕ
+last_line most text = 1 + count_by (λ byte. byte == 10) (take most text)
+
+abbrev pub Reading : Type 0
+Reading = Result (List Item) Refusal
+
+unfoldable pub reading : List ℕ → Reading
+unfolding last_line read_lexed lexed
+reading text =
+    cond (nat_lt (limit_number ScriptLimit) (length text))
+    (Err (LimitAt ScriptLimit (last_line (limit_number ScriptLimit) text))) (read_lexed (lexed text))

@@ -1,0 +1,44 @@
+-- The forms of single words. All of them are this project's own choice.
+use Rattle.std.specs.Prelude.{ℕ, cond, ◌==◌, List, [], ◌∷◌, Option, Some, None, option_map, bytes_eq, codes}
+use Rattle.word_model.specs.Names.{is_name}
+use Rattle.px_units.specs.declared.BoxKind.{BoxKind}
+use Rattle.px_units.specs.declared.BoxKind.TheVariants.{Content, Border}
+use Rattle.script_model.specs.Kinds.{EventName, ResizeEvent, ScrollEvent, ErrorEvent, ChangeEvent}
+use Rattle.script_model.specs.Keywords.{Keyword, keyword}
+use Rattle.script_model.specs.Syntax.{Operand, Named, Target, Aim, PlainAim, WindowAim, Dimension, WidthDimension, HeightDimension}
+
+unfoldable pub name_of : List ℕ → Option (List ℕ)
+name_of text = cond (is_name text) (Some text) None
+
+-- a name, or `$target`
+unfoldable pub node_of : List ℕ → Option Operand
+unfolding name_of
+node_of text = cond (bytes_eq text (codes "$target")) (Some Target) (option_map Named (name_of text))
+
+-- a node, or `@` and the name of a document
+unfoldable pub aim_of : List ℕ → Option Aim
+unfolding name_of node_of
+aim_of [] = None
+aim_of (b ∷ bs) = cond (b == 64) (option_map WindowAim (name_of bs)) (option_map PlainAim (node_of (b ∷ bs)))
+
+-- what a reader reads, or `-` for none
+unfoldable pub or_dash : {A : Type 0} → (List ℕ → Option A) → List ℕ → Option (Option A)
+or_dash of text = cond (bytes_eq text (codes "-")) (Some None) (option_map Some (of text))
+
+-- this word alone
+unfoldable pub just : List ℕ → List ℕ → Option (Unit {0})
+just word text = cond (bytes_eq text word) (Some tt) None
+
+abbrev pub events : List (Keyword EventName)
+events =
+    keyword (codes "resize") ResizeEvent
+    ∷ keyword (codes "scroll") ScrollEvent
+    ∷ keyword (codes "error") ErrorEvent
+    ∷ keyword (codes "change") ChangeEvent
+    ∷ []
+
+abbrev pub boxes : List (Keyword BoxKind)
+boxes = keyword (codes "content") Content ∷ keyword (codes "border") Border ∷ []
+
+abbrev pub dimensions : List (Keyword Dimension)
+dimensions = keyword (codes "width") WidthDimension ∷ keyword (codes "height") HeightDimension ∷ []

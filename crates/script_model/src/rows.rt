@@ -1,0 +1,234 @@
+//! What the reading gives at chosen texts. Each function has an empty body; its clause is computed.
+#![tactic(auto, unfolding(crate::specs::Reading::reading))]
+
+ghost use Rattle.std.specs.Prelude.{◌≡◌, ◌++◌, [], ◌∷◌, Ok, Err, Some, None, true, pos, negsuc, replicate, codes};
+ghost use Rattle.std.specs.List.{concat};
+ghost use Rattle.script_model.specs.Kinds.{LineLimit, HandlersLimit, NestingLimit};
+ghost use Rattle.script_model.specs.Reading.{SyntaxAt, LimitAt, HandlerBlock, nothing_read, opened, open_handler, reading};
+ghost use Rattle.script_model.specs.Syntax.{Tick, Handler, Outside, Then, NoMore, Simple, Each, When, Say, Seen, MakeIntersectionObserver};
+
+/// A text without a byte lacks its first line.
+pub fn empty_text()
+    ensures { reading [] ≡ Err (SyntaxAt 1 1) }
+{}
+
+/// A text without words has its fault on the line after the last one.
+pub fn comments_alone()
+    ensures { reading (codes "# note\n\n") ≡ Err (SyntaxAt 3 1) }
+{}
+
+/// A last line without a line feed is a line.
+pub fn no_line_feed_at_the_end()
+    ensures { reading (codes "script 1") ≡ Ok [] }
+{}
+
+/// The first line is cut after its first word.
+pub fn cut_first_line()
+    ensures { reading (codes "script") ≡ Err (SyntaxAt 1 7) }
+{}
+
+/// Another version is a fault at the second word.
+pub fn other_version()
+    ensures { reading (codes "script 2\n") ≡ Err (SyntaxAt 1 8) }
+{}
+
+/// A word too many is a fault at it.
+pub fn first_line_with_a_word_too_many()
+    ensures { reading (codes "script 1 2\n") ≡ Err (SyntaxAt 1 10) }
+{}
+
+/// Another first word is a fault at it.
+pub fn other_first_word()
+    ensures { reading (codes "\n  tick 0\n") ≡ Err (SyntaxAt 2 3) }
+{}
+
+/// The first line stands once.
+pub fn first_line_again()
+    ensures { reading (codes "script 1\nscript 1\n") ≡ Err (SyntaxAt 2 1) }
+{}
+
+/// A length without its unit is a fault at its word.
+pub fn length_without_unit()
+    ensures { reading (codes "script 1\nwhen wider a 5\n") ≡ Err (SyntaxAt 2 14) }
+{}
+
+/// A media query's fault is at a column of the line.
+pub fn query_without_unit()
+    ensures { reading (codes "script 1\nmedia m top (width: 5)\n") ≡ Err (SyntaxAt 2 22) }
+{}
+
+/// Where a query is cut, the fault is one past its end, whatever comment follows.
+pub fn cut_query()
+    ensures { reading (codes "script 1\nmedia m top not  # all\n") ≡ Err (SyntaxAt 2 16) }
+{}
+
+/// A property that no style has is a fault at its word.
+pub fn unknown_property()
+    ensures { reading (codes "script 1\nset a colour red\n") ≡ Err (SyntaxAt 2 7) }
+{}
+
+/// A value that the property doesn't have is a fault at its word.
+pub fn value_of_another_property()
+    ensures { reading (codes "script 1\nset a min-width auto\n") ≡ Err (SyntaxAt 2 17) }
+{}
+
+/// Handlers have no ticks.
+pub fn tick_in_a_handler()
+    ensures { reading (codes "script 1\nhandler h\ntick 0\nend\n") ≡ Err (SyntaxAt 3 1) }
+{}
+
+/// A handler stands outside blocks.
+pub fn handler_in_a_block()
+    ensures { reading (codes "script 1\neach\nhandler h\nend\nend\n") ≡ Err (SyntaxAt 3 1) }
+{}
+
+/// Where something is open at the end, the fault is on the line after the last one.
+pub fn open_at_the_end()
+    ensures { reading (codes "script 1\nhandler h\n") ≡ Err (SyntaxAt 3 1) }
+{}
+
+/// An end closes something.
+pub fn end_with_nothing_open()
+    ensures { reading (codes "script 1\nend x\n") ≡ Err (SyntaxAt 2 1) }
+{}
+
+/// A word behind an end is a fault at it.
+pub fn end_with_a_word_too_many()
+    ensures { reading (codes "script 1\neach\nend x\n") ≡ Err (SyntaxAt 3 5) }
+{}
+
+/// A handler's name stands once.
+pub fn handler_name_again()
+    ensures { reading (codes "script 1\nhandler h\nend\nhandler h\nend\n") ≡ Err (SyntaxAt 4 9) }
+{}
+
+/// A second `not` is a fault at it.
+pub fn not_twice()
+    ensures { reading (codes "script 1\nwhen not not seen\nend\n") ≡ Err (SyntaxAt 2 10) }
+{}
+
+/// Where a word is missing, the fault is at the column after the last word.
+pub fn cut_command()
+    ensures { reading (codes "script 1\nblock r top\nappend top r\nro o top -\nro-observe o") ≡ Err (SyntaxAt 5 13) }
+{}
+
+/// A comment is no word, and bytes before it don't count.
+pub fn missing_word_before_a_comment()
+    ensures { reading (codes "script 1\nsay  # hello\n") ≡ Err (SyntaxAt 2 4) }
+{}
+
+/// A margin goes up to the word `threshold`.
+pub fn threshold_is_missing()
+    ensures { reading (codes "script 1\nio i top - root - margin 1px 0\n") ≡ Err (SyntaxAt 2 31) }
+{}
+
+/// Thresholds are numbers.
+pub fn bad_threshold()
+    ensures { reading (codes "script 1\nio i top - root - margin threshold 0 1 x\n") ≡ Err (SyntaxAt 2 40) }
+{}
+
+/// Only observers may go without a handler.
+pub fn dash_for_a_handler()
+    ensures { reading (codes "script 1\npost top -\n") ≡ Err (SyntaxAt 2 10) }
+{}
+
+/// A carriage return directly before a line feed is a space, and so is a tab.
+pub fn return_before_a_line_feed()
+    ensures { reading (codes "\tscript\t1 \r\n\n# note\n \ttick  7 # at 7\r\n") ≡ Ok (Tick 4 7 ∷ []) }
+{}
+
+/// A carriage return that no line feed follows is a bad byte.
+pub fn return_at_the_end()
+    ensures { reading (codes "script 1\r") ≡ Err (SyntaxAt 1 9) }
+{}
+
+/// Of two carriage returns the first is a bad byte.
+pub fn two_returns()
+    ensures { reading (codes "script 1\r\r\n") ≡ Err (SyntaxAt 1 9) }
+{}
+
+/// Comments have no other bytes than lines do, and bytes come before words.
+pub fn bad_byte_in_a_comment()
+    ensures { reading (codes "scrip 1 # " ++ (128 ∷ [])) ≡ Err (SyntaxAt 1 11) }
+{}
+
+/// An earlier line comes first.
+pub fn bad_byte_behind_a_fault()
+    ensures { reading (codes "script 1\nsay 5\n" ++ (0 ∷ [])) ≡ Err (SyntaxAt 2 5) }
+{}
+
+/// A line may have 4,096 bytes.
+pub fn longest_line()
+    ensures { reading (codes "script 1" ++ replicate 4088 32) ≡ Ok [] }
+{}
+
+/// The next byte is the limit, whatever it is, and its words aren't looked at.
+pub fn line_too_long()
+    ensures { reading (codes "scrip 1" ++ replicate 4089 32 ++ (0 ∷ [])) ≡ Err (LimitAt LineLimit 1) }
+{}
+
+/// A handler isn't a block, so 16 blocks may be open in it; the fault is the missing end.
+pub fn deepest_block()
+    ensures { reading (codes "script 1\nhandler h\n" ++ concat (replicate 16 (codes "each\n"))) ≡ Err (SyntaxAt 19 1) }
+{}
+
+/// The line that opens the seventeenth block meets the limit.
+pub fn nesting_too_deep()
+    ensures { reading (codes "script 1\n" ++ concat (replicate 17 (codes "when seen\n"))) ≡ Err (LimitAt NestingLimit 18) }
+{}
+
+/// The 4,097th handler meets the limit.
+#[tactic(auto, unfolding(crate::specs::Reading::open_handler))]
+pub fn one_handler_too_many()
+    ensures last { open_handler 8193 (codes "h") (record nothing_read { names = replicate 4095 [] }) ≡
+        Ok (opened 8193 (HandlerBlock (codes "h")) (record nothing_read { names = codes "h" ∷ replicate 4095 [] })) }
+    ensures next { open_handler 8195 (codes "h") (record nothing_read { names = replicate 4096 [] }) ≡ Err (LimitAt HandlersLimit 8195) }
+{}
+
+/// A fault of the same line comes before the limit.
+pub fn fault_before_the_limit()
+    ensures { reading (codes "script 1\n" ++ concat (replicate 16 (codes "each\n")) ++ codes "each x\n") ≡ Err (SyntaxAt 18 6) }
+{}
+
+/// Handlers and blocks hold the commands up to their end, with the lines of both.
+pub fn nested_blocks()
+    ensures { reading (codes "script 1\nhandler h\neach\nwhen not seen\nsay a\nend\nend\nsay b\nend\nsay c\n") ≡
+        Ok (
+        Handler
+        2
+        (codes "h")
+        (Then
+        (Each
+        3
+        (Then
+        (When
+        4
+        (record { negated = true; asks = Seen })
+        (Then (Simple 5 (Say (codes "a"))) NoMore)
+        6)
+        NoMore)
+        7)
+        (Then (Simple 8 (Say (codes "b"))) NoMore))
+        9
+        ∷ Outside (Simple 10 (Say (codes "c"))) ∷ []) }
+{}
+
+/// The operands of an intersection observer in the order of its line.
+pub fn observer_line()
+    ensures missing_threshold { reading (codes "script 1\nio i top - root $target margin 1px  2% # all\n") ≡ Err (SyntaxAt 2 39) }
+    ensures read { reading (codes "script 1\nio i top h root - margin 1px  2% threshold 0.5 -1\n") ≡
+        Ok (
+        Outside
+        (Simple
+        2
+        (MakeIntersectionObserver
+        (record {
+          name = codes "i";
+          document = codes "top";
+          handler = Some (codes "h");
+          root = None;
+          margin = codes "1px 2%";
+          thresholds = pos 5000 ∷ negsuc 9999 ∷ [];
+        })))
+        ∷ []) }
+{}
