@@ -1,0 +1,10 @@
+mod Successors
+mod Commands
+mod Readings
+mod Depths
+mod Ranges
+mod Kept
+mod InRange
+mod Keeping
+mod Later
+mod Quiet

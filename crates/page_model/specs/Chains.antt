@@ -1,0 +1,157 @@
+-- What lies between a target and a root: rectangles in the coordinates of the top document's viewport (Intersection
+-- Observer, 3.2: compute the intersection of a target element and the root).
+use Rattle.std.specs.Prelude.{ℕ, zero, suc, Bool, true, false, cond, not, ◌==◌, List, [], ◌∷◌, Option, Some, None, option_map, filter_map, take_while, fold, ℤ, pos, neg_ℤ, ◌+ℤ◌, ◌-ℤ◌, ◌*ℤ◌, int_div}
+use Rattle.px_units.specs.declared.BoxKind.TheVariants.{Border}
+use Rattle.px_units.specs.declared.Rect.{Rect}
+use Rattle.px_units.specs.declared.Point.{Point}
+use Rattle.px_units.specs.Rects.{has_points, overlap, shifted}
+use Rattle.layout_model.specs.Boxes.{Box, padding_size, padding_corner, inner_corner}
+use Rattle.layout_model.specs.Clips.{clips}
+use Rattle.script_model.specs.Margins.{MarginPart, MarginPixels, MarginPercentage, Margins}
+use Rattle.page_model.specs.World.{World, Root, ImplicitRoot, DocumentRoot, ElementRoot}
+use Rattle.page_model.specs.Lookups.{element_at, document_at}
+use Rattle.page_model.specs.Documents.{frame_levels, Container, InElement, InDocument, container_of, tree_of}
+use Rattle.page_model.specs.PageBoxes.{extent_of, viewport_of, has_box, box_of, size_of, place_of}
+use Rattle.page_model.specs.Readings.{rect_of}
+
+abbrev pub zero_point : Point
+zero_point = record { left = pos 0; top = pos 0 }
+
+abbrev pub zero_rect : Rect
+zero_rect = record { left = pos 0; top = pos 0; right = pos 0; bottom = pos 0 }
+
+abbrev pub added : Point → Point → Point
+added p q = record { left = p.left +ℤ q.left; top = p.top +ℤ q.top }
+
+-- a rectangle moved by what a point is from the zero point, and moved back
+abbrev pub moved_by : Point → Rect → Rect
+moved_by p r = shifted r (p.left) (p.top)
+
+abbrev pub moved_back : Point → Rect → Rect
+moved_back p r = shifted r (neg_ℤ p.left) (neg_ℤ p.top)
+
+abbrev pub beside : Point → ℕ × ℕ → Point
+beside p by = record { left = p.left +ℤ pos (by.0); top = p.top +ℤ pos (by.1) }
+
+-- the padding box in the viewport of the element's document, and the corner of the content box
+abbrev pub padding_box_at : Point → Option Box → Rect
+padding_box_at place None = zero_rect
+padding_box_at place (Some box) = rect_of (beside place (padding_corner box)) (extent_of (padding_size box))
+
+abbrev pub content_corner_at : Point → Option Box → Point
+content_corner_at place None = place
+content_corner_at place (Some box) = beside place (inner_corner box)
+
+abbrev pub origin_with_box : (ℕ → Point) → World → Bool → ℕ → Point
+origin_with_box above world true frame =
+    added (content_corner_at (place_of world frame) (box_of world frame)) (above (element_at world frame).document)
+origin_with_box above world false frame = zero_point
+
+abbrev pub origin_by_frame : (ℕ → Point) → World → Option ℕ → Point
+origin_by_frame above world None = zero_point
+origin_by_frame above world (Some frame) = origin_with_box above world (has_box world frame) frame
+
+unfoldable pub origin_up : ℕ → World → ℕ → Point
+unfolding has_box box_of place_of
+origin_up zero world document = zero_point
+origin_up (suc high) world document = origin_by_frame (origin_up high world) world (document_at world document).frame
+
+-- where a document's viewport begins: at the zero point for the top document, and for one whose frame has no box
+unfoldable pub origin : World → ℕ → Point
+unfolding origin_up
+origin world document = origin_up frame_levels world document
+
+abbrev pub origin_of_element : World → ℕ → Point
+origin_of_element world element = origin world (element_at world element).document
+
+-- in the coordinates of the top document: the viewport of a document, and the border box and the padding box of an element
+unfoldable pub viewport_rect : World → ℕ → Rect
+unfolding origin viewport_of
+viewport_rect world document = rect_of (origin world document) (viewport_of world document)
+
+unfoldable pub border_rect : World → ℕ → Rect
+unfolding origin place_of size_of
+border_rect world element = moved_by (origin_of_element world element) (rect_of (place_of world element) (size_of world element Border))
+
+unfoldable pub padding_rect : World → ℕ → Rect
+unfolding origin place_of box_of
+padding_rect world element = moved_by (origin_of_element world element) (padding_box_at (place_of world element) (box_of world element))
+
+abbrev pub clips_in : World → ℕ → Bool
+clips_in world element = clips (tree_of world element)
+
+-- what a container stands in: a document in its frame
+abbrev pub container_beyond : World → Container → Option Container
+container_beyond world (InElement element) = container_of world element
+container_beyond world (InDocument document) = option_map InElement (document_at world document).frame
+
+abbrev pub containers_by : (Container → List Container) → Option Container → List Container
+containers_by outwards None = []
+containers_by outwards (Some container) = outwards container
+
+unfoldable pub containers_from : ℕ → World → Container → List Container
+containers_from zero world container = []
+containers_from (suc most) world container =
+    container ∷ containers_by (containers_from most world) (container_beyond world container)
+
+-- more containers than an element can stand in: the levels of the trees of 64 documents, and these; a bound of this project
+abbrev pub most_containers : ℕ
+most_containers = 65536
+
+-- all containers of an element, from its parent up to the top document
+abbrev pub containers_of : World → ℕ → List Container
+containers_of world element = containers_by (containers_from most_containers world) (container_of world element)
+
+-- the implicit root is the top document
+abbrev pub is_root : Root → Container → Bool
+is_root ImplicitRoot (InDocument document) = document == 0
+is_root (DocumentRoot root) (InDocument document) = document == root
+is_root (ElementRoot root) (InElement element) = element == root
+is_root root container = false
+
+-- the padding box of an element that clips, and the viewport of a document
+abbrev pub clip_of : World → Container → Option Rect
+clip_of world (InElement element) = cond (clips_in world element) (Some (padding_rect world element)) None
+clip_of world (InDocument document) = Some (viewport_rect world document)
+
+-- the clips strictly between a target and a root
+unfoldable pub clips_between : World → Root → ℕ → List Rect
+unfolding containers_from viewport_rect padding_rect
+clips_between world root target = filter_map (clip_of world) (take_while (λ c. not (is_root root c)) (containers_of world target))
+
+-- the common part of a rectangle and others, none where no point is common to all
+unfoldable pub common_part : Rect → List Rect → Option Rect
+common_part first others =
+    let common = fold overlap first others in
+    cond (has_points common) (Some common) None
+
+-- a root margin in units: a percentage is of the root rectangle's width before it is moved, on all four sides, cut toward
+-- zero. (That this holds for top and bottom too, and the cut, is this project's own reading.)
+abbrev pub margin_units : ℤ → MarginPart → ℤ
+margin_units width (MarginPixels units) = units
+margin_units width (MarginPercentage hundredths) = int_div (width *ℤ hundredths) (pos 10000)
+
+abbrev pub moved_out : Margins → Rect → Rect
+moved_out margins r =
+    let width = r.right -ℤ r.left in
+    record {
+      left = r.left -ℤ margin_units width (margins.left);
+      top = r.top -ℤ margin_units width (margins.top);
+      right = r.right +ℤ margin_units width (margins.right);
+      bottom = r.bottom +ℤ margin_units width (margins.bottom);
+    }
+
+-- the padding box of a root element that clips, and the border box of another; zero without a box
+abbrev pub element_root_bounds : World → ℕ → Bool → Rect
+element_root_bounds world element true = cond (clips_in world element) (padding_rect world element) (border_rect world element)
+element_root_bounds world element false = zero_rect
+
+abbrev pub root_bounds : World → Root → Rect
+root_bounds world ImplicitRoot = viewport_rect world 0
+root_bounds world (DocumentRoot document) = viewport_rect world document
+root_bounds world (ElementRoot element) = element_root_bounds world element (has_box world element)
+
+-- the root intersection rectangle (Intersection Observer, 2.2)
+unfoldable pub root_rect : World → Root → Margins → Rect
+unfolding viewport_rect border_rect padding_rect has_box
+root_rect world root margins = moved_out margins (root_bounds world root)

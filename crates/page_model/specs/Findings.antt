@@ -1,0 +1,105 @@
+-- What is found of a target in an update (Intersection Observer, 3.2: update intersection observations). That an edge in common is
+-- enough, and the order of the cases, is this project's own.
+use Rattle.std.specs.Prelude.{ℕ, ◌*◌, Bool, true, false, cond, not, ◌||◌, ◌==◌, nat_le, List, ◌∷◌, count_by, Option, option_map, unwrap_or, is_some}
+use Rattle.px_units.specs.declared.Rect.{Rect}
+use Rattle.px_units.specs.declared.Point.{Point}
+use Rattle.px_units.specs.Rects.{area}
+use Rattle.page_model.specs.World.{World, Root, ImplicitRoot, DocumentRoot, ElementRoot, Finding, IntersectionObserver}
+use Rattle.page_model.specs.Lookups.{element_at}
+use Rattle.page_model.specs.Documents.{is_inclusive_ancestor}
+use Rattle.page_model.specs.PageBoxes.{has_box}
+use Rattle.page_model.specs.Chains.{zero_point, zero_rect, moved_back, origin, origin_of_element, border_rect, clips_between, common_part, root_rect}
+
+-- how a target lies to a root: apart from it, without a box, or in a chain of containers that leads to it
+pub data Relation : Type 0 where
+  Apart : Relation
+  Boxless : Relation
+  Chained : Relation
+
+abbrev pub is_proper_ancestor : World → ℕ → ℕ → Bool
+is_proper_ancestor world ancestor element = cond (ancestor == element) false (is_inclusive_ancestor world ancestor element)
+
+-- apart from a root that isn't implicit is a target of another node document; and from an element also one that isn't a
+-- descendant, or where one of the two has no box
+abbrev pub is_apart : World → Root → ℕ → Bool
+is_apart world ImplicitRoot target = false
+is_apart world (DocumentRoot root) target = not ((element_at world target).document == root)
+is_apart world (ElementRoot root) target =
+    not ((element_at world target).document == (element_at world root).document) || not (is_proper_ancestor world root target) || not (has_box world root) || not (has_box world target)
+
+abbrev pub relation : World → Root → ℕ → Relation
+relation world root target = cond (is_apart world root target) Apart (cond (has_box world target) Chained Boxless)
+
+-- the count of thresholds, in ten-thousandths, that aren't greater than the part of the whole
+abbrev pub index_of : List ℕ → ℕ → ℕ → ℕ
+index_of thresholds part whole = count_by (λ threshold. nat_le (threshold * whole) (part * 10000)) thresholds
+
+-- the part of a target that is seen, as an area and the whole one. A target without area is seen whole or not at all
+pub record Ratio : Type 0 where
+  pub part : ℕ
+  pub whole : ℕ
+
+abbrev pub all_or_nothing : Bool → Ratio
+all_or_nothing true = record { part = 1; whole = 1 }
+all_or_nothing false = record { part = 0; whole = 1 }
+
+unfoldable pub ratio_of : Rect → Option Rect → Ratio
+ratio_of bounds cut =
+    cond (area bounds == 0) (all_or_nothing (is_some cut))
+    (record { part = unwrap_or (option_map area cut) 0; whole = area bounds })
+
+-- where nothing is seen of a target without a box
+abbrev pub unseen : ℕ → Rect → Finding
+unseen index root = record {
+  index = index;
+  meets = false;
+  part = 0;
+  whole = 1;
+  root = root;
+  bounds = zero_rect;
+  cut = zero_rect;
+}
+
+-- what is found of a target with these bounds and this cut; an empty cut is the zero rectangle and isn't moved
+abbrev pub seen_at : List ℕ → Point → Rect → Option Rect → Rect → Finding
+seen_at thresholds from bounds cut root =
+    let ratio = ratio_of bounds cut in
+    record {
+      index = index_of thresholds (ratio.part) (ratio.whole);
+      meets = is_some cut;
+      part = ratio.part;
+      whole = ratio.whole;
+      root = root;
+      bounds = moved_back from bounds;
+      cut = unwrap_or (option_map (moved_back from) cut) zero_rect;
+    }
+
+-- from where the root rectangle is told: the viewport of the root's document
+abbrev pub root_origin : World → Root → Point
+root_origin world ImplicitRoot = zero_point
+root_origin world (DocumentRoot document) = origin world document
+root_origin world (ElementRoot element) = cond (has_box world element) (origin_of_element world element) zero_point
+
+abbrev pub found : World → IntersectionObserver → ℕ → Rect → Relation → Finding
+found world observer target root Apart = unseen 0 root
+found world observer target root Boxless = unseen (index_of (observer.thresholds) 0 1) root
+found world observer target root Chained =
+    let bounds = border_rect world target in
+    seen_at
+    (observer.thresholds)
+    (origin_of_element world target)
+    bounds
+    (common_part bounds (root_rect world (observer.root) (observer.margins) ∷ clips_between world (observer.root) target))
+    root
+
+-- the finding of a target by an observer; its rectangles are in the coordinates of the target's document, the root
+-- rectangle in those of the root's
+unfoldable pub finding : World → IntersectionObserver → ℕ → Finding
+unfolding root_rect clips_between common_part ratio_of origin border_rect has_box is_inclusive_ancestor
+finding world observer target =
+    found
+    world
+    observer
+    target
+    (moved_back (root_origin world (observer.root)) (root_rect world (observer.root) (observer.margins)))
+    (relation world (observer.root) target)

@@ -1,0 +1,113 @@
+-- The operands of commands, looked up from left to right: a name or handler that isn't there, and `$target` where there is
+-- no entry, throw ReferenceError; a name of another kind of thing, and a new name that is taken, throw TypeError. (The
+-- commands are this project's own; the exceptions are those of WebIDL.)
+use Rattle.std.specs.Prelude.{ℕ, Bool, ◌||◌, List, Option, Some, None, position, bytes_eq}
+use Rattle.script_model.specs.Kinds.{ReferenceException, TypeException}
+use Rattle.script_model.specs.Syntax.{Operand, Named, Target, Aim, PlainAim, WindowAim}
+use Rattle.page_model.specs.World.{Thing, DocumentThing, ElementThing, ResizeObserverThing, IntersectionObserverThing, QueryListThing, Root, ImplicitRoot, DocumentRoot, ElementRoot, EventTarget, ElementTarget, DocumentTarget, WindowTarget, QueryTarget, World}
+use Rattle.page_model.specs.Names.{named_thing, is_taken}
+use Rattle.page_model.specs.Documents.{Container, InElement, InDocument}
+use Rattle.page_model.specs.Steps.{Step, Did, Threw, ◌>>=◌, required, throw_if}
+
+-- the entry that a callback's block is run for: none, that of a resize observer, or that of an intersection observer with
+-- its isIntersecting
+pub data Present : Type 0 where
+  NoEntry : Present
+  ResizeEntry : (target : ℕ) → Present
+  IntersectionEntry : (target : ℕ) (meets : Bool) → Present
+
+-- the handlers of a script by name, a handler's number being its place
+abbrev pub Handlers : Type 0
+Handlers = List (List ℕ)
+
+abbrev pub thing_named : World → List ℕ → Step Thing
+thing_named world name = required ReferenceException (named_thing world name)
+
+-- a new name has to be free
+abbrev pub new_name : World → List ℕ → Step (Unit {0})
+new_name world name = throw_if (is_taken world name) TypeException
+
+-- and another one in the same command, too
+abbrev pub other_new_name : World → List ℕ → List ℕ → Step (Unit {0})
+other_new_name world first name = throw_if (is_taken world name || bytes_eq first name) TypeException
+
+abbrev pub as_document : Thing → Step ℕ
+as_document (DocumentThing document) = Did document
+as_document thing = Threw TypeException
+
+abbrev pub as_element : Thing → Step ℕ
+as_element (ElementThing element) = Did element
+as_element thing = Threw TypeException
+
+abbrev pub as_resize_observer : Thing → Step ℕ
+as_resize_observer (ResizeObserverThing observer) = Did observer
+as_resize_observer thing = Threw TypeException
+
+abbrev pub as_intersection_observer : Thing → Step ℕ
+as_intersection_observer (IntersectionObserverThing observer) = Did observer
+as_intersection_observer thing = Threw TypeException
+
+abbrev pub as_query_list : Thing → Step ℕ
+as_query_list (QueryListThing query) = Did query
+as_query_list thing = Threw TypeException
+
+abbrev pub as_container : Thing → Step Container
+as_container (ElementThing element) = Did (InElement element)
+as_container (DocumentThing document) = Did (InDocument document)
+as_container thing = Threw TypeException
+
+abbrev pub as_event_target : Thing → Step EventTarget
+as_event_target (ElementThing element) = Did (ElementTarget element)
+as_event_target (DocumentThing document) = Did (DocumentTarget document)
+as_event_target (QueryListThing query) = Did (QueryTarget query)
+as_event_target thing = Threw TypeException
+
+abbrev pub document_named : World → List ℕ → Step ℕ
+document_named world name = thing_named world name >>= as_document
+
+abbrev pub resize_observer_named : World → List ℕ → Step ℕ
+resize_observer_named world name = thing_named world name >>= as_resize_observer
+
+abbrev pub intersection_observer_named : World → List ℕ → Step ℕ
+intersection_observer_named world name = thing_named world name >>= as_intersection_observer
+
+abbrev pub query_list_named : World → List ℕ → Step ℕ
+query_list_named world name = thing_named world name >>= as_query_list
+
+-- `$target`
+abbrev pub present_target : Present → Step ℕ
+present_target NoEntry = Threw ReferenceException
+present_target (ResizeEntry target) = Did target
+present_target (IntersectionEntry target meets) = Did target
+
+abbrev pub operand_thing : World → Present → Operand → Step Thing
+operand_thing world present (Named name) = thing_named world name
+operand_thing world present Target = present_target present >>= λ target. Did (ElementThing target)
+
+abbrev pub element_meant : World → Present → Operand → Step ℕ
+element_meant world present operand = operand_thing world present operand >>= as_element
+
+-- an element or a document
+abbrev pub container_meant : World → Present → Operand → Step Container
+container_meant world present operand = operand_thing world present operand >>= as_container
+
+abbrev pub event_target_meant : World → Present → Aim → Step EventTarget
+event_target_meant world present (PlainAim operand) = operand_thing world present operand >>= as_event_target
+event_target_meant world present (WindowAim name) = document_named world name >>= λ document. Did (WindowTarget document)
+
+abbrev pub root_at : Container → Root
+root_at (InElement element) = ElementRoot element
+root_at (InDocument document) = DocumentRoot document
+
+-- the root of an intersection observer, the implicit one where none is given
+abbrev pub root_meant : World → Present → Option Operand → Step Root
+root_meant world present None = Did ImplicitRoot
+root_meant world present (Some operand) = container_meant world present operand >>= λ container. Did (root_at container)
+
+abbrev pub handler_named : Handlers → List ℕ → Step ℕ
+handler_named handlers name = required ReferenceException (position (bytes_eq name) handlers)
+
+-- an observer's handler, where one is given
+abbrev pub handler_given : Handlers → Option (List ℕ) → Step (Option ℕ)
+handler_given handlers None = Did None
+handler_given handlers (Some name) = handler_named handlers name >>= λ handler. Did (Some handler)

@@ -1,0 +1,125 @@
+-- The outcome of a script: its trace, how it ends and the world then; and the texts that are written of it. All of this is
+-- this project's own choice.
+use Rattle.std.specs.Prelude.{ℕ, false, List, [], ◌∷◌, ◌++◌, flat_map, None, Ok, Err, codes}
+use Rattle.word_model.specs.Numbers.{decimal}
+use Rattle.script_model.specs.Syntax.{Item, Outside, Tick, Handler}
+use Rattle.script_model.specs.Scripts.{NamedBlock, handlers_in, command_count}
+use Rattle.script_model.specs.Reading.{Reading, reading, Refusal, SyntaxAt, LimitAt, refusal_line}
+use Rattle.script_model.specs.TraceLines.{TraceLine}
+use Rattle.script_model.specs.TraceText.{line_text}
+use Rattle.script_model.specs.Summary.{summary_text}
+use Rattle.page_model.specs.World.{World, Active, DocumentThing}
+use Rattle.page_model.specs.Lookups.{no_extent}
+use Rattle.page_model.specs.Operands.{NoEntry}
+use Rattle.page_model.specs.Runs.{Flow, Next, Thrown, Limited, Said, silent, for_each, caught}
+use Rattle.page_model.specs.Callbacks.{run_command, once_begun, settled}
+use Rattle.page_model.specs.Ticks.{time_set, tick}
+
+-- the top document, Active and empty, with a viewport of 800 by 600 pixels
+abbrev pub opening_world : World
+opening_world = record {
+  elements = [];
+  documents = record {
+    state = Active;
+    frame = None;
+    root = None;
+    scroll = no_extent;
+    noted = None;
+    pending = [];
+    notifying = false;
+  } ∷ [];
+  names = record { text = codes "top"; thing = DocumentThing 0 } ∷ [];
+  size = record { across = 51200; down = 38400 };
+  clock = 0;
+  begun = 0;
+  observed = 0;
+  resize_observers = [];
+  registered = 0;
+  intersection_observers = [];
+  queries = [];
+  listeners = record { given = 0; held = [] };
+  frame_callbacks = record { given = 0; held = [] };
+  timers = record { given = 0; held = [] };
+  tasks = [];
+}
+
+-- a tick is begun as any command is
+abbrev pub run_tick : List NamedBlock → ℕ → ℕ → World → Said World
+run_tick script line time world =
+    once_begun line world λ begun. settled line begun (tick script) (time_set time begun)
+
+-- what stands outside handlers; a throw ends this item alone
+unfoldable pub run_item : List NamedBlock → Item → World → Said World
+unfolding caught run_command settled once_begun tick
+run_item script (Outside command) world = caught (run_command script [] command NoEntry world)
+run_item script (Tick line time) world = caught (run_tick script line time world)
+run_item script (Handler line name block end_line) world = silent world
+
+unfoldable pub run_items : List Item → World → Said World
+unfolding for_each run_item handlers_in
+run_items items world = for_each (run_item (handlers_in items)) items world
+
+-- how a script ends: after its last command, with a fault of its text, or with a limit. Where the fault or the limit was
+-- met stands in the last line
+pub data Ending : Type 0 where
+  Ended : Ending
+  Faulty : Ending
+  LimitMet : Ending
+
+pub record Outcome : Type 0 where
+  pub lines : List TraceLine
+  pub ending : Ending
+  pub world : World
+
+unfoldable pub ending_of : Flow → Ending
+ending_of Next = Ended
+ending_of Thrown = Ended
+ending_of Limited = LimitMet
+
+abbrev pub refused_ending : Refusal → Ending
+refused_ending (SyntaxAt line column) = Faulty
+refused_ending (LimitAt limit line) = LimitMet
+
+abbrev pub outcome_said : Said World → Outcome
+outcome_said said = record { lines = said.lines; ending = ending_of (said.flow); world = said.state }
+
+-- a text that is refused is not run, so that the world is the one that a run opens in
+unfoldable pub outcome_read : Reading → Outcome
+unfolding run_items ending_of
+outcome_read (Ok items) = outcome_said (run_items items opening_world)
+outcome_read (Err refusal) =
+    record { lines = refusal_line refusal ∷ []; ending = refused_ending refusal; world = opening_world }
+
+unfoldable pub outcome : List ℕ → Outcome
+unfolding reading outcome_read
+outcome text = outcome_read (reading text)
+
+-- the bytes of a list of lines
+unfoldable pub bytes_of : List TraceLine → List ℕ
+unfolding line_text
+bytes_of lines = flat_map line_text lines
+
+-- what is written of a script that is replayed
+unfoldable pub trace : List ℕ → List ℕ
+unfolding outcome bytes_of
+trace text = bytes_of (outcome text).lines
+
+-- the number of a script's commands, those of handlers and blocks included
+unfoldable pub check_read : Reading → List ℕ
+unfolding command_count decimal line_text
+check_read (Ok items) = codes "ok " ++ decimal (command_count items) ++ codes "\n"
+check_read (Err refusal) = line_text (refusal_line refusal)
+
+unfoldable pub check_text : List ℕ → List ℕ
+unfolding reading check_read
+check_text text = check_read (reading text)
+
+-- how many lines of each kind the trace has; of a text that is refused, its one line
+unfoldable pub summary_read : Reading → List ℕ
+unfolding run_items line_text summary_text
+summary_read (Ok items) = summary_text (run_items items opening_world).lines
+summary_read (Err refusal) = line_text (refusal_line refusal)
+
+unfoldable pub summary_of : List ℕ → List ℕ
+unfolding reading summary_read
+summary_of text = summary_read (reading text)

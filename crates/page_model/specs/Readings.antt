@@ -1,0 +1,42 @@
+-- What the reading command shows (CSSOM View, 6: getBoundingClientRect, scrollLeft and scrollTop; 4: innerWidth,
+-- innerHeight, scrollX and scrollY).
+use Rattle.std.specs.Prelude.{ℕ, pos, ◌+ℤ◌, Bool, true, false}
+use Rattle.px_units.specs.declared.BoxKind.TheVariants.{Border}
+use Rattle.px_units.specs.declared.Point.{Point}
+use Rattle.px_units.specs.declared.Rect.{Rect}
+use Rattle.script_model.specs.TraceLines.{TraceLine, ReadLine}
+use Rattle.page_model.specs.World.{Extent, ScrolledElement, ScrolledDocument, World}
+use Rattle.page_model.specs.Lookups.{no_extent}
+use Rattle.page_model.specs.Names.{element_text, document_text}
+use Rattle.page_model.specs.Documents.{Container, InElement, InDocument}
+use Rattle.page_model.specs.PageBoxes.{viewport_of, size_of, place_of, is_scroller, scroll_offset}
+
+abbrev pub rect_of : Point → Extent → Rect
+rect_of corner size = record {
+  left = corner.left;
+  top = corner.top;
+  right = corner.left +ℤ pos (size.across);
+  bottom = corner.top +ℤ pos (size.down);
+}
+
+abbrev pub point_at : Extent → Point
+point_at extent = record { left = pos (extent.across); top = pos (extent.down) }
+
+-- the scroll offset in force of an element, none where it is no scroll container with a box, as a root element never is
+abbrev pub shown_scroll : World → ℕ → Bool → Extent
+shown_scroll world n true = scroll_offset world (ScrolledElement n)
+shown_scroll world n false = no_extent
+
+-- for an element its border box in its document's viewport, all zeros without a box; for a document its viewport; and the
+-- scroll offset in force
+abbrev pub reading_of : World → Container → TraceLine
+reading_of world (InElement n) =
+    ReadLine
+    (element_text world n)
+    (rect_of (place_of world n) (size_of world n Border))
+    (point_at (shown_scroll world n (is_scroller world n)))
+reading_of world (InDocument document) =
+    ReadLine
+    (document_text world document)
+    (rect_of (point_at no_extent) (viewport_of world document))
+    (point_at (scroll_offset world (ScrolledDocument document)))

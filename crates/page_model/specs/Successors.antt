@@ -1,0 +1,37 @@
+-- What no command takes back.
+use Rattle.std.specs.Prelude.{◌≡◌, ℕ, Bool, true, false, IsTrue, List, Option, Some, None, slice_get, ⊤}
+use Rattle.page_model.specs.World.{DocumentState, Fresh, Active, Dead, Document, Thing, World}
+use Rattle.page_model.specs.Names.{named_thing}
+use Rattle.page_model.specs.Steps.{Step, Did, Threw, Met}
+
+-- whether a document in this state has come to that one, in the order Fresh, Active, Dead
+abbrev pub has_come_to : DocumentState → DocumentState → Bool
+has_come_to Fresh state = true
+has_come_to Active Fresh = false
+has_come_to Active Active = true
+has_come_to Active Dead = true
+has_come_to Dead Fresh = false
+has_come_to Dead Active = false
+has_come_to Dead Dead = true
+
+abbrev pub is_come_to : DocumentState → Option Document → Bool
+is_come_to wanted None = false
+is_come_to wanted (Some document) = has_come_to wanted (document.state)
+
+-- whether there is such a document and it has come to a state
+abbrev pub came_to : DocumentState → World → ℕ → Bool
+came_to wanted world document = is_come_to wanted (slice_get world.documents document)
+
+-- a world after another one of the same command: documents don't go back, so a Dead one stays Dead, names go on to name
+-- the same things, and neither the clock nor the count of commands moves
+pub record IsSuccessor (before after : World) : Type 0 where
+  pub states : (wanted : DocumentState) (document : ℕ) → IsTrue (came_to wanted before document) → IsTrue (came_to wanted after document)
+  pub names : (text : List ℕ) (thing : Thing) → named_thing before text ≡ Some thing → named_thing after text ≡ Some thing
+  pub clock : after.clock ≡ before.clock
+  pub begun : after.begun ≡ before.begun
+
+-- a fact of what a step comes to, where it neither throws nor meets a limit
+unfoldable pub OnDid : {A : Type 0} → Step A → (A → Type 0) → Type 0
+OnDid (Did value) Holds = Holds value
+OnDid (Threw exception) Holds = ⊤
+OnDid (Met limit) Holds = ⊤
