@@ -1,0 +1,4 @@
+pub mod Page
+pub mod Boxes
+pub mod Reading
+pub mod Trace

@@ -1,0 +1,4 @@
+pub mod Blocks
+pub mod Observations
+pub mod Views
+pub mod Told

@@ -1,0 +1,42 @@
+ghost use Rattle.std.specs.Prelude.{◌≡◌};
+ghost use Rattle.replay.specs.Answers.{code_of};
+
+/// How a run ended.
+#[derive(Clone, Copy, Debug, PartialEq, Eq)]
+pub enum Status {
+    /// The whole text was written.
+    Done,
+    /// The source has something that isn't built yet; the line that says where was written.
+    NotBuilt,
+    /// No memory was left; a first part of the text was written.
+    NoMemory,
+    /// A read failed; nothing was written.
+    ReadFault,
+    /// A write failed; a first part of the text was written.
+    WriteFault,
+    /// The words are none that the program has; nothing was read or written.
+    Usage,
+}
+
+impl Status {
+    /// The exit status of the program.
+    pub fn code(&self) -> u8
+        ensures { result ≡ code_of self.now }
+    {
+        match self {
+            Status::Done => 0,
+            Status::NotBuilt => 9,
+            Status::NoMemory => 3,
+            Status::ReadFault => 4,
+            Status::WriteFault => 5,
+            Status::Usage => 6,
+        }
+    }
+}
+
+/// Why a run ended early.
+#[derive(Clone, Copy, Debug, PartialEq, Eq)]
+pub enum Stop {
+    Memory,
+    Write,
+}

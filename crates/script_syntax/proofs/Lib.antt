@@ -1,0 +1,6 @@
+mod BarePages
+mod Cuts
+mod Depths
+mod Fronts
+mod NamesRead
+mod Taken

@@ -1,0 +1,4 @@
+pub mod Bare
+pub mod Pieces
+pub mod Plain
+pub mod Seen
