@@ -1,0 +1,230 @@
+//! Media query lists: their text, and which viewports they match (Media Queries 4, 2 to 4; the grammar is a part of the
+//! standard's, without nesting, `<` and `>`).
+#![tactic(auto)]
+
+ghost use Rattle.std.specs.Prelude.{◌≡◌, ◌<◌, length, unsigned_abs, IfOk};
+ghost use Rattle.script_model.specs.Media.{query_list, matches};
+ghost use Rattle.media_queries.specs.Seen.{Parses};
+
+mod bytes;
+mod features;
+mod lengths;
+mod matching;
+mod queries;
+
+use crate::queries::{MediaQuery, ReadFault};
+use px_units::Size;
+use std::alloc::{AllocError, Global};
+use std::marker::Model;
+use thiserror::Error;
+
+/// A media query list.
+#[derive(Drop)]
+pub struct Query {
+    queries: Vec<MediaQuery>,
+}
+
+impl Model for Query {
+    ghost use Rattle.std.specs.Prelude.{List, map};
+    ghost use Rattle.script_model.specs.Queries.{MediaQuery};
+    ghost use Rattle.media_queries.specs.Seen.{query_of};
+
+    ghost Value = { List MediaQuery };
+
+    ghost view = { λ query. map query_of query.queries.items };
+}
+
+/// Why a text gives no list.
+#[derive(Debug, Drop, Error)]
+pub enum QueryFault {
+    /// The column of the first byte with which the text so far begins no list, from 1; one past the end of the text
+    /// where the whole text begins a longer list.
+    #[error("BadQuery")]
+    BadQuery { column: u32 },
+    #[error("Memory")]
+    Memory,
+}
+
+impl Query {
+    /// The list that the text is (Media Queries 4, 3).
+    ///
+    /// `BadQuery` exactly where it is none, with the first byte with which the text so far begins no list. A length
+    /// has 1 to 7 digits, optionally a point and 1 or 2 digits, and `px`; it is at most 1,000,000 CSS pixels and is cut
+    /// to units of 1/64 CSS pixel.
+    #[tactic(auto, unfolding(script_model::specs::Media::query_list))]
+    pub fn parse(alloc: Global, text: &[u8]) -> Result<Query, QueryFault>
+        requires { length text.now < 4294967295 }
+        ensures { Parses result (query_list text.now) }
+    {
+        match queries::queries_at(alloc, text) {
+            Ok(queries) => Ok(Query { queries }),
+            Err(ReadFault::At(stopped)) => {
+                let column = (text.len() + 1).saturating_sub(stopped.left) as u32;
+                Err(QueryFault::BadQuery { column })
+            }
+            Err(ReadFault::Memory) => Err(QueryFault::Memory),
+        }
+    }
+
+    /// Whether the list matches a viewport of this size, in units of 1/64 CSS pixel from 0 up (Media Queries 4, 2.1,
+    /// 4.1, 4.2 and 4.4): one of its queries does. The viewport is portrait exactly if its height is at least its width.
+    #[tactic(auto, using(crate::proofs::Comparisons::list_seen))]
+    pub fn matches(&self, viewport: Size) -> bool
+        ensures { result ≡ matches self.now (unsigned_abs viewport.width) (unsigned_abs viewport.height) }
+    {
+        let width = viewport.width.unsigned_abs();
+        let height = viewport.height.unsigned_abs();
+        matching::any_query_matches(self.queries.as_slice(), width, height)
+    }
+
+    /// An equal list. The error is want of memory.
+    pub fn copy(&self, alloc: Global) -> Result<Query, AllocError>
+        ensures { IfOk result (λ copy. copy ≡ self.now) }
+    {
+        let queries = queries::copy_queries(alloc, self.queries.as_slice())?;
+        Ok(Query { queries })
+    }
+}
+
+#[cfg(test)]
+mod tests {
+    use super::*;
+    use std::test::Fail;
+
+    /// A text, and the column of its fault, none where it is a list.
+    const TEXTS: [(&str, Option<u32>); 48] = [
+        ("all", None),
+        ("screen , print", None),
+        ("\tall", Some(1)),
+        ("screem", Some(6)),
+        ("scre", Some(5)),
+        ("", Some(1)),
+        ("all ", Some(5)),
+        ("all,", Some(5)),
+        ("all, ,screen", Some(6)),
+        ("all,screen", None),
+        ("allx", Some(4)),
+        ("only all", None),
+        ("only  (width: 1px)", Some(7)),
+        ("not (width: 1px)", None),
+        ("not print", None),
+        ("not print and", Some(14)),
+        ("not all and (width:1px)and (height: 2px)", Some(24)),
+        ("(width: 1px)", None),
+        ("( \tmin-width\t:\t640.5px )", None),
+        ("(max-height:1000000.00px)", None),
+        ("(max-height:1000000.01px)", Some(22)),
+        ("(max-height:1000001px)", Some(19)),
+        ("(width:12345678px)", Some(14)),
+        ("(width:0.125px)", Some(12)),
+        ("(width:1.px)", Some(10)),
+        ("(width:.5px)", Some(8)),
+        ("(width:-1px)", Some(8)),
+        ("(width: 10 px)", Some(11)),
+        ("(min-widht: 1px)", Some(9)),
+        ("(orientation: portrait)", None),
+        ("(orientation:landscape)", None),
+        ("(orientation: square)", Some(15)),
+        ("(orientation: portrait", Some(23)),
+        ("(width)", Some(7)),
+        ("(width:1px) and (height:2px)", None),
+        ("(width:1px) or (height:2px)", None),
+        ("(width:1px) and (height:2px) or (width:3px)", Some(30)),
+        ("(width:1px) or (height:2px) and (width:3px)", Some(29)),
+        (
+            "(width:1px) or (height:2px) or (orientation:landscape)",
+            None,
+        ),
+        ("(width:1px)or (height:2px)", Some(12)),
+        ("print and (width:1px) or (height:1px)", Some(23)),
+        ("(width:1px), not screen, (height:2px)", None),
+        ("(width:1px) ,", Some(14)),
+        ("not(width: 1px)", Some(4)),
+        ("not (width:1px) and (height:1px)", Some(17)),
+        ("ALL", Some(1)),
+        ("(min-orientation: portrait)", Some(6)),
+        ("((width:1px))", Some(2)),
+    ];
+
+    /// A list, the width and height of a viewport, and whether it matches.
+    const VIEWPORTS: [(&str, i64, i64, bool); 19] = [
+        ("all", 0, 0, true),
+        ("print", 640, 640, false),
+        ("not print", 640, 640, true),
+        ("only screen", 1, 2, true),
+        ("(orientation: portrait)", 640, 640, true),
+        ("(orientation: landscape)", 640, 640, false),
+        ("(orientation: landscape)", 641, 640, true),
+        (
+            "not screen and (width: 1px) and (height: 1px)",
+            64,
+            65,
+            true,
+        ),
+        (
+            "not screen and (width: 1px) and (height: 1px)",
+            64,
+            64,
+            false,
+        ),
+        ("(min-width: 10px)", 640, 0, true),
+        ("(min-width: 10px)", 639, 0, false),
+        ("(max-height: 10px)", 0, 640, true),
+        ("(max-height: 10px)", 0, 641, false),
+        ("(width: 0.02px)", 1, 0, true),
+        ("(width: 0.02px)", 2, 0, false),
+        (
+            "(width: 1px) or (height: 1px) or (orientation: portrait)",
+            65,
+            64,
+            true,
+        ),
+        (
+            "(width: 1px) or (height: 1px) or (width: 2px)",
+            128,
+            0,
+            true,
+        ),
+        ("print, (width: 1px)", 64, 0, true),
+        ("not (width: 1px)", 64, 0, false),
+    ];
+
+    // The column of a text's fault, none for a list.
+    fn fault_of(alloc: Global, text: &[u8]) -> Option<u32> {
+        if text.len() > 4096 {
+            return Some(0);
+        }
+        match Query::parse(alloc, text) {
+            Ok(_) => None,
+            Err(QueryFault::BadQuery { column }) => Some(column),
+            Err(QueryFault::Memory) => Some(0),
+        }
+    }
+
+    // The list of a text that is one.
+    fn parsed(alloc: Global, text: &[u8]) -> Result<Query, AllocError> {
+        if text.len() > 4096 {
+            return Err(AllocError);
+        }
+        Query::parse(alloc, text).map_err(|_| AllocError)
+    }
+
+    #[test]
+    fn texts_are_read_to_their_fault(rt: HostRuntime) {
+        for (text, want) in TEXTS {
+            assert_eq!(rt; fault_of(rt.alloc(), text.as_bytes()), want, "{text}");
+        }
+    }
+
+    #[test]
+    fn lists_match_viewports(rt: HostRuntime) -> Result<(), Fail> {
+        for (text, width, height, want) in VIEWPORTS {
+            let size = Size { width, height };
+            let query = parsed(rt.alloc(), text.as_bytes())?;
+            assert_eq!(rt; query.matches(size), want, "{text}");
+            let copy = query.copy(rt.alloc())?;
+            assert_eq!(rt; copy.matches(size), want, "a copy of {text}");
+        }
+        Ok(())
+    }
+}

@@ -1,0 +1,221 @@
+-- What a text gives stays the same while it is read.
+use Rattle.std.proofs.Common.{◌≡◌, ℕ, ◌+◌, ◌-◌, ◌<◌, ◌≤◌, ◌==◌, Bool, true, false, cond, List, [], ◌∷◌, ◌++◌, length, drop, get_or, refl, ap, sym, subst, ◌∙◌, arith, length-drop, Option, Some, None}
+use Rattle.std.proofs.lemmas.Bool.Decides.{nat_tests}
+use Rattle.std.proofs.lemmas.List.{append-nil, drop_more, drop_all}
+use Rattle.std.proofs.lemmas.List.Elements.{All-nil, All-get_or}
+use Rattle.word_model.specs.Numbers.{begins_with}
+use Rattle.script_model.specs.Lexing.{Scan, Lexed, Line as LineOfWords, Whole, BadByte, LongLine, ByteClass, LineFeedByte, LongByte, SpaceByte, WordByte, ForbiddenByte, line_start, close_word, passed, space, word_byte, add_line, ends, next_line, look_as}
+use Rattle.script_model.specs.Lexing.{Ending}
+use Rattle.script_lexer.specs.declared.places.LexFault.{LexFault}
+use Rattle.script_lexer.specs.declared.places.Span.{Span}
+use Rattle.script_lexer.specs.Texts.{InLine, LineFits, fault_seen, lines_before}
+use Rattle.script_lexer.specs.Limited.{class_within, lex_within, lexed_within}
+use Rattle.script_lexer.specs.Places.{Places, no_places, closed_from, closed, line_kept, next_line_at, begun, scan_seen, kept_seen, behind, to_come, Sound, WentOn, Scanned, lines_up_to}
+use Rattle.script_lexer.proofs.Steps.{closed_seen, closed_passed, closed_kept, sound_closed, sound_later, begun_seen, begun_kept, sound_begun}
+use Rattle.script_lexer.proofs.Ends.{line_added, next_closed, next_kept, sound_feed, kept_fit, ended_line}
+
+-- the byte at a place, what it is there, and how the text goes on behind it
+abbrev pub class_at : ℕ → List ℕ → ℕ → Places → ByteClass
+class_at most bytes at p = class_within most (get_or bytes at 0) (begins_with 10 (drop (at + 1) bytes)) (at - p.start + 1)
+
+abbrev on_at : ℕ → List ℕ → ℕ → Scan → Lexed
+on_at most bytes at t = lex_within most t (drop (at + 1) bytes)
+
+came : (most : ℕ) (bytes : List ℕ) (at : ℕ) (p : Places) (c : ByteClass) → at < length bytes → class_at most bytes at p ≡ c
+    → to_come most bytes at p ≡ behind (kept_seen bytes p) (look_as c (get_or bytes at 0) (scan_seen bytes at p) (on_at most bytes at))
+unfolding lex_within
+came most bytes at p c within is =
+    ap (λ (bs : List ℕ). behind (kept_seen bytes p) (lex_within most (scan_seen bytes at p) bs)) (drop_more bytes at 0 within)
+    ∙ ap (λ (k : ByteClass). behind (kept_seen bytes p) (look_as k (get_or bytes at 0) (scan_seen bytes at p) (on_at most bytes at))) is
+
+look_space : (byte : ℕ) (s : Scan) (on : Scan → Lexed) → look_as SpaceByte byte s on ≡ on (passed byte (close_word s))
+unfolding look_as space
+look_space byte s on = refl
+
+look_word : (byte : ℕ) (s : Scan) (on : Scan → Lexed) → look_as WordByte byte s on ≡ on (word_byte byte s)
+unfolding look_as
+look_word byte s on = refl
+
+look_feed : (byte : ℕ) (s : Scan) (on : Scan → Lexed) → look_as LineFeedByte byte s on ≡ add_line (close_word s) (on (line_start (s.number + 1)))
+unfolding look_as
+look_feed byte s on = refl
+
+pub after_space : (most : ℕ) (bytes : List ℕ) (at : ℕ) (p : Places) → at < length bytes → Sound bytes at p → class_at most bytes at p ≡ SpaceByte
+    → to_come most bytes (at + 1) (closed at p) ≡ to_come most bytes at p
+after_space most bytes at p within s is =
+    sym (came most bytes at p SpaceByte within is
+    ∙ ap (behind (kept_seen bytes p)) (look_space (get_or bytes at 0) (scan_seen bytes at p) (on_at most bytes at))
+    ∙ ap (λ (t : Scan). behind (kept_seen bytes p) (on_at most bytes at (passed (get_or bytes at 0) t))) (closed_seen bytes at p p.open_word s.first_within s.inside s.open_within)
+    ∙ ap (λ (t : Scan). behind (kept_seen bytes p) (on_at most bytes at t)) (closed_passed bytes at p p.open_word s.start_before within)
+    ∙ ap (λ (lines : List LineOfWords). behind lines (on_at most bytes at (scan_seen bytes (at + 1) (closed at p)))) (sym (closed_kept bytes at p p.open_word s.lines_fit)))
+
+pub after_word : (most : ℕ) (bytes : List ℕ) (at : ℕ) (p : Places) → at < length bytes → Sound bytes at p → class_at most bytes at p ≡ WordByte
+    → to_come most bytes (at + 1) (begun (get_or bytes at 0) at p) ≡ to_come most bytes at p
+after_word most bytes at p within s is =
+    sym (came most bytes at p WordByte within is
+    ∙ ap (behind (kept_seen bytes p)) (look_word (get_or bytes at 0) (scan_seen bytes at p) (on_at most bytes at))
+    ∙ ap (λ (t : Scan). behind (kept_seen bytes p) (on_at most bytes at t)) (begun_seen bytes at p p.in_comment p.open_word s.start_before within s.open_within)
+    ∙ ap (λ (lines : List LineOfWords). behind lines (on_at most bytes at (scan_seen bytes (at + 1) (begun (get_or bytes at 0) at p)))) (sym (begun_kept bytes at p (get_or bytes at 0))))
+
+pub after_feed : (most : ℕ) (bytes : List ℕ) (at : ℕ) (p : Places) → at < length bytes → Sound bytes at p → class_at most bytes at p ≡ LineFeedByte
+    → to_come most bytes (at + 1) (next_line_at at (line_kept (closed at p))) ≡ to_come most bytes at p
+after_feed most bytes at p within s is =
+    let q_sound : Sound bytes at (closed at p) = sound_closed bytes at p p.open_word s in
+    sym (came most bytes at p LineFeedByte within is
+    ∙ ap (behind (kept_seen bytes p)) (look_feed (get_or bytes at 0) (scan_seen bytes at p) (on_at most bytes at))
+    ∙ ap (λ (t : Scan). behind (kept_seen bytes p) (add_line t (on_at most bytes at (line_start (p.ended + 1 + 1))))) (closed_seen bytes at p p.open_word s.first_within s.inside s.open_within)
+    ∙ ap (λ (lines : List LineOfWords). behind lines (add_line (scan_seen bytes at (closed at p)) (on_at most bytes at (line_start (p.ended + 1 + 1))))) (sym (closed_kept bytes at p p.open_word s.lines_fit))
+    ∙ line_added bytes at (closed at p) (on_at most bytes at (line_start (p.ended + 1 + 1))) q_sound
+    ∙ ap (λ (lines : List LineOfWords). behind lines (on_at most bytes at (line_start (p.ended + 1 + 1)))) (sym (next_kept bytes at (closed at p)))
+    ∙ ap (λ (t : Scan). behind (kept_seen bytes (next_line_at at (line_kept (closed at p)))) (on_at most bytes at t)) (sym (next_closed bytes at p p.open_word)))
+
+pub sound_space : (bytes : List ℕ) (at : ℕ) (p : Places) → at < length bytes → Sound bytes at p → Sound bytes (at + 1) (closed at p)
+sound_space bytes at p within s = sound_later bytes at (closed at p) within (sound_closed bytes at p p.open_word s)
+
+pub sound_end : (bytes : List ℕ) (at : ℕ) (p : Places) → at < length bytes → Sound bytes at p → Sound bytes (at + 1) (next_line_at at (line_kept (closed at p)))
+sound_end bytes at p within s = sound_feed bytes at p within (sound_closed bytes at p p.open_word s)
+
+pub sound_word : (bytes : List ℕ) (at : ℕ) (p : Places) → at < length bytes → Sound bytes at p → Sound bytes (at + 1) (begun (get_or bytes at 0) at p)
+sound_word bytes at p within s = sound_begun bytes at p p.in_comment p.open_word within s
+
+look_long : (byte : ℕ) (s : Scan) (on : Scan → Lexed) → look_as LongByte byte s on ≡ ends (LongLine s.number)
+unfolding look_as
+look_long byte s on = refl
+
+look_bad : (byte : ℕ) (s : Scan) (on : Scan → Lexed) → look_as ForbiddenByte byte s on ≡ ends (BadByte s.number s.column)
+unfolding look_as
+look_bad byte s on = refl
+
+pub at_long : (most : ℕ) (bytes : List ℕ) (at : ℕ) (p : Places) → at < length bytes → class_at most bytes at p ≡ LongByte
+    → behind (kept_seen bytes p) (ends (LongLine (p.ended + 1))) ≡ to_come most bytes at p
+at_long most bytes at p within is =
+    sym (came most bytes at p LongByte within is ∙ ap (behind (kept_seen bytes p)) (look_long (get_or bytes at 0) (scan_seen bytes at p) (on_at most bytes at)))
+
+pub at_bad : (most : ℕ) (bytes : List ℕ) (at : ℕ) (p : Places) → at < length bytes → class_at most bytes at p ≡ ForbiddenByte
+    → behind (kept_seen bytes p) (ends (BadByte (p.ended + 1) (at - p.start + 1))) ≡ to_come most bytes at p
+at_bad most bytes at p within is =
+    sym (came most bytes at p ForbiddenByte within is ∙ ap (behind (kept_seen bytes p)) (look_bad (get_or bytes at 0) (scan_seen bytes at p) (on_at most bytes at)))
+
+-- before the first byte
+pub blank_sound : (bytes : List ℕ) → Sound bytes 0 no_places
+blank_sound bytes = record {
+  inside = omega arith;
+  start_before = omega arith;
+  first_within = omega arith;
+  ended_before = omega arith;
+  open_within = tt;
+  after_within = omega arith;
+  spans_within = All-nil (InLine 0 0);
+  lines_fit = All-nil (LineFits (length bytes) []);
+}
+
+pub blank_whole : (most : ℕ) (bytes : List ℕ) → to_come most bytes 0 no_places ≡ lexed_within most bytes
+unfolding lexed_within line_start
+blank_whole most bytes = refl
+
+abbrev pub lexed_as : List LineOfWords → Ending → Lexed
+lexed_as lines ending = record { lines = lines; ending = ending }
+
+ended_whole : (lines : List LineOfWords) (ending : Ending) → behind lines (ends ending) ≡ lexed_as lines ending
+unfolding ends
+ended_whole lines ending = ap (λ (ls : List LineOfWords). lexed_as ls ending) (append-nil lines)
+
+-- the text ends here
+end_whole : (most : ℕ) (bytes : List ℕ) (p : Places) → Sound bytes (length bytes) p
+    → to_come most bytes (length bytes) p ≡ behind (kept_seen bytes (line_kept (closed (length bytes) p))) (ends (Whole (next_line (scan_seen bytes (length bytes) p))))
+unfolding lex_within
+end_whole most bytes p s =
+    ap (λ (bs : List ℕ). behind (kept_seen bytes p) (lex_within most (scan_seen bytes (length bytes) p) bs)) (drop_all (length bytes) bytes (omega arith))
+    ∙ ap (λ (t : Scan). behind (kept_seen bytes p) (add_line t (ends (Whole (next_line (scan_seen bytes (length bytes) p)))))) (closed_seen bytes (length bytes) p p.open_word s.first_within s.inside s.open_within)
+    ∙ ap (λ (lines : List LineOfWords). behind lines (add_line (scan_seen bytes (length bytes) (closed (length bytes) p)) (ends (Whole (next_line (scan_seen bytes (length bytes) p)))))) (sym (closed_kept bytes (length bytes) p p.open_word s.lines_fit))
+    ∙ line_added bytes (length bytes) (closed (length bytes) p) (ends (Whole (next_line (scan_seen bytes (length bytes) p)))) (sound_closed bytes (length bytes) p p.open_word s)
+
+same_count : (start size ended : ℕ) → start ≤ size → cond (start == size) ended (ended + 1) + 1 ≡ cond (size - start + 1 == 1) (ended + 1) (ended + 1 + 1)
+same_count start size ended within = grind (arith, nat_tests)
+
+next_line_is : (bytes : List ℕ) (p : Places) → p.start ≤ length bytes → lines_up_to None (length bytes) p + 1 ≡ next_line (scan_seen bytes (length bytes) p)
+unfolding next_line
+next_line_is bytes p within = same_count p.start (length bytes) p.ended within
+
+line_start_stays : (p : Places) (c : Bool) → (cond c p (record p { lines = p.lines ++ ended_line p ∷ [] })).start ≡ p.start
+line_start_stays p true = refl
+line_start_stays p false = refl
+
+line_ended_stays : (p : Places) (c : Bool) → (cond c p (record p { lines = p.lines ++ ended_line p ∷ [] })).ended ≡ p.ended
+line_ended_stays p true = refl
+line_ended_stays p false = refl
+
+closed_start_stays : (at : ℕ) (p : Places) (w : Option ℕ) → (closed_from w at p).start ≡ p.start
+closed_start_stays at p None = refl
+closed_start_stays at p (Some from) = refl
+
+closed_ended_stays : (at : ℕ) (p : Places) (w : Option ℕ) → (closed_from w at p).ended ≡ p.ended
+closed_ended_stays at p None = refl
+closed_ended_stays at p (Some from) = refl
+
+up_to : ℕ → ℕ → ℕ → ℕ
+up_to size start ended = cond (start == size) ended (ended + 1)
+
+count_stays : (size : ℕ) (p q : Places) → q.start ≡ p.start → q.ended ≡ p.ended → lines_up_to None size q ≡ lines_up_to None size p
+unfolding up_to
+count_stays size p q start ended = ap (λ (n : ℕ). up_to size n q.ended) start ∙ ap (up_to size p.start) ended
+
+pub end_scanned : (most : ℕ) (bytes : List ℕ) (p : Places) → Sound bytes (length bytes) p → to_come most bytes (length bytes) p ≡ lexed_within most bytes
+    → Scanned most bytes (line_kept (closed (length bytes) p)) None
+end_scanned most bytes p s whole =
+    let q_start : (line_kept (closed (length bytes) p)).start ≡ p.start =
+    line_start_stays (closed (length bytes) p) ((closed (length bytes) p).first == length (closed (length bytes) p).words) ∙ closed_start_stays (length bytes) p p.open_word in
+    let q_ended : (line_kept (closed (length bytes) p)).ended ≡ p.ended =
+    line_ended_stays (closed (length bytes) p) ((closed (length bytes) p).first == length (closed (length bytes) p).words) ∙ closed_ended_stays (length bytes) p p.open_word in
+    let count : lines_up_to None (length bytes) (line_kept (closed (length bytes) p)) + 1 ≡ next_line (scan_seen bytes (length bytes) p) =
+    ap (λ (n : ℕ). n + 1) (count_stays (length bytes) p (line_kept (closed (length bytes) p)) q_start q_ended) ∙ next_line_is bytes p s.start_before in
+    let is : lexed_as (kept_seen bytes (line_kept (closed (length bytes) p))) (Whole (lines_up_to None (length bytes) (line_kept (closed (length bytes) p)) + 1)) ≡ lexed_within most bytes =
+    ap (λ (n : ℕ). lexed_as (kept_seen bytes (line_kept (closed (length bytes) p))) (Whole n)) count
+    ∙ sym (ended_whole (kept_seen bytes (line_kept (closed (length bytes) p))) (Whole (next_line (scan_seen bytes (length bytes) p))))
+    ∙ sym (end_whole most bytes p s) ∙ whole in record {
+      lines_fit = kept_fit bytes (length bytes) (closed (length bytes) p) (sound_closed bytes (length bytes) p p.open_word s);
+      ended_before = omega (arith, q_start, q_ended, s.ended_before);
+      start_before = omega (arith, q_start, s.start_before);
+      whole = is;
+      counted = ap (λ (l : Lexed). lines_before l.ending) (sym is) ∙ omega arith;
+    }
+
+pub fault_scanned : (most : ℕ) (bytes : List ℕ) (at : ℕ) (p : Places) (fault : LexFault) (before : Lexed) → at ≤ length bytes → before ≡ lexed_within most bytes
+    → WentOn most bytes at p (Some fault) before → Scanned most bytes p (Some fault)
+fault_scanned most bytes at p fault before within same went =
+    let is : lexed_as (kept_seen bytes p) (fault_seen fault) ≡ lexed_within most bytes = sym (ended_whole (kept_seen bytes p) (fault_seen fault)) ∙ went.3 ∙ same in record {
+      lines_fit = went.0;
+      ended_before = went.1;
+      start_before = omega (arith, went.2);
+      whole = is;
+      counted = ap (λ (l : Lexed). lines_before l.ending) (sym is) ∙ went.4;
+    }
+
+-- a line that has a word has a byte
+worded : (bytes : List ℕ) (at : ℕ) (p : Places) → Sound bytes at p → p.first < length p.words → p.start < at
+worded bytes at p s some =
+    let no_span : Span = record { from = 0; to = 0 } in
+    let first : InLine p.start at (get_or (drop p.first p.words) 0 no_span) = All-get_or (InLine p.start at) (drop p.first p.words) 0 no_span (omega (arith, length-drop p.first p.words)) s.spans_within in
+    omega (arith, first.0, first.1, first.2)
+
+-- so its number fits
+pub last_number : (bytes : List ℕ) (at : ℕ) (p q : Places) → at ≡ length bytes → length bytes < 4294967296 → Sound bytes at p → q ≡ closed (length bytes) p
+    → q.first < length q.words → q.ended + 1 < 4294967296
+last_number bytes at p q end small s is some =
+    let sound : Sound bytes (length bytes) p = subst (λ (n : ℕ). Sound bytes n p) end s in
+    let after : Sound bytes (length bytes) q = subst (λ (r : Places). Sound bytes (length bytes) r) (sym is) (sound_closed bytes (length bytes) p p.open_word sound) in
+    omega (arith, worded bytes (length bytes) q after some, after.ended_before)
+
+pub last_scanned : (most : ℕ) (bytes : List ℕ) (at : ℕ) (p q r : Places) → at ≡ length bytes → Sound bytes at p → to_come most bytes at p ≡ lexed_within most bytes
+    → q ≡ closed (length bytes) p → r ≡ line_kept q → Scanned most bytes r None
+last_scanned most bytes at p q r end s whole q_is r_is =
+    let sound : Sound bytes (length bytes) p = subst (λ (n : ℕ). Sound bytes n p) end s in
+    let whole_end : to_come most bytes (length bytes) p ≡ lexed_within most bytes = subst (λ (n : ℕ). to_come most bytes n p ≡ lexed_within most bytes) end whole in
+    subst (λ (t : Places). Scanned most bytes t None) (sym (r_is ∙ ap line_kept q_is)) (end_scanned most bytes p sound whole_end)
+
+pub feed_went : (most : ℕ) (bytes : List ℕ) (at : ℕ) (p q : Places) → at < length bytes → Sound bytes at p → class_at most bytes at p ≡ LineFeedByte
+    → q ≡ next_line_at at (line_kept (closed at p)) → Sound bytes (at + 1) q × to_come most bytes (at + 1) q ≡ to_come most bytes at p
+feed_went most bytes at p q within s class is = (
+  subst (λ (t : Places). Sound bytes (at + 1) t) (sym is) (sound_end bytes at p within s),
+  subst (λ (t : Places). to_come most bytes (at + 1) t ≡ to_come most bytes at p) (sym is) (after_feed most bytes at p within s class),
+)

@@ -1,0 +1,4 @@
+pub mod Classes
+pub mod Limited
+pub mod Texts
+pub mod Places

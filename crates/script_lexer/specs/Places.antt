@@ -1,0 +1,112 @@
+-- Places kept while a text is read, what one byte does to them, and the scan that they stand for.
+use Rattle.std.specs.Prelude.{ℕ, ◌+◌, ◌-◌, ◌<◌, ◌≤◌, ◌≡◌, Bool, true, false, cond, ◌==◌, List, [], ◌∷◌, ◌++◌, length, drop, map, reverse, Option, Some, None}
+use Rattle.std.specs.List.{All}
+use Rattle.script_model.specs.Lexing.{Scan, Lexed, Line as LineOfWords, ends}
+use Rattle.script_lexer.specs.Limited.{lex_within, lexed_within}
+use Rattle.script_lexer.specs.Texts.{part, word_seen, after_of, line_seen, InLine, LineFits, fault_seen, ending_seen, lines_before}
+use Rattle.script_lexer.specs.declared.places.Span.{Span}
+use Rattle.script_lexer.specs.declared.places.Line.{Line}
+use Rattle.script_lexer.specs.declared.places.LexFault.{LexFault}
+
+-- lines and words so far, how many lines ended, and of the line that is read its start, its first word's number, the
+-- start of the word that is read, and whether a comment began
+pub record Places : Type 0 where
+  pub lines : List Line
+  pub words : List Span
+  pub ended : ℕ
+  pub start : ℕ
+  pub first : ℕ
+  pub open_word : Option ℕ
+  pub in_comment : Bool
+
+abbrev pub no_places : Places
+no_places = record { lines = []; words = []; ended = 0; start = 0; first = 0; open_word = None; in_comment = false }
+
+abbrev pub closed_from : Option ℕ → ℕ → Places → Places
+closed_from None at p = p
+closed_from (Some from) at p = record p { words = p.words ++ (record { from = from; to = at } ∷ []); open_word = None }
+
+-- the word that is read ends before this place
+abbrev pub closed : ℕ → Places → Places
+closed at p = closed_from p.open_word at p
+
+-- the line that is read is kept, if it has a word
+abbrev pub line_kept : Places → Places
+line_kept p = cond (p.first == length p.words) p (record p {
+  lines = p.lines ++ (record { number = p.ended + 1; start = p.start; first = p.first; count = length p.words - p.first } ∷ []);
+})
+
+-- the next line begins behind this place
+abbrev pub next_line_at : ℕ → Places → Places
+next_line_at at p = record p { ended = p.ended + 1; start = at + 1; first = length p.words; in_comment = false }
+
+abbrev pub begun_in : Bool → Option ℕ → ℕ → ℕ → Places → Places
+begun_in true word byte at p = p
+begun_in false (Some from) byte at p = p
+begun_in false None byte at p = cond (byte == 35) (record p { in_comment = true }) (record p { open_word = Some at })
+
+-- a byte of a word or of a comment stands at this place
+abbrev pub begun : ℕ → ℕ → Places → Places
+begun byte at p = begun_in p.in_comment p.open_word byte at p
+
+abbrev pub open_seen : List ℕ → ℕ → Option ℕ → List ℕ
+open_seen bytes at None = []
+open_seen bytes at (Some from) = reverse (part from at bytes)
+
+-- the scan of the line up to this place
+abbrev pub scan_seen : List ℕ → ℕ → Places → Scan
+scan_seen bytes at p = record {
+  number = p.ended + 1;
+  column = at - p.start + 1;
+  bytes = reverse (part p.start at bytes);
+  words = map (word_seen bytes p.start) (drop p.first p.words);
+  after = after_of p.start (drop p.first p.words);
+  open_word = open_seen bytes at p.open_word;
+  in_comment = p.in_comment;
+}
+
+abbrev pub kept_seen : List ℕ → Places → List LineOfWords
+kept_seen bytes p = map (line_seen bytes p.words) p.lines
+
+abbrev pub behind : List LineOfWords → Lexed → Lexed
+behind lines lexed = record { lines = lines ++ lexed.lines; ending = lexed.ending }
+
+-- what the text gives, by what was read of it and what is to come
+abbrev pub to_come : ℕ → List ℕ → ℕ → Places → Lexed
+to_come most_line bytes at p = behind (kept_seen bytes p) (lex_within most_line (scan_seen bytes at p) (drop at bytes))
+
+-- a word is read from within its line, and outside a comment
+abbrev pub OpenIn : ℕ → ℕ → Bool → Option ℕ → Type 0
+OpenIn start at in_comment None = Unit
+OpenIn start at in_comment (Some from) = (start ≤ from) × (from < at) × (in_comment ≡ false)
+
+-- what holds of the places between two bytes
+pub record Sound (bytes : List ℕ) (at : ℕ) (p : Places) : Type 0 where
+  pub inside : at ≤ length bytes
+  pub start_before : p.start ≤ at
+  pub first_within : p.first ≤ length p.words
+  pub ended_before : p.ended ≤ p.start
+  pub open_within : OpenIn p.start at p.in_comment p.open_word
+  pub after_within : after_of p.start (drop p.first p.words) + p.start ≤ at + 1
+  pub spans_within : All (InLine p.start at) (drop p.first p.words)
+  pub lines_fit : All (LineFits (length bytes) p.words) p.lines
+
+-- the text goes on, or ends here with a fault
+abbrev pub WentOn : ℕ → List ℕ → ℕ → Places → Option LexFault → Lexed → Type 0
+WentOn most_line bytes at p None whole = (Sound bytes at p) × (to_come most_line bytes at p ≡ whole)
+WentOn most_line bytes at p (Some fault) whole =
+    (All (LineFits (length bytes) p.words) p.lines) × (p.ended ≤ p.start) × (p.start ≤ at)
+    × (behind (kept_seen bytes p) (ends (fault_seen fault)) ≡ whole) × (lines_before (fault_seen fault) ≡ p.ended)
+
+-- how many lines a text has that ends here: a last one without a line feed counts if it has a byte
+abbrev pub lines_up_to : Option LexFault → ℕ → Places → ℕ
+lines_up_to None size p = cond (p.start == size) p.ended (p.ended + 1)
+lines_up_to (Some fault) size p = p.ended
+
+-- the places of a whole text, up to its first fault
+pub record Scanned (most_line : ℕ) (bytes : List ℕ) (p : Places) (fault : Option LexFault) : Type 0 where
+  pub lines_fit : All (LineFits (length bytes) p.words) p.lines
+  pub ended_before : p.ended ≤ p.start
+  pub start_before : p.start ≤ length bytes
+  pub whole : record { lines = kept_seen bytes p; ending = ending_seen fault (lines_up_to fault (length bytes) p) } ≡ lexed_within most_line bytes
+  pub counted : lines_before (lexed_within most_line bytes).ending ≡ lines_up_to fault (length bytes) p

@@ -1,0 +1,77 @@
+-- What places in a text stand for: the words that they cut out of it.
+use Rattle.std.specs.Prelude.{ℕ, ◌+◌, ◌-◌, ◌<◌, ◌≤◌, List, length, take, drop, map, Option, Some, None}
+use Rattle.std.specs.List.{All, fold}
+use Rattle.script_model.specs.Lexing.{Word, Line as LineOfWords, Ending, Whole, BadByte as BadByteAt, LongLine, Lexed}
+use Rattle.script_lexer.specs.declared.places.Span.{Span}
+use Rattle.script_lexer.specs.declared.places.Line.{Line}
+use Rattle.script_lexer.specs.declared.places.LexFault.{LexFault}
+use Rattle.script_lexer.specs.declared.places.LexFault.TheVariants.{BadByte, LineTooLong}
+
+-- a text, the places of its lines and words, how many lines it has, and what ended it
+pub record TextParts : Type 0 where
+  pub bytes : List ℕ
+  pub lines : List Line
+  pub words : List Span
+  pub line_count : ℕ
+  pub fault : Option LexFault
+
+-- the bytes from one place up to another
+abbrev pub part : ℕ → ℕ → List ℕ → List ℕ
+part from to bytes = take (to - from) (drop from bytes)
+
+-- a word of a line that begins at `start`
+abbrev pub word_seen : List ℕ → ℕ → Span → Word
+word_seen bytes start span = record { column = span.from - start + 1; text = part span.from span.to bytes }
+
+-- the column after the last of these words
+abbrev pub after_of : ℕ → List Span → ℕ
+after_of start spans = fold (λ before span. span.to - start + 1) 1 spans
+
+-- the words of a line
+abbrev pub line_words : List Span → Line → List Span
+line_words words line = take line.count (drop line.first words)
+
+abbrev pub line_seen : List ℕ → List Span → Line → LineOfWords
+line_seen bytes words line = record {
+  number = line.number;
+  row = record {
+    left = map (word_seen bytes line.start) (line_words words line);
+    after = after_of line.start (line_words words line);
+    bytes = take (after_of line.start (line_words words line) - 1) (drop line.start bytes);
+  };
+}
+
+abbrev pub fault_seen : LexFault → Ending
+fault_seen (BadByte line column) = BadByteAt line column
+fault_seen (LineTooLong line) = LongLine line
+
+abbrev pub ending_seen : Option LexFault → ℕ → Ending
+ending_seen None line_count = Whole (line_count + 1)
+ending_seen (Some fault) line_count = fault_seen fault
+
+-- the lines, words and ending that a text's places stand for
+abbrev pub text_seen : TextParts → Lexed
+text_seen text = record {
+  lines = map (line_seen text.bytes text.words) text.lines;
+  ending = ending_seen text.fault text.line_count;
+}
+
+-- how many lines end before the place where a text ends
+abbrev pub lines_before : Ending → ℕ
+lines_before (Whole next_line) = next_line - 1
+lines_before (BadByteAt line column) = line - 1
+lines_before (LongLine line) = line - 1
+
+-- a word between two places
+abbrev pub InLine : ℕ → ℕ → Span → Type 0
+InLine start end span = (start ≤ span.from) × (span.from < span.to) × (span.to ≤ end)
+
+-- a line whose words are there, each between the line's start and the text's end
+pub record LineFits (size : ℕ) (words : List Span) (line : Line) : Type 0 where
+  pub counted : line.first + line.count ≤ length words
+  pub within : All (InLine line.start size) (line_words words line)
+
+-- the bytes that a lexer was fed, and the most bytes that a line may have
+pub record Fed : Type 0 where
+  pub text : List ℕ
+  pub most_line : ℕ

@@ -1,0 +1,73 @@
+ghost use Rattle.std.specs.Prelude.{◌≡◌, ◌<◌, ◌+◌, ◌-◌, ◌^◌, ◌++◌, [], length, IfOk, OnOk, OnErr};
+ghost use Rattle.script_model.specs.Kinds.{LineLimit};
+ghost use Rattle.script_model.specs.Limits.{limit_number};
+ghost use Rattle.script_model.specs.Lexing.{lexed};
+ghost use Rattle.script_lexer.specs.Limited.{lexed_within};
+ghost use Rattle.script_lexer.specs.Texts.{text_seen, lines_before};
+
+use crate::scan::Scanner;
+use crate::text::Text;
+use std::alloc::{AllocError, Global};
+use std::marker::Model;
+
+/// Takes a text in pieces and finds its lines and words. How the text is cut makes no difference: a contract sees the
+/// bytes fed so far as one text, beside the most bytes that a line may have.
+#[derive(Drop)]
+pub struct Lexer {
+    alloc: Global,
+    bytes: Vec<u8>,
+    most_line: usize,
+}
+
+impl Model for Lexer {
+    ghost use Rattle.std.specs.Prelude.{◌<◌, ◌-◌, ◌^◌, length};
+    ghost use Rattle.script_lexer.specs.Texts.{Fed};
+
+    ghost Value = { Fed };
+
+    ghost view = { λ lexer. record { text = lexer.bytes.items; most_line = lexer.most_line } };
+
+    ghost invariant = { λ lexer. length lexer.bytes.items < 2 ^ 32 };
+}
+
+impl Lexer {
+    /// Before the first piece, for lines of at most `most_line` bytes before their line feed. Takes no memory.
+    pub fn new(alloc: Global, most_line: usize) -> Lexer
+        requires { most_line < 2 ^ 32 - 1 }
+        ensures { result ≡ record { text = []; most_line = most_line } }
+    {
+        Lexer {
+            alloc,
+            bytes: Vec::new(alloc),
+            most_line,
+        }
+    }
+
+    /// The next piece of the text. Fewer than 2^32 bytes are fed in all.
+    ///
+    /// # Errors
+    /// Where no memory is left, nothing of the piece is taken.
+    pub fn feed(&mut self, piece: &[u8]) -> Result<(), AllocError>
+        requires { length self.old.text + length piece.now < 2 ^ 32 }
+        ensures ok { OnOk result (self.new ≡ record self.old { text = self.old.text ++ piece.now }) }
+        ensures err { OnErr result (self.new ≡ self.old) }
+    {
+        self.bytes.extend_from_slice(piece)
+    }
+
+    /// The lines and words of the text that was fed, up to its first fault; behind that no byte is looked at.
+    ///
+    /// # Errors
+    /// Where no memory is left.
+    #[tactic(auto, using(crate::proofs::Limit::script_limit))]
+    pub fn finish(self) -> Result<Text, AllocError>
+        ensures bytes { IfOk result (λ text. text.bytes ≡ self.text) }
+        ensures places { IfOk result (λ text. text_seen text ≡ lexed_within self.most_line self.text) }
+        ensures counted { IfOk result (λ text. text.line_count ≡ lines_before (lexed_within self.most_line self.text).ending) }
+        ensures script { self.most_line ≡ limit_number LineLimit → IfOk result (λ text. text_seen text ≡ lexed self.text) }
+    {
+        let mut scanner = Scanner::new(self.alloc);
+        let fault = scanner.scan(self.bytes.as_slice(), self.most_line)?;
+        Ok(scanner.into_text(self.bytes, fault))
+    }
+}

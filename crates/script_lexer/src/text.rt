@@ -1,0 +1,103 @@
+ghost use Rattle.std.specs.Prelude.{◌≡◌, length};
+ghost use Rattle.std.specs.List.{All};
+ghost use Rattle.script_lexer.specs.Texts.{LineFits, InLine, line_words};
+
+use crate::places::{LexFault, Line, Span};
+use std::marker::Model;
+
+/// A text with the places of its lines and words. A contract sees it as these parts; what they stand for is
+/// `text_seen`.
+#[derive(Drop)]
+pub struct Text {
+    bytes: Vec<u8>,
+    lines: Vec<Line>,
+    words: Vec<Span>,
+    line_count: u32,
+    fault: Option<LexFault>,
+}
+
+impl Model for Text {
+    ghost use Rattle.std.specs.Prelude.{length};
+    ghost use Rattle.std.specs.List.{All};
+    ghost use Rattle.script_lexer.specs.Texts.{TextParts, LineFits};
+
+    ghost Value = { TextParts };
+
+    ghost view = { λ text. record {
+      bytes = text.bytes.items;
+      lines = text.lines.items;
+      words = text.words.items;
+      line_count = text.line_count;
+      fault = text.fault;
+    } };
+
+    ghost invariant = { λ text. All (LineFits (length text.bytes.items) text.words.items) text.lines.items };
+}
+
+impl Text {
+    /// A text of these parts.
+    pub(crate) fn new(
+        bytes: Vec<u8>,
+        lines: Vec<Line>,
+        words: Vec<Span>,
+        line_count: u32,
+        fault: Option<LexFault>,
+    ) -> Text
+        requires { All (LineFits (length bytes.items) words.items) lines.items }
+        ensures { result ≡ record {
+          bytes = bytes.items;
+          lines = lines.items;
+          words = words.items;
+          line_count = line_count;
+          fault = fault;
+        } }
+    {
+        Text {
+            bytes,
+            lines,
+            words,
+            line_count,
+            fault,
+        }
+    }
+
+    /// All bytes that were fed, those behind a fault too.
+    pub fn bytes(&self) -> &[u8]
+        ensures { result.now ≡ self.now.bytes }
+    {
+        self.bytes.as_slice()
+    }
+
+    /// The lines that have a word, in their order, up to a fault's line. The words of each stand between the line's
+    /// start and the text's end.
+    pub fn lines(&self) -> &[Line]
+        ensures value { result.now ≡ self.now.lines }
+        ensures fit { All (LineFits (length self.now.bytes) self.now.words) result.now }
+    {
+        self.lines.as_slice()
+    }
+
+    /// The words of one of the text's lines, from left to right.
+    pub fn words(&self, line: &Line) -> &[Span]
+        requires { LineFits (length self.now.bytes) self.now.words line.now }
+        ensures value { result.now ≡ line_words self.now.words line.now }
+        ensures within { All (InLine line.now.start (length self.now.bytes)) result.now }
+    {
+        &self.words[line.first..line.first + line.count]
+    }
+
+    /// How many lines the text has; where a fault ends it, how many stand before the fault's line. A last line without
+    /// a line feed counts if it has a byte.
+    pub fn line_count(&self) -> u32
+        ensures { result ≡ self.now.line_count }
+    {
+        self.line_count
+    }
+
+    /// What ended the text before its end.
+    pub fn fault(&self) -> Option<LexFault>
+        ensures { result ≡ self.now.fault }
+    {
+        self.fault
+    }
+}

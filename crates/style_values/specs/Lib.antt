@@ -1,0 +1,4 @@
+pub mod Seen
+pub mod Ranges
+pub mod Reading
+pub mod Properties

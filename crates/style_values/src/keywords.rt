@@ -1,0 +1,58 @@
+//! Fixed words and what each stands for.
+
+ghost use Rattle.std.specs.Prelude.{◌≡◌, map, option_map};
+ghost use Rattle.script_model.specs.Keywords.{keyword, lookup};
+ghost use Rattle.script_model.specs.Properties.{displays, box_sizings, overflows};
+ghost use Rattle.style_values.specs.Seen.{seen_display, seen_box_sizing, seen_overflow};
+
+use crate::{BoxSizing, Display, Overflow};
+
+const DISPLAYS: [(&[u8], Display); 2] = [(b"block", Display::Block), (b"none", Display::Hidden)];
+
+const BOX_SIZINGS: [(&[u8], BoxSizing); 2] = [
+    (b"content-box", BoxSizing::Content),
+    (b"border-box", BoxSizing::Border),
+];
+
+const OVERFLOWS: [(&[u8], Overflow); 5] = [
+    (b"visible", Overflow::Visible),
+    (b"hidden", Overflow::Hidden),
+    (b"clip", Overflow::Clip),
+    (b"scroll", Overflow::Scroll),
+    (b"auto", Overflow::Auto),
+];
+
+/// What the word stands for in a table of fixed words, none where it isn't there.
+#[tactic(auto, unfolding(script_model::specs::Keywords::lookup))]
+pub fn find<T: Copy>(mut table: &[(&[u8], T)], word: &[u8]) -> Option<T>
+    ensures { result ≡ lookup (map (λ row. keyword row.0.now row.1) table.entry.now) word.now }
+{
+    while let [row, rest @ ..] = table {
+        if word == row.0 {
+            return Some(row.1);
+        }
+        table = rest;
+    }
+    None
+}
+
+/// The display that this word names.
+pub fn display(word: &[u8]) -> Option<Display>
+    ensures { option_map seen_display result ≡ lookup displays word.now }
+{
+    find(&DISPLAYS, word)
+}
+
+/// The box that this word names.
+pub fn box_sizing(word: &[u8]) -> Option<BoxSizing>
+    ensures { option_map seen_box_sizing result ≡ lookup box_sizings word.now }
+{
+    find(&BOX_SIZINGS, word)
+}
+
+/// The overflow that this word names.
+pub fn overflow(word: &[u8]) -> Option<Overflow>
+    ensures { option_map seen_overflow result ≡ lookup overflows word.now }
+{
+    find(&OVERFLOWS, word)
+}

@@ -1,0 +1,136 @@
+//! The styles of elements: the properties with their values, read from words and set.
+#![tactic(auto)]
+
+mod declarations;
+mod keywords;
+mod lengths;
+mod properties;
+mod styles;
+#[cfg(test)]
+mod tests;
+
+use px_units::{Length, Px};
+use thiserror::Error;
+
+/// Whether an element has a box (CSS Display 3, 2).
+#[derive(Clone, Copy, Debug, PartialEq, Eq)]
+pub enum Display {
+    /// `block`
+    Block,
+    /// `none`: neither the element nor what it contains has a box.
+    Hidden,
+}
+
+/// Which box a width and a height are of (CSS Box Sizing 3, 3.1).
+#[derive(Clone, Copy, Debug, PartialEq, Eq)]
+pub enum BoxSizing {
+    /// `content-box`
+    Content,
+    /// `border-box`
+    Border,
+}
+
+/// What becomes of content that doesn't fit its box (CSS Overflow 3, 3.1).
+#[derive(Clone, Copy, Debug, PartialEq, Eq)]
+pub enum Overflow {
+    /// `visible`
+    Visible,
+    /// `hidden`: a scroll container.
+    Hidden,
+    /// `clip`: cut, and no scroll container.
+    Clip,
+    /// `scroll`: a scroll container.
+    Scroll,
+    /// `auto`: a scroll container.
+    Auto,
+}
+
+/// The sides that a declaration sets: one of them, or by a shorthand all four (CSS 2.2, 8.3 to 8.5).
+#[derive(Clone, Copy, Debug, PartialEq, Eq)]
+pub enum Sides {
+    Top,
+    Right,
+    Bottom,
+    Left,
+    /// The shorthands `margin`, `padding` and `border`.
+    All,
+}
+
+/// The values of an element's properties (CSS 2.2, 8 to 11). Lengths are in units of 1/64 pixel, at most 64,000,000,
+/// percentages in hundredths of a percent, at most 1,000,000; none is negative.
+#[derive(Clone, Copy, Debug, PartialEq, Eq)]
+pub struct Style {
+    /// First `block`.
+    pub display: Display,
+    /// First `content-box`.
+    pub box_sizing: BoxSizing,
+    /// First `visible`.
+    pub overflow: Overflow,
+    /// First `auto`.
+    pub width: Length,
+    /// First `auto`.
+    pub height: Length,
+    /// A length or a percentage, first 0.
+    pub min_width: Length,
+    /// A length or a percentage, first 0.
+    pub min_height: Length,
+    /// A length or a percentage; None, as at first, for `none`.
+    pub max_width: Option<Length>,
+    /// A length or a percentage; None, as at first, for `none`.
+    pub max_height: Option<Length>,
+    /// Margins are lengths or percentages, first 0.
+    pub margin_top: Length,
+    pub margin_right: Length,
+    pub margin_bottom: Length,
+    pub margin_left: Length,
+    /// Paddings are lengths or percentages, first 0.
+    pub padding_top: Length,
+    pub padding_right: Length,
+    pub padding_bottom: Length,
+    pub padding_left: Length,
+    /// Borders are lengths, first 0.
+    pub border_top: Px,
+    pub border_right: Px,
+    pub border_bottom: Px,
+    pub border_left: Px,
+}
+
+/// One property with its value (CSS 2.2, 4.1.8).
+#[derive(Clone, Copy, Debug, PartialEq, Eq)]
+pub enum Declaration {
+    /// `display`
+    Display(Display),
+    /// `width`: `auto`, a length or a percentage.
+    Width(Length),
+    /// `height`: `auto`, a length or a percentage.
+    Height(Length),
+    /// `min-width`: a length or a percentage.
+    MinWidth(Length),
+    /// `min-height`: a length or a percentage.
+    MinHeight(Length),
+    /// `max-width`: a length or a percentage, None for `none`.
+    MaxWidth(Option<Length>),
+    /// `max-height`: a length or a percentage, None for `none`.
+    MaxHeight(Option<Length>),
+    /// `margin` and `margin-top` to `margin-left`: a length or a percentage.
+    Margin(Sides, Length),
+    /// `padding` and `padding-top` to `padding-left`: a length or a percentage.
+    Padding(Sides, Length),
+    /// `border` and `border-top` to `border-left`: a length.
+    Border(Sides, Px),
+    /// `box-sizing`
+    BoxSizing(BoxSizing),
+    /// `overflow`
+    Overflow(Overflow),
+}
+
+/// Why two words are no declaration.
+#[derive(Clone, Copy, Debug, PartialEq, Eq, Error)]
+pub enum StyleFault {
+    /// There is no property of this name.
+    #[error("UnknownProperty")]
+    UnknownProperty,
+    /// The property has no such value.
+    #[error("BadValue")]
+    BadValue,
+}

@@ -1,0 +1,83 @@
+//! The properties and what each reads.
+
+ghost use Rattle.std.specs.Prelude.{◌≡◌, option_map, IfSome};
+ghost use Rattle.script_model.specs.Properties.{property_of};
+ghost use Rattle.style_values.specs.Properties.{reader_of};
+ghost use Rattle.style_values.specs.Ranges.{IsAllowed};
+ghost use Rattle.style_values.specs.Seen.{seen_declaration};
+
+use crate::keywords::{box_sizing, display, find, overflow};
+use crate::lengths::{auto_or_size, border, none_or_size, size};
+use crate::{Declaration, Sides};
+
+/// A property, with the sides that it is of.
+#[derive(Clone, Copy)]
+pub enum Property {
+    Display,
+    Width,
+    Height,
+    MinWidth,
+    MinHeight,
+    MaxWidth,
+    MaxHeight,
+    Margin(Sides),
+    Padding(Sides),
+    Border(Sides),
+    BoxSizing,
+    Overflow,
+}
+
+const PROPERTIES: [(&[u8], Property); 24] = [
+    (b"display", Property::Display),
+    (b"width", Property::Width),
+    (b"height", Property::Height),
+    (b"min-width", Property::MinWidth),
+    (b"min-height", Property::MinHeight),
+    (b"max-width", Property::MaxWidth),
+    (b"max-height", Property::MaxHeight),
+    (b"margin-top", Property::Margin(Sides::Top)),
+    (b"margin-right", Property::Margin(Sides::Right)),
+    (b"margin-bottom", Property::Margin(Sides::Bottom)),
+    (b"margin-left", Property::Margin(Sides::Left)),
+    (b"margin", Property::Margin(Sides::All)),
+    (b"padding-top", Property::Padding(Sides::Top)),
+    (b"padding-right", Property::Padding(Sides::Right)),
+    (b"padding-bottom", Property::Padding(Sides::Bottom)),
+    (b"padding-left", Property::Padding(Sides::Left)),
+    (b"padding", Property::Padding(Sides::All)),
+    (b"border-top", Property::Border(Sides::Top)),
+    (b"border-right", Property::Border(Sides::Right)),
+    (b"border-bottom", Property::Border(Sides::Bottom)),
+    (b"border-left", Property::Border(Sides::Left)),
+    (b"border", Property::Border(Sides::All)),
+    (b"box-sizing", Property::BoxSizing),
+    (b"overflow", Property::Overflow),
+];
+
+/// The property of this name.
+pub fn property_named(name: &[u8]) -> Option<Property>
+    ensures { option_map reader_of result ≡ property_of name.now }
+{
+    find(&PROPERTIES, name)
+}
+
+/// The declaration of a property with the value that the word is, none where the property has no such value.
+pub fn read_value(property: Property, word: &[u8]) -> Option<Declaration>
+    ensures value { option_map seen_declaration result ≡ reader_of property word.now }
+    ensures range { IfSome result (λ declaration. IsAllowed declaration) }
+{
+    match property {
+        Property::Display => display(word).map(Declaration::Display),
+        Property::Width => auto_or_size(word).map(Declaration::Width),
+        Property::Height => auto_or_size(word).map(Declaration::Height),
+        Property::MinWidth => size(word).map(Declaration::MinWidth),
+        Property::MinHeight => size(word).map(Declaration::MinHeight),
+        Property::MaxWidth => none_or_size(word).map(Declaration::MaxWidth),
+        Property::MaxHeight => none_or_size(word).map(Declaration::MaxHeight),
+        Property::Margin(sides) => size(word).map(|value| Declaration::Margin(sides, value)),
+        Property::Padding(sides) => size(word).map(|value| Declaration::Padding(sides, value)),
+        Property::Border(sides) => border(word).map(|value| Declaration::Border(sides, value)),
+        Property::BoxSizing => box_sizing(word).map(Declaration::BoxSizing),
+        Property::Overflow => overflow(word).map(Declaration::Overflow),
+    }
+}
