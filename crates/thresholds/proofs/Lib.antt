@@ -1,0 +1,9 @@
+pub mod Cuts
+pub mod Reading
+pub mod Widths
+pub mod Placing
+pub mod Ranges
+pub mod Sums
+pub mod Moves
+pub mod Order
+pub mod Crossing

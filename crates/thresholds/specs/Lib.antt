@@ -1,0 +1,4 @@
+pub mod Parts
+pub mod Sides
+pub mod Roots
+pub mod Faults
