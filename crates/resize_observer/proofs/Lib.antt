@@ -1,0 +1,5 @@
+pub mod Seen
+pub mod Places
+pub mod Numbers
+pub mod Counts
+pub mod Reports

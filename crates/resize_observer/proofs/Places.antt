@@ -1,0 +1,68 @@
+-- One observer changed in its place.
+use Rattle.std.proofs.Common.{◌≡◌, ℕ, zero, suc, ◌<◌, ◌∙◌, ap, refl, sym, subst, get_or, set, length, arith, add-one, ◌+◌, ◌-◌, ◌==◌, Bool, true, cond, drop, drop-cons}
+use Rattle.std.proofs.lemmas.Bool.{eq-eqb, cond-true}
+use Rattle.std.proofs.lemmas.Option.{slice_get_read}
+use Rattle.std.specs.Prelude.{List, [], ◌∷◌, ◌++◌, slice_get, unwrap_or}
+use Rattle.px_units.specs.declared.BoxKind.{BoxKind}
+use Rattle.page_model.specs.World.{ResizeObserver}
+use Rattle.page_model.specs.Lookups.{change_at, no_extent, no_resize_observer}
+use Rattle.page_model.specs.Observing.{without_observed}
+use Rattle.page_model.specs.Intersections.{places_from}
+use Rattle.resize_observer.specs.Observers.{ResizeObservers, changing, observing}
+
+pub change_at-set : {A : Type 0} (change : A → A) (xs : List A) (place : ℕ) (x : A) → place < length xs → x ≡ get_or xs place x → set xs place (change x) ≡ change_at change place xs
+change_at-set change [] place x within is = refl
+change_at-set change (y ∷ ys) zero x within is = ap (λ it. change it ∷ ys) is
+change_at-set change (y ∷ ys) (suc place) x within is = ap (λ others. y ∷ others) (change_at-set change ys place x (omega arith) is)
+
+-- a place of the fields that is one of the value
+pub within : {inside it : ResizeObservers} {place : ℕ} → inside ≡ it → place < length it.made → place < length inside.made
+within {place = place} seen there = subst (λ (these : ResizeObservers). place < length these.made) (sym seen) there
+
+pub once_changed :
+    (change : ResizeObserver → ResizeObserver) {inside it : ResizeObservers} {place : ℕ} {old new : ResizeObserver} →
+    inside ≡ it → place < length it.made → old ≡ get_or inside.made place old → new ≡ change old →
+    record inside { made = set inside.made place new } ≡ changing change place it
+once_changed change {inside} {it} {place} {old} {new} seen there is same =
+    ap (λ (observer : ResizeObserver). record inside { made = set inside.made place observer }) same
+    ∙ ap (λ (made : List ResizeObserver). record inside { made = made }) (change_at-set change (inside.made) place old (within seen there) is)
+    ∙ ap (changing change place) seen
+
+-- an observer that is read at a place
+pub read : (made : List ResizeObserver) (place : ℕ) (x : ResizeObserver) → place < length made → x ≡ get_or made place x → unwrap_or (slice_get made place) no_resize_observer ≡ x
+read made place x there is = ap (λ found. unwrap_or found no_resize_observer) (slice_get_read made (length made) place x refl there is)
+
+pub once_observed :
+    (n : ℕ) (observed : BoxKind) {inside it : ResizeObservers} {place : ℕ} {old new : ResizeObserver} →
+    inside ≡ it → place < length it.made → old ≡ get_or inside.made place old →
+    new ≡ record old { targets = without_observed n (old.targets) ++ record { serial = inside.observed; target = n; observed = observed; last = no_extent } ∷ [] } →
+    record inside { made = set inside.made place new; observed = inside.observed + 1 } ≡ observing place n observed it
+once_observed n observed {inside} {it} {place} {old} {new} seen there is same =
+    let change : ResizeObserver → ResizeObserver = λ x. record x { targets = without_observed n (x.targets) ++ record { serial = inside.observed; target = n; observed = observed; last = no_extent } ∷ [] } in
+    ap (λ (observer : ResizeObserver). record inside { made = set inside.made place observer; observed = inside.observed + 1 }) same
+    ∙ ap (λ (made : List ResizeObserver). record inside { made = made; observed = inside.observed + 1 }) (change_at-set change (inside.made) place old (within seen there) is)
+    ∙ ap (λ (given : ℕ). record inside { made = change_at change place (inside.made); observed = given }) (add-one inside.observed)
+    ∙ ap (observing place n observed) seen
+
+-- the observers of a document, looked up one after the other
+
+found : (test : ResizeObserver → Bool) (made : List ResizeObserver) (number : ℕ) (x : ResizeObserver) → number < length made → x ≡ get_or made number x → test x ≡ true → places_from number test (drop number made) ≡ number ∷ places_from (suc number) test (drop (suc number) made)
+found test made number x there is passes =
+    let others : List ℕ = places_from (suc number) test (drop (suc number) made) in
+    ap (places_from number test) (drop-cons made number x there)
+    ∙ ap (λ (y : ResizeObserver). cond (test y) (number ∷ others) others) (sym is)
+    ∙ cond-true (test x) (number ∷ others) others passes
+
+behind_first : (x : ℕ) (xs : List ℕ) (left : ℕ) → 0 < left → slice_get xs (left - 1) ≡ slice_get (x ∷ xs) left
+behind_first x xs zero some = absurd (elim some [ ])
+behind_first x xs (suc left) some = let one : suc left - 1 ≡ left = omega arith in ap (slice_get xs) one
+
+pub passed :
+    (document : ℕ) (made : List ResizeObserver) (number left : ℕ) (x : ResizeObserver) → number < length made → x ≡ get_or made number x → x.document ≡ document → 0 < left →
+    slice_get (places_from (number + 1) (λ (it : ResizeObserver). it.document == document) (drop (number + 1) made)) (left - 1)
+    ≡ slice_get (places_from number (λ (it : ResizeObserver). it.document == document) (drop number made)) left
+passed document made number left x there is its some =
+    let test : ResizeObserver → Bool = λ it. it.document == document in
+    ap (λ (next : ℕ). slice_get (places_from next test (drop next made)) (left - 1)) (add-one number)
+    ∙ behind_first number _ left some
+    ∙ ap (λ (these : List ℕ). slice_get these left) (sym (found test made number x there is (eq-eqb (x.document) document its)))

@@ -1,0 +1,5 @@
+pub mod Observations
+pub mod Reports
+pub mod Serials
+pub mod Observers
+pub mod Held

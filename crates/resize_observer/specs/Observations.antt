@@ -1,0 +1,15 @@
+-- What the observations of this crate stand for (Resize Observer, 3.1: ResizeObservation).
+use Rattle.std.specs.Prelude.{List, map, unsigned_abs}
+use Rattle.px_units.specs.declared.Size.{Size}
+use Rattle.page_model.specs.World.{Extent, Observation as ModelObservation}
+use Rattle.resize_observer.specs.declared.observation.Observation.{Observation}
+
+-- a size is never negative, so it is seen through absolute values
+abbrev pub seen_size : Size → Extent
+seen_size size = record { across = unsigned_abs size.width; down = unsigned_abs size.height }
+
+abbrev pub seen_observation : Observation → ModelObservation
+seen_observation it = record { serial = it.number; target = it.target.0; observed = it.observed; last = seen_size it.last }
+
+abbrev pub seen_observations : List Observation → List ModelObservation
+seen_observations observations = map seen_observation observations

@@ -1,0 +1,27 @@
+-- A serial number names one observation for good: whatever list an observation of this number stands in, it observes
+-- the same box of the same target.
+use Rattle.std.specs.Prelude.{◌≡◌, ℕ, ◌<◌, List, All}
+use Rattle.px_units.specs.declared.BoxKind.{BoxKind}
+use Rattle.page_model.specs.World.{Observation, ResizeObserver}
+
+-- what is observed: a target, and which of its boxes
+pub record Subject : Type 0 where
+  pub target : ℕ
+  pub observed : BoxKind
+
+abbrev pub subject_of : Observation → Subject
+subject_of it = record { target = it.target; observed = it.observed }
+
+-- the observation has one of the numbers given so far, and observes what this number was given to
+pub record IsNumbered (subjects : ℕ → Subject) (given : ℕ) (it : Observation) : Type 0 where
+  pub below : it.serial < given
+  pub subject : subject_of it ≡ subjects it.serial
+
+pub record AreNumbered (subjects : ℕ → Subject) (given : ℕ) (it : ResizeObserver) : Type 0 where
+  pub targets : All (IsNumbered subjects given) it.targets
+  pub active : All (IsNumbered subjects given) it.active
+  pub skipped : All (IsNumbered subjects given) it.skipped
+
+pub record HasSerials (given : ℕ) (made : List ResizeObserver) : Type 0 where
+  pub subjects : ℕ → Subject
+  pub each : All (AreNumbered subjects given) made

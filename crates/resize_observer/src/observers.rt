@@ -1,0 +1,284 @@
+//! The observers of a page.
+
+ghost use Rattle.std.specs.Prelude.{◌≡◌, ◌<◌, ◌-◌, ◌^◌, false, [], length, option_map, IfOk, OnOk, OnErr, IfSome, slice_get, ◌==◌};
+ghost use Rattle.page_model.specs.Intersections.{places_from};
+ghost use Rattle.resize_observer.specs.Observations.{seen_size, seen_observations};
+ghost use Rattle.resize_observer.specs.Serials.{HasSerials};
+ghost use Rattle.resize_observer.specs.Observers.{observer_at, nth_of, has_room, may_observe, making, observing, unobserving, disconnecting, changing, ungathered, gathered_at, list_for, reported_at, inactive};
+
+use crate::observer::Observer;
+use crate::{Observation, ObserverId};
+use element_tree::NodeId;
+use px_units::{BoxKind, Size};
+use std::alloc::Global;
+use std::marker::Model;
+use thiserror::Error;
+
+/// Why a call is refused. A refused call changes nothing.
+#[derive(Clone, Copy, Debug, PartialEq, Eq, Error)]
+pub enum ObserveFault {
+    /// As many as there may be are there.
+    #[error("Limit")]
+    Limit,
+    /// There is no memory.
+    #[error("Memory")]
+    Memory,
+}
+
+/// The resize observers of a page in order of making, each with its document, its handler and its lists of observations:
+/// the observation targets, the active and the skipped targets (Resize Observer, 3.1). A clause sees them as the
+/// definitions of a world do, with the number of serial numbers given.
+///
+/// An observer that is handed in is one that these observers made.
+#[derive(Drop)]
+pub struct Observers {
+    made: Vec<Observer>,
+    observed: u64,
+    held: usize,
+    most_observers: u32,
+    most_observations: u32,
+}
+
+impl Model for Observers {
+    ghost use Rattle.std.specs.Prelude.{◌≡◌, ◌≤◌, length, sum_by};
+    ghost use Rattle.resize_observer.specs.Observers.{ResizeObservers};
+
+    ghost Value = { ResizeObservers };
+
+    ghost use Rattle.resize_observer.specs.Held.{IsHeld};
+
+    ghost view = { λ o. record { made = o.made.items; observed = o.observed; most_observers = o.most_observers; most_observations = o.most_observations } };
+
+    ghost invariant = { λ o. IsHeld o.made.items o.observed o.held o.most_observers o.most_observations };
+}
+
+impl Observers {
+    /// No observers, which take no memory yet. At most `most_observers` can be made, and at most `most_observations`
+    /// targets observed, each once for an observer of it.
+    pub fn new(alloc: Global, most_observers: u32, most_observations: u32) -> Observers
+        ensures { result ≡ record { made = []; observed = 0; most_observers = most_observers; most_observations = most_observations } }
+    {
+        Observers {
+            made: Vec::new(alloc),
+            observed: 0,
+            held: 0,
+            most_observers,
+            most_observations,
+        }
+    }
+
+    /// Makes an observer of a document, with the number of its handler if it has one; last in the document's order
+    /// (Resize Observer, 2.1: the constructor).
+    ///
+    /// `Limit` exactly where `most_observers` were made; else `Memory` where there is none.
+    pub fn make(&mut self, document: u32, handler: Option<u32>) -> Result<ObserverId, ObserveFault>
+        ensures observer { IfOk result (λ observer. observer.0 ≡ length self.old.made) }
+        ensures made { OnOk result (self.new ≡ making document handler self.old) }
+        ensures same { OnErr result (self.new ≡ self.old) }
+        ensures full { has_room self.old ≡ false → result ≡ Err ObserveFault.Limit }
+        ensures limit { result ≡ Err ObserveFault.Limit → has_room self.old ≡ false }
+    {
+        let number = self.made.len();
+        if number >= self.most_observers as usize {
+            return Err(ObserveFault::Limit);
+        }
+        let observer = Observer::new(*self.made.allocator(), document, handler);
+        let Ok(()) = self.made.push(observer) else {
+            return Err(ObserveFault::Memory);
+        };
+        Ok(ObserverId(number as u32))
+    }
+
+    /// Observes a box of a target (Resize Observer, 2.1: `observe`): a target that is there is unobserved first, then a
+    /// new observation with the next serial number and the last reported size 0 by 0 goes to the end of the targets.
+    ///
+    /// It makes room on the active and the skipped list, so that gathering takes no memory. `Limit` exactly where the
+    /// target isn't there and `most_observations` are held; else `Memory` where there is none. Fewer than 2^64 - 1 serial
+    /// numbers were given.
+    pub fn observe(
+        &mut self,
+        observer: ObserverId,
+        target: NodeId,
+        observed: BoxKind,
+    ) -> Result<(), ObserveFault>
+        requires observer { observer.0 < length self.old.made }
+        requires serials { self.old.observed < 2 ^ 64 - 1 }
+        ensures observed { OnOk result (self.new ≡ observing observer.0 target.0 observed self.old) }
+        ensures same { OnErr result (self.new ≡ self.old) }
+        ensures full { may_observe observer.0 target.0 self.old ≡ false → result ≡ Err ObserveFault.Limit }
+        ensures limit { result ≡ Err ObserveFault.Limit → may_observe observer.0 target.0 self.old ≡ false }
+        ensures count { length self.new.made ≡ length self.old.made }
+    {
+        if !self.may_observe(observer, target) {
+            return Err(ObserveFault::Limit);
+        }
+        let observation = Observation {
+            number: self.observed,
+            target,
+            observed,
+            last: Size {
+                width: 0,
+                height: 0,
+            },
+        };
+        let it = &mut self.made[observer.0 as usize];
+        let before = it.count();
+        let Ok(()) = it.observe(observation) else {
+            return Err(ObserveFault::Memory);
+        };
+        let after = it.count();
+        self.held = self.held - before + after;
+        self.observed += 1;
+        Ok(())
+    }
+
+    // Whether a target is there or there is room for one more.
+    fn may_observe(&self, observer: ObserverId, target: NodeId) -> bool
+        requires { observer.0 < length self.now.made }
+        ensures { result ≡ may_observe observer.0 target.0 self.now }
+    {
+        self.made[observer.0 as usize].observes(target)
+            || self.held < self.most_observations as usize
+    }
+
+    /// Takes the observation of a target out of the targets alone; nothing where it isn't there (Resize Observer, 2.1:
+    /// `unobserve`).
+    pub fn unobserve(&mut self, observer: ObserverId, target: NodeId)
+        requires { observer.0 < length self.old.made }
+        ensures unobserved { self.new ≡ unobserving observer.0 target.0 self.old }
+        ensures count { length self.new.made ≡ length self.old.made }
+    {
+        let it = &mut self.made[observer.0 as usize];
+        let before = it.count();
+        it.unobserve(target);
+        let after = it.count();
+        self.held = self.held - before + after;
+    }
+
+    /// Clears the targets and the active list (Resize Observer, 2.1: `disconnect`).
+    pub fn disconnect(&mut self, observer: ObserverId)
+        requires { observer.0 < length self.old.made }
+        ensures disconnected { self.new ≡ disconnecting observer.0 self.old }
+        ensures count { length self.new.made ≡ length self.old.made }
+    {
+        let it = &mut self.made[observer.0 as usize];
+        let before = it.count();
+        it.disconnect();
+        self.held -= before;
+    }
+
+    /// Clears the active and the skipped list (Resize Observer, 3.4: gather active observations at depth).
+    pub fn begin_gather(&mut self, observer: ObserverId)
+        requires { observer.0 < length self.old.made }
+        ensures begun { self.new ≡ changing ungathered observer.0 self.old }
+        ensures count { length self.new.made ≡ length self.old.made }
+    {
+        self.made[observer.0 as usize].begin_gather();
+    }
+
+    /// Puts a copy of the observation at this place of the targets on the end of the active list, or on that of the
+    /// skipped list where `active` is false.
+    ///
+    /// This list is shorter than the targets, so that there is room for it.
+    pub fn gathered(&mut self, observer: ObserverId, place: usize, active: bool)
+        requires observer { observer.0 < length self.old.made }
+        requires place { place < length (observer_at self.old observer.0).targets }
+        requires room { length (list_for active (observer_at self.old observer.0)) < length (observer_at self.old observer.0).targets }
+        ensures gathered { self.new ≡ changing (gathered_at place active) observer.0 self.old }
+        ensures count { length self.new.made ≡ length self.old.made }
+    {
+        self.made[observer.0 as usize].gathered(place, active);
+    }
+
+    /// The observation of this serial number among the targets, if it is there, gets this last reported size (Resize
+    /// Observer, 3.4: broadcast active observations). One that was made anew for the same target is another.
+    pub fn report(&mut self, observer: ObserverId, number: u64, last: Size)
+        requires { observer.0 < length self.old.made }
+        ensures reported { self.new ≡ changing (reported_at number (seen_size last)) observer.0 self.old }
+        ensures count { length self.new.made ≡ length self.old.made }
+    {
+        self.made[observer.0 as usize].report(number, last);
+    }
+
+    /// Empties the active list.
+    pub fn clear_active(&mut self, observer: ObserverId)
+        requires { observer.0 < length self.old.made }
+        ensures cleared { self.new ≡ changing inactive observer.0 self.old }
+        ensures count { length self.new.made ≡ length self.old.made }
+    {
+        self.made[observer.0 as usize].clear_active();
+    }
+
+    /// The observations in order of the calls of `observe`.
+    pub fn targets(&self, observer: ObserverId) -> &[Observation]
+        requires { observer.0 < length self.now.made }
+        ensures value { seen_observations result.now ≡ (observer_at self.now observer.0).targets }
+        ensures count { length result.now ≡ length (observer_at self.now observer.0).targets }
+        ensures serials { HasSerials self.now.observed self.now.made }
+    {
+        self.made[observer.0 as usize].targets()
+    }
+
+    /// The active targets.
+    pub fn active(&self, observer: ObserverId) -> &[Observation]
+        requires { observer.0 < length self.now.made }
+        ensures value { seen_observations result.now ≡ (observer_at self.now observer.0).active }
+        ensures count { length result.now ≡ length (observer_at self.now observer.0).active }
+        ensures serials { HasSerials self.now.observed self.now.made }
+    {
+        self.made[observer.0 as usize].active()
+    }
+
+    /// The skipped targets.
+    pub fn skipped(&self, observer: ObserverId) -> &[Observation]
+        requires { observer.0 < length self.now.made }
+        ensures value { seen_observations result.now ≡ (observer_at self.now observer.0).skipped }
+        ensures count { length result.now ≡ length (observer_at self.now observer.0).skipped }
+        ensures serials { HasSerials self.now.observed self.now.made }
+    {
+        self.made[observer.0 as usize].skipped()
+    }
+
+    /// The document whose observer this is.
+    pub fn document(&self, observer: ObserverId) -> u32
+        requires { observer.0 < length self.now.made }
+        ensures { result ≡ (observer_at self.now observer.0).document }
+    {
+        self.made[observer.0 as usize].document()
+    }
+
+    /// The number of the observer's handler, none where it has none.
+    pub fn handler(&self, observer: ObserverId) -> Option<u32>
+        requires { observer.0 < length self.now.made }
+        ensures { result ≡ (observer_at self.now observer.0).handler }
+    {
+        self.made[observer.0 as usize].handler()
+    }
+
+    /// The document's observer at this place in order of making, counted from 0. None exactly past the last.
+    pub fn of_document(&self, document: u32, place: usize) -> Option<ObserverId>
+        ensures value { option_map (λ observer. observer.0) result ≡ nth_of self.now document place }
+        ensures made { IfSome result (λ observer. observer.0 < length self.now.made) }
+    {
+        let number = nth_of_document(self.made.as_slice(), document, place)?;
+        Some(ObserverId(number as u32))
+    }
+}
+
+// Where the observer of a document that stands at this place among those of this document is found.
+fn nth_of_document(made: &[Observer], document: u32, place: usize) -> Option<usize>
+    ensures value { result ≡ slice_get (places_from 0 (λ it. it.document == document) made.now) place }
+    ensures made { IfSome result (λ number. number < length made.now) }
+{
+    let mut left = place;
+    for (number, it) in made.iter().enumerate() {
+        if it.document() != document {
+            continue;
+        }
+        if left == 0 {
+            return Some(number);
+        }
+        left -= 1;
+    }
+    None
+}
