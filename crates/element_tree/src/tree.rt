@@ -1,5 +1,5 @@
 //! The tree: its calls, each said in terms of a plain list of nodes.
-ghost use Rattle.std.specs.Prelude.{◌≡◌, ℕ, ◌+◌, ◌<◌, ◌≤◌, ◌++◌, ◌∷◌, [], length, slice_get, option_map, Some, nat_lt, IfOk, OnOk, OnErr, IfErr, IsOk, Err, ◌≢◌, MatchResult, None, true, false, not};
+ghost use Rattle.std.specs.Prelude.{◌≡◌, ℕ, ◌+◌, ◌<◌, ◌≤◌, ◌++◌, ◌∷◌, [], length, slice_get, option_map, Some, nat_lt, IfOk, OnOk, OnErr, IfErr, IsOk, IsErr, Err, ◌≢◌, MatchResult, None, true, false, not};
 ghost use Rattle.element_tree.specs.Forest.{IsForest, parent_of, children_of, siblings_of, first_of, next_of, previous_of, depth, height, is_ancestor, names, most_levels};
 ghost use Rattle.element_tree.specs.Edits.{inserted, removed, mark_of, lone, with_nodes};
 ghost use Rattle.element_tree.specs.Answers.{append_fault, insert_fault, too_deep, IsAddFault};
@@ -149,6 +149,7 @@ impl<P> Tree<P> {
         ensures same { OnErr result (self.new ≡ record self.old { ready = self.new.ready }) }
         ensures kept { OnErr result (self.old.ready ≡ true → self.new.ready ≡ true) }
         ensures returned { IfErr result (λ refused. refused.1 ≡ payload) }
+        ensures full { length self.old.nodes ≡ self.old.most_nodes → IsErr result }
         ensures refused { IfErr result (λ refused. IsAddFault self.old refused.0) }
         ensures found { length self.old.nodes ≢ self.old.most_nodes → self.old.ready ≡ true → IsOk result }
     {
