@@ -1,0 +1,9 @@
+pub mod Nodes
+pub mod Parts
+pub mod Forests
+pub mod Totals
+pub mod Kids
+pub mod Ancestors
+pub mod Filled
+pub mod Far
+pub mod Reaching

@@ -1,0 +1,81 @@
+//! What layout asks of the elements of a tree.
+
+ghost use Rattle.std.specs.Prelude.{◌≡◌, ◌<◌, not, length};
+ghost use Rattle.layout_model.specs.Boxes.{kids_of};
+ghost use Rattle.layout_model.specs.Clips.{clips, is_visible};
+ghost use Rattle.element_tree.specs.Forest.{IsForest, first_of};
+ghost use Rattle.element_tree.specs.Links.{node_ids};
+ghost use Rattle.style_values.specs.Seen.{seen_style};
+ghost use Rattle.block_layout.specs.Seen.{seen_kind};
+ghost use Rattle.block_layout.specs.Trees.{layout_tree};
+
+use crate::ItemKind;
+use element_tree::{NodeId, Tree};
+use style_values::{Display, Overflow, Style};
+
+/// What a tree carries for layout: elements with a style and a kind.
+pub trait Styled {
+    ghost use Rattle.layout_model.specs.Styles.{Style as StyleModel};
+    ghost use Rattle.layout_model.specs.Items.{Kind};
+
+    /// The style, as the definitions of layout see it.
+    ghost style: { Self → StyleModel };
+
+    /// The kind, as the definitions of layout see it.
+    ghost kind: { Self → Kind };
+
+    /// The style of the element.
+    fn style(&self) -> &Style
+        ensures { seen_style result.now ≡ style self.now };
+
+    /// The kind of the element.
+    fn kind(&self) -> ItemKind
+        ensures { seen_kind result ≡ kind self.now };
+}
+
+// Whether the element itself has `display: none`.
+pub(crate) fn is_hidden<P: Styled>(tree: &Tree<P>, node: NodeId) -> bool
+    requires { node.0 < length tree.now.nodes }
+    ensures value { result ≡ (layout_tree P.style P.kind tree.now.nodes node.0).item.style.hidden }
+    ensures forest { IsForest tree.now.most_depth tree.now.nodes }
+{
+    match tree.payload(node).style().display {
+        Display::Hidden => true,
+        Display::Block => false,
+    }
+}
+
+// The first of the children that may have boxes: those of a block.
+pub(crate) fn first_inner<P: Styled>(tree: &Tree<P>, node: NodeId) -> Option<NodeId>
+    requires { node.0 < length tree.now.nodes }
+    ensures value { result ≡ node_ids (first_of (kids_of (layout_tree P.style P.kind tree.now.nodes node.0))) }
+    ensures forest { IsForest tree.now.most_depth tree.now.nodes }
+{
+    match tree.payload(node).kind() {
+        ItemKind::Block => tree.first_child(node),
+        ItemKind::Image(_) | ItemKind::Frame => None,
+    }
+}
+
+// Whether content that doesn't fit is cut (CSS Overflow 3, 3.1).
+fn is_cut(style: &Style) -> bool
+    ensures { result ≡ not (is_visible (seen_style style.now).overflow) }
+{
+    match style.overflow {
+        Overflow::Visible => false,
+        Overflow::Hidden | Overflow::Clip | Overflow::Scroll | Overflow::Auto => true,
+    }
+}
+
+// Whether the node's box cuts its content, at its padding box.
+pub(crate) fn is_clipping<P: Styled>(tree: &Tree<P>, node: NodeId) -> bool
+    requires { node.0 < length tree.now.nodes }
+    ensures value { result ≡ clips (layout_tree P.style P.kind tree.now.nodes node.0) }
+    ensures forest { IsForest tree.now.most_depth tree.now.nodes }
+{
+    let item = tree.payload(node);
+    match item.kind() {
+        ItemKind::Block => is_cut(item.style()) && tree.parent(node).is_some(),
+        ItemKind::Image(_) | ItemKind::Frame => false,
+    }
+}
