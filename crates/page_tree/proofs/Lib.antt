@@ -1,0 +1,13 @@
+pub mod Changes
+pub mod Siblings
+pub mod Lookups
+pub mod Paths
+pub mod Frames
+pub mod Standing
+pub mod Places
+pub mod Placing
+pub mod Outcomes
+pub mod Trees
+pub mod Items
+pub mod Growing
+pub mod Making

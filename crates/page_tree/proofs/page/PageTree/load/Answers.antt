@@ -1,0 +1,42 @@
+use Rattle.std.proofs.Common.{option_map, refl, unsigned_abs}
+use Rattle.element_tree.specs.Links.{number}
+use Rattle.element_tree.specs.Edits.{change_at, with_nodes, with_payload}
+use Rattle.page_tree.specs.Items.{sized_in}
+use Rattle.page_tree.specs.Views.{placed_in, seen_page}
+use Rattle.page_tree.proofs.Growing.{load_refused, load_done}
+use Rattle.page_tree.proofs.Items.{IsPage-written, written_done, written_rest, written_count}
+use Rattle.page_tree.proofs.page.PageTree.load.Goals as goal
+
+pub returns-in_default : goal.returns-in_default
+returns-in_default c = record {
+  done = tt;
+  rest = tt;
+  count = refl;
+  refused = λ world.
+      load_refused (placed_in c.args.self.now world) (c.args.node.0) (unsigned_abs (c.args.size.width)) (unsigned_abs (c.args.size.height))
+      c.kind.result (c.kind.ensures.value world) c.in_default.not-Image;
+  same = refl;
+}
+
+pub invariant_of-self : goal.invariant_of-self
+invariant_of-self c =
+    IsPage-written c.args.self.now c.self.inside.tree (option_map number c.self.inside.root) c.self.view_is c.self.invariant
+    (c.args.node.0) c.payload_mut.result.now c.set_natural_size.new.self c.payload_mut.ensures.value (sized_in c.args.size) c.set_natural_size.ensures
+
+pub returns-clause-done : goal.returns-clause-done
+returns-clause-done c = λ world.
+    load_done (placed_in c.args.self.now world) (c.args.node.0) (unsigned_abs (c.args.size.width)) (unsigned_abs (c.args.size.height))
+    c.kind.result c.in-Image.field-0 (c.kind.ensures.value world) c.in-Image.is
+    (placed_in (seen_page (with_nodes (change_at (with_payload c.set_natural_size.new.self) (c.args.node.0)) c.self.inside.tree) (option_map number c.self.inside.root)) world)
+    (written_done c.args.self.now c.self.inside.tree (option_map number c.self.inside.root) c.self.view_is c.self.invariant
+    (c.args.node.0) c.payload_mut.result.now c.set_natural_size.new.self c.payload_mut.ensures.value (sized_in c.args.size) c.set_natural_size.ensures world)
+
+pub returns-clause-rest : goal.returns-clause-rest
+returns-clause-rest c =
+    written_rest c.args.self.now c.self.inside.tree (option_map number c.self.inside.root) c.self.view_is c.self.invariant
+    (c.args.node.0) c.payload_mut.result.now c.set_natural_size.new.self c.payload_mut.ensures.value (sized_in c.args.size) c.set_natural_size.ensures
+
+pub returns-clause-count : goal.returns-clause-count
+returns-clause-count c =
+    written_count c.args.self.now c.self.inside.tree (option_map number c.self.inside.root) c.self.view_is c.self.invariant
+    (c.args.node.0) c.payload_mut.result.now c.set_natural_size.new.self c.payload_mut.ensures.value (sized_in c.args.size) c.set_natural_size.ensures

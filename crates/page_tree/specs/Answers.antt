@@ -1,0 +1,46 @@
+-- How the tree is asked to place an element, and what its refusals come to on the page.
+use Rattle.std.specs.Prelude.{ℕ, Bool, false, not, List, Option, Some, None}
+use Rattle.text_io.specs.declared.kinds.LimitKind.TheVariants.{Nodes, Depth}
+use Rattle.text_io.specs.declared.kinds.ThrowKind.TheVariants.{HierarchyRequestError, NotFoundError}
+use Rattle.element_tree.specs.declared.fault.TreeFault.{TreeFault}
+use Rattle.element_tree.specs.declared.fault.TreeFault.TheVariants.{Hierarchy, NotAChild, NodeLimit, DepthLimit, Memory}
+use Rattle.element_tree.specs.Forest.{Knot, Forest}
+use Rattle.element_tree.specs.Edits.{mark_of}
+use Rattle.element_tree.specs.Answers.{append_fault, insert_fault}
+use Rattle.page_model.specs.Documents.{is_number}
+use Rattle.page_tree.specs.declared.faults.PlaceFault.{PlaceFault}
+use Rattle.page_tree.specs.declared.faults.PlaceFault.TheVariants.{Throw, Limit}
+use Rattle.page_tree.specs.declared.faults.MakeFault.{MakeFault}
+use Rattle.page_tree.specs.declared.faults.MakeFault.TheVariants as made
+use Rattle.page_tree.specs.Items.{Described}
+
+-- why an element can't be put under another one, before a sibling or last
+abbrev pub put_fault : Forest Described → ℕ → ℕ → Option ℕ → Option TreeFault
+put_fault forest p n None = append_fault forest p n
+put_fault forest p n (Some sibling) = insert_fault forest p n sibling
+
+-- before which child it goes, none where it goes to the end
+abbrev pub mark_for : ℕ → Option ℕ → List (Knot Described) → Option ℕ
+mark_for n None nodes = None
+mark_for n (Some sibling) nodes = mark_of n sibling nodes
+
+-- an element is placed without memory, and makes no node
+abbrev pub refusal_of : TreeFault → PlaceFault
+refusal_of Hierarchy = Throw HierarchyRequestError
+refusal_of NotAChild = Throw NotFoundError
+refusal_of NodeLimit = Limit Depth
+refusal_of DepthLimit = Limit Depth
+refusal_of Memory = Limit Depth
+
+-- room is made without placing anything
+abbrev pub unmade_of : TreeFault → MakeFault
+unmade_of Hierarchy = made.Memory
+unmade_of NotAChild = made.Memory
+unmade_of NodeLimit = made.Limit Nodes
+unmade_of DepthLimit = made.Memory
+unmade_of Memory = made.Memory
+
+-- whether a sibling is named that isn't the root element
+abbrev pub is_absent : Option ℕ → Option ℕ → Bool
+is_absent root None = false
+is_absent root (Some sibling) = not (is_number root sibling)

@@ -1,0 +1,44 @@
+-- What an element of the page is by itself: its name, its style and its kind.
+use Rattle.std.specs.Prelude.{ℕ, ℤ, pos, ◌≤ℤ◌, List, unsigned_abs}
+use Rattle.px_units.specs.declared.Size.{Size}
+use Rattle.layout_model.specs.Styles.{Style, first_style, declared, Declaration}
+use Rattle.layout_model.specs.Items.{Kind, ImageKind, Item}
+use Rattle.block_layout.specs.declared.ItemKind.{ItemKind}
+use Rattle.block_layout.specs.declared.ItemKind.TheVariants.{Block, Image, Frame}
+
+-- what the tree carries of an element
+pub record Described : Type 0 where
+  pub name : List ℕ
+  pub item : Item
+
+abbrev pub style_in : Described → Style
+style_in it = it.item.style
+
+abbrev pub kind_in : Described → Kind
+kind_in it = it.item.kind
+
+-- from 0 to the largest length, in units of 1/64 pixel
+abbrev pub IsLength : ℤ → Type 0
+IsLength units = (pos 0 ≤ℤ units) × (units ≤ℤ pos 2147483647)
+
+abbrev pub IsNatural : Size → Type 0
+IsNatural size = IsLength size.width × IsLength size.height
+
+-- whether a natural size is one that an image has
+abbrev pub IsKind : ItemKind → Type 0
+IsKind Block = Unit {0}
+IsKind (Image size) = IsNatural size
+IsKind Frame = Unit {0}
+
+-- an element just made
+abbrev pub described : List ℕ → Kind → Described
+described name kind = record { name = name; item = record { style = first_style; kind = kind } }
+
+abbrev pub with_item : (Item → Item) → Described → Described
+with_item change it = record it { item = change (it.item) }
+
+abbrev pub declared_in : Declaration → Item → Item
+declared_in declaration item = record item { style = declared declaration (item.style) }
+
+abbrev pub sized_in : Size → Item → Item
+sized_in size item = record item { kind = ImageKind (unsigned_abs size.width) (unsigned_abs size.height) }

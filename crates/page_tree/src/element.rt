@@ -1,0 +1,91 @@
+//! What the tree carries of an element.
+
+ghost use Rattle.std.specs.Prelude.{◌≡◌, unsigned_abs};
+ghost use Rattle.px_units.specs.declared.Size.{Size};
+ghost use Rattle.style_values.specs.Ranges.{IsAllowed, IsStyle};
+ghost use Rattle.style_values.specs.Seen.{seen_style, seen_declaration};
+ghost use Rattle.block_layout.specs.Seen.{seen_kind};
+ghost use Rattle.page_tree.specs.Items.{IsNatural, IsKind, described, with_item, declared_in, sized_in};
+
+use block_layout::{ItemKind, Styled};
+use px_units::Size;
+use std::marker::Model;
+use style_values::{Declaration, Style};
+use text_io::Name;
+
+/// An element by itself: its name, its style and its kind. No length in it is negative.
+#[derive(Drop)]
+pub struct Element {
+    name: Name,
+    kind: ItemKind,
+    style: Style,
+}
+
+impl Model for Element {
+    ghost use Rattle.page_tree.specs.Items.{Described, IsKind};
+    ghost use Rattle.block_layout.specs.Seen.{seen_kind};
+    ghost use Rattle.style_values.specs.Seen.{seen_style};
+    ghost use Rattle.style_values.specs.Ranges.{IsStyle};
+
+    ghost Value = { Described };
+
+    ghost view = { λ e. record { name = e.name; item = record { style = seen_style e.style; kind = seen_kind e.kind } } };
+
+    ghost invariant = { λ e. IsStyle e.style × IsKind e.kind };
+}
+
+impl Element {
+    pub(crate) fn new(name: Name, kind: ItemKind) -> Element
+        requires { IsKind kind }
+        ensures { result ≡ described name (seen_kind kind) }
+    {
+        Element {
+            name,
+            kind,
+            style: Style::new(),
+        }
+    }
+
+    /// Its name.
+    pub fn name(&self) -> Name
+        ensures { result ≡ self.now.name }
+    {
+        self.name
+    }
+
+    pub(crate) fn apply(&mut self, declaration: Declaration)
+        requires { IsAllowed declaration }
+        ensures { self.new ≡ with_item (declared_in (seen_declaration declaration)) self.old }
+    {
+        self.style.apply(declaration);
+    }
+
+    pub(crate) fn set_natural_size(&mut self, size: Size)
+        requires { IsNatural size }
+        ensures { self.new ≡ with_item (sized_in size) self.old }
+    {
+        self.kind = ItemKind::Image(size);
+    }
+}
+
+impl Styled for Element {
+    ghost use Rattle.page_tree.specs.Items.{style_in, kind_in};
+
+    ghost style = { style_in };
+
+    ghost kind = { kind_in };
+
+    fn style(&self) -> &Style
+        ensures value { seen_style result.now ≡ self.now.item.style }
+        ensures range { IsStyle result.now }
+    {
+        &self.style
+    }
+
+    fn kind(&self) -> ItemKind
+        ensures value { seen_kind result ≡ self.now.item.kind }
+        ensures range { IsKind result }
+    {
+        self.kind
+    }
+}

@@ -1,0 +1,26 @@
+//! Why a call is refused. A refused call changes nothing.
+
+use text_io::{LimitKind, ThrowKind};
+use thiserror::Error;
+
+/// Why a node isn't placed. Nothing is changed then.
+#[derive(Debug, Drop, Error)]
+pub enum PlaceFault {
+    /// DOM's rules of insertion don't let it stand there.
+    #[error("Throw")]
+    Throw(ThrowKind),
+    /// It would stand too deep.
+    #[error("Limit")]
+    Limit(LimitKind),
+}
+
+/// Why no element is made. Nothing is changed then, but that room may have been made.
+#[derive(Debug, Drop, Error)]
+pub enum MakeFault {
+    /// As many elements as a page may have were made.
+    #[error("Limit")]
+    Limit(LimitKind),
+    /// There is no memory.
+    #[error("Memory")]
+    Memory,
+}
