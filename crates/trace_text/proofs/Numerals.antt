@@ -1,0 +1,270 @@
+-- Decimals that are read as the number that they write.
+use Rattle.std.proofs.Common.{◌≡◌, ◌∙◌, refl, sym, ap, subst, ℕ, zero, suc, ◌+◌, ◌-◌, ◌*◌, ◌/◌, ◌%◌, ◌^◌, ◌<◌, ◌≤◌, ◌⊎◌, inl, inr, Bool, true, false, cond, not, ◌&&◌, nat_lt, nat_le, ltb, List, [], ◌∷◌, ◌++◌, length, drop, Option, Some, None, arith, append-nil}
+use Rattle.std.specs.Prelude.{take_while, ◌==◌}
+use Rattle.std.specs.List.{list_all}
+use Rattle.std.proofs.Math.Nat.{pow-suc, pow-zero, pow-le-pow_right, mul-le-mul_left}
+use Rattle.std.proofs.lemmas.Bool.{and_parts, eqb-true, leb-true, lt-ltb, le-leb, ltb-true, ltb-false}
+use Rattle.std.proofs.lemmas.List.Folds.{list_all-append}
+use Rattle.std.proofs.lemmas.List.Sums.{take_while-cons}
+use Rattle.std.proofs.lemmas.Grind.{common_steps}
+use Rattle.word_model.specs.Names.{is_digit}
+use Rattle.word_model.specs.Numbers.{begins_with, decimal_on, decimal, digits_value, at_most, is_whole, leading_digits, behind_digits}
+use Rattle.word_model.proofs.Values.{value_from, value_from_zero, not_above}
+use Rattle.word_model.proofs.Decimals.{last_on, more_on}
+use Rattle.word_model.proofs.Forms.{is_whole_is}
+use Rattle.script_model.specs.TraceText.{ratio_text}
+use Rattle.trace_text.specs.Fields.{is_field_byte}
+use Rattle.trace_text.specs.Reading.{◌>>=◌, number_of, over, ratio_of}
+use Rattle.trace_text.proofs.Exact.{Exact, some_same, parts, chosen, run_of, run_first, behind_run}
+
+-- ---- what holds of the digits of a number
+
+split_ten : (m : ℕ) → (m < 10) ⊎ (10 ≤ m)
+split_ten m = elim (ltb m 10) as (λ v. ltb m 10 ≡ v → (m < 10) ⊎ (10 ≤ m)) [ true ↦ λ e. inl (ltb-true m 10 e) | false ↦ λ e. inr (ltb-false m 10 e) ] refl
+
+tenth : (m k : ℕ) → m < 10 ^ suc k → m / 10 < 10 ^ k
+tenth m k g = let f : m < 10 ^ k * 10 = rw (pow-suc 10 k) at g in omega arith
+
+by_digits : (P : ℕ → List ℕ → List ℕ → Type 0)
+    → ((n : ℕ) (behind : List ℕ) → n < 10 → P n behind ((48 + n % 10) ∷ behind))
+    → ((n : ℕ) (behind text : List ℕ) → 10 ≤ n → P (n / 10) ((48 + n % 10) ∷ behind) text → P n behind text)
+    → (places n : ℕ) (behind : List ℕ) → n < 10 ^ suc places → P n behind (decimal_on (suc places) n behind)
+by_digits P one more zero n behind h =
+    let small : n < 10 = omega arith in
+    subst (λ (t : List ℕ). P n behind t) (sym (last_on zero n behind small)) (one n behind small)
+by_digits P one more (suc places) n behind h =
+    elim (split_ten n) [
+      | inl small ↦ subst (λ (t : List ℕ). P n behind t) (sym (last_on (suc places) n behind small)) (one n behind small)
+      | inr large ↦ subst (λ (t : List ℕ). P n behind t) (sym (more_on (suc places) n behind large))
+          (more n behind (decimal_on (suc places) (n / 10) ((48 + n % 10) ∷ behind)) large
+          (by_digits P one more places (n / 10) ((48 + n % 10) ∷ behind) (tenth n (suc places) h)))
+    ]
+
+decimal_is : (n : ℕ) → decimal n ≡ decimal_on 39 n []
+unfolding decimal
+decimal_is n = refl
+
+pub decimal_value : (n : ℕ) → n < 10 ^ 39 → digits_value (decimal n) ≡ n
+decimal_value n h =
+    ap digits_value (decimal_is n) ∙ value_from_zero (decimal_on 39 n [])
+    ∙ by_digits (λ m rest text. value_from 0 text ≡ value_from m rest)
+    (λ m rest small. let e : 0 * 10 + (48 + m % 10 - 48) ≡ m = omega arith in ap (λ v. value_from v rest) e)
+    (λ m rest text large so_far. let e : m / 10 * 10 + (48 + m % 10 - 48) ≡ m = omega arith in so_far ∙ ap (λ v. value_from v rest) e)
+    38 n [] h
+
+digit_is : (n : ℕ) → is_digit (48 + n % 10) ≡ true
+digit_is n = let low : 48 ≤ 48 + n % 10 = omega arith in let high : 48 + n % 10 ≤ 57 = omega arith in
+    ap (λ b. b && nat_le (48 + n % 10) 57) (le-leb 48 (48 + n % 10) low) ∙ le-leb (48 + n % 10) 57 high
+
+all_with : (n : ℕ) (rest : List ℕ) → list_all is_digit rest ≡ true → list_all is_digit ((48 + n % 10) ∷ rest) ≡ true
+all_with n rest all = ap (λ b. b && list_all is_digit rest) (digit_is n) ∙ all
+
+pub decimal_digits : (n : ℕ) → n < 10 ^ 39 → list_all is_digit (decimal n) ≡ true
+decimal_digits n h =
+    ap (list_all is_digit) (decimal_is n)
+    ∙ by_digits (λ m rest text. list_all is_digit rest ≡ true → list_all is_digit text ≡ true)
+    (λ m rest small all. all_with m rest all)
+    (λ m rest text large so_far all. so_far (all_with m rest all))
+    38 n [] h refl
+
+no_zero : (n : ℕ) (rest : List ℕ) → 0 < n → n < 10 → begins_with 48 ((48 + n % 10) ∷ rest) ≡ false
+unfolding begins_with
+no_zero n rest some small = grind (arith, common_steps)
+
+decimal_first : (n : ℕ) → n < 10 ^ 39 → 0 < n → begins_with 48 (decimal n) ≡ false
+decimal_first n h some =
+    ap (begins_with 48) (decimal_is n)
+    ∙ by_digits (λ m rest text. 0 < m → begins_with 48 text ≡ false)
+    (λ m rest small some. no_zero m rest some small)
+    (λ m rest text large so_far some. so_far (omega arith))
+    38 n [] h some
+
+pub decimal_length : (n : ℕ) → n < 10 ^ 39 → 0 < length (decimal n)
+decimal_length n h =
+    subst (λ (t : List ℕ). 0 < length t) (sym (decimal_is n))
+    (by_digits (λ m rest text. 0 < length text) (λ m rest small. omega arith) (λ m rest text large so_far. so_far) 38 n [] h)
+
+zero_whole : is_whole (decimal 0) ≡ true
+unfolding is_whole decimal
+zero_whole = refl
+
+some_whole : (text : List ℕ) → list_all is_digit text ≡ true → begins_with 48 text ≡ false → 0 < length text → is_whole text ≡ true
+some_whole text all first some =
+    is_whole_is text
+    ∙ ap (λ b. b && list_all is_digit text && not (begins_with 48 text && nat_lt 1 (length text))) (lt-ltb 0 (length text) some)
+    ∙ ap (λ b. b && not (begins_with 48 text && nat_lt 1 (length text))) all
+    ∙ ap (λ b. not (b && nat_lt 1 (length text))) first
+
+pub decimal_whole : (n : ℕ) → n < 10 ^ 39 → is_whole (decimal n) ≡ true
+decimal_whole zero h = zero_whole
+decimal_whole (suc n) h = some_whole (decimal (suc n)) (decimal_digits (suc n) h) (decimal_first (suc n) h (omega arith)) (decimal_length (suc n) h)
+
+-- ---- digits are those of the number that they write
+
+digit_range : (d : ℕ) → is_digit d ≡ true → (48 ≤ d) × (d ≤ 57)
+digit_range d h = let both : (nat_le 48 d ≡ true) × (nat_le d 57 ≡ true) = and_parts (nat_le 48 d) (nat_le d 57) h in (leb-true 48 d both.0, leb-true d 57 both.1)
+
+-- digits behind a number that is read are written last
+unread : (ds : List ℕ) (p v : ℕ) (behind : List ℕ) → list_all is_digit ds ≡ true → 0 < v → decimal_on (length ds + p) (value_from v ds) behind ≡ decimal_on p v (ds ++ behind)
+unread [] p v behind all some = ap (λ n. decimal_on n v behind) (omega arith)
+unread (d ∷ ds) p v behind all some =
+    let digit : (48 ≤ d) × (d ≤ 57) = digit_range d (and_parts (is_digit d) (list_all is_digit ds) all).0 in
+    let next : ℕ = v * 10 + (d - 48) in
+    let tens : next / 10 ≡ v = omega arith in
+    let ones : 48 + next % 10 ≡ d = omega arith in
+    let places : length (d ∷ ds) + p ≡ length ds + suc p = omega arith in
+    ap (λ n. decimal_on n (value_from next ds) behind) places
+    ∙ unread ds (suc p) next behind (and_parts (is_digit d) (list_all is_digit ds) all).1 (omega arith)
+    ∙ more_on p next (ds ++ behind) (omega arith)
+    ∙ ap (λ n. decimal_on p n ((48 + next % 10) ∷ (ds ++ behind))) tens
+    ∙ ap (λ x. decimal_on p v (x ∷ (ds ++ behind))) ones
+
+grows : (ds : List ℕ) (v : ℕ) → v * 10 ^ length ds ≤ value_from v ds
+grows [] v = rw pow-zero (omega arith)
+grows (d ∷ ds) v =
+    let later : (v * 10 + (d - 48)) * 10 ^ length ds ≤ value_from (v * 10 + (d - 48)) ds = grows ds (v * 10 + (d - 48)) in
+    rw (pow-suc 10 (length ds)) (omega arith)
+
+short : (ds : List ℕ) (v : ℕ) → 0 < v → value_from v ds < 10 ^ 39 → length ds < 39
+short ds v some h =
+    elim (ltb (length ds) 39) as (λ b. ltb (length ds) 39 ≡ b → length ds < 39)
+    [ true ↦ λ e. ltb-true (length ds) 39 e | false ↦ λ e. absurd (too_long (ltb-false (length ds) 39 e)) ] refl where
+      too_long : 39 ≤ length ds → ⊥
+      too_long long =
+          let power : 10 ^ 39 ≤ 10 ^ length ds = pow-le-pow_right (omega arith) long in
+          let larger : v * 10 ^ length ds ≤ value_from v ds = grows ds v in
+          let once : 10 ^ length ds * 1 ≤ 10 ^ length ds * v = mul-le-mul_left (10 ^ length ds) (omega arith) in
+          omega arith
+
+one_digit : (v : ℕ) → v < 10 → decimal v ≡ (48 + v) ∷ []
+one_digit v h = let e : 48 + v % 10 ≡ 48 + v = omega arith in decimal_is v ∙ last_on 38 v [] h ∙ ap (λ x. x ∷ []) e
+
+many_digits : (d : ℕ) (ds : List ℕ) → is_digit d ≡ true → list_all is_digit ds ≡ true → 48 < d → digits_value (d ∷ ds) < 10 ^ 39 → decimal (digits_value (d ∷ ds)) ≡ d ∷ ds
+many_digits d ds first all some h =
+    let range : (48 ≤ d) × (d ≤ 57) = digit_range d first in
+    let v : ℕ = d - 48 in
+    let begun : 0 * 10 + (d - 48) ≡ v = omega arith in
+    let value : digits_value (d ∷ ds) ≡ value_from v ds = value_from_zero (d ∷ ds) ∙ ap (λ n. value_from n ds) begun in
+    let few : length ds < 39 = short ds v (omega arith) (subst (λ (n : ℕ). n < 10 ^ 39) value h) in
+    let places : 39 ≡ length ds + suc (38 - length ds) = omega arith in
+    let last : 48 + v % 10 ≡ d = omega arith in
+    ap decimal value ∙ decimal_is (value_from v ds)
+    ∙ ap (λ n. decimal_on n (value_from v ds) []) places
+    ∙ unread ds (suc (38 - length ds)) v [] all (omega arith)
+    ∙ last_on (38 - length ds) v (ds ++ []) (omega arith)
+    ∙ ap (λ x. x ∷ (ds ++ [])) last ∙ ap (λ x. d ∷ x) (append-nil ds)
+
+leading : (b : Bool) (ds : List ℕ) (d : ℕ) → not (b && nat_lt 1 (length (d ∷ ds))) ≡ true → 0 < length ds → b ≡ false
+leading true ds d h some = let e : nat_lt 1 (length (d ∷ ds)) ≡ true = lt-ltb 1 (length (d ∷ ds)) (omega arith) in absurd (let no : ⊥ = cc in no)
+leading false ds d h some = refl
+
+first_is : (d : ℕ) (ds : List ℕ) → is_digit d ≡ true → begins_with 48 (d ∷ ds) ≡ false → 48 < d
+unfolding begins_with
+first_is d ds digit h = grind (arith, common_steps, digit_range d digit)
+
+pub whole_decimal : (text : List ℕ) → is_whole text ≡ true → digits_value text < 10 ^ 39 → decimal (digits_value text) ≡ text
+whole_decimal [] whole h = absurd (let e : is_whole [] ≡ false = is_whole_is [] in let no : ⊥ = cc in no)
+whole_decimal (d ∷ []) whole h =
+    let both = and_parts (nat_lt 0 (length (d ∷ [])) && list_all is_digit (d ∷ [])) (not (begins_with 48 (d ∷ []) && nat_lt 1 (length (d ∷ [])))) (sym (is_whole_is (d ∷ [])) ∙ whole) in
+    let all = and_parts (nat_lt 0 (length (d ∷ []))) (list_all is_digit (d ∷ [])) both.0 in
+    let range : (48 ≤ d) × (d ≤ 57) = digit_range d (and_parts (is_digit d) true all.1).0 in
+    let value : digits_value (d ∷ []) ≡ d - 48 = value_from_zero (d ∷ []) ∙ omega arith in
+    let back : 48 + (d - 48) ≡ d = omega arith in
+    ap decimal value ∙ one_digit (d - 48) (omega arith) ∙ ap (λ x. x ∷ []) back
+whole_decimal (d ∷ e ∷ ds) whole h =
+    let both = and_parts (nat_lt 0 (length (d ∷ e ∷ ds)) && list_all is_digit (d ∷ e ∷ ds)) (not (begins_with 48 (d ∷ e ∷ ds) && nat_lt 1 (length (d ∷ e ∷ ds)))) (sym (is_whole_is (d ∷ e ∷ ds)) ∙ whole) in
+    let all = and_parts (nat_lt 0 (length (d ∷ e ∷ ds))) (list_all is_digit (d ∷ e ∷ ds)) both.0 in
+    let digits = and_parts (is_digit d) (list_all is_digit (e ∷ ds)) all.1 in
+    many_digits d (e ∷ ds) digits.0 digits.1 (first_is d (e ∷ ds) digits.0 (leading (begins_with 48 (d ∷ e ∷ ds)) (e ∷ ds) d both.1 (omega arith))) h
+
+-- ---- readers of numbers
+
+digit_field : (d : ℕ) → is_digit d ≡ true → is_field_byte d ≡ true
+digit_field d h = let range : (48 ≤ d) × (d ≤ 57) = digit_range d h in lt-ltb 32 d (omega arith)
+
+pub digits_field : (ds : List ℕ) → list_all is_digit ds ≡ true → list_all is_field_byte ds ≡ true
+digits_field [] all = refl
+digits_field (d ∷ ds) all =
+    ap (λ b. b && list_all is_field_byte ds) (digit_field d (and_parts (is_digit d) (list_all is_digit ds) all).0)
+    ∙ digits_field ds (and_parts (is_digit d) (list_all is_digit ds) all).1
+
+pub at_most_some : (most v n : ℕ) → at_most most v ≡ Some n → (v ≤ most) × (v ≡ n)
+unfolding at_most
+at_most_some most v n h =
+    let c : (nat_le v most ≡ true) × (Some v ≡ Some n) = chosen (nat_le v most) (Some v) n h in
+    (leb-true v most c.0, some_same v n c.1)
+
+pub number_exact : (most bound : ℕ) → most + 1 ≡ bound → bound ≤ 10 ^ 39 → Exact (number_of most) decimal (λ n. n < bound)
+unfolding number_of
+number_exact most bound e large = record {
+  sound = λ field n h.
+      let c : (is_whole field ≡ true) × (at_most most (digits_value field) ≡ Some n) = chosen (is_whole field) (at_most most (digits_value field)) n h in
+      let v : (digits_value field ≤ most) × (digits_value field ≡ n) = at_most_some most (digits_value field) n c.1 in
+      (ap decimal (sym v.1) ∙ whole_decimal field c.0 (omega arith), omega arith);
+  complete = λ n h. (
+    ap (λ b. cond b (at_most most (digits_value (decimal n))) None) (decimal_whole n (omega arith))
+        ∙ ap (at_most most) (decimal_value n (omega arith)) ∙ not_above most n (omega arith),
+    digits_field (decimal n) (decimal_digits n (omega arith)),
+  );
+}
+
+-- ---- digits before another text
+
+pub leading_first : (digits rest : List ℕ) → list_all is_digit digits ≡ true → take_while is_digit rest ≡ [] → leading_digits (digits ++ rest) ≡ digits
+unfolding leading_digits
+leading_first digits rest all stop = run_of is_digit digits rest all stop
+
+pub behind_first : (digits rest : List ℕ) → list_all is_digit digits ≡ true → take_while is_digit rest ≡ [] → behind_digits (digits ++ rest) ≡ rest
+unfolding behind_digits leading_digits
+behind_first digits rest all stop = behind_run is_digit digits rest (run_of is_digit digits rest all stop)
+
+pub digits_first : (text : List ℕ) → leading_digits text ++ behind_digits text ≡ text
+unfolding behind_digits leading_digits
+digits_first text = run_first is_digit text
+
+-- ---- ratios
+
+abbrev pub RatioFits : ℕ × ℕ → Type 0
+RatioFits p = (p.0 < 2 ^ 128) × (p.1 < 2 ^ 128)
+
+abbrev pub ratio_text_of : ℕ × ℕ → List ℕ
+ratio_text_of p = ratio_text p.0 p.1
+
+large : Exact (number_of (2 ^ 128 - 1)) decimal (λ n. n < 2 ^ 128)
+large = number_exact (2 ^ 128 - 1) (2 ^ 128) refl (omega arith)
+
+over_sound : (part : ℕ) (t : List ℕ) (p : ℕ × ℕ) → over part t ≡ Some p → (t ≡ 47 ∷ decimal p.1) × (part ≡ p.0) × (p.1 < 2 ^ 128)
+unfolding over
+over_sound part [] p h = absurd (let no : ⊥ = cc in no)
+over_sound part (b ∷ bs) p h =
+    let c = chosen (b == 47) (number_of (2 ^ 128 - 1) bs >>= λ whole. Some (part, whole)) p h in
+    let w = parts (number_of (2 ^ 128 - 1) bs) (λ whole. Some (part, whole)) p c.1 in
+    let e : (part, w.0) ≡ p = some_same _ p w.2 in
+    let x : (decimal w.0 ≡ bs) × (w.0 < 2 ^ 128) = large.sound bs w.0 w.1 in
+    let T : ℕ × ℕ → Type 0 = λ q. (b ∷ bs ≡ 47 ∷ decimal q.1) × (part ≡ q.0) × (q.1 < 2 ^ 128) in
+    subst T e (ap (λ a. a ∷ bs) (eqb-true b 47 c.0) ∙ ap (λ ds. 47 ∷ ds) (sym x.0), refl, x.1)
+
+slash_stops : (ds : List ℕ) → take_while is_digit (47 ∷ ds) ≡ []
+slash_stops ds = take_while-cons is_digit 47 ds
+
+pub ratio_exact : Exact ratio_of ratio_text_of RatioFits
+unfolding ratio_of over ratio_text
+ratio_exact = record {
+  sound = λ field p h.
+      let a = parts (number_of (2 ^ 128 - 1) (leading_digits field)) (λ part. over part (behind_digits field)) p h in
+      let x : (decimal a.0 ≡ leading_digits field) × (a.0 < 2 ^ 128) = large.sound (leading_digits field) a.0 a.1 in
+      let y : (behind_digits field ≡ 47 ∷ decimal p.1) × (a.0 ≡ p.0) × (p.1 < 2 ^ 128) = over_sound a.0 (behind_digits field) p a.2 in (
+        ap (λ n. decimal n ++ (47 ∷ decimal p.1)) (sym y.1) ∙ ap (λ ds. ds ++ (47 ∷ decimal p.1)) x.0 ∙ ap (λ ds. leading_digits field ++ ds) (sym y.0) ∙ digits_first field,
+        (subst (λ (n : ℕ). n < 2 ^ 128) y.1 x.1, y.2),
+      );
+  complete = λ p h.
+      let front : list_all is_digit (decimal p.0) ≡ true = decimal_digits p.0 (omega arith) in
+      let back : list_all is_digit (decimal p.1) ≡ true = decimal_digits p.1 (omega arith) in (
+        ap (λ ds. number_of (2 ^ 128 - 1) ds >>= λ part. over part (behind_digits (decimal p.0 ++ (47 ∷ decimal p.1)))) (leading_first (decimal p.0) (47 ∷ decimal p.1) front (slash_stops (decimal p.1)))
+            ∙ ap (λ o. o >>= λ part. over part (behind_digits (decimal p.0 ++ (47 ∷ decimal p.1)))) (large.complete p.0 h.0).0
+            ∙ ap (over p.0) (behind_first (decimal p.0) (47 ∷ decimal p.1) front (slash_stops (decimal p.1)))
+            ∙ ap (λ o. o >>= λ whole. Some (p.0, whole)) (large.complete p.1 h.1).0,
+        list_all-append is_field_byte (decimal p.0) (47 ∷ decimal p.1)
+            ∙ ap (λ b. b && list_all is_field_byte (47 ∷ decimal p.1)) (digits_field (decimal p.0) front) ∙ digits_field (decimal p.1) back,
+      );
+}

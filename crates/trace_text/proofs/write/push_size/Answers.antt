@@ -1,0 +1,10 @@
+use Rattle.std.proofs.Common.{arith}
+use Rattle.std.proofs.lemmas.Int.{ints}
+use Rattle.std.proofs.lemmas.Result.{on_ok_weaker}
+use Rattle.trace_text.proofs.Joined.{length_pushed, size_pushed}
+use Rattle.trace_text.proofs.write.push_size.Goals as goal
+
+pub returns : goal.returns
+returns c = on_ok_weaker c.push_length-2.result
+    (λ e. size_pushed _ _ _ c.args.size.now (length_pushed _ _ _ _ (omega (arith, ints)) c.in_ok-push_length.ensures) (length_pushed _ _ _ _ (omega (arith, ints)) e))
+    c.push_length-2.ensures

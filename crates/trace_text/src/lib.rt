@@ -1,0 +1,93 @@
+//! The lines of a trace: written as text, and read back exactly.
+#![tactic(auto)]
+
+mod decimals;
+mod fields;
+mod kinds;
+mod laws;
+mod lengths;
+mod read;
+#[cfg(test)]
+mod tests;
+#[cfg(test)]
+mod traces;
+mod write;
+
+pub use laws::{line_ends_once, text_has_one_line, value_is_a_line};
+use px_units::{Point, Rect, Size};
+pub use read::read_line;
+use text_io::{LimitKind, Name, ThrowKind};
+use thiserror::Error;
+pub use write::write_line;
+
+/// An event that is fired.
+#[derive(Clone, Copy, Debug, PartialEq, Eq)]
+pub enum EventLine {
+    /// `resize` at the window of this document (CSSOM View, resize steps).
+    Resize(Name),
+    /// `scroll` at this element or document (CSSOM View, scroll steps).
+    Scroll(Name),
+    /// `change` at this media query list, and whether it matches now (CSSOM View, 4.2).
+    Change(Name, bool),
+    /// `error` at the window of this document: a resize loop ended with observations left (Resize Observer, 3.4.6).
+    Error(Name),
+}
+
+/// A line of a trace. Times are ticks of the script's clock; lengths, edges and offsets are in units of 1/64 CSS pixel,
+/// areas in square units.
+#[derive(Clone, Copy, Debug, PartialEq, Eq)]
+pub enum TraceLine {
+    /// A tick begins at this time.
+    Tick(u64),
+    /// The document and the key of a timer that is due.
+    Timer(Name, Name),
+    /// The document and the key of a frame callback.
+    Frame(Name, Name),
+    /// The document and the handler of a posted task.
+    Task(Name, Name),
+    Event(EventLine),
+    /// A resize entry: the content rectangle, whose corner is the left and top padding, and the border box.
+    Resize {
+        observer: Name,
+        target: Name,
+        rect: Rect,
+        border: Size,
+    },
+    /// A broadcast of a document, and the least depth that it delivered.
+    Round(Name, u32),
+    /// An intersection entry: the target's area seen and the whole of it, the root, the target and their common part.
+    Intersect {
+        observer: Name,
+        target: Name,
+        time: u64,
+        meets: bool,
+        part: u128,
+        whole: u128,
+        root: Rect,
+        bounds: Rect,
+        cut: Rect,
+    },
+    /// An observer's queue was taken, with so many entries.
+    Take(Name, u64),
+    Say(Name),
+    /// An element's border box in its document's viewport, or the viewport of a document, and the scroll offset in force.
+    Read {
+        target: Name,
+        rect: Rect,
+        scroll: Point,
+    },
+    /// The script's line whose command threw, and what.
+    Throw(u32, ThrowKind),
+    /// A limit that ended the run, the script's line, and the limit's number.
+    Limit(LimitKind, u32, u64),
+    /// The line and the column, from 1, of the first fault of a text that is no script.
+    Syntax(u32, u32),
+}
+
+/// Why a text is no line of a trace.
+#[derive(Clone, Copy, Debug, PartialEq, Eq, Error)]
+pub enum TraceFault {
+    /// No line has this text.
+    #[error("NotALine")]
+    NotALine,
+}

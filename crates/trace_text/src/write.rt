@@ -1,0 +1,301 @@
+//! The texts of lines.
+
+ghost use Rattle.std.specs.Prelude.{◌≡◌, List, [], ◌∷◌, ◌++◌, OnOk, OnErr, codes};
+ghost use Rattle.word_model.specs.Numbers.{decimal};
+ghost use Rattle.px_units.specs.Texts.{pixel_text};
+ghost use Rattle.script_model.specs.TraceLines.{ResizeLine, ReadLine};
+ghost use Rattle.script_model.specs.TraceText.{exception_text, limit_text, window_text, bool_text, meets_text, rect_fields, size_fields, point_fields, ratio_text, event_fields, fields_of, line_text};
+ghost use Rattle.trace_text.specs.Seen.{seen_line, seen_event, seen_throw, seen_limit};
+ghost use Rattle.trace_text.specs.Ranges.{HasReach, RectReaches, SizeReaches, PointReaches};
+ghost use Rattle.trace_text.specs.Fields.{with_fields};
+
+use crate::fields::MESSAGE;
+use crate::kinds::LineKind;
+use crate::{EventLine, TraceLine};
+use px_units::{Point, Px, Rect, Size, push_px};
+use std::alloc::{AllocError, Global};
+use text_io::{LimitKind, Name, ThrowKind};
+use word_model::push_decimal;
+
+/// Appends the line's text, which ends with a line feed. Each length, edge, width and height of the line lies between
+/// -2^50 and 2^50 units. Where memory is refused, nothing is appended.
+#[tactic(auto, using(crate::proofs::Joined::line_text_is))]
+pub fn write_line(alloc: Global, line: &TraceLine, into: &mut Vec<u8>) -> Result<(), AllocError>
+    requires { HasReach (seen_line line.now) }
+    ensures ok { OnOk result (into.new.items ≡ into.old.items ++ line_text (seen_line line.now)) }
+    ensures err { OnErr result (into.new.items ≡ into.old.items) }
+{
+    let mut text = Vec::new(alloc);
+    text.extend_from_slice(LineKind::of(line).text().as_bytes())?;
+    push_fields(&mut text, line)?;
+    text.push(b'\n')?;
+    into.extend_from_slice(text.as_slice())
+}
+
+fn push_field(out: &mut Vec<u8>, field: &[u8]) -> Result<(), AllocError>
+    ensures { OnOk result (out.new.items ≡ with_fields out.old.items (field.now ∷ [])) }
+{
+    out.push(b' ')?;
+    out.extend_from_slice(field)
+}
+
+fn push_names(out: &mut Vec<u8>, first: &Name, second: &Name) -> Result<(), AllocError>
+    ensures { OnOk result (out.new.items ≡ with_fields out.old.items (first.now ∷ second.now ∷ [])) }
+{
+    push_field(out, first.bytes())?;
+    push_field(out, second.bytes())
+}
+
+/// The window of a document.
+fn push_window(out: &mut Vec<u8>, document: &Name) -> Result<(), AllocError>
+    ensures { OnOk result (out.new.items ≡ with_fields out.old.items (window_text document.now ∷ [])) }
+{
+    out.extend_from_slice(b" @")?;
+    out.extend_from_slice(document.bytes())
+}
+
+fn push_number(out: &mut Vec<u8>, number: u128) -> Result<(), AllocError>
+    ensures { OnOk result (out.new.items ≡ with_fields out.old.items (decimal number ∷ [])) }
+{
+    out.push(b' ')?;
+    push_decimal(out, number)
+}
+
+/// A length in units.
+fn push_length(out: &mut Vec<u8>, units: i64) -> Result<(), AllocError>
+    ensures { OnOk result (out.new.items ≡ with_fields out.old.items (pixel_text units ∷ [])) }
+{
+    out.push(b' ')?;
+    push_px(out, Px(units))
+}
+
+/// An area seen and the whole of it, in square units.
+#[tactic(auto, unfolding(script_model::specs::TraceText::ratio_text))]
+fn push_ratio(out: &mut Vec<u8>, part: u128, whole: u128) -> Result<(), AllocError>
+    ensures { OnOk result (out.new.items ≡ with_fields out.old.items (ratio_text part whole ∷ [])) }
+{
+    push_number(out, part)?;
+    out.push(b'/')?;
+    push_decimal(out, whole)
+}
+
+fn push_rect(out: &mut Vec<u8>, rect: &Rect) -> Result<(), AllocError>
+    requires { RectReaches rect.now }
+    ensures { OnOk result (out.new.items ≡ with_fields out.old.items (rect_fields rect.now)) }
+{
+    push_length(out, rect.left)?;
+    push_length(out, rect.top)?;
+    push_length(out, rect.right - rect.left)?;
+    push_length(out, rect.bottom - rect.top)
+}
+
+fn push_size(out: &mut Vec<u8>, size: &Size) -> Result<(), AllocError>
+    requires { SizeReaches size.now }
+    ensures { OnOk result (out.new.items ≡ with_fields out.old.items (size_fields size.now)) }
+{
+    push_length(out, size.width)?;
+    push_length(out, size.height)
+}
+
+fn push_point(out: &mut Vec<u8>, point: &Point) -> Result<(), AllocError>
+    requires { PointReaches point.now }
+    ensures { OnOk result (out.new.items ≡ with_fields out.old.items (point_fields point.now)) }
+{
+    push_length(out, point.left)?;
+    push_length(out, point.top)
+}
+
+/// A rectangle behind a word.
+fn push_rect_behind(out: &mut Vec<u8>, word: &[u8], rect: &Rect) -> Result<(), AllocError>
+    requires { RectReaches rect.now }
+    ensures { OnOk result (out.new.items ≡ with_fields out.old.items (word.now ∷ rect_fields rect.now)) }
+{
+    push_field(out, word)?;
+    push_rect(out, rect)
+}
+
+/// The name of an event and the fields behind it.
+#[tactic(auto, unfolding(script_model::specs::TraceText::event_fields))]
+fn push_event(out: &mut Vec<u8>, event: &EventLine) -> Result<(), AllocError>
+    ensures { OnOk result (out.new.items ≡ with_fields out.old.items (event_fields (seen_event event.now))) }
+{
+    match event {
+        EventLine::Resize(document) => {
+            push_field(out, b"resize")?;
+            push_window(out, document)
+        }
+        EventLine::Scroll(target) => {
+            push_field(out, b"scroll")?;
+            push_field(out, target.bytes())
+        }
+        EventLine::Change(query, matches) => {
+            push_field(out, b"change")?;
+            push_field(out, query.bytes())?;
+            push_bool(out, *matches)
+        }
+        EventLine::Error(document) => {
+            push_field(out, b"error")?;
+            push_window(out, document)?;
+            push_field(out, MESSAGE)
+        }
+    }
+}
+
+fn push_bool(out: &mut Vec<u8>, value: bool) -> Result<(), AllocError>
+    ensures { OnOk result (out.new.items ≡ with_fields out.old.items (bool_text value ∷ [])) }
+{
+    if value {
+        push_field(out, b"true")
+    } else {
+        push_field(out, b"false")
+    }
+}
+
+fn push_meets(out: &mut Vec<u8>, meets: bool) -> Result<(), AllocError>
+    ensures { OnOk result (out.new.items ≡ with_fields out.old.items (meets_text meets ∷ [])) }
+{
+    if meets {
+        push_field(out, b"yes")
+    } else {
+        push_field(out, b"no")
+    }
+}
+
+/// A name and a count or a depth.
+fn push_counted(out: &mut Vec<u8>, name: &Name, count: u64) -> Result<(), AllocError>
+    ensures { OnOk result (out.new.items ≡ with_fields out.old.items (name.now ∷ decimal count ∷ [])) }
+{
+    push_field(out, name.bytes())?;
+    push_number(out, u128::from(count))
+}
+
+fn push_numbers(out: &mut Vec<u8>, first: u64, second: u64) -> Result<(), AllocError>
+    ensures { OnOk result (out.new.items ≡ with_fields out.old.items (decimal first ∷ decimal second ∷ [])) }
+{
+    push_number(out, u128::from(first))?;
+    push_number(out, u128::from(second))
+}
+
+fn push_throw(out: &mut Vec<u8>, number: u32, kind: ThrowKind) -> Result<(), AllocError>
+    ensures { OnOk result (out.new.items ≡ with_fields out.old.items (decimal number ∷ exception_text (seen_throw kind) ∷ [])) }
+{
+    push_number(out, u128::from(number))?;
+    push_field(out, kind.text().as_bytes())
+}
+
+fn push_limit(out: &mut Vec<u8>, kind: LimitKind, number: u32, most: u64) -> Result<(), AllocError>
+    ensures { OnOk result (out.new.items ≡ with_fields out.old.items (limit_text (seen_limit kind) ∷ decimal number ∷ decimal most ∷ [])) }
+{
+    push_field(out, kind.text().as_bytes())?;
+    push_numbers(out, u64::from(number), most)
+}
+
+fn push_resize(
+    out: &mut Vec<u8>,
+    observer: &Name,
+    target: &Name,
+    rect: &Rect,
+    border: &Size,
+) -> Result<(), AllocError>
+    requires rect { RectReaches rect.now }
+    requires border { SizeReaches border.now }
+    ensures { OnOk result (out.new.items ≡ with_fields out.old.items (fields_of (ResizeLine observer.now target.now rect.now border.now))) }
+{
+    push_names(out, observer, target)?;
+    push_rect_behind(out, b"rect", rect)?;
+    push_field(out, b"border")?;
+    push_size(out, border)
+}
+
+fn push_read(
+    out: &mut Vec<u8>,
+    target: &Name,
+    rect: &Rect,
+    scroll: &Point,
+) -> Result<(), AllocError>
+    requires rect { RectReaches rect.now }
+    requires scroll { PointReaches scroll.now }
+    ensures { OnOk result (out.new.items ≡ with_fields out.old.items (fields_of (ReadLine target.now rect.now scroll.now))) }
+{
+    push_field(out, target.bytes())?;
+    push_rect(out, rect)?;
+    push_point(out, scroll)
+}
+
+/// Who sees what at this time, whether they meet, and the areas.
+fn push_seen(
+    out: &mut Vec<u8>,
+    observer: &Name,
+    target: &Name,
+    time: u64,
+    meets: bool,
+    part: u128,
+    whole: u128,
+) -> Result<(), AllocError>
+    ensures { OnOk result (out.new.items ≡ with_fields out.old.items (observer.now ∷ target.now ∷ decimal time ∷ meets_text meets ∷ ratio_text part whole ∷ [])) }
+{
+    push_names(out, observer, target)?;
+    push_number(out, u128::from(time))?;
+    push_meets(out, meets)?;
+    push_ratio(out, part, whole)
+}
+
+/// The root, the target and their common part.
+fn push_rects(out: &mut Vec<u8>, root: &Rect, bounds: &Rect, cut: &Rect) -> Result<(), AllocError>
+    requires root { RectReaches root.now }
+    requires bounds { RectReaches bounds.now }
+    requires cut { RectReaches cut.now }
+    ensures { OnOk result (out.new.items ≡ with_fields out.old.items ((codes "root" ∷ rect_fields root.now) ++ (codes "box" ∷ rect_fields bounds.now) ++ (codes "cut" ∷ rect_fields cut.now))) }
+{
+    push_rect_behind(out, b"root", root)?;
+    push_rect_behind(out, b"box", bounds)?;
+    push_rect_behind(out, b"cut", cut)
+}
+
+/// The fields behind the kind.
+#[tactic(auto, unfolding(script_model::specs::TraceText::fields_of))]
+fn push_fields(out: &mut Vec<u8>, line: &TraceLine) -> Result<(), AllocError>
+    requires { HasReach (seen_line line.now) }
+    ensures { OnOk result (out.new.items ≡ with_fields out.old.items (fields_of (seen_line line.now))) }
+{
+    match line {
+        TraceLine::Tick(time) => push_number(out, u128::from(*time)),
+        TraceLine::Timer(document, key) => push_names(out, document, key),
+        TraceLine::Frame(document, key) => push_names(out, document, key),
+        TraceLine::Task(document, handler) => push_names(out, document, handler),
+        TraceLine::Event(event) => push_event(out, event),
+        TraceLine::Resize {
+            observer,
+            target,
+            rect,
+            border,
+        } => push_resize(out, observer, target, rect, border),
+        TraceLine::Round(document, depth) => push_counted(out, document, u64::from(*depth)),
+        TraceLine::Intersect {
+            observer,
+            target,
+            time,
+            meets,
+            part,
+            whole,
+            root,
+            bounds,
+            cut,
+        } => {
+            push_seen(out, observer, target, *time, *meets, *part, *whole)?;
+            push_rects(out, root, bounds, cut)
+        }
+        TraceLine::Take(observer, count) => push_counted(out, observer, *count),
+        TraceLine::Say(word) => push_field(out, word.bytes()),
+        TraceLine::Read {
+            target,
+            rect,
+            scroll,
+        } => push_read(out, target, rect, scroll),
+        TraceLine::Throw(number, kind) => push_throw(out, *number, *kind),
+        TraceLine::Limit(kind, number, most) => push_limit(out, *kind, *number, *most),
+        TraceLine::Syntax(number, column) => {
+            push_numbers(out, u64::from(*number), u64::from(*column))
+        }
+    }
+}
