@@ -1,5 +1,5 @@
 -- A test of what features or queries stand for is a test of these themselves.
-use Rattle.std.proofs.Common.{◌≡◌, ℕ, Bool, ◌&&◌, ◌||◌, List, [], ◌∷◌, map, refl, ap}
+use Rattle.std.proofs.Common.{◌≡◌, ℕ, ◌&&◌, ◌||◌, List, [], ◌∷◌, map, refl, ap}
 use Rattle.std.specs.List.{list_all, list_any}
 use Rattle.script_model.specs.Media.{feature_matches, query_matches, matches}
 use Rattle.media_queries.specs.Seen.{feature_of, query_of}

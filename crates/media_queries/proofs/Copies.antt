@@ -1,5 +1,5 @@
 -- The loop that copies items, a step at a time: what the items stand for stays the same.
-use Rattle.std.proofs.Common.{◌≡◌, ℕ, ◌+◌, ◌<◌, ◌≤◌, List, [], ◌∷◌, ◌++◌, length, map, drop, get_or, refl, sym, ◌∙◌, ap, append_assoc}
+use Rattle.std.proofs.Common.{◌≡◌, ℕ, ◌+◌, ◌<◌, ◌≤◌, List, [], ◌∷◌, ◌++◌, length, map, drop, get_or, sym, ◌∙◌, ap, append_assoc}
 use Rattle.std.proofs.lemmas.List.{append-nil, map-append, drop_more, drop_all}
 
 pub copy_on : {A B : Type 0} → (seen : A → B) (done xs : List A) (one d : A) (i : ℕ) → i < length xs → seen one ≡ seen (get_or xs i d)

@@ -1,5 +1,5 @@
 -- What the types of the code stand for, and how what a reader answers is seen.
-use Rattle.std.specs.Prelude.{◌≡◌, ℕ, true, false, List, map, Result, Ok, Err}
+use Rattle.std.specs.Prelude.{◌≡◌, ℕ, true, false, List, length, map, take, Result, Ok, Err}
 use Rattle.std.specs.Borrow.{Bor}
 use Rattle.script_model.specs.Readers.{◌>>=◌}
 use Rattle.script_model.specs.Media.{Read, byte_at, skip, query_at}
@@ -90,3 +90,7 @@ abbrev pub Parses : Result (List Asked) QueryFault → Result (List Asked) ℕ �
 Parses (Ok queries) answer = answer ≡ Ok queries
 Parses (Err (BadQuery column)) answer = answer ≡ Err column
 Parses (Err NoMemory) answer = Unit {0}
+
+-- what stood in a list still begins it
+abbrev pub Keeps : List ℕ → List ℕ → Type 0
+Keeps old new = take (length old) new ≡ old

@@ -2,15 +2,18 @@
 //! standard's, without nesting, `<` and `>`).
 #![tactic(auto)]
 
-ghost use Rattle.std.specs.Prelude.{◌≡◌, ◌<◌, length, unsigned_abs, IfOk};
+ghost use Rattle.std.specs.Prelude.{◌≡◌, ◌++◌, ◌<◌, length, unsigned_abs, IfOk, OnOk, OnErr};
 ghost use Rattle.script_model.specs.Media.{query_list, matches};
+ghost use Rattle.media_queries.specs.QueryText.{list_text};
 ghost use Rattle.media_queries.specs.Seen.{Parses};
 
 mod bytes;
 mod features;
+pub mod laws;
 mod lengths;
 mod matching;
 mod queries;
+mod texts;
 
 use crate::queries::{MediaQuery, ReadFault};
 use px_units::Size;
@@ -75,6 +78,21 @@ impl Query {
         let width = viewport.width.unsigned_abs();
         let height = viewport.height.unsigned_abs();
         matching::any_query_matches(self.queries.as_slice(), width, height)
+    }
+
+    /// Appends the text of the list: one space for each gap and no other, and each length as the shortest text that is
+    /// read as it, the first of these in byte order. What was appended is read as an equal list, and no text that is read
+    /// so is shorter. Where memory is refused, nothing is appended.
+    pub fn push_text(&self, into: &mut Vec<u8>) -> Result<(), AllocError>
+        ensures ok { OnOk result (into.new.items ≡ into.old.items ++ list_text self.now) }
+        ensures err { OnErr result (into.new.items ≡ into.old.items) }
+    {
+        let before = into.len();
+        let pushed = texts::push_queries(into, self.queries.as_slice());
+        if pushed.is_err() {
+            into.truncate(before);
+        }
+        pushed
     }
 
     /// An equal list. The error is want of memory.
@@ -189,6 +207,35 @@ mod tests {
         ("not (width: 1px)", 64, 0, false),
     ];
 
+    /// A list, and its text with one space for each gap, no other, and the shortest lengths.
+    const PRINTED: [(&str, &str); 13] = [
+        ("all", "all"),
+        ("only\tscreen", "only screen"),
+        ("not  print ,\tall", "not print,all"),
+        ("( \tmin-width\t:\t640.50px )", "(min-width:640.5px)"),
+        ("(max-height:0007.00px)", "(max-height:7px)"),
+        ("(height:0.10px)", "(height:0.1px)"),
+        ("(min-height:0.99px)", "(min-height:0.99px)"),
+        ("(max-width:0.03px)", "(max-width:0.02px)"),
+        ("(width:0.01px)", "(width:0px)"),
+        (
+            "screen\tand\t(width:1000000.00px)  and (height: 0.20px)",
+            "screen and (width:1000000px) and (height:0.2px)",
+        ),
+        (
+            "(width: 12.34px)  or (height:2.25px) or\t( orientation : portrait )",
+            "(width:12.33px) or (height:2.25px) or (orientation:portrait)",
+        ),
+        (
+            "(width:1px) and  (orientation:landscape)",
+            "(width:1px) and (orientation:landscape)",
+        ),
+        (
+            "not  ( orientation : landscape )",
+            "not (orientation:landscape)",
+        ),
+    ];
+
     // The column of a text's fault, none for a list.
     fn fault_of(alloc: Global, text: &[u8]) -> Option<u32> {
         if text.len() > 4096 {
@@ -224,6 +271,17 @@ mod tests {
             assert_eq!(rt; query.matches(size), want, "{text}");
             let copy = query.copy(rt.alloc())?;
             assert_eq!(rt; copy.matches(size), want, "a copy of {text}");
+        }
+        Ok(())
+    }
+
+    #[test]
+    fn lists_are_printed(rt: HostRuntime) -> Result<(), Fail> {
+        for (text, want) in PRINTED {
+            let query = parsed(rt.alloc(), text.as_bytes())?;
+            let mut out = Vec::new(rt.alloc());
+            query.push_text(&mut out)?;
+            assert_eq!(rt; out.as_slice(), want.as_bytes(), "{text}");
         }
         Ok(())
     }

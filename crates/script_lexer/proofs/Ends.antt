@@ -1,14 +1,15 @@
 -- A line that ends is kept if it has a word, and the next one begins.
-use Rattle.std.proofs.Common.{◌≡◌, ℕ, ◌+◌, ◌-◌, ◌<◌, ◌≤◌, ◌==◌, Bool, true, false, cond, List, [], ◌∷◌, ◌++◌, length, take, drop, refl, ap, sym, ◌∙◌, arith, append_assoc, length-drop, Option, Some, None}
+use Rattle.std.proofs.Common.{◌≡◌, ℕ, ◌+◌, ◌-◌, ◌<◌, ◌≤◌, ◌==◌, Bool, true, false, cond, List, [], ◌∷◌, ◌++◌, length, take, drop, get_or, refl, ap, sym, ◌∙◌, arith, append_assoc, length-drop, Option, Some, None}
 use Rattle.std.specs.Prelude.{map, reverse}
 use Rattle.std.specs.List.{All}
 use Rattle.std.proofs.lemmas.Bool.{eqb-true, eqb-false}
 use Rattle.std.proofs.lemmas.List.{reverse-reverse, map_push, length-map, take_rest, take-take, drop_all}
 use Rattle.std.proofs.lemmas.List.Elements.{All-nil, All-push, All-same, All-weaker}
+use Rattle.std.proofs.lemmas.List.Sums.{count_by_more_yes}
 use Rattle.script_model.specs.Lexing.{Scan, Word, Lexed, Line as LineOfWords, line_start, line_before, add_line}
 use Rattle.script_lexer.specs.declared.places.Span.{Span}
 use Rattle.script_lexer.specs.declared.places.Line.{Line}
-use Rattle.script_lexer.specs.Texts.{part, word_seen, after_of, line_words, line_seen, InLine, LineFits}
+use Rattle.script_lexer.specs.Texts.{part, word_seen, after_of, line_words, line_seen, InLine, feeds_before, BeginsLine, LineFits}
 use Rattle.script_lexer.specs.Places.{Places, closed_from, closed, line_kept, next_line_at, scan_seen, kept_seen, behind, Sound}
 use Rattle.script_lexer.proofs.Parts.{part_none}
 
@@ -77,19 +78,21 @@ line_added bytes at p lexed s = added_in bytes at p lexed (p.first == length p.w
 later_span : (start at size : ℕ) (span : Span) → at ≤ size → InLine start at span → InLine start size span
 later_span start at size span within h = (h.0, h.1, omega (arith, h.2))
 
-ended_fits : (bytes : List ℕ) (at : ℕ) (p : Places) → Sound bytes at p → LineFits (length bytes) p.words (ended_line p)
+ended_fits : (bytes : List ℕ) (at : ℕ) (p : Places) → Sound bytes at p → LineFits bytes p.words (ended_line p)
 ended_fits bytes at p s = record {
+  begins = s.begins;
+  numbered = ap (λ (n : ℕ). n + 1) s.started;
   counted = omega (arith, s.first_within);
   within = All-same (InLine p.start (length bytes)) (line_words p.words (ended_line p)) (drop p.first p.words) (take_rest p.words p.first)
       (All-weaker (InLine p.start at) (InLine p.start (length bytes)) (λ (span : Span). later_span p.start at (length bytes) span s.inside) (drop p.first p.words) s.spans_within);
 }
 
 fits_in : (bytes : List ℕ) (at : ℕ) (p : Places) (c : Bool) → Sound bytes at p
-    → All (LineFits (length bytes) (cond c p (record p { lines = p.lines ++ ended_line p ∷ [] })).words) (cond c p (record p { lines = p.lines ++ ended_line p ∷ [] })).lines
+    → All (LineFits bytes (cond c p (record p { lines = p.lines ++ ended_line p ∷ [] })).words) (cond c p (record p { lines = p.lines ++ ended_line p ∷ [] })).lines
 fits_in bytes at p true s = s.lines_fit
-fits_in bytes at p false s = All-push (LineFits (length bytes) p.words) p.lines (ended_line p) s.lines_fit (ended_fits bytes at p s)
+fits_in bytes at p false s = All-push (LineFits bytes p.words) p.lines (ended_line p) s.lines_fit (ended_fits bytes at p s)
 
-pub kept_fit : (bytes : List ℕ) (at : ℕ) (p : Places) → Sound bytes at p → All (LineFits (length bytes) (line_kept p).words) (line_kept p).lines
+pub kept_fit : (bytes : List ℕ) (at : ℕ) (p : Places) → Sound bytes at p → All (LineFits bytes (line_kept p).words) (line_kept p).lines
 kept_fit bytes at p s = fits_in bytes at p (p.first == length p.words) s
 
 abbrev start_scan : List ℕ → ℕ → ℕ → ℕ → List ℕ → List Span → Scan
@@ -133,44 +136,58 @@ next_kept bytes at p = kept_in bytes at p (p.first == length p.words)
 after_none : (at : ℕ) (words : List Span) → after_of (at + 1) (drop (length words) words) ≡ 1
 after_none at words = ap (after_of (at + 1)) (drop_all (length words) words (omega arith))
 
-sound_in : (bytes : List ℕ) (at : ℕ) (p : Places) (c : Bool) → at < length bytes → Sound bytes at (record p { open_word = None })
-    → All (LineFits (length bytes) p.words) (cond c (record p { open_word = None }) (record p { open_word = None; lines = p.lines ++ ended_line p ∷ [] })).lines
+-- a line begins behind a line feed, with the next number
+behind_feed : (bytes : List ℕ) (at : ℕ) → get_or bytes at 0 ≡ 10 → BeginsLine bytes (at + 1)
+behind_feed bytes at feed some = let same : at + 1 - 1 ≡ at = omega arith in ap (λ (n : ℕ). get_or bytes n 0) same ∙ feed
+
+fed_more : (bytes : List ℕ) (at ended : ℕ) → at < length bytes → get_or bytes at 0 ≡ 10 → ended ≡ feeds_before at bytes → ended + 1 ≡ feeds_before (at + 1) bytes
+fed_more bytes at ended within feed fed =
+    ap (λ (n : ℕ). n + 1) fed ∙ sym (count_by_more_yes (λ byte. byte == 10) bytes at 0 within (ap (λ byte. byte == 10) feed))
+
+sound_in : (bytes : List ℕ) (at : ℕ) (p : Places) (c : Bool) → at < length bytes → get_or bytes at 0 ≡ 10 → Sound bytes at (record p { open_word = None })
+    → All (LineFits bytes p.words) (cond c (record p { open_word = None }) (record p { open_word = None; lines = p.lines ++ ended_line p ∷ [] })).lines
     → Sound bytes (at + 1) (next_line_at at (cond c (record p { open_word = None }) (record p { open_word = None; lines = p.lines ++ ended_line p ∷ [] })))
-sound_in bytes at p true within s fit = record {
+sound_in bytes at p true within feed s fit = record {
   inside = omega arith;
   start_before = omega arith;
   first_within = omega arith;
   ended_before = omega (arith, s.ended_before, s.start_before);
+  begins = behind_feed bytes at feed;
+  started = fed_more bytes at p.ended within feed s.fed;
+  fed = fed_more bytes at p.ended within feed s.fed;
   open_within = tt;
   after_within = omega (arith, after_none at p.words);
   spans_within = All-same (InLine (at + 1) (at + 1)) (drop (length p.words) p.words) [] (drop_all (length p.words) p.words (omega arith)) (All-nil (InLine (at + 1) (at + 1)));
   lines_fit = fit;
 }
-sound_in bytes at p false within s fit = record {
+sound_in bytes at p false within feed s fit = record {
   inside = omega arith;
   start_before = omega arith;
   first_within = omega arith;
   ended_before = omega (arith, s.ended_before, s.start_before);
+  begins = behind_feed bytes at feed;
+  started = fed_more bytes at p.ended within feed s.fed;
+  fed = fed_more bytes at p.ended within feed s.fed;
   open_within = tt;
   after_within = omega (arith, after_none at p.words);
   spans_within = All-same (InLine (at + 1) (at + 1)) (drop (length p.words) p.words) [] (drop_all (length p.words) p.words (omega arith)) (All-nil (InLine (at + 1) (at + 1)));
   lines_fit = fit;
 }
 
-fit_words : (bytes : List ℕ) (p : Places) (c : Bool) → All (LineFits (length bytes) (cond c p (record p { lines = p.lines ++ ended_line p ∷ [] })).words) (cond c p (record p { lines = p.lines ++ ended_line p ∷ [] })).lines
-    → All (LineFits (length bytes) p.words) (cond c p (record p { lines = p.lines ++ ended_line p ∷ [] })).lines
+fit_words : (bytes : List ℕ) (p : Places) (c : Bool) → All (LineFits bytes (cond c p (record p { lines = p.lines ++ ended_line p ∷ [] })).words) (cond c p (record p { lines = p.lines ++ ended_line p ∷ [] })).lines
+    → All (LineFits bytes p.words) (cond c p (record p { lines = p.lines ++ ended_line p ∷ [] })).lines
 fit_words bytes p true fit = fit
 fit_words bytes p false fit = fit
 
-pub sound_next : (bytes : List ℕ) (at : ℕ) (p : Places) → at < length bytes → Sound bytes at (record p { open_word = None }) → Sound bytes (at + 1) (next_line_at at (line_kept (record p { open_word = None })))
-sound_next bytes at p within s =
-    sound_in bytes at p (p.first == length p.words) within s
+pub sound_next : (bytes : List ℕ) (at : ℕ) (p : Places) → at < length bytes → get_or bytes at 0 ≡ 10 → Sound bytes at (record p { open_word = None }) → Sound bytes (at + 1) (next_line_at at (line_kept (record p { open_word = None })))
+sound_next bytes at p within feed s =
+    sound_in bytes at p (p.first == length p.words) within feed s
     (fit_words bytes (record p { open_word = None }) (p.first == length p.words) (fits_in bytes at (record p { open_word = None }) (p.first == length p.words) s))
 
-feed_in : (bytes : List ℕ) (at : ℕ) (p : Places) (w : Option ℕ) → at < length bytes → Sound bytes at (closed_from w at (record p { open_word = w }))
+feed_in : (bytes : List ℕ) (at : ℕ) (p : Places) (w : Option ℕ) → at < length bytes → get_or bytes at 0 ≡ 10 → Sound bytes at (closed_from w at (record p { open_word = w }))
     → Sound bytes (at + 1) (next_line_at at (line_kept (closed_from w at (record p { open_word = w }))))
-feed_in bytes at p None within s = sound_next bytes at p within s
-feed_in bytes at p (Some from) within s = sound_next bytes at (record p { words = p.words ++ (record { from = from; to = at }) ∷ [] }) within s
+feed_in bytes at p None within feed s = sound_next bytes at p within feed s
+feed_in bytes at p (Some from) within feed s = sound_next bytes at (record p { words = p.words ++ (record { from = from; to = at }) ∷ [] }) within feed s
 
-pub sound_feed : (bytes : List ℕ) (at : ℕ) (p : Places) → at < length bytes → Sound bytes at (closed at p) → Sound bytes (at + 1) (next_line_at at (line_kept (closed at p)))
-sound_feed bytes at p within s = feed_in bytes at p p.open_word within s
+pub sound_feed : (bytes : List ℕ) (at : ℕ) (p : Places) → at < length bytes → get_or bytes at 0 ≡ 10 → Sound bytes at (closed at p) → Sound bytes (at + 1) (next_line_at at (line_kept (closed at p)))
+sound_feed bytes at p within feed s = feed_in bytes at p p.open_word within feed s

@@ -38,14 +38,16 @@ words_stay words more line within =
     let short : line.count ≤ length (drop line.first words) = omega (arith, length-drop line.first words) in
     ap (take line.count) (drop-append-le line.first words more (omega arith)) ∙ take-append-le line.count (drop line.first words) more short
 
-pub fits_stays : (size : ℕ) (words more : List Span) (line : Line) → LineFits size words line → LineFits size (words ++ more) line
-fits_stays size words more line fits = record {
+pub fits_stays : (bytes : List ℕ) (words more : List Span) (line : Line) → LineFits bytes words line → LineFits bytes (words ++ more) line
+fits_stays bytes words more line fits = record {
+  begins = fits.begins;
+  numbered = fits.numbered;
   counted = omega (arith, length-append words more, fits.counted);
-  within = All-same (InLine line.start size) (line_words (words ++ more) line) (line_words words line) (words_stay words more line fits.counted) fits.within;
+  within = All-same (InLine line.start (length bytes)) (line_words (words ++ more) line) (line_words words line) (words_stay words more line fits.counted) fits.within;
 }
 
-pub fit_stay : (size : ℕ) (words more : List Span) (lines : List Line) → All (LineFits size words) lines → All (LineFits size (words ++ more)) lines
-fit_stay size words more lines fit = All-weaker (LineFits size words) (LineFits size (words ++ more)) (fits_stays size words more) lines fit
+pub fit_stay : (bytes : List ℕ) (words more : List Span) (lines : List Line) → All (LineFits bytes words) lines → All (LineFits bytes (words ++ more)) lines
+fit_stay bytes words more lines fit = All-weaker (LineFits bytes words) (LineFits bytes (words ++ more)) (fits_stays bytes words more) lines fit
 
 line_stays : (bytes : List ℕ) (words more : List Span) (line : Line) → line.first + line.count ≤ length words → line_seen bytes (words ++ more) line ≡ line_seen bytes words line
 line_stays bytes words more line within =
@@ -58,10 +60,10 @@ line_stays bytes words more line within =
       };
     }) (words_stay words more line within)
 
-pub lines_stay : (bytes : List ℕ) (words more : List Span) (lines : List Line) → All (LineFits (length bytes) words) lines → map (line_seen bytes (words ++ more)) lines ≡ map (line_seen bytes words) lines
+pub lines_stay : (bytes : List ℕ) (words more : List Span) (lines : List Line) → All (LineFits bytes words) lines → map (line_seen bytes (words ++ more)) lines ≡ map (line_seen bytes words) lines
 lines_stay bytes words more [] fit = refl
 lines_stay bytes words more (line ∷ lines) fit =
-    let here : LineFits (length bytes) words line = All-head (LineFits (length bytes) words) line lines fit in
+    let here : LineFits bytes words line = All-head (LineFits bytes words) line lines fit in
     let first = line_stays bytes words more line here.counted in
-    let rest = lines_stay bytes words more lines (All-tail (LineFits (length bytes) words) line lines fit) in
+    let rest = lines_stay bytes words more lines (All-tail (LineFits bytes words) line lines fit) in
     cc (first, rest)

@@ -4,7 +4,7 @@ use Rattle.std.specs.Prelude.{map, reverse}
 use Rattle.std.specs.List.{All}
 use Rattle.std.proofs.lemmas.List.{reverse-reverse, drop-append-le, map_push}
 use Rattle.std.proofs.lemmas.List.Elements.{All-push, All-same, All-weaker}
-use Rattle.std.proofs.lemmas.List.Sums.{fold-append}
+use Rattle.std.proofs.lemmas.List.Sums.{fold-append, count_by_more_no}
 use Rattle.script_model.specs.Readers.{is_empty}
 use Rattle.script_model.specs.Lexing.{Scan, Word, word_closed, close_word, passed, word_byte_in, word_byte}
 use Rattle.script_lexer.specs.declared.places.Span.{Span}
@@ -96,7 +96,7 @@ pub closed_none : (at : ℕ) (p : Places) (w : Option ℕ) → (closed_from w at
 closed_none at p None = refl
 closed_none at p (Some from) = refl
 
-pub closed_kept : (bytes : List ℕ) (at : ℕ) (p : Places) (w : Option ℕ) → All (LineFits (length bytes) p.words) p.lines
+pub closed_kept : (bytes : List ℕ) (at : ℕ) (p : Places) (w : Option ℕ) → All (LineFits bytes p.words) p.lines
     → kept_seen bytes (closed_from w at (record p { open_word = w })) ≡ kept_seen bytes p
 closed_kept bytes at p None fit = refl
 closed_kept bytes at p (Some from) fit = lines_stay bytes p.words (span_of from at ∷ []) p.lines fit
@@ -113,11 +113,14 @@ sound_closed bytes at p (Some from) s =
       start_before = s.start_before;
       first_within = omega (arith, s.first_within, length-append p.words (span_of from at ∷ []));
       ended_before = s.ended_before;
+      begins = s.begins;
+      started = s.started;
+      fed = s.fed;
       open_within = tt;
       after_within = omega arith;
       spans_within = All-same (InLine p.start at) (drop p.first (p.words ++ span_of from at ∷ [])) (drop p.first p.words ++ span_of from at ∷ []) (drop-append-le p.first p.words (span_of from at ∷ []) s.first_within)
           (All-push (InLine p.start at) (drop p.first p.words) (span_of from at) s.spans_within (low, high, end));
-      lines_fit = fit_stay (length bytes) p.words (span_of from at ∷ []) p.lines s.lines_fit;
+      lines_fit = fit_stay bytes p.words (span_of from at ∷ []) p.lines s.lines_fit;
     }
 
 later_open : (start at : ℕ) (comment : Bool) (w : Option ℕ) → OpenIn start at comment w → OpenIn start (at + 1) comment w
@@ -127,12 +130,15 @@ later_open start at comment (Some from) open_in = (open_in.0, omega (arith, open
 later_span : (start at : ℕ) (span : Span) → InLine start at span → InLine start (at + 1) span
 later_span start at span h = (h.0, h.1, omega (arith, h.2))
 
-pub sound_later : (bytes : List ℕ) (at : ℕ) (p : Places) → at < length bytes → Sound bytes at p → Sound bytes (at + 1) p
-sound_later bytes at p within s = record {
+pub sound_later : (bytes : List ℕ) (at : ℕ) (p : Places) → at < length bytes → (get_or bytes at 0 == 10) ≡ false → Sound bytes at p → Sound bytes (at + 1) p
+sound_later bytes at p within no_feed s = record {
   inside = omega arith;
   start_before = omega (arith, s.start_before);
   first_within = s.first_within;
   ended_before = s.ended_before;
+  begins = s.begins;
+  started = s.started;
+  fed = s.fed ∙ sym (count_by_more_no (λ byte. byte == 10) bytes at 0 within no_feed);
   open_within = later_open p.start at p.in_comment p.open_word s.open_within;
   after_within = omega (arith, s.after_within);
   spans_within = All-weaker (InLine p.start at) (InLine p.start (at + 1)) (later_span p.start at) (drop p.first p.words) s.spans_within;
@@ -181,6 +187,9 @@ sound_begins bytes at p true within s start = record {
   start_before = s.start_before;
   first_within = s.first_within;
   ended_before = s.ended_before;
+  begins = s.begins;
+  started = s.started;
+  fed = s.fed;
   open_within = tt;
   after_within = s.after_within;
   spans_within = s.spans_within;
@@ -192,18 +201,21 @@ sound_begins bytes at p false within s start =
       start_before = s.start_before;
       first_within = s.first_within;
       ended_before = s.ended_before;
+      begins = s.begins;
+      started = s.started;
+      fed = s.fed;
       open_within = (start, here, refl);
       after_within = s.after_within;
       spans_within = s.spans_within;
       lines_fit = s.lines_fit;
     }
 
-pub sound_begun : (bytes : List ℕ) (at : ℕ) (p : Places) (comment : Bool) (w : Option ℕ) → at < length bytes → Sound bytes at (record p { open_word = w; in_comment = comment })
+pub sound_begun : (bytes : List ℕ) (at : ℕ) (p : Places) (comment : Bool) (w : Option ℕ) → at < length bytes → (get_or bytes at 0 == 10) ≡ false → Sound bytes at (record p { open_word = w; in_comment = comment })
     → Sound bytes (at + 1) (begun_in comment w (get_or bytes at 0) at (record p { open_word = w; in_comment = comment }))
-sound_begun bytes at p true w within s = sound_later bytes at (record p { open_word = w; in_comment = true }) within s
-sound_begun bytes at p false (Some from) within s = sound_later bytes at (record p { open_word = Some from; in_comment = false }) within s
-sound_begun bytes at p false None within s =
-    sound_begins bytes at p (get_or bytes at 0 == 35) within (sound_later bytes at (record p { open_word = None; in_comment = false }) within s) s.start_before
+sound_begun bytes at p true w within no_feed s = sound_later bytes at (record p { open_word = w; in_comment = true }) within no_feed s
+sound_begun bytes at p false (Some from) within no_feed s = sound_later bytes at (record p { open_word = Some from; in_comment = false }) within no_feed s
+sound_begun bytes at p false None within no_feed s =
+    sound_begins bytes at p (get_or bytes at 0 == 35) within (sound_later bytes at (record p { open_word = None; in_comment = false }) within no_feed s) s.start_before
 
 kept_begins : (bytes : List ℕ) (at : ℕ) (p : Places) (c : Bool) → kept_seen bytes (cond c (record p { in_comment = true }) (record p { open_word = Some at })) ≡ kept_seen bytes p
 kept_begins bytes at p true = refl

@@ -1,5 +1,6 @@
 -- What a text gives stays the same while it is read.
 use Rattle.std.proofs.Common.{◌≡◌, ℕ, ◌+◌, ◌-◌, ◌<◌, ◌≤◌, ◌==◌, Bool, true, false, cond, List, [], ◌∷◌, ◌++◌, length, drop, get_or, refl, ap, sym, subst, ◌∙◌, arith, length-drop, Option, Some, None}
+use Rattle.std.proofs.lemmas.Bool.{eqb-true}
 use Rattle.std.proofs.lemmas.Bool.Decides.{nat_tests}
 use Rattle.std.proofs.lemmas.List.{append-nil, drop_more, drop_all}
 use Rattle.std.proofs.lemmas.List.Elements.{All-nil, All-get_or}
@@ -69,14 +70,41 @@ after_feed most bytes at p within s is =
     ∙ ap (λ (lines : List LineOfWords). behind lines (on_at most bytes at (line_start (p.ended + 1 + 1)))) (sym (next_kept bytes at (closed at p)))
     ∙ ap (λ (t : Scan). behind (kept_seen bytes (next_line_at at (line_kept (closed at p)))) (on_at most bytes at t)) (sym (next_closed bytes at p p.open_word)))
 
-pub sound_space : (bytes : List ℕ) (at : ℕ) (p : Places) → at < length bytes → Sound bytes at p → Sound bytes (at + 1) (closed at p)
-sound_space bytes at p within s = sound_later bytes at (closed at p) within (sound_closed bytes at p p.open_word s)
+-- a line feed ends the line, and no other byte does
+feed_test : (feed long space word : Bool)
+    → cond feed LineFeedByte (cond long LongByte (cond space SpaceByte (cond word WordByte ForbiddenByte))) ≡ LineFeedByte → feed ≡ true
+feed_test true long space word e = refl
+feed_test false true space word e = absurd cc
+feed_test false false true word e = absurd cc
+feed_test false false false true e = absurd cc
+feed_test false false false false e = absurd cc
 
-pub sound_end : (bytes : List ℕ) (at : ℕ) (p : Places) → at < length bytes → Sound bytes at p → Sound bytes (at + 1) (next_line_at at (line_kept (closed at p)))
-sound_end bytes at p within s = sound_feed bytes at p within (sound_closed bytes at p p.open_word s)
+other_test : (feed : Bool) (class other : ByteClass) → (class ≡ LineFeedByte → ⊥) → cond feed LineFeedByte other ≡ class → feed ≡ false
+other_test true class other apart e = absurd (apart (sym e))
+other_test false class other apart e = refl
 
-pub sound_word : (bytes : List ℕ) (at : ℕ) (p : Places) → at < length bytes → Sound bytes at p → Sound bytes (at + 1) (begun (get_or bytes at 0) at p)
-sound_word bytes at p within s = sound_begun bytes at p p.in_comment p.open_word within s
+is_feed : (most : ℕ) (bytes : List ℕ) (at : ℕ) (p : Places) → class_at most bytes at p ≡ LineFeedByte → get_or bytes at 0 ≡ 10
+unfolding class_within
+is_feed most bytes at p is = eqb-true (get_or bytes at 0) 10 (feed_test (get_or bytes at 0 == 10) _ _ _ is)
+
+no_feed : (most : ℕ) (bytes : List ℕ) (at : ℕ) (p : Places) (class : ByteClass) → (class ≡ LineFeedByte → ⊥) → class_at most bytes at p ≡ class → (get_or bytes at 0 == 10) ≡ false
+unfolding class_within
+no_feed most bytes at p class apart is = other_test (get_or bytes at 0 == 10) class _ apart is
+
+space_is_none : SpaceByte ≡ LineFeedByte → ⊥
+space_is_none e = absurd cc
+
+word_is_none : WordByte ≡ LineFeedByte → ⊥
+word_is_none e = absurd cc
+
+pub sound_space : (most : ℕ) (bytes : List ℕ) (at : ℕ) (p : Places) → at < length bytes → class_at most bytes at p ≡ SpaceByte → Sound bytes at p → Sound bytes (at + 1) (closed at p)
+sound_space most bytes at p within is s = sound_later bytes at (closed at p) within (no_feed most bytes at p SpaceByte space_is_none is) (sound_closed bytes at p p.open_word s)
+
+pub sound_end : (most : ℕ) (bytes : List ℕ) (at : ℕ) (p : Places) → at < length bytes → class_at most bytes at p ≡ LineFeedByte → Sound bytes at p → Sound bytes (at + 1) (next_line_at at (line_kept (closed at p)))
+sound_end most bytes at p within is s = sound_feed bytes at p within (is_feed most bytes at p is) (sound_closed bytes at p p.open_word s)
+
+pub sound_word : (most : ℕ) (bytes : List ℕ) (at : ℕ) (p : Places) → at < length bytes → class_at most bytes at p ≡ WordByte → Sound bytes at p → Sound bytes (at + 1) (begun (get_or bytes at 0) at p)
+sound_word most bytes at p within is s = sound_begun bytes at p p.in_comment p.open_word within (no_feed most bytes at p WordByte word_is_none is) s
 
 look_long : (byte : ℕ) (s : Scan) (on : Scan → Lexed) → look_as LongByte byte s on ≡ ends (LongLine s.number)
 unfolding look_as
@@ -103,10 +131,13 @@ blank_sound bytes = record {
   start_before = omega arith;
   first_within = omega arith;
   ended_before = omega arith;
+  begins = λ some. absurd (omega arith);
+  started = refl;
+  fed = refl;
   open_within = tt;
   after_within = omega arith;
   spans_within = All-nil (InLine 0 0);
-  lines_fit = All-nil (LineFits (length bytes) []);
+  lines_fit = All-nil (LineFits bytes []);
 }
 
 pub blank_whole : (most : ℕ) (bytes : List ℕ) → to_come most bytes 0 no_places ≡ lexed_within most bytes
@@ -216,6 +247,6 @@ last_scanned most bytes at p q r end s whole q_is r_is =
 pub feed_went : (most : ℕ) (bytes : List ℕ) (at : ℕ) (p q : Places) → at < length bytes → Sound bytes at p → class_at most bytes at p ≡ LineFeedByte
     → q ≡ next_line_at at (line_kept (closed at p)) → Sound bytes (at + 1) q × to_come most bytes (at + 1) q ≡ to_come most bytes at p
 feed_went most bytes at p q within s class is = (
-  subst (λ (t : Places). Sound bytes (at + 1) t) (sym is) (sound_end bytes at p within s),
+  subst (λ (t : Places). Sound bytes (at + 1) t) (sym is) (sound_end most bytes at p within class s),
   subst (λ (t : Places). to_come most bytes (at + 1) t ≡ to_come most bytes at p) (sym is) (after_feed most bytes at p within s class),
 )

@@ -3,7 +3,7 @@ use Rattle.std.specs.Prelude.{ℕ, ◌+◌, ◌-◌, ◌<◌, ◌≤◌, ◌≡�
 use Rattle.std.specs.List.{All}
 use Rattle.script_model.specs.Lexing.{Scan, Lexed, Line as LineOfWords, ends}
 use Rattle.script_lexer.specs.Limited.{lex_within, lexed_within}
-use Rattle.script_lexer.specs.Texts.{part, word_seen, after_of, line_seen, InLine, LineFits, fault_seen, ending_seen, lines_before}
+use Rattle.script_lexer.specs.Texts.{part, word_seen, after_of, line_seen, InLine, feeds_before, BeginsLine, LineFits, fault_seen, ending_seen, lines_before}
 use Rattle.script_lexer.specs.declared.places.Span.{Span}
 use Rattle.script_lexer.specs.declared.places.Line.{Line}
 use Rattle.script_lexer.specs.declared.places.LexFault.{LexFault}
@@ -86,16 +86,19 @@ pub record Sound (bytes : List ℕ) (at : ℕ) (p : Places) : Type 0 where
   pub start_before : p.start ≤ at
   pub first_within : p.first ≤ length p.words
   pub ended_before : p.ended ≤ p.start
+  pub begins : BeginsLine bytes p.start
+  pub started : p.ended ≡ feeds_before p.start bytes
+  pub fed : p.ended ≡ feeds_before at bytes
   pub open_within : OpenIn p.start at p.in_comment p.open_word
   pub after_within : after_of p.start (drop p.first p.words) + p.start ≤ at + 1
   pub spans_within : All (InLine p.start at) (drop p.first p.words)
-  pub lines_fit : All (LineFits (length bytes) p.words) p.lines
+  pub lines_fit : All (LineFits bytes p.words) p.lines
 
 -- the text goes on, or ends here with a fault
 abbrev pub WentOn : ℕ → List ℕ → ℕ → Places → Option LexFault → Lexed → Type 0
 WentOn most_line bytes at p None whole = (Sound bytes at p) × (to_come most_line bytes at p ≡ whole)
 WentOn most_line bytes at p (Some fault) whole =
-    (All (LineFits (length bytes) p.words) p.lines) × (p.ended ≤ p.start) × (p.start ≤ at)
+    (All (LineFits bytes p.words) p.lines) × (p.ended ≤ p.start) × (p.start ≤ at)
     × (behind (kept_seen bytes p) (ends (fault_seen fault)) ≡ whole) × (lines_before (fault_seen fault) ≡ p.ended)
 
 -- how many lines a text has that ends here: a last one without a line feed counts if it has a byte
@@ -105,7 +108,7 @@ lines_up_to (Some fault) size p = p.ended
 
 -- the places of a whole text, up to its first fault
 pub record Scanned (most_line : ℕ) (bytes : List ℕ) (p : Places) (fault : Option LexFault) : Type 0 where
-  pub lines_fit : All (LineFits (length bytes) p.words) p.lines
+  pub lines_fit : All (LineFits bytes p.words) p.lines
   pub ended_before : p.ended ≤ p.start
   pub start_before : p.start ≤ length bytes
   pub whole : record { lines = kept_seen bytes p; ending = ending_seen fault (lines_up_to fault (length bytes) p) } ≡ lexed_within most_line bytes

@@ -205,7 +205,7 @@ impl Scanner {
 
     /// The text that was scanned, with its places.
     pub fn into_text(self, bytes: Vec<u8>, fault: Option<LexFault>) -> Text
-        requires fit { All (LineFits (length bytes.items) self.words) self.lines }
+        requires fit { All (LineFits bytes.items self.words) self.lines }
         requires start { self.start ≤ length bytes.items }
         requires ended { self.ended ≤ self.start }
         requires size { length bytes.items < 2 ^ 32 }

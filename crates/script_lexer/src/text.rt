@@ -31,7 +31,7 @@ impl Model for Text {
       fault = text.fault;
     } };
 
-    ghost invariant = { λ text. All (LineFits (length text.bytes.items) text.words.items) text.lines.items };
+    ghost invariant = { λ text. All (LineFits text.bytes.items text.words.items) text.lines.items };
 }
 
 impl Text {
@@ -43,7 +43,7 @@ impl Text {
         line_count: u32,
         fault: Option<LexFault>,
     ) -> Text
-        requires { All (LineFits (length bytes.items) words.items) lines.items }
+        requires { All (LineFits bytes.items words.items) lines.items }
         ensures { result ≡ record {
           bytes = bytes.items;
           lines = lines.items;
@@ -72,14 +72,14 @@ impl Text {
     /// start and the text's end.
     pub fn lines(&self) -> &[Line]
         ensures value { result.now ≡ self.now.lines }
-        ensures fit { All (LineFits (length self.now.bytes) self.now.words) result.now }
+        ensures fit { All (LineFits self.now.bytes self.now.words) result.now }
     {
         self.lines.as_slice()
     }
 
     /// The words of one of the text's lines, from left to right.
     pub fn words(&self, line: &Line) -> &[Span]
-        requires { LineFits (length self.now.bytes) self.now.words line.now }
+        requires { LineFits self.now.bytes self.now.words line.now }
         ensures value { result.now ≡ line_words self.now.words line.now }
         ensures within { All (InLine line.now.start (length self.now.bytes)) result.now }
     {
