@@ -10,7 +10,7 @@ use Rattle.px_units.specs.declared.Size.{Size}
 use Rattle.first_path.specs.Page.{Page}
 use Rattle.first_path.specs.Boxes.{Entry, entries, reported}
 use Rattle.first_path.specs.Trace.{least_depth, observer_name, resize_line, round_lines, round_line}
-use Rattle.page_state.specs.Told.{told_now, told_of}
+use Rattle.first_page.specs.Told.{told_now, told_of}
 use Rattle.replay.specs.Lines.{least_told, lesser, told_line, told_lines, round_of}
 
 -- the least so far and that of the others

@@ -14,8 +14,8 @@ use Rattle.replay.proofs.Writes.{Going, going_done, going_more}
 use Rattle.first_path.specs.Page.{Page, opening_page}
 use Rattle.first_path.specs.Reading.{Numbered, Reading, Script, NotBuilt, reading, read_script, lines_of}
 use Rattle.first_path.specs.Trace.{lines_by, page_after, lines_of_all, not_built_line, text_of, trace}
-use Rattle.script_syntax.specs.declared.Item.{Item}
-use Rattle.script_syntax.specs.Seen.{seen_item}
+use Rattle.first_reader.specs.declared.Item.{Item}
+use Rattle.first_reader.specs.Seen.{seen_item}
 
 pub trace_read : (text : List ℕ) (read : Reading) → reading text ≡ read → trace text ≡ text_of read
 unfolding trace

@@ -1,7 +1,7 @@
 ghost use Rattle.std.specs.Prelude.{◌≡◌, flat_map, false, ◌↔◌, ℕ, ◌<◌, length, is_some, OnOk, OnErr, IfOk, IfSome, Some, [], ◌++◌};
 ghost use Rattle.std.specs.Io.KnownBytes.{Appends, Keeps, Consumes};
 ghost use Rattle.text_io.specs.Streams.{Rose};
-ghost use Rattle.script_syntax.specs.Seen.{seen_item};
+ghost use Rattle.first_reader.specs.Seen.{seen_item};
 ghost use Rattle.first_path.specs.Page.{opening_page, Tick};
 ghost use Rattle.first_path.specs.Trace.{observer_name, tick_line, round_line, tick_lines, lines_by, page_after, lines_of_all, not_built_line, trace};
 ghost use Rattle.replay.specs.Answers.{Answers, Ends, Refuses, Wrote, is_done, status_of};
@@ -9,9 +9,9 @@ ghost use Rattle.replay.specs.Lines.{least_told, lesser, told_line, told_lines};
 
 use crate::lines::{not_built_line, resize_line, round_line, tick_line};
 use crate::status::{Status, Stop};
-use page_state::Page;
+use first_page::Page;
+use first_reader::{FirstFault, Item, Script, What, parse_first};
 use px_units::Size;
-use script_syntax::{FirstFault, Item, Script, What, parse_first};
 use std::alloc::{AllocError, Global};
 use std::sync::ledger::Ledger;
 use step_count::Steps;

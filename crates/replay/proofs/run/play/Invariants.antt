@@ -2,7 +2,7 @@ use Rattle.std.proofs.Common.{◌≡◌, drop}
 use Rattle.std.specs.Prelude.{map}
 use Rattle.first_path.specs.Page.{opening_page}
 use Rattle.first_path.specs.Trace.{lines_of_all}
-use Rattle.script_syntax.specs.Seen.{seen_item}
+use Rattle.first_reader.specs.Seen.{seen_item}
 use Rattle.replay.proofs.Writes.{Going}
 use Rattle.replay.proofs.run.play.Given as goal
 

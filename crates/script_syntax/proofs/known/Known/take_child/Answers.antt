@@ -1,5 +1,0 @@
-use Rattle.script_syntax.proofs.Taken.{takes_child}
-use Rattle.script_syntax.proofs.known.Known.take_child.Goals as goal
-
-pub returns : goal.returns
-returns c = takes_child _ _ _ _ _ _ _ _ _ _ c.self.view_is c.in-Some.ensures c.in-Some-detached_named.ensures.found
