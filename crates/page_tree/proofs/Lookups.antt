@@ -5,7 +5,7 @@ use Rattle.page_model.specs.World.{Element, World}
 use Rattle.page_model.specs.Lookups.{element_at, no_element}
 use Rattle.page_model.specs.Documents.{tree_of}
 use Rattle.element_tree.specs.Forest.{Knot, parent_of, children_of, parent_in, children_in}
-use Rattle.block_layout.specs.Trees.{tree_of as tree_in, node_in}
+use Rattle.block_layout.specs.Trees.{layout_tree as tree_in, node_in}
 use Rattle.page_model.specs.Documents.{node_of}
 use Rattle.page_tree.specs.Items.{Described, style_in, kind_in}
 use Rattle.page_tree.specs.Views.{element_of, spread}

@@ -8,7 +8,7 @@ ghost use Rattle.page_model.specs.World.{World};
 ghost use Rattle.page_model.specs.Lookups.{element_at};
 ghost use Rattle.page_model.specs.Documents.{tree_of, element_depth, container_of};
 ghost use Rattle.block_layout.specs.Seen.{seen_kind};
-ghost use Rattle.block_layout.specs.Trees.{tree_of as tree_in};
+ghost use Rattle.block_layout.specs.Trees.{layout_tree as tree_in};
 ghost use Rattle.page_tree.specs.Items.{IsKind, style_in, kind_in};
 ghost use Rattle.page_tree.specs.Views.{placed_in, seen_page};
 ghost use Rattle.page_tree.specs.Trees.{AreTrees};

@@ -1,0 +1,65 @@
+use Rattle.std.proofs.Common.{◌≡◌, Some, sym, ◌∙◌, arith}
+use Rattle.layout_model.specs.Nodes.{path_of, ancestors_of}
+use Rattle.layout_model.specs.Places.{offset_of}
+use Rattle.block_layout.proofs.LayoutPaths.{path_self, ancestors_child, ancestors_top}
+use Rattle.element_tree.specs.Forest.{parent_of}
+use Rattle.element_tree.proofs.Depths.{some_of_ids, none_of_ids, depth_positive}
+use Rattle.element_tree.proofs.Levels.{low_enough}
+use Rattle.block_layout.specs.Trees.{layout_tree}
+use Rattle.block_layout.proofs.Nodes.{parent_is}
+use Rattle.block_layout.proofs.Forests.{shallow}
+use Rattle.page_boxes.proofs.Shifts.{found_child}
+use Rattle.page_boxes.proofs.Sums.{sum_begins, sum_goes, sum_ends}
+use Rattle.page_boxes.proofs.offsets.place.Goals as goal
+
+pub loop-parent-init : goal.loop-parent-init
+loop-parent-init g c = record {
+  across = omega (arith, c.own_offset-place.ensures.across);
+  down = omega (arith, c.own_offset-place.ensures.down);
+  sums = λ view holds boxed. (
+    boxed,
+    sum_begins (offset_of (layout_tree g.P.Styled.style g.P.Styled.kind c.args.tree.now.nodes) view) (c.args.node.0)
+        (path_of (layout_tree g.P.Styled.style g.P.Styled.kind c.args.tree.now.nodes) (c.args.node.0)) (ancestors_of (layout_tree g.P.Styled.style g.P.Styled.kind c.args.tree.now.nodes) (c.args.node.0))
+        (path_self (layout_tree g.P.Styled.style g.P.Styled.kind c.args.tree.now.nodes) (c.args.node.0) (shallow g.P.Styled.style g.P.Styled.kind c.own_offset-place.ensures.forest (c.args.node.0)))
+        (c.own_offset-place.result.across) (c.own_offset-place.result.down) (c.own_offset-place.ensures.value view holds boxed),
+  );
+}
+
+pub loop-parent-preserved : goal.loop-parent-preserved
+loop-parent-preserved g c =
+    let up : parent_of c.args.tree.now.nodes (c.loop-parent.at.0) ≡ Some (c.in-Some.parent.0) = some_of_ids _ c.in-Some.parent (sym c.parent.ensures.value ∙ c.in-Some.is) in
+    let level = c.parent.ensures.forest.falls (c.loop-parent.at.0) (c.in-Some.parent.0) up in
+    record {
+      across = omega (arith, level, c.loop-parent.invariant.across, c.own_offset-more.ensures.across);
+      down = omega (arith, level, c.loop-parent.invariant.down, c.own_offset-more.ensures.down);
+      sums = λ view holds boxed.
+          let before = c.loop-parent.invariant.sums view holds boxed in
+          let above = found_child g.P.Styled.style g.P.Styled.kind c.parent.ensures.forest view (g.B.Boxes.held c.args.boxes.now) holds (c.loop-parent.at.0) (c.in-Some.parent.0) up before.0 in (
+            above.above,
+            sum_goes (offset_of (layout_tree g.P.Styled.style g.P.Styled.kind c.args.tree.now.nodes) view) (c.in-Some.parent.0)
+                (ancestors_of (layout_tree g.P.Styled.style g.P.Styled.kind c.args.tree.now.nodes) (c.loop-parent.at.0)) (ancestors_of (layout_tree g.P.Styled.style g.P.Styled.kind c.args.tree.now.nodes) (c.in-Some.parent.0))
+                (ancestors_child (layout_tree g.P.Styled.style g.P.Styled.kind c.args.tree.now.nodes) (c.loop-parent.at.0) (c.in-Some.parent.0)
+                (parent_is g.P.Styled.style g.P.Styled.kind c.args.tree.now.nodes (c.loop-parent.at.0) ∙ up)
+                ∙ path_self (layout_tree g.P.Styled.style g.P.Styled.kind c.args.tree.now.nodes) (c.in-Some.parent.0) (shallow g.P.Styled.style g.P.Styled.kind c.parent.ensures.forest (c.in-Some.parent.0)))
+                (c.loop-parent.place.across) (c.loop-parent.place.down) (c.own_offset-more.result.across) (c.own_offset-more.result.down)
+                (c.own_offset-more.ensures.value view holds above.above)
+                ∙ before.1,
+          );
+    }
+
+pub returns-clause-value : goal.returns-clause-value
+returns-clause-value g c view holds boxed =
+    sum_ends (offset_of (layout_tree g.P.Styled.style g.P.Styled.kind c.args.tree.now.nodes) view)
+    (ancestors_of (layout_tree g.P.Styled.style g.P.Styled.kind c.args.tree.now.nodes) (c.loop-parent.at.0))
+    (ancestors_top (layout_tree g.P.Styled.style g.P.Styled.kind c.args.tree.now.nodes) (c.loop-parent.at.0)
+    (parent_is g.P.Styled.style g.P.Styled.kind c.args.tree.now.nodes (c.loop-parent.at.0) ∙ none_of_ids _ (sym c.parent.ensures.value ∙ c.in_default.is)))
+    (c.loop-parent.place.across) (c.loop-parent.place.down)
+    ∙ (c.loop-parent.invariant.sums view holds boxed).1
+
+pub returns-clause-across : goal.returns-clause-across
+returns-clause-across g c =
+    omega (arith, c.loop-parent.invariant.across, low_enough c.parent.ensures.forest (c.args.node.0), depth_positive c.args.tree.now.nodes (c.loop-parent.at.0))
+
+pub returns-clause-down : goal.returns-clause-down
+returns-clause-down g c =
+    omega (arith, c.loop-parent.invariant.down, low_enough c.parent.ensures.forest (c.args.node.0), depth_positive c.args.tree.now.nodes (c.loop-parent.at.0))

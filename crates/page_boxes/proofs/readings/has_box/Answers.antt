@@ -1,0 +1,16 @@
+use Rattle.std.proofs.Common.{ap, sym, ◌∙◌}
+use Rattle.element_tree.proofs.Walks.{back_numbers}
+use Rattle.element_tree.specs.Links.{number}
+use Rattle.std.proofs.Common.{option_map}
+use Rattle.page_tree.specs.Views.{placed_in}
+use Rattle.page_boxes.proofs.Pages.{top_view, has_box_here, no_element_no_box}
+use Rattle.page_boxes.proofs.readings.has_box.Goals as goal
+
+pub returns-then-not-holds : goal.returns-then-not-holds
+returns-then-not-holds c world =
+    sym (no_element_no_box (placed_in c.args.page.now world) (c.args.node.0) (sym c.holds.ensures.value ∙ c.if-not-holds.true))
+
+pub returns : goal.returns
+returns c world =
+    c.is_boxed.ensures (top_view c.args.page.now world) (sym (ap (option_map number) c.root.ensures.value ∙ back_numbers _))
+    ∙ sym (has_box_here c.args.page.now c.tree.result.now c.tree.ensures.value world (c.tree.ensures.nodes world) (c.args.node.0))

@@ -1,0 +1,73 @@
+//! Whether a node has a box, which its ancestors decide (CSS 2.2, 9.2.4).
+
+ghost use Rattle.std.specs.Prelude.{◌≡◌, ◌<◌, ◌&&◌, not, length, option_map, is_some};
+ghost use Rattle.layout_model.specs.Clips.{is_block};
+ghost use Rattle.layout_model.specs.Reach.{View, inputs_in_view};
+ghost use Rattle.element_tree.specs.Links.{number};
+ghost use Rattle.page_model.specs.Documents.{is_number};
+ghost use Rattle.block_layout.specs.Trees.{layout_tree};
+
+use block_layout::{ItemKind, Styled};
+use element_tree::{NodeId, Tree};
+use style_values::Display;
+
+// Whether the node itself has `display: none`.
+pub(crate) fn is_hidden<P: Styled>(tree: &Tree<P>, node: NodeId) -> bool
+    requires { node.0 < length tree.now.nodes }
+    ensures { result ≡ (layout_tree P.style P.kind tree.now.nodes node.0).item.style.hidden }
+{
+    match tree.payload(node).style().display {
+        Display::Hidden => true,
+        Display::Block => false,
+    }
+}
+
+// Whether the children of the node may have boxes.
+fn has_kids<P: Styled>(tree: &Tree<P>, node: NodeId) -> bool
+    requires { node.0 < length tree.now.nodes }
+    ensures { result ≡ is_block (layout_tree P.style P.kind tree.now.nodes node.0).item.kind }
+{
+    match tree.payload(node).kind() {
+        ItemKind::Block => true,
+        ItemKind::Image(_) | ItemKind::Frame => false,
+    }
+}
+
+// Whether a node has a box where its parent has one.
+fn takes_part<P: Styled>(tree: &Tree<P>, parent: NodeId, node: NodeId) -> bool
+    requires parent { parent.0 < length tree.now.nodes }
+    requires node { node.0 < length tree.now.nodes }
+    ensures { let at = layout_tree P.style P.kind tree.now.nodes in
+        result ≡ (not (at node.0).item.style.hidden && is_block (at parent.0).item.kind) }
+{
+    !is_hidden(tree, node) && has_kids(tree, parent)
+}
+
+// Whether a node without a parent has a box.
+fn tops<P: Styled>(tree: &Tree<P>, root: Option<NodeId>, node: NodeId) -> bool
+    requires { node.0 < length tree.now.nodes }
+    ensures { let at = layout_tree P.style P.kind tree.now.nodes in
+        result ≡ (not (at node.0).item.style.hidden && is_number (option_map number root) node.0) }
+{
+    match root {
+        Some(top) => !is_hidden(tree, node) && top.0 == node.0,
+        None => false,
+    }
+}
+
+// Whether a node has a box in the viewport in which this root element is shown: neither it nor an ancestor has
+// `display: none`, each proper ancestor is a block, and the last one is the root element.
+pub(crate) fn is_boxed<P: Styled>(tree: &Tree<P>, root: Option<NodeId>, node: NodeId) -> bool
+    requires { node.0 < length tree.now.nodes }
+    ensures { (view : View) → view.root ≡ option_map number root →
+        result ≡ is_some (inputs_in_view (layout_tree P.style P.kind tree.now.nodes) view node.0) }
+{
+    let mut at = node;
+    while let Some(parent) = tree.parent(at) {
+        if !takes_part(tree, parent, at) {
+            return false;
+        }
+        at = parent;
+    }
+    tops(tree, root, at)
+}
