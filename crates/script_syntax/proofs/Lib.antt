@@ -1,0 +1,10 @@
+pub mod Declared
+pub mod Endings
+pub mod Finishes
+pub mod Handlers
+pub mod Joined
+pub mod LastWords
+pub mod Lookups
+pub mod Opened
+pub mod Queries
+pub mod Reversed

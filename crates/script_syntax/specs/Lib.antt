@@ -1,0 +1,12 @@
+pub mod Acts
+pub mod Allowed
+pub mod Codes
+pub mod Frames
+pub mod Heads
+pub mod Indexes
+pub mod Lines
+pub mod Parsing
+pub mod Seen
+pub mod Sizes
+pub mod Statements
+pub mod Words

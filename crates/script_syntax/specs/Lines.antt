@@ -1,0 +1,53 @@
+-- What readers of a line's words answer against the definition; want of memory is free.
+use Rattle.std.specs.Prelude.{◌≡◌, ℕ, ◌-◌, ◌<◌, ◌≤◌, List, [], ◌∷◌, length, drop, map, Option, Some, None, Result, Ok, Err}
+use Rattle.std.specs.List.{All}
+use Rattle.std.specs.Borrow.{Bor}
+use Rattle.script_lexer.specs.declared.places.Span.{Span}
+use Rattle.script_lexer.specs.Texts.{word_seen, InLine}
+use Rattle.script_model.specs.Lexing.{Row}
+use Rattle.script_model.specs.Lexing as model
+use Rattle.script_model.specs.Forms.{words_before, words_from}
+use Rattle.script_syntax.specs.declared.words.Word.{Word}
+use Rattle.script_syntax.specs.Words.{word_of}
+use Rattle.script_syntax.specs.declared.faults.LineFault.{LineFault}
+use Rattle.script_syntax.specs.declared.faults.LineFault.TheVariants.{At, Memory}
+
+-- words that are left, as places in a text, of a line that starts here
+abbrev pub row_at : List ℕ → ℕ → List Span → ℕ → List ℕ → Row
+row_at bytes start spans after line =
+    record { left = map (word_seen bytes start) spans; after = after; bytes = line }
+
+-- places that are numbers of a text's bytes, all of them below 2^32
+pub record RowFits (bytes : List ℕ) (start : ℕ) (spans : List Span) (line : List ℕ) : Type 0 where
+  pub short : length bytes ≤ 16777216
+  pub line_short : length line ≤ 16777216
+  pub within : All (InLine start (length bytes)) spans
+
+-- the next word is taken, or there is none
+abbrev pub Popped : Option Word → Row → Row → Type 0
+Popped None old new = (old.left ≡ []) × (new ≡ old)
+Popped (Some word) old new = (old.left ≡ word_of word ∷ new.left) × (new ≡ record old { left = new.left })
+
+-- the next word is taken, or there is none, or it is the word to stop at
+abbrev pub NextBefore : List ℕ → Option (Bor (List ℕ)) → Row → Row → Type 0
+NextBefore stop None old new =
+    (words_before stop old.left ≡ []) × (words_from stop old.left ≡ old.left) × (new ≡ old)
+NextBefore stop (Some text) old new =
+    (words_before stop old.left ≡ text.now ∷ words_before stop new.left)
+    × (words_from stop old.left ≡ words_from stop new.left)
+    × (new ≡ record old { left = new.left })
+    × (length new.left < length old.left)
+
+-- the column of the next word, and the text from there to the end of the line's last one
+abbrev pub rest_in : List model.Word → Row → Result (ℕ × List ℕ × Row) ℕ
+rest_in [] row = Err row.after
+rest_in (w ∷ ws) row = Ok (w.column, drop (w.column - 1) row.bytes, record row { left = [] })
+
+abbrev pub rest_of : Row → Result (ℕ × List ℕ × Row) ℕ
+rest_of row = rest_in row.left row
+
+-- a value as it is seen, or the column of the fault
+abbrev pub Gives : {A B : Type 0} → (A → B) → Result A LineFault → Result B ℕ → Type 0
+Gives seen (Ok value) answer = answer ≡ Ok (seen value)
+Gives seen (Err (At column)) answer = answer ≡ Err column
+Gives seen (Err Memory) answer = Unit {0}

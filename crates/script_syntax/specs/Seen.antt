@@ -1,0 +1,140 @@
+-- What the types of scripts stand for in the definitions. Lengths are seen by what they are without a sign;
+-- specs/Allowed.antt says which are never negative.
+use Rattle.std.specs.Prelude.{ℕ, ◌+◌, Bool, true, false, List, [], ◌∷◌, option_map, unsigned_abs}
+use Rattle.text_io.specs.declared.kinds.EventKind.{EventKind}
+use Rattle.text_io.specs.declared.kinds.EventKind.TheVariants as event
+use Rattle.style_values.specs.Seen.{seen_declaration}
+use Rattle.script_model.specs.Kinds.{EventName, ResizeEvent, ScrollEvent, ErrorEvent, ChangeEvent}
+use Rattle.script_model.specs.Syntax as model
+use Rattle.script_syntax.specs.declared.operands.Operand.{Operand}
+use Rattle.script_syntax.specs.declared.operands.Operand.TheVariants as operand
+use Rattle.script_syntax.specs.declared.operands.Aim.{Aim}
+use Rattle.script_syntax.specs.declared.operands.Aim.TheVariants as aim
+use Rattle.script_syntax.specs.declared.operands.Axis.{Axis}
+use Rattle.script_syntax.specs.declared.operands.Axis.TheVariants as axis
+use Rattle.script_syntax.specs.declared.operands.IoMaking.{IoMaking}
+use Rattle.script_syntax.specs.declared.operands.Test.{Test}
+use Rattle.script_syntax.specs.declared.operands.Test.TheVariants as test
+use Rattle.script_syntax.specs.declared.operands.Condition.{Condition}
+use Rattle.script_syntax.specs.declared.commands.What.{What}
+use Rattle.script_syntax.specs.declared.commands.What.TheVariants as what
+use Rattle.script_syntax.specs.declared.commands.Command.{Command}
+use Rattle.script_syntax.specs.declared.commands.Item.{Item}
+use Rattle.script_syntax.specs.declared.commands.Item.TheVariants as item
+
+abbrev pub operand_of : Operand → model.Operand
+operand_of (operand.Named name) = model.Named name
+operand_of operand.Target = model.Target
+
+abbrev pub aim_of : Aim → model.Aim
+aim_of (aim.Plain operand) = model.PlainAim (operand_of operand)
+aim_of (aim.Window document) = model.WindowAim document
+
+abbrev pub dimension_of : Axis → model.Dimension
+dimension_of axis.Width = model.WidthDimension
+dimension_of axis.Height = model.HeightDimension
+
+abbrev pub event_of : EventKind → EventName
+event_of event.Resize = ResizeEvent
+event_of event.Scroll = ScrollEvent
+event_of event.Error = ErrorEvent
+event_of event.Change = ChangeEvent
+
+abbrev pub making_of : IoMaking → model.ObserverMaking
+making_of making = record {
+  name = making.name;
+  document = making.document;
+  handler = making.handler;
+  root = option_map operand_of making.root;
+  margin = making.margin;
+  thresholds = making.thresholds;
+}
+
+abbrev pub test_of : Test → model.Test
+test_of (test.Wider node px) = model.Wider (operand_of node) (unsigned_abs px.0)
+test_of (test.Taller node px) = model.Taller (operand_of node) (unsigned_abs px.0)
+test_of (test.Matches query) = model.Matches query
+test_of (test.Attached node) = model.Attached (operand_of node)
+test_of test.Seen = model.Seen
+
+abbrev pub condition_of : Condition → model.Condition
+condition_of condition = record { negated = condition.negated; asks = test_of condition.asks }
+
+-- what a command without a block does; for the others, which are no such command, a `say` without a word, which no
+-- text reads
+abbrev pub action_of : What → model.Action
+action_of (what.Viewport size) = model.Viewport (unsigned_abs size.width) (unsigned_abs size.height)
+action_of (what.Block name document) = model.MakeBlock name document
+action_of (what.Image name document size) =
+    model.MakeImage name document (unsigned_abs size.width) (unsigned_abs size.height)
+action_of (what.Frame name document inside) = model.MakeFrame name document inside
+action_of (what.Append parent node) = model.Append (operand_of parent) (operand_of node)
+action_of (what.Before parent node sibling) =
+    model.Before (operand_of parent) (operand_of node) (operand_of sibling)
+action_of (what.Remove node) = model.Remove (operand_of node)
+action_of (what.Set node declaration) = model.SetStyle (operand_of node) (seen_declaration declaration)
+action_of (what.Grow node axis by) = model.Grow (operand_of node) (dimension_of axis) by.0
+action_of (what.Load node size) = model.Load (operand_of node) (unsigned_abs size.width) (unsigned_abs size.height)
+action_of (what.Ro name document handler) = model.MakeResizeObserver name document handler
+action_of (what.RoObserve observer node observed) = model.ObserveResize observer (operand_of node) observed
+action_of (what.RoUnobserve observer node) = model.UnobserveResize observer (operand_of node)
+action_of (what.RoDisconnect observer) = model.DisconnectResize observer
+action_of (what.Io making) = model.MakeIntersectionObserver (making_of making)
+action_of (what.IoObserve observer node) = model.ObserveIntersection observer (operand_of node)
+action_of (what.IoUnobserve observer node) = model.UnobserveIntersection observer (operand_of node)
+action_of (what.IoDisconnect observer) = model.DisconnectIntersection observer
+action_of (what.IoTake observer) = model.TakeIntersections observer
+action_of (what.Listen aim event handler) = model.Listen (aim_of aim) (event_of event) handler
+action_of (what.Unlisten aim event handler) = model.Unlisten (aim_of aim) (event_of event) handler
+action_of (what.Media name document query) = model.MakeQueryList name document query
+action_of (what.Scroll node to) = model.ScrollTo (operand_of node) to.left to.top
+action_of (what.ScrollBy node by) = model.ScrollBy (operand_of node) by.left by.top
+action_of (what.Raf document key handler) = model.RequestFrame document key handler
+action_of (what.CancelRaf document key) = model.CancelFrame document key
+action_of (what.Timer document key delay handler) = model.SetTimer document key delay handler
+action_of (what.ClearTimer document key) = model.ClearTimer document key
+action_of (what.Post document handler) = model.Post document handler
+action_of (what.Say word) = model.Say word
+action_of (what.Read node) = model.Read (operand_of node)
+action_of (what.Each body) = model.Say []
+action_of (what.When condition body) = model.Say []
+action_of (what.Tick time) = model.Say []
+
+-- a command of a block; a `tick`, which stands in none, is seen as the `say` without a word
+abbrev pub command_at : ℕ → What → model.Command
+command_at line (what.Each body) = model.Each line body.commands body.end_line
+command_at line (what.When condition body) =
+    model.When line (condition_of condition) body.commands body.end_line
+command_at line other = model.Simple line (action_of other)
+
+abbrev pub command_of : Command → model.Command
+command_of command = command_at command.line command.what
+
+abbrev pub block_of : List Command → model.Block
+block_of [] = model.NoMore
+block_of (command ∷ commands) = model.Then (command_of command) (block_of commands)
+
+-- a command outside handlers and blocks
+abbrev pub item_at : ℕ → What → model.Item
+item_at line (what.Tick time) = model.Tick line time
+item_at line other = model.Outside (command_at line other)
+
+abbrev pub item_of : Item → model.Item
+item_of (item.Command command) = item_at command.line command.what
+item_of (item.Handler line name commands end_line) = model.Handler line name commands end_line
+
+abbrev pub is_handler : model.Item → Bool
+is_handler (model.Outside command) = false
+is_handler (model.Tick line time) = false
+is_handler (model.Handler line name block end_line) = true
+
+-- how large a block is, by which a walk through it ends
+unfoldable mutual
+  pub command_size : model.Command → ℕ
+  command_size (model.Simple line action) = 1
+  command_size (model.Each line block end_line) = block_size block + 1
+  command_size (model.When line condition block end_line) = block_size block + 1
+
+  pub block_size : model.Block → ℕ
+  block_size model.NoMore = 0
+  block_size (model.Then command others) = command_size command + block_size others

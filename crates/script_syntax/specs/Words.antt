@@ -1,0 +1,6 @@
+-- A word as the definition has it.
+use Rattle.script_model.specs.Lexing as model
+use Rattle.script_syntax.specs.declared.words.Word.{Word}
+
+abbrev pub word_of : Word → model.Word
+word_of word = record { column = word.column; text = word.text.now }

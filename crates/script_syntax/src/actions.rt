@@ -1,0 +1,478 @@
+//! Commands without a block, one function a command.
+
+ghost use Rattle.std.specs.Prelude.{IfOk};
+ghost use Rattle.script_syntax.specs.Acts.{Acts};
+ghost use Rattle.script_syntax.specs.Allowed.{ActionAllowed};
+ghost use Rattle.script_syntax.specs.declared.heads.Verb.TheVariants as verb;
+
+use crate::commands::What;
+use crate::faults::LineFault;
+use crate::heads::Verb;
+use crate::operands::IoMaking;
+use crate::words::Words;
+use px_units::{Point, Size};
+use std::alloc::Global;
+
+/// The command whose operands these words are, all of them.
+pub fn action(alloc: Global, verb: Verb, words: &mut Words<'_>) -> Result<What, LineFault>
+    ensures value { Acts result verb words.old }
+    ensures allowed { IfOk result (λ what. ActionAllowed what) }
+{
+    match verb {
+        Verb::Viewport => viewport(words),
+        Verb::Block => block(words),
+        Verb::Image => image(words),
+        Verb::Frame => frame(words),
+        Verb::Append => append(words),
+        Verb::Before => before(words),
+        Verb::Remove => remove(words),
+        Verb::Set => set(words),
+        Verb::Grow => grow(words),
+        Verb::Load => load(words),
+        Verb::Ro => ro(words),
+        Verb::RoObserve => ro_observe(words),
+        Verb::RoUnobserve => ro_unobserve(words),
+        Verb::RoDisconnect => ro_disconnect(words),
+        Verb::Io => io(alloc, words),
+        Verb::IoObserve => io_observe(words),
+        Verb::IoUnobserve => io_unobserve(words),
+        Verb::IoDisconnect => io_disconnect(words),
+        Verb::IoTake => io_take(words),
+        Verb::Listen => listen(words),
+        Verb::Unlisten => unlisten(words),
+        Verb::Media => media(alloc, words),
+        Verb::Scroll => scroll(words),
+        Verb::ScrollBy => scroll_by(words),
+        Verb::Raf => raf(words),
+        Verb::CancelRaf => cancel_raf(words),
+        Verb::Timer => timer(words),
+        Verb::ClearTimer => clear_timer(words),
+        Verb::Post => post(words),
+        Verb::Say => say(words),
+        Verb::Read => read(words),
+    }
+}
+
+/// `viewport WIDTH HEIGHT`
+#[tactic(auto, unfolding(script_model::specs::Forms::made, crate::specs::Acts::Acts))]
+fn viewport(words: &mut Words<'_>) -> Result<What, LineFault>
+    ensures value { Acts result verb.Viewport words.old }
+    ensures allowed { IfOk result (λ what. ActionAllowed what) }
+{
+    let width = words.length()?;
+    let height = words.length()?;
+    words.end()?;
+    Ok(What::Viewport(Size {
+        width: width.0,
+        height: height.0,
+    }))
+}
+
+/// `block NAME DOCUMENT`
+#[tactic(auto, unfolding(script_model::specs::Forms::made, crate::specs::Acts::Acts))]
+fn block(words: &mut Words<'_>) -> Result<What, LineFault>
+    ensures value { Acts result verb.Block words.old }
+    ensures allowed { IfOk result (λ what. ActionAllowed what) }
+{
+    let name = words.name()?;
+    let document = words.name()?;
+    words.end()?;
+    Ok(What::Block(name, document))
+}
+
+/// `image NAME DOCUMENT WIDTH HEIGHT`
+#[tactic(auto, unfolding(script_model::specs::Forms::made, crate::specs::Acts::Acts))]
+fn image(words: &mut Words<'_>) -> Result<What, LineFault>
+    ensures value { Acts result verb.Image words.old }
+    ensures allowed { IfOk result (λ what. ActionAllowed what) }
+{
+    let name = words.name()?;
+    let document = words.name()?;
+    let width = words.length()?;
+    let height = words.length()?;
+    words.end()?;
+    Ok(What::Image(
+        name,
+        document,
+        Size {
+            width: width.0,
+            height: height.0,
+        },
+    ))
+}
+
+/// `frame NAME DOCUMENT INSIDE`
+#[tactic(auto, unfolding(script_model::specs::Forms::made, crate::specs::Acts::Acts))]
+fn frame(words: &mut Words<'_>) -> Result<What, LineFault>
+    ensures value { Acts result verb.Frame words.old }
+    ensures allowed { IfOk result (λ what. ActionAllowed what) }
+{
+    let name = words.name()?;
+    let document = words.name()?;
+    let inside = words.name()?;
+    words.end()?;
+    Ok(What::Frame(name, document, inside))
+}
+
+/// `append PARENT NODE`
+#[tactic(auto, unfolding(script_model::specs::Forms::made, crate::specs::Acts::Acts))]
+fn append(words: &mut Words<'_>) -> Result<What, LineFault>
+    ensures value { Acts result verb.Append words.old }
+    ensures allowed { IfOk result (λ what. ActionAllowed what) }
+{
+    let parent = words.node()?;
+    let node = words.node()?;
+    words.end()?;
+    Ok(What::Append(parent, node))
+}
+
+/// `before PARENT NODE SIBLING`
+#[tactic(auto, unfolding(script_model::specs::Forms::made, crate::specs::Acts::Acts))]
+fn before(words: &mut Words<'_>) -> Result<What, LineFault>
+    ensures value { Acts result verb.Before words.old }
+    ensures allowed { IfOk result (λ what. ActionAllowed what) }
+{
+    let parent = words.node()?;
+    let node = words.node()?;
+    let sibling = words.node()?;
+    words.end()?;
+    Ok(What::Before(parent, node, sibling))
+}
+
+/// `remove NODE`
+#[tactic(auto, unfolding(script_model::specs::Forms::made, crate::specs::Acts::Acts))]
+fn remove(words: &mut Words<'_>) -> Result<What, LineFault>
+    ensures value { Acts result verb.Remove words.old }
+    ensures allowed { IfOk result (λ what. ActionAllowed what) }
+{
+    let node = words.node()?;
+    words.end()?;
+    Ok(What::Remove(node))
+}
+
+/// `set NODE PROPERTY VALUE`
+#[tactic(auto, unfolding(script_model::specs::Forms::made, crate::specs::Acts::Acts))]
+fn set(words: &mut Words<'_>) -> Result<What, LineFault>
+    ensures value { Acts result verb.Set words.old }
+    ensures allowed { IfOk result (λ what. ActionAllowed what) }
+{
+    let node = words.node()?;
+    let declaration = words.declaration()?;
+    words.end()?;
+    Ok(What::Set(node, declaration))
+}
+
+/// `grow NODE AXIS BY`
+#[tactic(auto, unfolding(script_model::specs::Forms::made, crate::specs::Acts::Acts))]
+fn grow(words: &mut Words<'_>) -> Result<What, LineFault>
+    ensures value { Acts result verb.Grow words.old }
+    ensures allowed { IfOk result (λ what. ActionAllowed what) }
+{
+    let node = words.node()?;
+    let axis = words.axis()?;
+    let by = words.signed()?;
+    words.end()?;
+    Ok(What::Grow(node, axis, by))
+}
+
+/// `load NODE WIDTH HEIGHT`
+#[tactic(auto, unfolding(script_model::specs::Forms::made, crate::specs::Acts::Acts))]
+fn load(words: &mut Words<'_>) -> Result<What, LineFault>
+    ensures value { Acts result verb.Load words.old }
+    ensures allowed { IfOk result (λ what. ActionAllowed what) }
+{
+    let node = words.node()?;
+    let width = words.length()?;
+    let height = words.length()?;
+    words.end()?;
+    Ok(What::Load(
+        node,
+        Size {
+            width: width.0,
+            height: height.0,
+        },
+    ))
+}
+
+/// `ro NAME DOCUMENT HANDLER`
+#[tactic(auto, unfolding(script_model::specs::Forms::made, crate::specs::Acts::Acts))]
+fn ro(words: &mut Words<'_>) -> Result<What, LineFault>
+    ensures value { Acts result verb.Ro words.old }
+    ensures allowed { IfOk result (λ what. ActionAllowed what) }
+{
+    let name = words.name()?;
+    let document = words.name()?;
+    let handler = words.handler()?;
+    words.end()?;
+    Ok(What::Ro(name, document, handler))
+}
+
+/// `ro-observe OBSERVER NODE OBSERVED`
+#[tactic(auto, unfolding(script_model::specs::Forms::made, crate::specs::Acts::Acts))]
+fn ro_observe(words: &mut Words<'_>) -> Result<What, LineFault>
+    ensures value { Acts result verb.RoObserve words.old }
+    ensures allowed { IfOk result (λ what. ActionAllowed what) }
+{
+    let observer = words.name()?;
+    let node = words.node()?;
+    let observed = words.box_kind()?;
+    words.end()?;
+    Ok(What::RoObserve(observer, node, observed))
+}
+
+/// `ro-unobserve OBSERVER NODE`
+#[tactic(auto, unfolding(script_model::specs::Forms::made, crate::specs::Acts::Acts))]
+fn ro_unobserve(words: &mut Words<'_>) -> Result<What, LineFault>
+    ensures value { Acts result verb.RoUnobserve words.old }
+    ensures allowed { IfOk result (λ what. ActionAllowed what) }
+{
+    let observer = words.name()?;
+    let node = words.node()?;
+    words.end()?;
+    Ok(What::RoUnobserve(observer, node))
+}
+
+/// `ro-disconnect OBSERVER`
+#[tactic(auto, unfolding(script_model::specs::Forms::made, crate::specs::Acts::Acts))]
+fn ro_disconnect(words: &mut Words<'_>) -> Result<What, LineFault>
+    ensures value { Acts result verb.RoDisconnect words.old }
+    ensures allowed { IfOk result (λ what. ActionAllowed what) }
+{
+    let observer = words.name()?;
+    words.end()?;
+    Ok(What::RoDisconnect(observer))
+}
+
+/// `io NAME DOCUMENT HANDLER root ROOT margin WORD* threshold NUMBER*`
+#[tactic(auto, unfolding(script_model::specs::Forms::made, crate::specs::Acts::Acts))]
+fn io(alloc: Global, words: &mut Words<'_>) -> Result<What, LineFault>
+    ensures value { Acts result verb.Io words.old }
+    ensures allowed { IfOk result (λ what. ActionAllowed what) }
+{
+    let name = words.name()?;
+    let document = words.name()?;
+    let handler = words.handler()?;
+    words.just(b"root")?;
+    let root = words.root()?;
+    words.just(b"margin")?;
+    let margin = words.margin(alloc)?;
+    words.just(b"threshold")?;
+    let thresholds = words.numbers(alloc)?;
+    words.end()?;
+    Ok(What::Io(IoMaking {
+        name,
+        document,
+        handler,
+        root,
+        margin,
+        thresholds,
+    }))
+}
+
+/// `io-observe OBSERVER NODE`
+#[tactic(auto, unfolding(script_model::specs::Forms::made, crate::specs::Acts::Acts))]
+fn io_observe(words: &mut Words<'_>) -> Result<What, LineFault>
+    ensures value { Acts result verb.IoObserve words.old }
+    ensures allowed { IfOk result (λ what. ActionAllowed what) }
+{
+    let observer = words.name()?;
+    let node = words.node()?;
+    words.end()?;
+    Ok(What::IoObserve(observer, node))
+}
+
+/// `io-unobserve OBSERVER NODE`
+#[tactic(auto, unfolding(script_model::specs::Forms::made, crate::specs::Acts::Acts))]
+fn io_unobserve(words: &mut Words<'_>) -> Result<What, LineFault>
+    ensures value { Acts result verb.IoUnobserve words.old }
+    ensures allowed { IfOk result (λ what. ActionAllowed what) }
+{
+    let observer = words.name()?;
+    let node = words.node()?;
+    words.end()?;
+    Ok(What::IoUnobserve(observer, node))
+}
+
+/// `io-disconnect OBSERVER`
+#[tactic(auto, unfolding(script_model::specs::Forms::made, crate::specs::Acts::Acts))]
+fn io_disconnect(words: &mut Words<'_>) -> Result<What, LineFault>
+    ensures value { Acts result verb.IoDisconnect words.old }
+    ensures allowed { IfOk result (λ what. ActionAllowed what) }
+{
+    let observer = words.name()?;
+    words.end()?;
+    Ok(What::IoDisconnect(observer))
+}
+
+/// `io-take OBSERVER`
+#[tactic(auto, unfolding(script_model::specs::Forms::made, crate::specs::Acts::Acts))]
+fn io_take(words: &mut Words<'_>) -> Result<What, LineFault>
+    ensures value { Acts result verb.IoTake words.old }
+    ensures allowed { IfOk result (λ what. ActionAllowed what) }
+{
+    let observer = words.name()?;
+    words.end()?;
+    Ok(What::IoTake(observer))
+}
+
+/// `listen AIM EVENT HANDLER`
+#[tactic(auto, unfolding(script_model::specs::Forms::made, crate::specs::Acts::Acts))]
+fn listen(words: &mut Words<'_>) -> Result<What, LineFault>
+    ensures value { Acts result verb.Listen words.old }
+    ensures allowed { IfOk result (λ what. ActionAllowed what) }
+{
+    let aim = words.aim()?;
+    let event = words.event()?;
+    let handler = words.name()?;
+    words.end()?;
+    Ok(What::Listen(aim, event, handler))
+}
+
+/// `unlisten AIM EVENT HANDLER`
+#[tactic(auto, unfolding(script_model::specs::Forms::made, crate::specs::Acts::Acts))]
+fn unlisten(words: &mut Words<'_>) -> Result<What, LineFault>
+    ensures value { Acts result verb.Unlisten words.old }
+    ensures allowed { IfOk result (λ what. ActionAllowed what) }
+{
+    let aim = words.aim()?;
+    let event = words.event()?;
+    let handler = words.name()?;
+    words.end()?;
+    Ok(What::Unlisten(aim, event, handler))
+}
+
+/// `media NAME DOCUMENT QUERY`
+#[tactic(auto, unfolding(script_model::specs::Forms::made, crate::specs::Acts::Acts))]
+fn media(alloc: Global, words: &mut Words<'_>) -> Result<What, LineFault>
+    ensures value { Acts result verb.Media words.old }
+    ensures allowed { IfOk result (λ what. ActionAllowed what) }
+{
+    let name = words.name()?;
+    let document = words.name()?;
+    let query = words.query(alloc)?;
+    words.end()?;
+    Ok(What::Media(name, document, query))
+}
+
+/// `scroll TARGET LEFT TOP`
+#[tactic(auto, unfolding(script_model::specs::Forms::made, crate::specs::Acts::Acts))]
+fn scroll(words: &mut Words<'_>) -> Result<What, LineFault>
+    ensures value { Acts result verb.Scroll words.old }
+    ensures allowed { IfOk result (λ what. ActionAllowed what) }
+{
+    let target = words.node()?;
+    let left = words.signed()?;
+    let top = words.signed()?;
+    words.end()?;
+    Ok(What::Scroll(
+        target,
+        Point {
+            left: left.0,
+            top: top.0,
+        },
+    ))
+}
+
+/// `scroll-by TARGET LEFT TOP`
+#[tactic(auto, unfolding(script_model::specs::Forms::made, crate::specs::Acts::Acts))]
+fn scroll_by(words: &mut Words<'_>) -> Result<What, LineFault>
+    ensures value { Acts result verb.ScrollBy words.old }
+    ensures allowed { IfOk result (λ what. ActionAllowed what) }
+{
+    let target = words.node()?;
+    let left = words.signed()?;
+    let top = words.signed()?;
+    words.end()?;
+    Ok(What::ScrollBy(
+        target,
+        Point {
+            left: left.0,
+            top: top.0,
+        },
+    ))
+}
+
+/// `raf DOCUMENT KEY HANDLER`
+#[tactic(auto, unfolding(script_model::specs::Forms::made, crate::specs::Acts::Acts))]
+fn raf(words: &mut Words<'_>) -> Result<What, LineFault>
+    ensures value { Acts result verb.Raf words.old }
+    ensures allowed { IfOk result (λ what. ActionAllowed what) }
+{
+    let document = words.name()?;
+    let key = words.name()?;
+    let handler = words.name()?;
+    words.end()?;
+    Ok(What::Raf(document, key, handler))
+}
+
+/// `cancel-raf DOCUMENT KEY`
+#[tactic(auto, unfolding(script_model::specs::Forms::made, crate::specs::Acts::Acts))]
+fn cancel_raf(words: &mut Words<'_>) -> Result<What, LineFault>
+    ensures value { Acts result verb.CancelRaf words.old }
+    ensures allowed { IfOk result (λ what. ActionAllowed what) }
+{
+    let document = words.name()?;
+    let key = words.name()?;
+    words.end()?;
+    Ok(What::CancelRaf(document, key))
+}
+
+/// `timer DOCUMENT KEY DELAY HANDLER`
+#[tactic(auto, unfolding(script_model::specs::Forms::made, crate::specs::Acts::Acts))]
+fn timer(words: &mut Words<'_>) -> Result<What, LineFault>
+    ensures value { Acts result verb.Timer words.old }
+    ensures allowed { IfOk result (λ what. ActionAllowed what) }
+{
+    let document = words.name()?;
+    let key = words.name()?;
+    let delay = words.whole()?;
+    let handler = words.name()?;
+    words.end()?;
+    Ok(What::Timer(document, key, delay, handler))
+}
+
+/// `clear-timer DOCUMENT KEY`
+#[tactic(auto, unfolding(script_model::specs::Forms::made, crate::specs::Acts::Acts))]
+fn clear_timer(words: &mut Words<'_>) -> Result<What, LineFault>
+    ensures value { Acts result verb.ClearTimer words.old }
+    ensures allowed { IfOk result (λ what. ActionAllowed what) }
+{
+    let document = words.name()?;
+    let key = words.name()?;
+    words.end()?;
+    Ok(What::ClearTimer(document, key))
+}
+
+/// `post DOCUMENT HANDLER`
+#[tactic(auto, unfolding(script_model::specs::Forms::made, crate::specs::Acts::Acts))]
+fn post(words: &mut Words<'_>) -> Result<What, LineFault>
+    ensures value { Acts result verb.Post words.old }
+    ensures allowed { IfOk result (λ what. ActionAllowed what) }
+{
+    let document = words.name()?;
+    let handler = words.name()?;
+    words.end()?;
+    Ok(What::Post(document, handler))
+}
+
+/// `say WORD`
+#[tactic(auto, unfolding(script_model::specs::Forms::made, crate::specs::Acts::Acts))]
+fn say(words: &mut Words<'_>) -> Result<What, LineFault>
+    ensures value { Acts result verb.Say words.old }
+    ensures allowed { IfOk result (λ what. ActionAllowed what) }
+{
+    let word = words.name()?;
+    words.end()?;
+    Ok(What::Say(word))
+}
+
+/// `read TARGET`
+#[tactic(auto, unfolding(script_model::specs::Forms::made, crate::specs::Acts::Acts))]
+fn read(words: &mut Words<'_>) -> Result<What, LineFault>
+    ensures value { Acts result verb.Read words.old }
+    ensures allowed { IfOk result (λ what. ActionAllowed what) }
+{
+    let target = words.node()?;
+    words.end()?;
+    Ok(What::Read(target))
+}

@@ -1,0 +1,71 @@
+//! Why a text gives no script.
+
+ghost use Rattle.std.specs.Prelude.{◌≡◌};
+
+use std::alloc::{AllocError, AllocFailed};
+use text_io::LimitKind;
+use thiserror::Error;
+
+/// Why a text gives no script: its first fault or limit in the order of its lines. In one line a fault of its bytes comes
+/// before one of its words, and that before the limits of blocks and handlers.
+#[derive(Debug, Drop, Error)]
+pub enum ParseFault {
+    /// A line isn't in the grammar. The column is that of the first byte that no line may have, or of the first word that
+    /// doesn't fit, or of the first word too many, or the one after the line's last word where a word is missing. Where the
+    /// text ends with something open or without its first line, this is column 1 of the line after the last one.
+    #[error("Syntax")]
+    Syntax { line: u32, column: u32 },
+    /// A limit is met in this line: one of `Script`, `Line`, `Handlers` and `Nesting`.
+    #[error("ScriptLimit")]
+    ScriptLimit { kind: LimitKind, line: u32 },
+    #[error("Memory")]
+    Memory,
+}
+
+impl From<AllocError> for ParseFault {
+    ghost use Rattle.script_syntax.specs.declared.faults.ParseFault.TheVariants.{Memory};
+
+    ghost from_gives = { λ _ fault. fault ≡ Memory };
+
+    fn from(_: AllocError) -> Self {
+        ParseFault::Memory
+    }
+}
+
+impl<T: Drop> From<AllocFailed<T>> for ParseFault {
+    ghost use Rattle.script_syntax.specs.declared.faults.ParseFault.TheVariants.{Memory};
+
+    ghost from_gives = { λ _ fault. fault ≡ Memory };
+
+    fn from(_: AllocFailed<T>) -> Self {
+        ParseFault::Memory
+    }
+}
+
+/// Why a line's words are no command, by the column of the first word that doesn't fit, or of the end where a word is
+/// missing.
+#[derive(Debug, Drop)]
+pub(crate) enum LineFault {
+    At { column: u32 },
+    Memory,
+}
+
+impl From<AllocError> for LineFault {
+    ghost use Rattle.script_syntax.specs.declared.faults.LineFault.TheVariants.{Memory};
+
+    ghost from_gives = { λ _ fault. fault ≡ Memory };
+
+    fn from(_: AllocError) -> Self {
+        LineFault::Memory
+    }
+}
+
+impl<T: Drop> From<AllocFailed<T>> for LineFault {
+    ghost use Rattle.script_syntax.specs.declared.faults.LineFault.TheVariants.{Memory};
+
+    ghost from_gives = { λ _ fault. fault ≡ Memory };
+
+    fn from(_: AllocFailed<T>) -> Self {
+        LineFault::Memory
+    }
+}

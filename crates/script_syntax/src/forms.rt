@@ -1,0 +1,257 @@
+//! The forms of a line's parts, one function a form. Each takes its words, and fails at the first one that doesn't fit.
+
+ghost use Rattle.std.specs.Prelude.{◌≡◌, unsigned_abs, option_map, IfOk, is_some, bytes_eq};
+ghost use Rattle.script_model.specs.Forms.{part_as, declaration_as, margin_as, numbers_as, query_as, NameForm, NodeForm, AimForm, HandlerForm, RootForm, LengthForm, SignedForm, WholeForm, EventForm, BoxForm, DimensionForm, DeclarationForm, JustForm, MarginForm, NumbersForm, QueryForm};
+ghost use Rattle.script_model.specs.Words.{node_of, aim_of as aim_read};
+ghost use Rattle.script_model.specs.Properties.{property_of};
+ghost use Rattle.style_values.specs.Ranges.{IsAllowed};
+ghost use Rattle.style_values.specs.Seen.{seen_declaration};
+ghost use Rattle.script_syntax.specs.Allowed.{IsUnits, IsSignedUnits, IsTime};
+ghost use Rattle.script_syntax.specs.Lines.{Gives};
+ghost use Rattle.script_syntax.specs.Seen.{operand_of, aim_of, event_of, dimension_of};
+
+use crate::faults::LineFault;
+use crate::operands::{Aim, Axis, Operand};
+use crate::tables;
+use crate::texts::{MarginText, NumberList};
+use crate::words::{Word, Words};
+use media_queries::{Query, QueryFault};
+use px_units::{BoxKind, Px};
+use std::alloc::Global;
+use style_values::{Declaration, StyleFault};
+use text_io::{EventKind, Name};
+use word_model::{length, number, signed_length, whole};
+
+/// The node that a word names.
+#[tactic(auto, unfolding(script_model::specs::Words::node_of))]
+fn node_named(text: &[u8]) -> Option<Operand>
+    ensures { option_map operand_of result ≡ node_of text.now }
+{
+    if text == b"$target".as_slice() {
+        return Some(Operand::Target);
+    }
+    Name::read(text).map(Operand::Named)
+}
+
+/// The aim that a word names.
+#[tactic(auto, unfolding(script_model::specs::Words::aim_of))]
+fn aim_named(text: &[u8]) -> Option<Aim>
+    ensures { option_map aim_of result ≡ aim_read text.now }
+{
+    if let [first, rest @ ..] = text {
+        if *first == b'@' {
+            return Name::read(rest).map(Aim::Window);
+        }
+    }
+    node_named(text).map(Aim::Plain)
+}
+
+/// Whether there is a property of this name: its fault with an empty value isn't its own.
+fn is_property(name: &[u8]) -> bool
+    ensures { result ≡ is_some (property_of name.now) }
+{
+    !matches!(
+        Declaration::read(name, b""),
+        Err(StyleFault::UnknownProperty)
+    )
+}
+
+impl Words<'_> {
+    /// NAME
+    #[tactic(auto, unfolding(script_model::specs::Forms::part_as))]
+    pub fn name(&mut self) -> Result<Name, LineFault>
+        ensures { Gives (λ name. (name, self.new)) result (part_as NameForm self.old) }
+    {
+        let word = self.next()?;
+        match Name::read(word.text) {
+            Some(name) => Ok(name),
+            None => Err(LineFault::At {
+                column: word.column,
+            }),
+        }
+    }
+
+    /// NODE
+    #[tactic(auto, unfolding(script_model::specs::Forms::part_as))]
+    pub fn node(&mut self) -> Result<Operand, LineFault>
+        ensures { Gives (λ node. (operand_of node, self.new)) result (part_as NodeForm self.old) }
+    {
+        let word = self.next()?;
+        match node_named(word.text) {
+            Some(node) => Ok(node),
+            None => Err(LineFault::At {
+                column: word.column,
+            }),
+        }
+    }
+
+    /// A node, a document or a query list by its name, or `@` and the name of a document.
+    #[tactic(auto, unfolding(script_model::specs::Forms::part_as))]
+    pub fn aim(&mut self) -> Result<Aim, LineFault>
+        ensures { Gives (λ aim. (aim_of aim, self.new)) result (part_as AimForm self.old) }
+    {
+        let word = self.next()?;
+        match aim_named(word.text) {
+            Some(aim) => Ok(aim),
+            None => Err(LineFault::At {
+                column: word.column,
+            }),
+        }
+    }
+
+    /// The name of a handler, or `-` for none.
+    #[tactic(auto, unfolding(script_model::specs::Forms::part_as))]
+    pub fn handler(&mut self) -> Result<Option<Name>, LineFault>
+        ensures { Gives (λ handler. (handler, self.new)) result (part_as HandlerForm self.old) }
+    {
+        let word = self.next()?;
+        if word.text == b"-".as_slice() {
+            return Ok(None);
+        }
+        match Name::read(word.text) {
+            Some(name) => Ok(Some(name)),
+            None => Err(LineFault::At {
+                column: word.column,
+            }),
+        }
+    }
+
+    /// NODE, or `-` for the implicit root.
+    #[tactic(auto, unfolding(script_model::specs::Forms::part_as))]
+    pub fn root(&mut self) -> Result<Option<Operand>, LineFault>
+        ensures { Gives (λ root. (option_map operand_of root, self.new)) result (part_as RootForm self.old) }
+    {
+        let word = self.next()?;
+        if word.text == b"-".as_slice() {
+            return Ok(None);
+        }
+        match node_named(word.text) {
+            Some(node) => Ok(Some(node)),
+            None => Err(LineFault::At {
+                column: word.column,
+            }),
+        }
+    }
+
+    /// LENGTH
+    #[tactic(auto, unfolding(script_model::specs::Forms::part_as))]
+    pub fn length(&mut self) -> Result<Px, LineFault>
+        ensures value { Gives (λ px. (unsigned_abs px.0, self.new)) result (part_as LengthForm self.old) }
+        ensures allowed { IfOk result (λ px. IsUnits px.0) }
+    {
+        let word = self.next()?;
+        match length(word.text) {
+            Some(units) => Ok(Px(units as i64)),
+            None => Err(LineFault::At {
+                column: word.column,
+            }),
+        }
+    }
+
+    /// SIGNED
+    #[tactic(auto, unfolding(script_model::specs::Forms::part_as))]
+    pub fn signed(&mut self) -> Result<Px, LineFault>
+        ensures value { Gives (λ px. (px.0, self.new)) result (part_as SignedForm self.old) }
+        ensures allowed { IfOk result (λ px. IsSignedUnits px.0) }
+    {
+        let word = self.next()?;
+        match signed_length(word.text) {
+            Some(units) => Ok(Px(units)),
+            None => Err(LineFault::At {
+                column: word.column,
+            }),
+        }
+    }
+
+    /// WHOLE
+    #[tactic(auto, unfolding(script_model::specs::Forms::part_as))]
+    pub fn whole(&mut self) -> Result<u64, LineFault>
+        ensures value { Gives (λ number. (number, self.new)) result (part_as WholeForm self.old) }
+        ensures allowed { IfOk result (λ number. IsTime number) }
+    {
+        let word = self.next()?;
+        match whole(word.text) {
+            Some(number) => Ok(number),
+            None => Err(LineFault::At {
+                column: word.column,
+            }),
+        }
+    }
+
+    /// `resize`, `scroll`, `error` or `change`
+    #[tactic(auto, unfolding(script_model::specs::Forms::part_as))]
+    pub fn event(&mut self) -> Result<EventKind, LineFault>
+        ensures { Gives (λ event. (event_of event, self.new)) result (part_as EventForm self.old) }
+    {
+        let word = self.next()?;
+        match tables::event(word.text) {
+            Some(event) => Ok(event),
+            None => Err(LineFault::At {
+                column: word.column,
+            }),
+        }
+    }
+
+    /// `content` or `border`
+    #[tactic(auto, unfolding(script_model::specs::Forms::part_as))]
+    pub fn box_kind(&mut self) -> Result<BoxKind, LineFault>
+        ensures { Gives (λ kind. (kind, self.new)) result (part_as BoxForm self.old) }
+    {
+        let word = self.next()?;
+        match tables::box_kind(word.text) {
+            Some(kind) => Ok(kind),
+            None => Err(LineFault::At {
+                column: word.column,
+            }),
+        }
+    }
+
+    /// `width` or `height`
+    #[tactic(auto, unfolding(script_model::specs::Forms::part_as))]
+    pub fn axis(&mut self) -> Result<Axis, LineFault>
+        ensures { Gives (λ axis. (dimension_of axis, self.new)) result (part_as DimensionForm self.old) }
+    {
+        let word = self.next()?;
+        match tables::axis(word.text) {
+            Some(axis) => Ok(axis),
+            None => Err(LineFault::At {
+                column: word.column,
+            }),
+        }
+    }
+
+    /// A property and a value that it has.
+    #[tactic(auto, unfolding(script_model::specs::Forms::part_as, script_model::specs::Forms::declaration_as))]
+    pub fn declaration(&mut self) -> Result<Declaration, LineFault>
+        ensures value { Gives (λ declaration. (seen_declaration declaration, self.new)) result (part_as DeclarationForm self.old) }
+        ensures allowed { IfOk result (λ declaration. IsAllowed declaration) }
+    {
+        let property = self.next()?;
+        if !is_property(property.text) {
+            return Err(LineFault::At {
+                column: property.column,
+            });
+        }
+        let value = self.next()?;
+        match Declaration::read(property.text, value.text) {
+            Ok(declaration) => Ok(declaration),
+            Err(_) => Err(LineFault::At {
+                column: value.column,
+            }),
+        }
+    }
+
+    /// This word.
+    #[tactic(auto, unfolding(script_model::specs::Forms::part_as))]
+    pub fn just(&mut self, word: &[u8]) -> Result<(), LineFault>
+        ensures { Gives (λ said. (tt, self.new)) result (part_as (JustForm word.now) self.old) }
+    {
+        let next = self.next()?;
+        if next.text == word {
+            return Ok(());
+        }
+        Err(LineFault::At {
+            column: next.column,
+        })
+    }
+}

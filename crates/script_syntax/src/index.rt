@@ -1,0 +1,51 @@
+//! Where the handlers of a script are.
+
+ghost use Rattle.std.specs.Prelude.{map, take, IfOk, bytes_eq};
+ghost use Rattle.std.specs.HashMap.{get};
+ghost use Rattle.script_syntax.specs.Indexes.{Indexed, Noted};
+ghost use Rattle.script_syntax.specs.Seen.{item_of};
+
+use crate::commands::Item;
+use std::alloc::{AllocError, Global};
+use std::collections::HashMap;
+use text_io::Name;
+
+/// The places of the handlers among the items, in their order, and the number of each by its name.
+#[derive(Drop)]
+pub struct Index {
+    pub places: Vec<usize>,
+    pub numbers: HashMap<Name, u32>,
+}
+
+/// The handlers of these items.
+#[tactic(auto, using(crate::proofs::Handlers::all_noted))]
+pub fn index_of(alloc: Global, items: &[Item]) -> Result<Index, AllocError>
+    ensures { IfOk result (λ index. Indexed (map item_of items.now) index.places.items (get bytes_eq index.numbers)) }
+{
+    let mut index = Index {
+        places: Vec::new(alloc),
+        numbers: HashMap::new(alloc),
+    };
+    for (place, item) in items.iter().enumerate() {
+        match item {
+            Item::Handler { name, .. } => note(&mut index, place, *name)?,
+            Item::Command(_) => {}
+        }
+    }
+    Ok(index)
+}
+
+/// A handler of this name stands at this place, behind those that were noted.
+fn note(index: &mut Index, place: usize, name: Name) -> Result<(), AllocError>
+    ensures { IfOk result (λ noted. Noted place name index.old.places.items (get bytes_eq index.old.numbers) index.new.places.items (get bytes_eq index.new.numbers)) }
+{
+    let number = match u32::try_from(index.places.len()) {
+        Ok(number) if number < u32::MAX => number,
+        _ => return Err(AllocError),
+    };
+    index.places.push(place)?;
+    if !index.numbers.contains_key(&name) {
+        index.numbers.insert(name, number)?;
+    }
+    Ok(())
+}

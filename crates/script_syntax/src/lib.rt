@@ -1,0 +1,28 @@
+//! Scripts: the commands and handlers of a text, read from its lines and words and printed back.
+#![tactic(auto)]
+
+mod actions;
+mod builder;
+mod commands;
+mod faults;
+mod forms;
+mod frames;
+mod heads;
+mod index;
+mod lists;
+mod operands;
+mod parser;
+mod script;
+mod statements;
+mod tables;
+#[cfg(test)]
+mod tests;
+mod texts;
+mod words;
+
+pub use commands::{Body, Command, CommandList, Item, What};
+pub use faults::ParseFault;
+pub use operands::{Aim, Axis, Condition, IoMaking, Operand, Test};
+pub use parser::parse;
+pub use script::Script;
+pub use texts::{MarginText, NumberList};

@@ -1,0 +1,66 @@
+//! The parts of a line that have more than one word: margins, numbers and media queries.
+
+ghost use Rattle.std.specs.Prelude.{◌≡◌};
+ghost use Rattle.script_model.specs.Forms.{part_as, MarginForm, NumbersForm, QueryForm};
+ghost use Rattle.script_syntax.specs.Lines.{Gives};
+
+use crate::faults::LineFault;
+use crate::texts::{MarginText, NumberList};
+use crate::words::Words;
+use media_queries::{Query, QueryFault};
+use std::alloc::Global;
+use word_model::number;
+
+impl Words<'_> {
+    /// The words before `threshold`, joined by one space.
+    #[tactic(auto, unfolding(script_model::specs::Forms::part_as, script_model::specs::Forms::margin_as), using(crate::proofs::Joined::joined))]
+    pub fn margin(&mut self, alloc: Global) -> Result<MarginText, LineFault>
+        ensures { Gives (λ text. (text, self.new)) result (part_as MarginForm self.old) }
+    {
+        let Some(first) = self.next_before(b"threshold") else {
+            return Ok(MarginText::new(Vec::new(alloc)));
+        };
+        let mut bytes = Vec::from_slice(alloc, first)?;
+        while let Some(text) = self.next_before(b"threshold") {
+            bytes.push(b' ')?;
+            bytes.extend_from_slice(text)?;
+        }
+        Ok(MarginText::new(bytes))
+    }
+
+    /// All words that are left, each a NUMBER.
+    #[tactic(auto, unfolding(script_model::specs::Forms::part_as, script_model::specs::Forms::numbers_as, script_model::specs::Forms::numbers_of))]
+    pub fn numbers(&mut self, alloc: Global) -> Result<NumberList, LineFault>
+        ensures { Gives (λ list. (list, self.new)) result (part_as NumbersForm self.old) }
+    {
+        let mut numbers = Vec::new(alloc);
+        while let Some(word) = self.pop() {
+            let Some(number) = number(word.text) else {
+                return Err(LineFault::At {
+                    column: word.column,
+                });
+            };
+            numbers.push(number)?;
+        }
+        Ok(NumberList::new(numbers))
+    }
+
+    /// A media query list, from the next word to the end of the line's last one. The fault is at the byte that ends the
+    /// list's beginning.
+    #[tactic(auto, using(crate::proofs::Queries::query_missing))]
+    pub fn query(&mut self, alloc: Global) -> Result<Query, LineFault>
+        ensures { Gives (λ query. (query, self.new)) result (part_as QueryForm self.old) }
+    {
+        let rest = match self.rest() {
+            Ok(rest) => rest,
+            Err(column) => return Err(LineFault::At { column }),
+        };
+        match Query::parse(alloc, rest.text) {
+            Ok(query) => Ok(query),
+            Err(QueryFault::BadQuery { column }) => Err(LineFault::At {
+                column: rest.column + column.saturating_sub(1),
+            }),
+            Err(QueryFault::Memory) => Err(LineFault::Memory),
+        }
+    }
+}

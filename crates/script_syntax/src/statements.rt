@@ -1,0 +1,232 @@
+//! What one line says.
+
+ghost use Rattle.std.specs.Prelude.{◌≡◌, cond, not, option_map, Some, None, IfOk, bytes_eq, reverse};
+ghost use Rattle.std.specs.List.{list_any};
+ghost use Rattle.script_model.specs.Forms.{word_as};
+ghost use Rattle.script_model.specs.Keywords.{lookup};
+ghost use Rattle.script_model.specs.Commands.{tests};
+ghost use Rattle.script_model.specs.Statements as model;
+ghost use Rattle.script_syntax.specs.Allowed.{TestAllowed};
+ghost use Rattle.script_syntax.specs.Heads.{head_of, shape_of};
+ghost use Rattle.script_syntax.specs.Lines.{Gives};
+ghost use Rattle.script_syntax.specs.Seen.{test_of, condition_of};
+ghost use Rattle.script_syntax.specs.Statements.{statement_of, StatementAllowed};
+
+use crate::actions::action;
+use crate::commands::What;
+use crate::faults::LineFault;
+use crate::heads::{Head, Shape};
+use crate::operands::{Condition, Test};
+use crate::tables;
+use crate::words::Words;
+use std::alloc::Global;
+use text_io::Name;
+
+/// What a line does.
+#[derive(Drop)]
+pub enum Statement {
+    /// A command without a block.
+    Does(What),
+    Ticks(u64),
+    OpensEach,
+    OpensWhen(Condition),
+    OpensHandler(Name),
+    /// It closes the innermost block or handler.
+    Ends,
+}
+
+/// What a line says that stands outside handlers and blocks, or inside; `handlers` are the names that handlers have
+/// already.
+#[tactic(auto, unfolding(script_model::specs::Statements::statement_of))]
+pub fn read_statement(
+    alloc: Global,
+    outside: bool,
+    handlers: &[Name],
+    words: &mut Words<'_>,
+) -> Result<Statement, LineFault>
+    ensures value { Gives statement_of result (model.statement_of (record { outside = outside; names = reverse handlers.now }) words.old) }
+    ensures allowed { IfOk result (λ statement. StatementAllowed statement) }
+{
+    let head = head(outside, words)?;
+    operands(alloc, head, handlers, words)
+}
+
+/// Whether a line that stands outside handlers and blocks, or inside, may begin so.
+#[tactic(auto, unfolding(script_model::specs::Statements::permitted))]
+fn is_permitted(outside: bool, head: Head) -> bool
+    ensures { model.permitted outside (head_of head) ≡ cond result (Some (head_of head)) None }
+{
+    match head {
+        Head::Tick => outside,
+        Head::Handler => outside,
+        Head::End => !outside,
+        _ => true,
+    }
+}
+
+/// What a line begins by this word.
+#[tactic(auto, unfolding(script_model::specs::Statements::head_of))]
+fn permitted_head(outside: bool, word: &[u8]) -> Option<Head>
+    ensures { option_map head_of result ≡ model.head_of outside word.now }
+{
+    let head = tables::head(word)?;
+    if is_permitted(outside, head) {
+        return Some(head);
+    }
+    None
+}
+
+#[tactic(auto, unfolding(script_model::specs::Forms::word_as))]
+fn head(outside: bool, words: &mut Words<'_>) -> Result<Head, LineFault>
+    ensures { Gives (λ head. (head_of head, words.new)) result (word_as (model.head_of outside) words.old) }
+{
+    let word = words.next()?;
+    match permitted_head(outside, word.text) {
+        Some(head) => Ok(head),
+        None => Err(LineFault::At {
+            column: word.column,
+        }),
+    }
+}
+
+/// What follows the first word of a line.
+#[tactic(auto, unfolding(script_model::specs::Statements::operands_of, crate::specs::Acts::Acts))]
+fn operands(
+    alloc: Global,
+    head: Head,
+    handlers: &[Name],
+    words: &mut Words<'_>,
+) -> Result<Statement, LineFault>
+    ensures value { Gives statement_of result (model.operands_of (reverse handlers.now) (head_of head) words.old) }
+    ensures allowed { IfOk result (λ statement. StatementAllowed statement) }
+{
+    match head {
+        Head::Act(verb) => {
+            let what = action(alloc, verb, words)?;
+            Ok(Statement::Does(what))
+        }
+        Head::Tick => {
+            let time = words.whole()?;
+            words.end()?;
+            Ok(Statement::Ticks(time))
+        }
+        Head::Each => {
+            words.end()?;
+            Ok(Statement::OpensEach)
+        }
+        Head::When => {
+            let condition = condition(words)?;
+            Ok(Statement::OpensWhen(condition))
+        }
+        Head::Handler => handler(handlers, words),
+        Head::End => {
+            words.end()?;
+            Ok(Statement::Ends)
+        }
+    }
+}
+
+/// `handler NAME`, of a name that no handler has.
+#[tactic(auto, unfolding(script_model::specs::Statements::handler_as))]
+fn handler(handlers: &[Name], words: &mut Words<'_>) -> Result<Statement, LineFault>
+    ensures value { Gives statement_of result (model.handler_as (reverse handlers.now) words.old) }
+    ensures allowed { IfOk result (λ statement. StatementAllowed statement) }
+{
+    let word = words.next()?;
+    let Some(name) = fresh_name(handlers, word.text) else {
+        return Err(LineFault::At {
+            column: word.column,
+        });
+    };
+    words.end()?;
+    Ok(Statement::OpensHandler(name))
+}
+
+/// A name that no handler has.
+#[tactic(auto, unfolding(script_model::specs::Statements::fresh_name_of), using(crate::proofs::Reversed::any_reversed))]
+fn fresh_name(handlers: &[Name], word: &[u8]) -> Option<Name>
+    ensures { result ≡ model.fresh_name_of (reverse handlers.now) word.now }
+{
+    let name = Name::read(word)?;
+    if is_taken(handlers, word) {
+        return None;
+    }
+    Some(name)
+}
+
+fn is_taken(handlers: &[Name], word: &[u8]) -> bool
+    ensures { result ≡ list_any (bytes_eq word.now) handlers.now }
+{
+    handlers.iter().any(|name| word == name.bytes())
+}
+
+/// `not`, if it stands there, and a test.
+#[tactic(auto, unfolding(script_model::specs::Statements::condition_as))]
+fn condition(words: &mut Words<'_>) -> Result<Condition, LineFault>
+    ensures value { Gives condition_of result (model.condition_as words.old) }
+    ensures allowed { IfOk result (λ condition. TestAllowed condition.asks) }
+{
+    let negated = words.negation();
+    let shape = shape(words)?;
+    let asks = asked(shape, words)?;
+    Ok(Condition { negated, asks })
+}
+
+#[tactic(auto, unfolding(script_model::specs::Forms::word_as))]
+fn shape(words: &mut Words<'_>) -> Result<Shape, LineFault>
+    ensures { Gives (λ shape. (shape_of shape, words.new)) result (word_as (lookup tests) words.old) }
+{
+    let word = words.next()?;
+    match tables::test(word.text) {
+        Some(shape) => Ok(shape),
+        None => Err(LineFault::At {
+            column: word.column,
+        }),
+    }
+}
+
+/// The test whose operands these words are, all of them.
+#[tactic(auto, unfolding(script_model::specs::Statements::test_in))]
+fn asked(shape: Shape, words: &mut Words<'_>) -> Result<Test, LineFault>
+    ensures value { Gives test_of result (model.test_in (shape_of shape) words.old) }
+    ensures allowed { IfOk result (λ test. TestAllowed test) }
+{
+    match shape {
+        Shape::Wider => {
+            let node = words.node()?;
+            let width = words.length()?;
+            words.end()?;
+            Ok(Test::Wider(node, width))
+        }
+        Shape::Taller => {
+            let node = words.node()?;
+            let height = words.length()?;
+            words.end()?;
+            Ok(Test::Taller(node, height))
+        }
+        Shape::Matches => {
+            let query = words.name()?;
+            words.end()?;
+            Ok(Test::Matches(query))
+        }
+        Shape::Attached => {
+            let node = words.node()?;
+            words.end()?;
+            Ok(Test::Attached(node))
+        }
+        Shape::Seen => {
+            words.end()?;
+            Ok(Test::Seen)
+        }
+    }
+}
+
+/// `script 1`, the first line.
+#[tactic(auto, unfolding(script_model::specs::Statements::version_as))]
+pub fn version(words: &mut Words<'_>) -> Result<(), LineFault>
+    ensures { Gives (λ end. tt) result (model.version_as words.old) }
+{
+    words.just(b"script")?;
+    words.just(b"1")?;
+    words.end()
+}

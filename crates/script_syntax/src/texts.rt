@@ -1,0 +1,79 @@
+//! Lists of bytes and numbers in commands.
+
+ghost use Rattle.std.specs.Prelude.{◌≡◌};
+
+use std::marker::Model;
+
+/// The words of a root margin, joined by one space. A contract sees it as its bytes.
+#[derive(Drop)]
+pub struct MarginText {
+    bytes: Vec<u8>,
+}
+
+impl Model for MarginText {
+    ghost use Rattle.std.specs.Prelude.{ℕ, List};
+
+    ghost Value = { List ℕ };
+
+    ghost view = { λ text. text.bytes.items };
+}
+
+impl MarginText {
+    /// The text with these bytes.
+    pub fn new(bytes: Vec<u8>) -> MarginText
+        ensures { result ≡ bytes.items }
+    {
+        MarginText { bytes }
+    }
+
+    /// Its bytes.
+    pub fn bytes(&self) -> &[u8]
+        ensures { result.now ≡ self.now }
+    {
+        self.bytes.as_slice()
+    }
+
+    /// Its bytes, given back.
+    pub fn into_bytes(self) -> Vec<u8>
+        ensures { result.items ≡ self }
+    {
+        self.bytes
+    }
+}
+
+/// Numbers in ten-thousandths. A contract sees it as the list of them.
+#[derive(Drop)]
+pub struct NumberList {
+    numbers: Vec<i64>,
+}
+
+impl Model for NumberList {
+    ghost use Rattle.std.specs.Prelude.{ℤ, List};
+
+    ghost Value = { List ℤ };
+
+    ghost view = { λ list. list.numbers.items };
+}
+
+impl NumberList {
+    /// The list of these numbers.
+    pub fn new(numbers: Vec<i64>) -> NumberList
+        ensures { result ≡ numbers.items }
+    {
+        NumberList { numbers }
+    }
+
+    /// Its numbers.
+    pub fn numbers(&self) -> &[i64]
+        ensures { result.now ≡ self.now }
+    {
+        self.numbers.as_slice()
+    }
+
+    /// Its numbers, given back.
+    pub fn into_numbers(self) -> Vec<i64>
+        ensures { result.items ≡ self }
+    {
+        self.numbers
+    }
+}

@@ -1,0 +1,167 @@
+//! The words of a line, taken from left to right.
+
+ghost use Rattle.std.specs.Prelude.{◌≡◌, ◌≤◌, length, IfOk, IfErr};
+ghost use Rattle.script_lexer.specs.Texts.{line_seen, LineFits};
+ghost use Rattle.script_model.specs.Forms.{next_of, none_left};
+ghost use Rattle.script_model.specs.Statements.{negation_in};
+ghost use Rattle.script_syntax.specs.Lines.{Gives, Popped, NextBefore, rest_of};
+
+use crate::faults::LineFault;
+use script_lexer::{Line, Span, Text};
+use std::marker::Model;
+
+/// A word with its column, from 1.
+#[derive(Clone, Copy)]
+pub struct Word<'a> {
+    pub column: u32,
+    pub text: &'a [u8],
+}
+
+/// The words of a line that are left. A contract sees them as the definition's row.
+#[derive(Drop)]
+pub struct Words<'a> {
+    bytes: &'a [u8],
+    // Where the line begins.
+    start: usize,
+    left: &'a [Span],
+    // The column after the line's last word.
+    after: u32,
+    // The line's bytes up to there.
+    line: &'a [u8],
+}
+
+impl<'a> Model for Words<'a> {
+    ghost use Rattle.script_model.specs.Lexing.{Row};
+
+    ghost Value = { Row };
+
+    ghost use Rattle.script_syntax.specs.Lines.{row_at, RowFits};
+
+    ghost view = { λ words. row_at words.bytes.now words.start words.left.now words.after words.line.now };
+
+    ghost invariant = { λ words. RowFits words.bytes.now words.start words.left.now words.line.now };
+}
+
+impl<'a> Words<'a> {
+    ghost use Rattle.script_syntax.specs.Words.{word_of};
+
+    /// The words of one of a text's lines.
+    #[tactic(auto, using(crate::proofs::LastWords::after_last, crate::proofs::LastWords::last_inside))]
+    pub fn of(text: &'a Text, line: &Line) -> Words<'a>
+        requires short { length text.now.bytes ≤ 16777216 }
+        requires fits { LineFits text.now.bytes text.now.words line.now }
+        ensures { result ≡ (line_seen text.now.bytes text.now.words line.now).row }
+    {
+        let bytes = text.bytes();
+        let start = line.start;
+        let left = text.words(line);
+        let [.., last] = left else {
+            return Words {
+                bytes,
+                start,
+                left,
+                after: 1,
+                line: &[],
+            };
+        };
+        Words {
+            bytes,
+            start,
+            left,
+            after: (last.to - start + 1) as u32,
+            line: &bytes[start..last.to],
+        }
+    }
+
+    /// The next word. The fault is that there is none.
+    #[tactic(auto, unfolding(script_model::specs::Forms::next_of))]
+    pub fn next(&mut self) -> Result<Word<'a>, LineFault>
+        ensures { Gives (λ word. (word_of word, self.new)) result (next_of self.old) }
+    {
+        let [span, rest @ ..] = self.left else {
+            return Err(LineFault::At { column: self.after });
+        };
+        self.left = rest;
+        Ok(Word {
+            column: (span.from - self.start + 1) as u32,
+            text: &self.bytes[span.from..span.to],
+        })
+    }
+
+    /// No word is left. The fault is at the first one that is.
+    #[tactic(auto, unfolding(script_model::specs::Forms::none_left))]
+    pub fn end(&mut self) -> Result<(), LineFault>
+        ensures { Gives (λ end. tt) result (none_left self.old) }
+    {
+        match self.left {
+            [] => Ok(()),
+            [span, ..] => Err(LineFault::At {
+                column: (span.from - self.start + 1) as u32,
+            }),
+        }
+    }
+
+    /// The next word, if there is one.
+    pub fn pop(&mut self) -> Option<Word<'a>>
+        ensures { Popped result self.old self.new }
+    {
+        let [span, rest @ ..] = self.left else {
+            return None;
+        };
+        self.left = rest;
+        Some(Word {
+            column: (span.from - self.start + 1) as u32,
+            text: &self.bytes[span.from..span.to],
+        })
+    }
+
+    /// The next word, if there is one and it isn't this one.
+    #[tactic(auto, unfolding(script_model::specs::Forms::words_before, script_model::specs::Forms::words_from))]
+    pub fn next_before(&mut self, stop: &[u8]) -> Option<&'a [u8]>
+        ensures { NextBefore stop.now result self.old self.new }
+    {
+        let [span, rest @ ..] = self.left else {
+            return None;
+        };
+        let text = &self.bytes[span.from..span.to];
+        if text == stop {
+            return None;
+        }
+        self.left = rest;
+        Some(text)
+    }
+
+    /// Whether the next word is `not`, which is taken then.
+    #[tactic(auto, unfolding(script_model::specs::Statements::negation_in))]
+    pub fn negation(&mut self) -> bool
+        ensures { negation_in self.old.left self.old ≡ (result, self.new) }
+    {
+        let [span, rest @ ..] = self.left else {
+            return false;
+        };
+        if &self.bytes[span.from..span.to] == b"not".as_slice() {
+            self.left = rest;
+            return true;
+        }
+        false
+    }
+
+    /// The line's text from the next word to the end of its last one, with that word's column; no word is left then. Where
+    /// there is no word, the column after the line's last one.
+    pub fn rest(&mut self) -> Result<Word<'a>, u32>
+        ensures ok { IfOk result (λ rest. rest_of self.old ≡ Ok (rest.column, rest.text.now, self.new)) }
+        ensures err { IfErr result (λ column. rest_of self.old ≡ Err column) }
+        ensures place { IfOk result (λ rest. rest.column ≤ 16777216) }
+        ensures short { IfOk result (λ rest. length rest.text.now ≤ 16777216) }
+    {
+        let [span, ..] = self.left else {
+            return Err(self.after);
+        };
+        let from = span.from - self.start;
+        self.left = &[];
+        Ok(Word {
+            column: (from + 1) as u32,
+            text: &self.line[from.min(self.line.len())..],
+        })
+    }
+}
