@@ -1,0 +1,4 @@
+mod Pointwise
+mod Watched
+pub mod Plain
+pub mod Delivering

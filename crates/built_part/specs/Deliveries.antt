@@ -1,0 +1,43 @@
+-- What a tick tells of a page of one document in which at most one resize observer, which calls no handler, observes
+-- (Resize Observer, 3.4): the changed sizes, once.
+use Rattle.std.specs.Prelude.{◌≡◌, ℕ, List, [], ◌∷◌, ◌++◌, map, filter, fold, Option, Some, None, unwrap_or}
+use Rattle.script_model.specs.TraceLines.{TraceLine, RoundLine}
+use Rattle.page_model.specs.World.{World, Document, Active, Observation, ResizeObserver}
+use Rattle.page_model.specs.Lookups.{element_at}
+use Rattle.page_model.specs.Names.{document_text}
+use Rattle.page_model.specs.Callbacks.{SizeEntry, resize_line}
+use Rattle.page_model.specs.Loop.{has_changed, size_entry, reported, shallower}
+
+-- the world with these resize observers and no others
+abbrev pub watched : List ResizeObserver → World → World
+watched observers world = record world { resize_observers = observers }
+
+-- an observer of the top document that calls no handler, between two ticks
+abbrev pub silent_observer : List Observation → ResizeObserver
+silent_observer targets = record { document = 0; handler = None; targets = targets; active = []; skipped = [] }
+
+-- only the top document, which is Active, and no frame
+pub record IsPlain (world : World) : Type 0 where
+  pub top : Document
+  pub alone : world.documents ≡ top ∷ []
+  pub active : top.state ≡ Active
+  pub unframed : (n : ℕ) → (element_at world n).framed ≡ None
+
+-- the observations whose size differs from the last reported one
+abbrev pub due : World → List Observation → List Observation
+due world targets = filter (has_changed world) targets
+
+-- an entry for each
+abbrev pub told : World → List Observation → List SizeEntry
+told world targets = map (size_entry world) (due world targets)
+
+-- the lines of entries, and that of the round where there are any, with the least depth
+abbrev pub told_lines : World → List SizeEntry → List TraceLine
+told_lines world [] = []
+told_lines world (first ∷ others) =
+    map (resize_line world 0) (first ∷ others)
+    ++ RoundLine (document_text world 0) (unwrap_or (fold shallower None (first ∷ others)) 0) ∷ []
+
+-- the targets once the sizes that differed are the last reported ones
+abbrev pub told_targets : World → List Observation → List Observation
+told_targets world targets = map (reported world (due world targets)) targets

@@ -1,0 +1,4 @@
+pub mod Built
+pub mod Ticks
+pub mod Outcomes
+pub mod Deliveries
