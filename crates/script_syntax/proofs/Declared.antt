@@ -1,5 +1,5 @@
 -- A property's word with a value's word, as a line's words and as a declaration.
-use Rattle.std.proofs.Common.{◌≡◌, ℕ, true, Option, Some, None, Ok, Err, refl, ap, ◌∙◌}
+use Rattle.std.proofs.Common.{◌≡◌, ℕ, true, Option, Some, None, Ok, Err, refl}
 use Rattle.std.specs.Prelude.{is_some}
 use Rattle.layout_model.specs.Styles.{Declaration}
 use Rattle.script_model.specs.Readers.{◌>>=◌, or_fault}

@@ -2,7 +2,7 @@
 use Rattle.std.specs.List.{All}
 use Rattle.std.proofs.lemmas.List.{map-append, reverse-append}
 use Rattle.std.proofs.lemmas.List.Elements.{All-push, All-nil}
-use Rattle.std.proofs.Common.{◌≡◌, ℕ, ◌+◌, Bool, true, false, List, [], ◌∷◌, ◌++◌, map, reverse, refl, sym, ap, subst, ◌∙◌, cond, count_by}
+use Rattle.std.proofs.Common.{◌≡◌, ℕ, ◌+◌, false, List, [], ◌∷◌, ◌++◌, map, reverse, refl, sym, ap, subst, ◌∙◌, cond, count_by}
 use Rattle.script_model.specs.Reading as model
 use Rattle.script_model.specs.Reading.{block_before}
 use Rattle.script_model.specs.Readers.{is_empty}

@@ -5,9 +5,7 @@ use Rattle.script_model.specs.Lexing.{Word, Row}
 use Rattle.script_model.specs.Media.{query_list, queries_at}
 use Rattle.script_model.specs.Queries.{MediaQuery}
 use Rattle.script_model.specs.Forms.{next_in, next_of, query_from, query_as, part_as, QueryForm}
-use Rattle.script_syntax.specs.Lines.{rest_in, rest_of, Gives}
-use Rattle.script_syntax.specs.declared.faults.LineFault.{LineFault}
-use Rattle.script_syntax.specs.declared.faults.LineFault.TheVariants.{At, Memory}
+use Rattle.script_syntax.specs.Lines.{rest_in, rest_of}
 
 within : (answer : Result (List MediaQuery) ℕ) (size column : ℕ) → with_fault (λ left. size + 1 - left) answer ≡ Err column → column ≤ size + 1
 within (Ok queries) size column e = cc

@@ -1,5 +1,5 @@
 -- What first words begin, as the definition's tables have it.
-use Rattle.std.specs.Prelude.{List, [], ◌∷◌, codes}
+use Rattle.std.specs.Prelude.{List, [], ◌∷◌}
 use Rattle.script_model.specs.Syntax as syntax
 use Rattle.script_model.specs.Forms.{Form, NameForm, NodeForm, AimForm, HandlerForm, LengthForm, SignedForm, WholeForm, EventForm, BoxForm, DimensionForm, DeclarationForm, QueryForm, From}
 use Rattle.script_model.specs.Commands as model

@@ -1,7 +1,7 @@
 -- A block is larger than each block in it.
-use Rattle.std.proofs.Common.{◌≡◌, ℕ, ◌+◌, ◌≤◌, List, [], ◌∷◌, arith, max}
+use Rattle.std.proofs.Common.{ℕ, ◌≤◌, List, [], ◌∷◌, arith, max}
 use denote.Param.Weighed.{most}
-use Rattle.script_syntax.specs.Seen.{block_of, block_size, command_size, command_of, command_at}
+use Rattle.script_syntax.specs.Seen.{block_of, block_size, command_size, command_at}
 use Rattle.script_syntax.specs.declared.commands.What.{What}
 use Rattle.script_syntax.specs.declared.commands.What.TheVariants.{Each, When}
 use Rattle.script_syntax.specs.declared.commands.Command.{Command}

@@ -1,13 +1,10 @@
 use Rattle.std.proofs.lemmas.List.{length-map}
-use Rattle.std.proofs.Common.{◌≡◌, ◌+◌, ◌≤◌, ℕ, List, map, length, refl, ap, sym, subst, ◌∙◌, Some, Option}
-use Rattle.std.specs.Prelude.{slice_get, option_map, bytes_eq}
+use Rattle.std.proofs.Common.{◌+◌, ◌≤◌, ℕ, List, map, ap, sym, subst}
+use Rattle.std.specs.Prelude.{bytes_eq}
 use Rattle.std.specs.HashMap.{get}
 use Rattle.std.specs.Map.{lookup}
-use Rattle.std.proofs.lemmas.Option.{slice_get-map, slice_get_read}
-use Rattle.script_model.specs.Syntax.{Item}
 use Rattle.script_syntax.specs.Indexes.{IndexedTo}
 use Rattle.script_syntax.specs.Seen.{item_of}
-use Rattle.script_syntax.specs.declared.commands.Item.{Item as CodeItem}
 use Rattle.script_syntax.specs.declared.index.Index.{Index}
 use Rattle.script_syntax.proofs.Handlers.{none_noted, other_passed, handler_passed, all_noted, command_is_none, item_at_place}
 use Rattle.script_syntax.proofs.index.index_of.Goals as goal

@@ -1,4 +1,3 @@
-use Rattle.std.proofs.Common.{rules}
 use Rattle.script_syntax.proofs.Declared.{declared_ok, declared_err}
 use Rattle.script_syntax.proofs.words.Words.declaration.Goals as goal
 

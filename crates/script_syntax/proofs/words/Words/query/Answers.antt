@@ -1,5 +1,4 @@
 use Rattle.std.proofs.Common.{ap, ◌+◌, sym, ◌∙◌, arith, Err, ℕ}
-use Rattle.media_queries.specs.Seen.{Parses}
 use Rattle.script_syntax.proofs.Queries.{column_within, query_ok, query_err}
 use Rattle.script_syntax.proofs.words.Words.query.Goals as goal
 
