@@ -1,0 +1,223 @@
+-- The parts of a line are read as what they stand for.
+use Rattle.std.proofs.Common.{◌≡◌, ℕ, ℤ, ◌+◌, Bool, true, false, cond, ◌==◌, not, List, [], ◌∷◌, ◌++◌, length, Some, None, refl, ap, sym, ◌∙◌, subst, append-nil}
+use Rattle.std.specs.Prelude.{Option, Result, Ok, bytes_eq, map, codes}
+use Rattle.std.specs.List.{list_all, join_with_byte}
+use Rattle.std.proofs.lemmas.Bool.{and_parts, eqb-true}
+use Rattle.word_model.specs.Numbers.{decimal, length_of, signed_of, whole_of}
+use Rattle.word_model.proofs.RoundTrip.{reads_back}
+use Rattle.layout_model.specs.Styles.{Declaration}
+use Rattle.script_model.specs.Readers.{◌>>=◌, or_fault}
+use Rattle.script_model.specs.Keywords.{lookup}
+use Rattle.script_model.specs.Lexing.{Word, Row}
+use Rattle.script_model.specs.Words.{name_of, node_of, aim_of, or_dash, just, events, boxes, dimensions}
+use Rattle.script_model.specs.MarginText.{before_first, split_at_spaces, parts_of}
+use Rattle.script_model.specs.Properties.{ValueReader, property_of}
+use Rattle.script_model.specs.Forms.{Taken, next_in, next_of, word_as, none_in, none_left, declaration_as, words_before, words_from, margin_as, numbers_of, numbers_as, Form, NameForm, NodeForm, AimForm, HandlerForm, RootForm, LengthForm, SignedForm, WholeForm, EventForm, BoxForm, DimensionForm, DeclarationForm, JustForm, MarginForm, NumbersForm, QueryForm, Meant, part_as, From, made}
+use Rattle.media_queries.specs.LengthText.{length_text}
+use Rattle.script_text.specs.NumberText.{signed_text, number_text}
+use Rattle.script_text.specs.WordText.{operand_text, aim_text, dash_or, event_text, box_text, dimension_text}
+use Rattle.script_text.specs.Parts.{Part, PartOf, part_words, all_words}
+use Rattle.script_text.specs.DeclarationText.{property_text, value_text}
+use Rattle.script_text.specs.WellFormed.{IsMargin, is_margin_word, IsDeclaration, AreNumbers, IsMeant, AreMeant}
+use Rattle.script_text.proofs.FormParts.{bytes_same}
+use Rattle.script_text.proofs.NumbersAgain.{length_again, signed_again, number_again}
+use Rattle.script_text.proofs.WordBytes.{IsWord}
+use Rattle.script_text.proofs.WordsAgain.{name_again, node_again, aim_again, handler_again, root_again, event_again, box_again, dimension_again}
+use Rattle.script_text.proofs.DeclarationsAgain.{declaration_again}
+
+-- words with one space behind each, the first at this column
+unfoldable pub words_at : ℕ → List (List ℕ) → List Word
+words_at column [] = []
+words_at column (t ∷ ts) = record { column = column; text = t } ∷ words_at (column + length t + 1) ts
+
+unfoldable pub past : ℕ → List (List ℕ) → ℕ
+past column [] = column
+past column (t ∷ ts) = past (column + length t + 1) ts
+
+pub words_parted : (column : ℕ) (ts us : List (List ℕ)) → words_at column (ts ++ us) ≡ words_at column ts ++ words_at (past column ts) us
+unfolding words_at past
+words_parted column [] us = refl
+words_parted column (t ∷ ts) us = ap (λ (ws : List Word). record { column = column; text = t } ∷ ws) (words_parted (column + length t + 1) ts us)
+
+abbrev pub row : List Word → ℕ → List ℕ → Row
+row words after bytes = record { left = words; after = after; bytes = bytes }
+
+-- a row is read as this value, with these words left
+abbrev pub Gives : {A : Type 0} → (Row → Taken A) → A → List Word → List Word → Type 0
+Gives reader value words rest = (after : ℕ) (bytes : List ℕ) → reader (row words after bytes) ≡ Ok (value, row rest after bytes)
+
+pub word_read : {A : Type 0} (of : List ℕ → Option A) (value : A) (column : ℕ) (text : List ℕ) (rest : List Word) → of text ≡ Some value
+    → Gives (word_as of) value (record { column = column; text = text } ∷ rest) rest
+unfolding word_as next_of next_in
+word_read {A} of value column text rest h after bytes =
+    ap (λ (found : Option A). or_fault column found >>= λ value. Ok (value, row rest after bytes)) h
+
+declaration_read : (declaration : Declaration) → IsDeclaration declaration → (column : ℕ) (rest : List Word)
+    → Gives declaration_as declaration (words_at column (property_text declaration ∷ value_text declaration ∷ []) ++ rest) rest
+unfolding declaration_as words_at
+declaration_read declaration h column rest after bytes =
+    let again = declaration_again declaration h in
+    let second : List Word = words_at (column + length (property_text declaration) + 1) (value_text declaration ∷ []) ++ rest in
+    ap (λ (r : Taken ValueReader). r >>= λ property. word_as property.0 property.1) (word_read property_of again.reader column (property_text declaration) second again.names.named after bytes)
+    ∙ word_read again.reader declaration (column + length (property_text declaration) + 1) (value_text declaration) rest again.again.read after bytes
+
+-- Margins.
+
+no_threshold : (word : List ℕ) → is_margin_word word ≡ true → bytes_eq word (codes "threshold") ≡ false
+unfolding is_margin_word
+no_threshold word h = not_true (bytes_eq word (codes "threshold")) (and_parts _ _ h).1 where
+  not_true : (b : Bool) → not b ≡ true → b ≡ false
+  not_true true e = absurd cc
+  not_true false e = refl
+
+-- words that end at `threshold`, or at the line's end
+abbrev pub StopsAt : List Word → Type 0
+StopsAt [] = Unit {0}
+StopsAt (w ∷ ws) = bytes_eq w.text (codes "threshold") ≡ true
+
+stop_before : (rest : List Word) → StopsAt rest → words_before (codes "threshold") rest ≡ []
+unfolding words_before
+stop_before [] h = refl
+stop_before (w ∷ ws) h = ap (λ t. cond t [] (w.text ∷ words_before (codes "threshold") ws)) h
+
+stop_from : (rest : List Word) → StopsAt rest → words_from (codes "threshold") rest ≡ rest
+unfolding words_from
+stop_from [] h = refl
+stop_from (w ∷ ws) h = ap (λ t. cond t (w ∷ ws) (words_from (codes "threshold") ws)) h
+
+before_stop : (column : ℕ) (ts : List (List ℕ)) (rest : List Word) → list_all is_margin_word ts ≡ true → StopsAt rest → words_before (codes "threshold") (words_at column ts ++ rest) ≡ ts
+unfolding words_before words_at
+before_stop column [] rest all stops = stop_before rest stops
+before_stop column (t ∷ ts) rest all stops =
+    let next : List Word = words_at (column + length t + 1) ts ++ rest in
+    ap (λ b. cond b [] (t ∷ words_before (codes "threshold") next)) (no_threshold t (and_parts _ _ all).0)
+    ∙ ap (λ (us : List (List ℕ)). t ∷ us) (before_stop (column + length t + 1) ts rest (and_parts _ _ all).1 stops)
+
+from_stop : (column : ℕ) (ts : List (List ℕ)) (rest : List Word) → list_all is_margin_word ts ≡ true → StopsAt rest → words_from (codes "threshold") (words_at column ts ++ rest) ≡ rest
+unfolding words_from words_at
+from_stop column [] rest all stops = stop_from rest stops
+from_stop column (t ∷ ts) rest all stops =
+    let next : List Word = words_at (column + length t + 1) ts ++ rest in
+    ap (λ b. cond b (record { column = column; text = t } ∷ next) (words_from (codes "threshold") next)) (no_threshold t (and_parts _ _ all).0)
+    ∙ from_stop (column + length t + 1) ts rest (and_parts _ _ all).1 stops
+
+joined_first : (b : ℕ) (texts : List (List ℕ)) → join_with_byte 32 (before_first b texts) ≡ b ∷ join_with_byte 32 texts
+unfolding before_first
+joined_first b [] = refl
+joined_first b (t ∷ []) = refl
+joined_first b (t ∷ u ∷ us) = refl
+
+split_some : (text : List ℕ) → (first : List ℕ) × (others : List (List ℕ)) × (split_at_spaces text ≡ first ∷ others)
+unfolding split_at_spaces before_first
+split_some [] = ([], [], refl)
+split_some (b ∷ bs) =
+    let behind = split_some bs in
+    elim (b == 32) as (λ v. (first : List ℕ) × (others : List (List ℕ)) × (cond v ([] ∷ split_at_spaces bs) (before_first b (split_at_spaces bs)) ≡ first ∷ others)) [
+      | true ↦ ([], split_at_spaces bs, refl)
+      | false ↦ (b ∷ behind.0, behind.1, ap (before_first b) behind.2)
+    ]
+
+space_joined : (texts : List (List ℕ)) (first : List ℕ) (others : List (List ℕ)) → texts ≡ first ∷ others → join_with_byte 32 ([] ∷ texts) ≡ 32 ∷ join_with_byte 32 texts
+space_joined texts first others e = subst (λ (ts : List (List ℕ)). join_with_byte 32 ([] ∷ ts) ≡ 32 ∷ join_with_byte 32 ts) (sym e) refl
+
+split_joined : (text : List ℕ) → join_with_byte 32 (split_at_spaces text) ≡ text
+unfolding split_at_spaces
+split_joined [] = refl
+split_joined (b ∷ bs) =
+    let some = split_some bs in
+    elim (b == 32) as (λ v. (b == 32) ≡ v → join_with_byte 32 (cond v ([] ∷ split_at_spaces bs) (before_first b (split_at_spaces bs))) ≡ b ∷ bs) [
+      | true ↦ λ e.
+          space_joined (split_at_spaces bs) some.0 some.1 some.2 ∙ ap (λ (t : List ℕ). 32 ∷ t) (split_joined bs) ∙ ap (λ c. c ∷ bs) (sym (eqb-true b 32 e))
+      | false ↦ λ e. joined_first b (split_at_spaces bs) ∙ ap (λ (t : List ℕ). b ∷ t) (split_joined bs)
+    ] refl
+
+pub parts_joined : (margin : List ℕ) → join_with_byte 32 (parts_of margin) ≡ margin
+unfolding parts_of
+parts_joined [] = refl
+parts_joined (b ∷ bs) = split_joined (b ∷ bs)
+
+margin_read : (margin : List ℕ) → IsMargin margin → (column : ℕ) (rest : List Word) → StopsAt rest → Gives margin_as margin (words_at column (parts_of margin) ++ rest) rest
+unfolding margin_as
+margin_read margin h column rest stops after bytes =
+    ap (λ (ts : List (List ℕ)). Ok (join_with_byte 32 ts, row (words_from (codes "threshold") (words_at column (parts_of margin) ++ rest)) after bytes)) (before_stop column (parts_of margin) rest h stops)
+    ∙ ap (λ (ws : List Word). Ok (join_with_byte 32 (parts_of margin), row ws after bytes)) (from_stop column (parts_of margin) rest h stops)
+    ∙ ap (λ (text : List ℕ). Ok (text, row rest after bytes)) (parts_joined margin)
+
+-- Numbers.
+
+numbers_read : (numbers : List ℤ) → AreNumbers numbers → (column : ℕ) → numbers_of (words_at column (map number_text numbers)) ≡ Ok numbers
+unfolding numbers_of words_at
+numbers_read [] h column = refl
+numbers_read (n ∷ ns) h column =
+    let next : List Word = words_at (column + length (number_text n) + 1) (map number_text ns) in
+    ap (λ (found : Option ℤ). or_fault column found >>= λ number. numbers_of next >>= λ others. Ok (number ∷ others)) (number_again n h.0).read
+    ∙ ap (λ (r : Result (List ℤ) ℕ). r >>= λ others. Ok (n ∷ others)) (numbers_read ns h.1 (column + length (number_text n) + 1))
+
+all_numbers : (numbers : List ℤ) → AreNumbers numbers → (column : ℕ) → Gives numbers_as numbers (words_at column (map number_text numbers)) []
+unfolding numbers_as
+all_numbers numbers h column after bytes =
+    ap (λ (r : Result (List ℤ) ℕ). r >>= λ numbers. Ok (numbers, row [] after bytes)) (numbers_read numbers h column)
+
+-- Any part but queries.
+
+just_read : (word : List ℕ) → just word word ≡ Some tt
+unfolding just
+just_read word = ap (λ b. cond b (Some tt) None) (bytes_same word)
+
+-- what may stand behind a part of this form
+abbrev pub Follows : Form → List Word → Type 0
+Follows MarginForm rest = StopsAt rest
+Follows NumbersForm rest = rest ≡ []
+Follows QueryForm rest = ⊥
+Follows (JustForm word) rest = IsWord word
+Follows form rest = Unit {0}
+
+no_more : {A : Type 0} (reader : Row → Taken A) (value : A) (words rest : List Word) → rest ≡ [] → Gives reader value words [] → Gives reader value (words ++ rest) rest
+no_more reader value words rest none h =
+    subst (λ (rest : List Word). Gives reader value (words ++ rest) rest) (sym none) (subst (λ (ws : List Word). Gives reader value ws []) (sym (append-nil words)) h)
+
+pub part_again : (form : Form) (value : Meant form) → IsMeant form value → (column : ℕ) (rest : List Word) → Follows form rest
+    → Gives (part_as form) value (words_at column (part_words form value) ++ rest) rest
+unfolding part_as words_at
+part_again NameForm name h column rest follows = word_read name_of name column name rest (name_again name h).read
+part_again NodeForm operand h column rest follows = word_read node_of operand column (operand_text operand) rest (node_again operand h).read
+part_again AimForm aim h column rest follows = word_read aim_of aim column (aim_text aim) rest (aim_again aim h).read
+part_again HandlerForm handler h column rest follows = word_read (or_dash name_of) handler column (dash_or (λ name. name) handler) rest (handler_again handler h).read
+part_again RootForm root h column rest follows = word_read (or_dash node_of) root column (dash_or operand_text root) rest (root_again root h).read
+part_again LengthForm units h column rest follows = word_read length_of units column (length_text units) rest (length_again units h).read
+part_again SignedForm units h column rest follows = word_read signed_of units column (signed_text units) rest (signed_again units h).read
+part_again WholeForm number h column rest follows = word_read whole_of number column (decimal number) rest (reads_back number h)
+part_again EventForm event h column rest follows = word_read (lookup events) event column (event_text event) rest (event_again event).read
+part_again BoxForm box h column rest follows = word_read (lookup boxes) box column (box_text box) rest (box_again box).read
+part_again DimensionForm dimension h column rest follows = word_read (lookup dimensions) dimension column (dimension_text dimension) rest (dimension_again dimension).read
+part_again DeclarationForm declaration h column rest follows = declaration_read declaration h column rest
+part_again (JustForm word) value h column rest follows = word_read (just word) tt column word rest (just_read word)
+part_again MarginForm margin h column rest follows = margin_read margin h column rest follows
+part_again NumbersForm numbers h column rest follows = no_more numbers_as numbers (words_at column (map number_text numbers)) rest follows (all_numbers numbers h column)
+part_again QueryForm queries h column rest follows = absurd follows
+
+-- Whole lines.
+
+abbrev pub forms_in : List Part → List Form
+forms_in [] = []
+forms_in (PartOf form value ∷ parts) = form ∷ forms_in parts
+
+abbrev pub applied : {A : Type 0} (parts : List Part) → From (forms_in parts) A → A
+applied [] value = value
+applied (PartOf form value ∷ parts) makes = applied parts (makes value)
+
+-- margins stand before `threshold`, numbers at the end, and queries nowhere
+abbrev pub Stand : List Part → Type 0
+Stand [] = Unit {0}
+Stand (PartOf form value ∷ parts) = ((column : ℕ) → Follows form (words_at column (all_words parts))) × Stand parts
+
+pub made_again : {A : Type 0} (parts : List Part) (makes : From (forms_in parts) A) → AreMeant parts → Stand parts → (column after : ℕ) (bytes : List ℕ)
+    → made (forms_in parts) makes (row (words_at column (all_words parts)) after bytes) ≡ Ok (applied parts makes)
+unfolding made none_left none_in words_at
+made_again [] value h stand column after bytes = refl
+made_again (PartOf form value ∷ parts) makes h stand column after bytes =
+    let next : ℕ = past column (part_words form value) in
+    let rest : List Word = words_at next (all_words parts) in
+    ap (λ (ws : List Word). part_as form (row ws after bytes) >>= λ part. made (forms_in parts) (makes part.0) part.1) (words_parted column (part_words form value) (all_words parts))
+    ∙ ap (λ (r : Taken (Meant form)). r >>= λ part. made (forms_in parts) (makes part.0) part.1) (part_again form value h.0 column rest (stand.0 next) after bytes)
+    ∙ made_again parts (makes value) h.1 stand.1 next after bytes

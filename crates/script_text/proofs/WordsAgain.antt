@@ -1,0 +1,104 @@
+-- The words of names, nodes and fixed words are read as what they stand for.
+use Rattle.std.proofs.Common.{◌≡◌, ℕ, true, false, cond, ◌&&◌, ◌==◌, List, [], ◌∷◌, Some, None, refl, ap, ◌∙◌}
+use Rattle.std.specs.Prelude.{Option, option_map, bytes_eq, codes}
+use Rattle.std.specs.List.{list_all}
+use Rattle.word_model.specs.Names.{is_name}
+use Rattle.px_units.specs.declared.BoxKind.{BoxKind}
+use Rattle.px_units.specs.declared.BoxKind.TheVariants.{Content, Border}
+use Rattle.script_model.specs.Kinds.{EventName, ResizeEvent, ScrollEvent, ErrorEvent, ChangeEvent}
+use Rattle.script_model.specs.Syntax.{Operand, Named, Target, Aim, PlainAim, WindowAim, Dimension, WidthDimension, HeightDimension}
+use Rattle.script_model.specs.Keywords.{lookup}
+use Rattle.script_model.specs.Lines.{is_word_byte}
+use Rattle.script_model.specs.Words.{name_of, node_of, aim_of, or_dash, events, boxes, dimensions}
+use Rattle.script_text.specs.WordText.{operand_text, aim_text, dash_or, event_text, box_text, dimension_text}
+use Rattle.script_text.specs.WellFormed.{IsName, IsOperand, IsAim, IfSome}
+use Rattle.script_text.proofs.WordBytes.{IsWord, letter_first, name_first, name_word}
+
+-- a word that is read so
+pub record IsReadAs {A : Type 0} (of : List ℕ → Option A) (value : A) (text : List ℕ) : Type 0 where
+  pub read : of text ≡ Some value
+  pub word : IsWord text
+
+pub first_differs : (b c : ℕ) (bs cs : List ℕ) → (b == c) ≡ false → bytes_eq (b ∷ bs) (c ∷ cs) ≡ false
+first_differs b c bs cs h = ap (λ t. t && bytes_eq bs cs) h
+
+pub fixed : (b : ℕ) (bs : List ℕ) → list_all is_word_byte (b ∷ bs) ≡ true → (b == 35) ≡ false → IsWord (b ∷ bs)
+fixed b bs bytes no_comment = record { first = b; others = bs; text_is = refl; bytes = bytes; no_comment = no_comment }
+
+pub word_differs : (c : ℕ) (cs text : List ℕ) (word : IsWord text) → (word.first == c) ≡ false → bytes_eq text (c ∷ cs) ≡ false
+word_differs c cs text word h = ap (λ (t : List ℕ). bytes_eq t (c ∷ cs)) word.text_is ∙ first_differs word.first c word.others cs h
+
+pub name_again : (name : List ℕ) → IsName name → IsReadAs name_of name name
+unfolding name_of
+name_again name h = record { read = ap (λ t. cond t (Some name) None) h; word = name_word name h }
+
+node_named : (name : List ℕ) → IsName name → node_of name ≡ Some (Named name)
+unfolding node_of
+node_named [] h = absurd cc
+node_named (b ∷ bs) h =
+    ap (λ t. cond t (Some Target) (option_map Named (name_of (b ∷ bs)))) (first_differs b 36 bs (codes "target") (letter_first b (name_first b bs h)).no_dollar)
+    ∙ ap (option_map Named) (name_again (b ∷ bs) h).read
+
+target_word : IsWord (codes "$target")
+target_word = fixed 36 (codes "target") refl refl
+
+pub node_again : (operand : Operand) → IsOperand operand → IsReadAs node_of operand (operand_text operand)
+unfolding node_of
+node_again (Named name) h = record { read = node_named name h; word = name_word name h }
+node_again Target h = record { read = refl; word = target_word }
+
+aim_named : (name : List ℕ) → IsName name → aim_of name ≡ Some (PlainAim (Named name))
+unfolding aim_of
+aim_named [] h = absurd cc
+aim_named (b ∷ bs) h =
+    ap (λ t. cond t (option_map WindowAim (name_of bs)) (option_map PlainAim (node_of (b ∷ bs)))) (letter_first b (name_first b bs h)).no_at
+    ∙ ap (option_map PlainAim) (node_named (b ∷ bs) h)
+
+at_word : (name : List ℕ) → IsWord name → IsWord (64 ∷ name)
+at_word name word = record { first = 64; others = name; text_is = refl; bytes = ap (λ (t : List ℕ). list_all is_word_byte t) word.text_is ∙ word.bytes; no_comment = refl }
+
+pub aim_again : (aim : Aim) → IsAim aim → IsReadAs aim_of aim (aim_text aim)
+unfolding aim_of
+aim_again (PlainAim (Named name)) h = record { read = aim_named name h; word = name_word name h }
+aim_again (PlainAim Target) h = record { read = refl; word = target_word }
+aim_again (WindowAim document) h = record { read = ap (option_map WindowAim) (name_again document h).read; word = at_word document (name_word document h) }
+
+dash_word : IsWord (codes "-")
+dash_word = fixed 45 [] refl refl
+
+some_again : {A : Type 0} (of : List ℕ → Option A) (value : A) (text : List ℕ) → of text ≡ Some value → bytes_eq text (codes "-") ≡ false → or_dash of text ≡ Some (Some value)
+unfolding or_dash
+some_again of value text again h =
+    ap (λ t. cond t (Some None) (option_map (λ v. Some v) (of text))) h ∙ ap (option_map (λ v. Some v)) again
+
+no_dash_name : (name : List ℕ) → is_name name ≡ true → bytes_eq name (codes "-") ≡ false
+no_dash_name [] h = absurd cc
+no_dash_name (b ∷ bs) h = first_differs b 45 bs [] (letter_first b (name_first b bs h)).no_minus
+
+pub handler_again : (handler : Option (List ℕ)) → IfSome IsName handler → IsReadAs (or_dash name_of) handler (dash_or (λ name. name) handler)
+unfolding or_dash
+handler_again None h = record { read = refl; word = dash_word }
+handler_again (Some name) h = record { read = some_again name_of name name (name_again name h).read (no_dash_name name h); word = name_word name h }
+
+pub root_again : (root : Option Operand) → IfSome IsOperand root → IsReadAs (or_dash node_of) root (dash_or operand_text root)
+unfolding or_dash
+root_again None h = record { read = refl; word = dash_word }
+root_again (Some (Named name)) h = record { read = some_again node_of (Named name) name (node_named name h) (no_dash_name name h); word = name_word name h }
+root_again (Some Target) h = record { read = some_again node_of Target (codes "$target") (node_again Target tt).read refl; word = target_word }
+
+pub event_again : (event : EventName) → IsReadAs (lookup events) event (event_text event)
+unfolding lookup
+event_again ResizeEvent = record { read = refl; word = fixed 114 (codes "esize") refl refl }
+event_again ScrollEvent = record { read = refl; word = fixed 115 (codes "croll") refl refl }
+event_again ErrorEvent = record { read = refl; word = fixed 101 (codes "rror") refl refl }
+event_again ChangeEvent = record { read = refl; word = fixed 99 (codes "hange") refl refl }
+
+pub box_again : (box : BoxKind) → IsReadAs (lookup boxes) box (box_text box)
+unfolding lookup
+box_again Content = record { read = refl; word = fixed 99 (codes "ontent") refl refl }
+box_again Border = record { read = refl; word = fixed 98 (codes "order") refl refl }
+
+pub dimension_again : (dimension : Dimension) → IsReadAs (lookup dimensions) dimension (dimension_text dimension)
+unfolding lookup
+dimension_again WidthDimension = record { read = refl; word = fixed 119 (codes "idth") refl refl }
+dimension_again HeightDimension = record { read = refl; word = fixed 104 (codes "eight") refl refl }

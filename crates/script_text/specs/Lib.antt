@@ -1,0 +1,9 @@
+pub mod NumberText
+pub mod WordText
+pub mod DeclarationText
+pub mod Parts
+pub mod Phrases
+pub mod NumberedLines
+pub mod ScriptText
+pub mod WellFormed
+pub mod ByteOrder

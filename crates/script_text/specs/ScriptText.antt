@@ -1,0 +1,28 @@
+-- The printed text of a script: each line on its own number, with empty lines between, and the words of a line with one
+-- space between each two. The form is this project's own choice.
+use Rattle.std.specs.Prelude.{ℕ, ◌-◌, nat_lt, cond, List, [], ◌∷◌, ◌++◌, length, replicate, codes}
+use Rattle.std.specs.List.{join_with_byte}
+use Rattle.script_model.specs.Kinds.{ScriptLimit}
+use Rattle.script_model.specs.Limits.{limit_number}
+use Rattle.script_model.specs.Syntax.{Item}
+use Rattle.script_text.specs.NumberedLines.{NumberedLine, items_lines}
+
+unfoldable pub line_text : List (List ℕ) → List ℕ
+line_text words = join_with_byte 32 words
+
+-- lines behind the end of the line of this number: as many line feeds as lead to a line's number stand before it
+unfoldable pub lines_text : ℕ → List NumberedLine → List ℕ
+unfolding line_text
+lines_text number [] = []
+lines_text number (l ∷ ls) = replicate (l.number - number) 10 ++ (line_text l.words ++ lines_text l.number ls)
+
+-- the whole text, without a line feed after the last line
+unfoldable pub script_text : List Item → List ℕ
+unfolding lines_text items_lines
+script_text items = codes "script 1" ++ lines_text 1 (items_lines items)
+
+-- the last line too ends with a line feed, where the text then isn't longer than a script may be
+unfoldable pub printed : List Item → List ℕ
+unfolding script_text
+printed items =
+    cond (nat_lt (length (script_text items)) (limit_number ScriptLimit)) (script_text items ++ (10 ∷ [])) (script_text items)

@@ -1,0 +1,204 @@
+-- Scripts that are well formed: names and operands are in the grammar's forms and ranges, blocks and handlers within
+-- their limits, handlers have different names, line numbers rise, and the printed lines and text are within their limits.
+-- That `tick` and handlers stand outside alone is in the type of items.
+use Rattle.std.specs.Prelude.{◌≡◌, ℕ, ◌<◌, ◌≤◌, ℤ, unsigned_abs, max, suc, Bool, true, false, not, ◌&&◌, List, [], ◌∷◌, length, Option, Some, None, bytes_eq, codes}
+use Rattle.std.specs.List.{list_all, list_any}
+use Rattle.word_model.specs.Names.{is_name}
+use Rattle.word_model.specs.Numbers.{begins_with}
+use Rattle.px_units.specs.Lengths.{LengthValue, Automatic, Pixels, Percentage}
+use Rattle.layout_model.specs.Styles.{Declaration, SetDisplay, SetWidth, SetHeight, SetMinWidth, SetMinHeight, SetMaxWidth, SetMaxHeight, SetMargin, SetPadding, SetBorder, SetBoxSizing, SetOverflow}
+use Rattle.script_model.specs.Kinds.{ScriptLimit, LineLimit, HandlersLimit, NestingLimit}
+use Rattle.script_model.specs.Limits.{limit_number}
+use Rattle.script_model.specs.Readers.{is_empty}
+use Rattle.script_model.specs.Queries.{Feature, WidthFeature, HeightFeature, OrientationFeature, MediaQuery, Typed, NotFeature, AllFeatures, AnyFeatures}
+use Rattle.script_model.specs.Lines.{is_word_byte}
+use Rattle.script_model.specs.MarginText.{parts_of}
+use Rattle.script_model.specs.Syntax.{Operand, Named, Target, Aim, PlainAim, WindowAim, Command, Simple, Each, When, Block, NoMore, Then, Item, Outside, Tick, Handler}
+use Rattle.script_model.specs.Scripts.{NamedBlock, handlers_in}
+use Rattle.script_model.specs.Forms.{Form, NameForm, NodeForm, AimForm, HandlerForm, RootForm, LengthForm, SignedForm, WholeForm, EventForm, BoxForm, DimensionForm, DeclarationForm, JustForm, MarginForm, NumbersForm, QueryForm, Meant}
+use Rattle.script_text.specs.Parts.{Part, PartOf}
+use Rattle.script_text.specs.Phrases.{action_parts, test_parts}
+use Rattle.script_text.specs.NumberedLines.{NumberedLine, items_lines}
+use Rattle.script_text.specs.ScriptText.{line_text, script_text}
+
+abbrev pub IsName : List ℕ → Type 0
+IsName name = is_name name ≡ true
+
+abbrev pub IsOperand : Operand → Type 0
+IsOperand (Named name) = IsName name
+IsOperand Target = Unit {0}
+
+abbrev pub IsAim : Aim → Type 0
+IsAim (PlainAim operand) = IsOperand operand
+IsAim (WindowAim document) = IsName document
+
+abbrev pub IfSome : {A : Type 0} → (A → Type 0) → Option A → Type 0
+IfSome Is None = Unit {0}
+IfSome Is (Some value) = Is value
+
+-- units, at most 1,000,000 pixels
+abbrev pub IsLength : ℕ → Type 0
+IsLength units = units ≤ 64000000
+
+-- hundredths, at most 10,000 percent
+abbrev pub IsPercentage : ℕ → Type 0
+IsPercentage hundredths = hundredths ≤ 1000000
+
+-- ten-thousandths with at most 9 digits before the point
+abbrev pub IsNumber : ℤ → Type 0
+IsNumber number = unsigned_abs number ≤ 9999999999999
+
+abbrev pub AreNumbers : List ℤ → Type 0
+AreNumbers [] = Unit {0}
+AreNumbers (n ∷ ns) = IsNumber n × AreNumbers ns
+
+abbrev pub IsSize : LengthValue → Type 0
+IsSize Automatic = ⊥
+IsSize (Pixels units) = IsLength units
+IsSize (Percentage hundredths) = IsPercentage hundredths
+
+abbrev pub IsAutoOrSize : LengthValue → Type 0
+IsAutoOrSize Automatic = Unit {0}
+IsAutoOrSize (Pixels units) = IsLength units
+IsAutoOrSize (Percentage hundredths) = IsPercentage hundredths
+
+-- each value is of its property's row
+abbrev pub IsDeclaration : Declaration → Type 0
+IsDeclaration (SetDisplay hidden) = Unit {0}
+IsDeclaration (SetWidth value) = IsAutoOrSize value
+IsDeclaration (SetHeight value) = IsAutoOrSize value
+IsDeclaration (SetMinWidth value) = IsSize value
+IsDeclaration (SetMinHeight value) = IsSize value
+IsDeclaration (SetMaxWidth value) = IfSome IsSize value
+IsDeclaration (SetMaxHeight value) = IfSome IsSize value
+IsDeclaration (SetMargin side value) = IsSize value
+IsDeclaration (SetPadding side value) = IsSize value
+IsDeclaration (SetBorder side units) = IsLength units
+IsDeclaration (SetBoxSizing value) = Unit {0}
+IsDeclaration (SetOverflow value) = Unit {0}
+
+-- a word of a margin: any word that begins no comment, but `threshold`
+unfoldable pub is_margin_word : List ℕ → Bool
+unfolding is_empty begins_with
+is_margin_word word =
+    not (is_empty word) && list_all is_word_byte word && not (begins_with 35 word) && not (bytes_eq word (codes "threshold"))
+
+-- such words with one space between each two
+abbrev pub IsMargin : List ℕ → Type 0
+IsMargin margin = list_all is_margin_word (parts_of margin) ≡ true
+
+abbrev pub IsFeature : Feature → Type 0
+IsFeature (WidthFeature compared units) = IsLength units
+IsFeature (HeightFeature compared units) = IsLength units
+IsFeature (OrientationFeature portrait) = Unit {0}
+
+abbrev pub AreFeatures : List Feature → Type 0
+AreFeatures [] = Unit {0}
+AreFeatures (f ∷ fs) = IsFeature f × AreFeatures fs
+
+abbrev pub IsQuery : MediaQuery → Type 0
+IsQuery (Typed before medium features) = AreFeatures features
+IsQuery (NotFeature feature) = IsFeature feature
+IsQuery (AllFeatures first others) = IsFeature first × AreFeatures others
+IsQuery (AnyFeatures first second others) = IsFeature first × IsFeature second × AreFeatures others
+
+abbrev pub AreQueries : List MediaQuery → Type 0
+AreQueries [] = Unit {0}
+AreQueries (q ∷ qs) = IsQuery q × AreQueries qs
+
+-- a list has a query
+abbrev pub IsQueryList : List MediaQuery → Type 0
+IsQueryList [] = ⊥
+IsQueryList (q ∷ qs) = AreQueries (q ∷ qs)
+
+-- what a part of this form may stand for
+abbrev pub IsMeant : (form : Form) → Meant form → Type 0
+IsMeant NameForm name = IsName name
+IsMeant NodeForm operand = IsOperand operand
+IsMeant AimForm aim = IsAim aim
+IsMeant HandlerForm handler = IfSome IsName handler
+IsMeant RootForm root = IfSome IsOperand root
+IsMeant LengthForm units = IsLength units
+IsMeant SignedForm units = IsLength (unsigned_abs units)
+IsMeant WholeForm number = number ≤ 1000000000000
+IsMeant EventForm event = Unit {0}
+IsMeant BoxForm box = Unit {0}
+IsMeant DimensionForm dimension = Unit {0}
+IsMeant DeclarationForm declaration = IsDeclaration declaration
+IsMeant (JustForm word) unit = Unit {0}
+IsMeant MarginForm margin = IsMargin margin
+IsMeant NumbersForm numbers = AreNumbers numbers
+IsMeant QueryForm queries = IsQueryList queries
+
+abbrev pub AreMeant : List Part → Type 0
+AreMeant [] = Unit {0}
+AreMeant (PartOf form value ∷ parts) = IsMeant form value × AreMeant parts
+
+-- operands of commands, those in blocks included
+unfoldable mutual
+  pub IsCommand : Command → Type 0
+  IsCommand (Simple line action) = AreMeant (action_parts action)
+  IsCommand (Each line block last) = IsBlock block
+  IsCommand (When line condition block last) = AreMeant (test_parts (condition.asks)) × IsBlock block
+
+  pub IsBlock : Block → Type 0
+  IsBlock NoMore = Unit {0}
+  IsBlock (Then command others) = IsCommand command × IsBlock others
+
+unfoldable pub IsItem : Item → Type 0
+unfolding IsCommand IsBlock
+IsItem (Outside command) = IsCommand command
+IsItem (Tick line time) = time ≤ 1000000000000
+IsItem (Handler line name block last) = IsName name × IsBlock block
+
+unfoldable pub AreItems : List Item → Type 0
+unfolding IsItem
+AreItems [] = Unit {0}
+AreItems (item ∷ items) = IsItem item × AreItems items
+
+-- how many blocks stand one in the other
+unfoldable mutual
+  pub command_depth : Command → ℕ
+  command_depth (Simple line action) = 0
+  command_depth (Each line block last) = suc (block_depth block)
+  command_depth (When line condition block last) = suc (block_depth block)
+
+  pub block_depth : Block → ℕ
+  block_depth NoMore = 0
+  block_depth (Then command others) = max (command_depth command) (block_depth others)
+
+-- a handler is no block
+unfoldable pub item_depth : Item → ℕ
+unfolding command_depth block_depth
+item_depth (Outside command) = command_depth command
+item_depth (Tick line time) = 0
+item_depth (Handler line name block last) = block_depth block
+
+unfoldable pub items_depth : List Item → ℕ
+unfolding item_depth
+items_depth [] = 0
+items_depth (item ∷ items) = max (item_depth item) (items_depth items)
+
+-- no name is one of these or of those before it
+unfoldable pub AreNew : List (List ℕ) → List NamedBlock → Type 0
+AreNew names [] = Unit {0}
+AreNew names (h ∷ hs) = (list_any (bytes_eq h.name) names ≡ false) × AreNew (h.name ∷ names) hs
+
+-- each line stands behind the one of this number and behind those before it
+unfoldable pub Rise : ℕ → List NumberedLine → Type 0
+Rise number [] = Unit {0}
+Rise number (l ∷ ls) = (number < l.number) × Rise l.number ls
+
+unfoldable pub AreShort : List NumberedLine → Type 0
+unfolding line_text
+AreShort [] = Unit {0}
+AreShort (l ∷ ls) = (length (line_text l.words) ≤ limit_number LineLimit) × AreShort ls
+
+pub record IsWellFormed (items : List Item) : Type 0 where
+  pub operands : AreItems items
+  pub nested : items_depth items ≤ limit_number NestingLimit
+  pub few_handlers : length (handlers_in items) ≤ limit_number HandlersLimit
+  pub names_differ : AreNew [] (handlers_in items)
+  pub numbers_rise : Rise 1 (items_lines items)
+  pub short_lines : AreShort (items_lines items)
+  pub short_text : length (script_text items) ≤ limit_number ScriptLimit

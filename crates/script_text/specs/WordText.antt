@@ -1,0 +1,34 @@
+-- The texts of single words. The words are this project's own choice.
+use Rattle.std.specs.Prelude.{ℕ, List, ◌∷◌, Option, Some, None, codes}
+use Rattle.px_units.specs.declared.BoxKind.{BoxKind}
+use Rattle.px_units.specs.declared.BoxKind.TheVariants.{Content, Border}
+use Rattle.script_model.specs.Kinds.{EventName, ResizeEvent, ScrollEvent, ErrorEvent, ChangeEvent}
+use Rattle.script_model.specs.Syntax.{Operand, Named, Target, Aim, PlainAim, WindowAim, Dimension, WidthDimension, HeightDimension}
+
+abbrev pub operand_text : Operand → List ℕ
+operand_text (Named name) = name
+operand_text Target = codes "$target"
+
+-- `@` stands before the name of a window's document
+abbrev pub aim_text : Aim → List ℕ
+aim_text (PlainAim operand) = operand_text operand
+aim_text (WindowAim document) = 64 ∷ document
+
+-- `-` stands for none
+abbrev pub dash_or : {A : Type 0} → (A → List ℕ) → Option A → List ℕ
+dash_or text None = codes "-"
+dash_or text (Some value) = text value
+
+abbrev pub event_text : EventName → List ℕ
+event_text ResizeEvent = codes "resize"
+event_text ScrollEvent = codes "scroll"
+event_text ErrorEvent = codes "error"
+event_text ChangeEvent = codes "change"
+
+abbrev pub box_text : BoxKind → List ℕ
+box_text Content = codes "content"
+box_text Border = codes "border"
+
+abbrev pub dimension_text : Dimension → List ℕ
+dimension_text WidthDimension = codes "width"
+dimension_text HeightDimension = codes "height"
