@@ -32,15 +32,15 @@ is_built made (TakeIntersections observer) = false
 is_built made (Listen aim event handler) = false
 is_built made (Unlisten aim event handler) = false
 is_built made (MakeQueryList name document query) = false
-is_built made (ScrollTo target left top) = false
-is_built made (ScrollBy target left top) = false
+is_built made (ScrollTo node left top) = false
+is_built made (ScrollBy node left top) = false
 is_built made (RequestFrame document key handler) = false
 is_built made (CancelFrame document key) = false
 is_built made (SetTimer document key delay handler) = false
 is_built made (ClearTimer document key) = false
 is_built made (Post document handler) = false
 is_built made (Say word) = false
-is_built made (Read target) = true
+is_built made (Read node) = true
 
 -- the line of a command that isn't built, else what is found in the rest of the script
 abbrev pub unbuilt_command : Bool → Command → (Bool → Option ℕ) → Option ℕ
