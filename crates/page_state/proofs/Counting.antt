@@ -1,0 +1,20 @@
+-- Commands are counted.
+use Rattle.std.proofs.Common.{◌≡◌, ℕ, suc, ◌<◌, ◌≤◌, nat_lt, true, false, arith, tests}
+use Rattle.script_model.specs.Kinds.{CommandsLimit}
+use Rattle.page_model.specs.World.{World}
+use Rattle.page_model.specs.Commands.{begun_in}
+use Rattle.page_model.specs.Steps.{Did, Met, ◌>>◌, met_unless}
+
+pub less : (m n : ℕ) → m < n → nat_lt m n ≡ true
+less m n below = grind (arith, tests)
+
+pub not_less : (m n : ℕ) → n ≤ m → nat_lt m n ≡ false
+not_less m n above = grind (arith, tests)
+
+pub begins : (world : World) → world.begun < 1000000 → begun_in world ≡ Did (record world { begun = suc world.begun })
+unfolding begun_in
+begins world below = λ i. met_unless (less world.begun 1000000 below i) CommandsLimit >> Did (record world { begun = suc world.begun })
+
+pub is_full : (world : World) → 1000000 ≤ world.begun → begun_in world ≡ Met CommandsLimit
+unfolding begun_in
+is_full world above = λ i. met_unless (not_less world.begun 1000000 above i) CommandsLimit >> Did (record world { begun = suc world.begun })

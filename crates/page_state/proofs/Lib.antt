@@ -1,0 +1,10 @@
+pub mod Found
+pub mod Steps
+pub mod Finding
+pub mod Doing
+pub mod Held
+pub mod Parts
+pub mod Inside
+pub mod Counting
+pub mod Enlarging
+pub mod Observing

@@ -1,0 +1,30 @@
+-- Steps that are made one after another.
+use Rattle.std.proofs.Common.{◌≡◌, ap}
+use Rattle.script_model.specs.Kinds.{Exception, Limit}
+use Rattle.page_model.specs.Steps.{Step, Did, Threw, Met, ◌>>=◌, ◌>>◌}
+
+module _ {A B : Type 0} (next : A → Step B) where
+  pub then_did : (step : Step A) (value : A) → step ≡ Did value → (step >>= next) ≡ next value
+  unfolding ◌>>=◌
+  then_did step value e = ap (λ it. it >>= next) e
+
+  pub then_threw : (step : Step A) (exception : Exception) → step ≡ Threw exception → (step >>= next) ≡ Threw exception
+  unfolding ◌>>=◌
+  then_threw step exception e = ap (λ it. it >>= next) e
+
+  pub then_met : (step : Step A) (limit : Limit) → step ≡ Met limit → (step >>= next) ≡ Met limit
+  unfolding ◌>>=◌
+  then_met step limit e = ap (λ it. it >>= next) e
+
+module _ {A B : Type 0} (next : Step B) where
+  pub and_did : (step : Step A) (value : A) → step ≡ Did value → (step >> next) ≡ next
+  unfolding ◌>>◌
+  and_did step value e = ap (λ it. it >> next) e
+
+  pub and_threw : (step : Step A) (exception : Exception) → step ≡ Threw exception → (step >> next) ≡ Threw exception
+  unfolding ◌>>◌
+  and_threw step exception e = ap (λ it. it >> next) e
+
+  pub and_met : (step : Step A) (limit : Limit) → step ≡ Met limit → (step >> next) ≡ Met limit
+  unfolding ◌>>◌
+  and_met step limit e = ap (λ it. it >> next) e

@@ -1,0 +1,40 @@
+-- What the answers of a page's calls say of the steps of the definitions. A refused call leaves the world as it was.
+use Rattle.std.specs.Prelude.{◌≡◌, List, [], ◌∷◌, Result, Ok, Err}
+use Rattle.std.specs.List.{AllByRecursion}
+use Rattle.text_io.specs.declared.kinds.ThrowKind.{ThrowKind}
+use Rattle.script_model.specs.TraceLines.{TraceLine}
+use Rattle.page_model.specs.World.{World}
+use Rattle.page_model.specs.Steps.{Step, Did, Threw, Met, Effect as ModelEffect}
+use Rattle.trace_text.specs.Seen.{seen_throw, seen_limit, seen_line}
+use Rattle.trace_text.specs.Ranges.{HasReach}
+use Rattle.page_state.specs.declared.answers.Effect.{Effect}
+use Rattle.page_state.specs.declared.answers.Effect.TheVariants.{Nothing, Line}
+use Rattle.page_state.specs.declared.answers.PageFault.{PageFault}
+use Rattle.page_state.specs.declared.answers.PageFault.TheVariants.{Throw, Limit, Memory}
+
+abbrev pub lines_of : Effect → List TraceLine
+lines_of Nothing = []
+lines_of (Line line) = seen_line line ∷ []
+
+-- a value that is found, or the exception
+abbrev pub Finds : {A B : Type 0} → (A → B) → Result A ThrowKind → Step B → Type 0
+Finds seen (Ok value) step = step ≡ Did (seen value)
+Finds seen (Err kind) step = step ≡ Threw (seen_throw kind)
+
+-- what a command does, or why it does nothing; want of memory says nothing of the step
+abbrev pub Applied : Result Effect PageFault → World → World → Step ModelEffect → Type 0
+Applied (Ok effect) old new step = step ≡ Did (record { world = new; lines = lines_of effect })
+Applied (Err (Throw kind)) old new step = (step ≡ Threw (seen_throw kind)) × (new ≡ old)
+Applied (Err (Limit kind)) old new step = (step ≡ Met (seen_limit kind)) × (new ≡ old)
+Applied (Err Memory) old new step = new ≡ old
+
+-- the same of a step that takes no memory and writes nothing
+abbrev pub Moved : Result (Unit {0}) PageFault → World → World → Step World → Type 0
+Moved (Ok done) old new step = step ≡ Did new
+Moved (Err (Throw kind)) old new step = (step ≡ Threw (seen_throw kind)) × (new ≡ old)
+Moved (Err (Limit kind)) old new step = (step ≡ Met (seen_limit kind)) × (new ≡ old)
+Moved (Err Memory) old new step = ⊥
+
+-- the lengths of the lines can be written
+abbrev pub ReachesFar : Effect → Type 0
+ReachesFar effect = AllByRecursion HasReach (lines_of effect)

@@ -1,0 +1,15 @@
+-- What the refusals of a page's parts come to.
+use Rattle.page_tree.specs.declared.faults.PlaceFault.{PlaceFault}
+use Rattle.page_tree.specs.declared.faults.PlaceFault.TheVariants as place
+use Rattle.page_tree.specs.declared.faults.MakeFault.{MakeFault}
+use Rattle.page_tree.specs.declared.faults.MakeFault.TheVariants as make
+use Rattle.page_state.specs.declared.answers.PageFault.{PageFault}
+use Rattle.page_state.specs.declared.answers.PageFault.TheVariants.{Throw, Limit, Memory}
+
+abbrev pub misplaced : PlaceFault → PageFault
+misplaced (place.Throw kind) = Throw kind
+misplaced (place.Limit kind) = Limit kind
+
+abbrev pub unmade : MakeFault → PageFault
+unmade (make.Limit kind) = Limit kind
+unmade make.Memory = Memory

@@ -1,0 +1,7 @@
+pub mod Known
+pub mod Things
+pub mod Views
+pub mod Faults
+pub mod Answers
+pub mod Making
+pub mod Whole

@@ -1,0 +1,16 @@
+-- What a page is seen as: a world, and whether a command was begun and not applied yet.
+use Rattle.std.specs.Prelude.{ℕ, Bool, List}
+use Rattle.page_model.specs.World.{Extent, Name, World}
+use Rattle.page_model.specs.Outcome.{opening_world}
+use Rattle.page_tree.specs.Views.{PageElements, placed_in}
+use Rattle.resize_observer.specs.Observers.{ResizeObservers, placed}
+
+pub record PageView : Type 0 where
+  pub world : World
+  pub begun : Bool
+
+-- the opening world with the lists of a page's parts in place of its own
+abbrev pub seen_world : List Name → PageElements → ResizeObservers → Extent → ℕ → ℕ → World
+seen_world names tree observers size clock begun =
+    placed observers
+    (placed_in tree (record opening_world { names = names; size = size; clock = clock; begun = begun }))

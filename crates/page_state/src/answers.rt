@@ -1,0 +1,79 @@
+//! What a page's calls answer.
+
+use page_tree::{MakeFault, PlaceFault};
+use std::alloc::AllocError;
+use text_io::{LimitKind, ThrowKind};
+use thiserror::Error;
+use trace_text::TraceLine;
+
+/// What a command that was applied asks of its caller.
+#[derive(Clone, Copy, Debug)]
+pub enum Effect {
+    Nothing,
+    /// To write this line.
+    Line(TraceLine),
+}
+
+/// Why a call is refused. The page's world is then as it was.
+#[derive(Clone, Copy, Debug, PartialEq, Eq, Error)]
+pub enum PageFault {
+    /// An exception is thrown.
+    #[error("Throw")]
+    Throw(ThrowKind),
+    /// A limit is met.
+    #[error("Limit")]
+    Limit(LimitKind),
+    /// There is no memory.
+    #[error("Memory")]
+    Memory,
+}
+
+impl From<ThrowKind> for PageFault {
+    ghost use Rattle.std.specs.Prelude.{◌≡◌};
+    ghost use Rattle.page_state.specs.declared.answers.PageFault.TheVariants.{Throw};
+
+    ghost from_gives = { λ kind fault. fault ≡ Throw kind };
+
+    fn from(kind: ThrowKind) -> PageFault {
+        PageFault::Throw(kind)
+    }
+}
+
+impl From<AllocError> for PageFault {
+    ghost use Rattle.std.specs.Prelude.{◌≡◌};
+    ghost use Rattle.page_state.specs.declared.answers.PageFault.TheVariants.{Memory};
+
+    ghost from_gives = { λ _ fault. fault ≡ Memory };
+
+    fn from(_error: AllocError) -> PageFault {
+        PageFault::Memory
+    }
+}
+
+impl From<MakeFault> for PageFault {
+    ghost use Rattle.std.specs.Prelude.{◌≡◌};
+    ghost use Rattle.page_state.specs.Faults.{unmade};
+
+    ghost from_gives = { λ given fault. fault ≡ unmade given };
+
+    fn from(fault: MakeFault) -> PageFault {
+        match fault {
+            MakeFault::Limit(kind) => PageFault::Limit(kind),
+            MakeFault::Memory => PageFault::Memory,
+        }
+    }
+}
+
+impl From<PlaceFault> for PageFault {
+    ghost use Rattle.std.specs.Prelude.{◌≡◌};
+    ghost use Rattle.page_state.specs.Faults.{misplaced};
+
+    ghost from_gives = { λ given fault. fault ≡ misplaced given };
+
+    fn from(fault: PlaceFault) -> PageFault {
+        match fault {
+            PlaceFault::Throw(kind) => PageFault::Throw(kind),
+            PlaceFault::Limit(kind) => PageFault::Limit(kind),
+        }
+    }
+}

@@ -1,0 +1,13 @@
+//! The state of a page, and its commands: its names, the tree of its elements, its resize observers and its boxes. A
+//! contract sees a page as the world of the definitions. Lengths are in units of 1/64 CSS pixel.
+#![tactic(auto)]
+
+mod answers;
+mod commands;
+mod names;
+mod page;
+mod readings;
+mod resize;
+
+pub use answers::{Effect, PageFault};
+pub use page::Page;

@@ -1,0 +1,237 @@
+//! The names of things, and looking them up. A name that was given stands for its thing for good.
+
+ghost use Rattle.std.specs.Prelude.{◌≡◌, ◌<◌, ◌++◌, ◌∷◌, [], find, option_map, None, IfOk, OnOk, OnErr, IsOk};
+ghost use Rattle.std.specs.List.{AllByRecursion};
+ghost use Rattle.element_tree.specs.Links.{number};
+ghost use Rattle.page_model.specs.World.{Name as ModelName};
+ghost use Rattle.page_model.specs.Names.{named_thing, is_same_thing};
+ghost use Rattle.page_model.specs.Operands.{new_name, thing_named, as_document, as_element, as_container, as_resize_observer, operand_thing, document_named, element_meant, container_meant, resize_observer_named};
+ghost use Rattle.page_model.specs.Ranges.{Counts, IsThingIn};
+ghost use Rattle.page_tree.specs.Steps.{seen_container};
+ghost use Rattle.script_syntax.specs.Seen.{operand_of};
+ghost use Rattle.page_state.specs.Answers.{Finds};
+ghost use Rattle.page_state.specs.Things.{seen_thing, in_names, present_of, AreIn, IsSubject, IsContainerBelow};
+
+use element_tree::NodeId;
+use indexmap::IndexMap;
+use page_tree::Container;
+use resize_observer::ObserverId;
+use script_syntax::Operand;
+use std::alloc::{AllocError, Global};
+use std::marker::Model;
+use text_io::{Name, ThrowKind};
+
+/// What a name stands for.
+#[derive(Clone, Copy, Debug, PartialEq, Eq)]
+pub(crate) enum Thing {
+    Document(u32),
+    Element(NodeId),
+    ResizeObserver(ObserverId),
+}
+
+/// The names in the order in which they were given.
+#[derive(Drop)]
+pub(crate) struct Names {
+    things: IndexMap<Name, Thing>,
+}
+
+impl Model for Names {
+    ghost use Rattle.std.specs.Prelude.{map};
+    ghost use Rattle.indexmap.specs.IndexMap.{spare};
+    ghost use Rattle.page_state.specs.Known.{KnownNames};
+
+    ghost Value = { KnownNames };
+
+    ghost use Rattle.page_state.specs.Things.{seen_entry};
+
+    ghost view = { λ n. record { list = map seen_entry n.things.entries; room = spare n.things } };
+}
+
+impl Names {
+    pub(crate) fn new(alloc: Global) -> Names
+        ensures { result.list ≡ [] }
+    {
+        Names {
+            things: IndexMap::new(alloc),
+        }
+    }
+
+    // What the name stands for.
+    #[tactic(auto, using(crate::proofs::Found::found_thing))]
+    pub(crate) fn thing_of(&self, name: Name) -> Option<Thing>
+        ensures { option_map seen_thing result ≡ named_thing (in_names self.now.list) name }
+    {
+        match self.things.get(&name) {
+            Some(thing) => Some(*thing),
+            None => None,
+        }
+    }
+
+    // Makes room for a name, so that giving it takes no memory.
+    pub(crate) fn reserve(&mut self) -> Result<(), AllocError>
+        ensures roomy { OnOk result (0 < self.new.room) }
+        ensures same { self.new.list ≡ self.old.list }
+    {
+        self.things.reserve(1)
+    }
+
+    // Gives a name that is free.
+    pub(crate) fn insert(&mut self, name: Name, thing: Thing) -> Result<(), AllocError>
+        requires { named_thing (in_names self.old.list) name ≡ None }
+        ensures given { OnOk result (self.new.list ≡ self.old.list ++ record { text = name; thing = seen_thing thing } ∷ []) }
+        ensures same { OnErr result (self.new.list ≡ self.old.list) }
+        ensures roomy { 0 < self.old.room → IsOk result }
+    {
+        let Ok(_) = self.things.insert(name, thing) else {
+            return Err(AllocError);
+        };
+        Ok(())
+    }
+
+    // The name of a thing: the first that stands for it. It goes over the names.
+    pub(crate) fn name_of(&self, thing: Thing) -> Option<Name>
+        ensures { result ≡ option_map (λ (named : ModelName). named.text) (find (λ (named : ModelName). is_same_thing named.thing (seen_thing thing)) self.now.list) }
+    {
+        for (name, known) in self.things.iter() {
+            if is_same(*known, thing) {
+                return Some(*name);
+            }
+        }
+        None
+    }
+
+    // A new name has to be free.
+    pub(crate) fn check_free(&self, name: Name) -> Result<(), ThrowKind>
+        ensures answer { Finds (λ done. done) result (new_name (in_names self.now.list) name) }
+        ensures free { OnOk result (named_thing (in_names self.now.list) name ≡ None) }
+    {
+        match self.thing_of(name) {
+            Some(_) => Err(ThrowKind::TypeError),
+            None => Ok(()),
+        }
+    }
+
+    fn thing_named(&self, name: Name) -> Result<Thing, ThrowKind>
+        ensures answer { Finds seen_thing result (thing_named (in_names self.now.list) name) }
+        ensures held { (counts : Counts) → AreIn counts self.now.list → IfOk result (λ thing. IsThingIn counts (seen_thing thing)) }
+    {
+        match self.thing_of(name) {
+            Some(thing) => Ok(thing),
+            None => Err(ThrowKind::ReferenceError),
+        }
+    }
+
+    pub(crate) fn document(&self, name: Name) -> Result<u32, ThrowKind>
+        ensures answer { Finds (λ document. document) result (document_named (in_names self.now.list) name) }
+        ensures held { (counts : Counts) → AreIn counts self.now.list → IfOk result (λ document. document < counts.documents) }
+    {
+        match self.thing_named(name) {
+            Ok(thing) => as_document(thing),
+            Err(kind) => Err(kind),
+        }
+    }
+
+    pub(crate) fn observer(&self, name: Name) -> Result<ObserverId, ThrowKind>
+        ensures answer { Finds (λ (observer : ObserverId). observer.0) result (resize_observer_named (in_names self.now.list) name) }
+        ensures held { (counts : Counts) → AreIn counts self.now.list → IfOk result (λ observer. observer.0 < counts.resize_observers) }
+    {
+        match self.thing_named(name) {
+            Ok(thing) => as_observer(thing),
+            Err(kind) => Err(kind),
+        }
+    }
+
+    // What an operand stands for: `$target` is the target of the present entry.
+    fn thing(&self, operand: Operand, subject: Option<NodeId>) -> Result<Thing, ThrowKind>
+        ensures answer { Finds seen_thing result (operand_thing (in_names self.now.list) (present_of subject) (operand_of operand)) }
+        ensures held { (counts : Counts) → AreIn counts self.now.list → IsSubject counts.elements subject → IfOk result (λ thing. IsThingIn counts (seen_thing thing)) }
+    {
+        match operand {
+            Operand::Named(name) => self.thing_named(name),
+            Operand::Target => match subject {
+                Some(node) => Ok(Thing::Element(node)),
+                None => Err(ThrowKind::ReferenceError),
+            },
+        }
+    }
+
+    pub(crate) fn element(
+        &self,
+        operand: Operand,
+        subject: Option<NodeId>,
+    ) -> Result<NodeId, ThrowKind>
+        ensures answer { Finds number result (element_meant (in_names self.now.list) (present_of subject) (operand_of operand)) }
+        ensures held { (counts : Counts) → AreIn counts self.now.list → IsSubject counts.elements subject → IfOk result (λ node. node.0 < counts.elements) }
+    {
+        match self.thing(operand, subject) {
+            Ok(thing) => as_element(thing),
+            Err(kind) => Err(kind),
+        }
+    }
+
+    pub(crate) fn container(
+        &self,
+        operand: Operand,
+        subject: Option<NodeId>,
+    ) -> Result<Container, ThrowKind>
+        ensures answer { Finds seen_container result (container_meant (in_names self.now.list) (present_of subject) (operand_of operand)) }
+        ensures held { (counts : Counts) → AreIn counts self.now.list → IsSubject counts.elements subject → IfOk result (IsContainerBelow counts) }
+    {
+        match self.thing(operand, subject) {
+            Ok(thing) => as_container(thing),
+            Err(kind) => Err(kind),
+        }
+    }
+}
+
+fn is_same(a: Thing, b: Thing) -> bool
+    ensures { result ≡ is_same_thing (seen_thing a) (seen_thing b) }
+{
+    match (a, b) {
+        (Thing::Document(one), Thing::Document(other)) => one == other,
+        (Thing::Element(one), Thing::Element(other)) => one.0 == other.0,
+        (Thing::ResizeObserver(one), Thing::ResizeObserver(other)) => one.0 == other.0,
+        _ => false,
+    }
+}
+
+fn as_document(thing: Thing) -> Result<u32, ThrowKind>
+    ensures answer { Finds (λ document. document) result (as_document (seen_thing thing)) }
+    ensures held { (counts : Counts) → IsThingIn counts (seen_thing thing) → IfOk result (λ document. document < counts.documents) }
+{
+    match thing {
+        Thing::Document(document) => Ok(document),
+        Thing::Element(_) | Thing::ResizeObserver(_) => Err(ThrowKind::TypeError),
+    }
+}
+
+fn as_observer(thing: Thing) -> Result<ObserverId, ThrowKind>
+    ensures answer { Finds (λ (observer : ObserverId). observer.0) result (as_resize_observer (seen_thing thing)) }
+    ensures held { (counts : Counts) → IsThingIn counts (seen_thing thing) → IfOk result (λ observer. observer.0 < counts.resize_observers) }
+{
+    match thing {
+        Thing::ResizeObserver(observer) => Ok(observer),
+        Thing::Document(_) | Thing::Element(_) => Err(ThrowKind::TypeError),
+    }
+}
+
+fn as_element(thing: Thing) -> Result<NodeId, ThrowKind>
+    ensures answer { Finds number result (as_element (seen_thing thing)) }
+    ensures held { (counts : Counts) → IsThingIn counts (seen_thing thing) → IfOk result (λ node. node.0 < counts.elements) }
+{
+    match thing {
+        Thing::Element(node) => Ok(node),
+        Thing::Document(_) | Thing::ResizeObserver(_) => Err(ThrowKind::TypeError),
+    }
+}
+
+fn as_container(thing: Thing) -> Result<Container, ThrowKind>
+    ensures answer { Finds seen_container result (as_container (seen_thing thing)) }
+    ensures held { (counts : Counts) → IsThingIn counts (seen_thing thing) → IfOk result (IsContainerBelow counts) }
+{
+    match thing {
+        Thing::Element(node) => Ok(Container::Element(node)),
+        Thing::Document(document) => Ok(Container::Document(document)),
+        Thing::ResizeObserver(_) => Err(ThrowKind::TypeError),
+    }
+}
