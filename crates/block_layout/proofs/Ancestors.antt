@@ -5,7 +5,7 @@ use Rattle.std.proofs.lemmas.Bool.Decides.{nat_tests}
 use Rattle.layout_model.specs.Styles.{Style}
 use Rattle.layout_model.specs.Items.{Kind}
 use Rattle.layout_model.specs.Nodes.{Node, path_above, path_up, path_of, is_among, is_in_path}
-use Rattle.block_layout.proofs.LayoutPaths.{path_child, path_top}
+use Rattle.layout_model.proofs.Paths.{path_child, path_top}
 use Rattle.element_tree.specs.Forest.{Knot, IsForest, has, parent_of, children_of, depth, is_above}
 use Rattle.element_tree.proofs.Depths.{depth_positive}
 use Rattle.element_tree.proofs.Facts.{listed_child}

@@ -8,9 +8,9 @@ use Rattle.layout_model.specs.Boxes.{Inputs, Box, kids_of, inner_children, count
 use Rattle.layout_model.specs.Clips.{clips}
 use Rattle.layout_model.specs.Points.{plus, capped, larger}
 use Rattle.layout_model.specs.Reach.{View, view_inputs, inputs_in_view, offset_at, offset_with, far_kids, far_if_shown, far_inside, far_down, open_kids}
-use Rattle.block_layout.proofs.LayoutInputs.{inputs_child, inputs_top}
-use Rattle.block_layout.proofs.LayoutPaths.{depth_least}
-use Rattle.block_layout.proofs.LayoutTrees.{depth_kid, contains_next, box_of_children}
+use Rattle.layout_model.proofs.Inputs.{inputs_child, inputs_top}
+use Rattle.layout_model.proofs.Paths.{depth_least}
+use Rattle.layout_model.proofs.Trees.{depth_kid, contains_next, box_of_children}
 use Rattle.block_layout.specs.Far.{far_in}
 
 pub pair_same : (a b c d : ℕ) → a ≡ b → c ≡ d → ◌≡◌ {A = ℕ × ℕ} (a, c) (b, d)

@@ -9,7 +9,7 @@ use Rattle.layout_model.specs.Styles.{Style}
 use Rattle.layout_model.specs.Items.{Item, Kind, BlockKind, ImageKind, FrameKind}
 use Rattle.layout_model.specs.Nodes.{Node, is_in_path, depth_of, IsLinked, IsShallow}
 use Rattle.layout_model.specs.Boxes.{Inputs, Box, inner_children, kids_of, counted, shown_height, total, computed, child_inputs, inputs_if_block, if_shown, box_at, box_in}
-use Rattle.block_layout.proofs.LayoutTrees.{box_of_children}
+use Rattle.layout_model.proofs.Trees.{box_of_children}
 use Rattle.element_tree.specs.Forest.{Knot, IsForest, has, children_of}
 use Rattle.block_layout.specs.Counts.{if_displayed, box_count}
 use Rattle.block_layout.specs.Filling.{box_with, height_of, steps_of}

@@ -8,7 +8,7 @@ use Rattle.layout_model.specs.Items.{Kind, BlockKind, ImageKind, FrameKind}
 use Rattle.layout_model.specs.Nodes.{Node, IsLinked, IsShallow}
 use Rattle.layout_model.specs.Boxes.{Inputs, Box, inner_children, kids_of, counted, shown_height, margin_height, total, computed, child_inputs, box_at, box_in}
 use Rattle.layout_model.specs.Reach.{open_kids}
-use Rattle.block_layout.proofs.LayoutTrees.{box_of_children}
+use Rattle.layout_model.proofs.Trees.{box_of_children}
 use Rattle.element_tree.specs.declared.node.NodeId.{NodeId}
 use Rattle.element_tree.specs.Forest.{Knot, IsForest, has, children_of, siblings_of, next_of, first_of, rest_from, depth}
 use Rattle.element_tree.specs.Links.{node_ids, number}

@@ -1,8 +1,3 @@
-pub mod LayoutPaths
-pub mod LayoutInputs
-pub mod LayoutTrees
-pub mod LayoutReaches
-pub mod LayoutAttained
 pub mod Nodes
 pub mod Parts
 pub mod Forests

@@ -10,8 +10,8 @@ use Rattle.layout_model.specs.Boxes.{Inputs, Box, kids_of, inner_children, count
 use Rattle.layout_model.specs.Clips.{clips}
 use Rattle.layout_model.specs.Points.{plus, capped, larger}
 use Rattle.layout_model.specs.Reach.{View, view_inputs, view_size, inputs_in_view, offset_at, margin_corner, reach_of_view, far_root, far_kids, far_if_shown, far_down, open_kids}
-use Rattle.block_layout.proofs.LayoutInputs.{inputs_child, inputs_top}
-use Rattle.block_layout.proofs.LayoutTrees.{box_of_children}
+use Rattle.layout_model.proofs.Inputs.{inputs_child, inputs_top}
+use Rattle.layout_model.proofs.Trees.{box_of_children}
 use Rattle.element_tree.specs.Forest.{Knot, IsForest, has, children_of}
 use Rattle.element_tree.proofs.Levels.{kid_parent}
 use Rattle.block_layout.specs.Far.{far_in}

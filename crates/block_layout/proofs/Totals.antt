@@ -4,8 +4,8 @@ use Rattle.std.proofs.lemmas.List.Sums.{sum_by-cons}
 use Rattle.std.specs.Prelude.{sum_by, Contains}
 use Rattle.layout_model.specs.Nodes.{Node, levels, depth_of, IsLinked, IsShallow}
 use Rattle.layout_model.specs.Boxes.{kids_of}
-use Rattle.block_layout.proofs.LayoutPaths.{depth_least}
-use Rattle.block_layout.proofs.LayoutTrees.{depth_kid, contains_next}
+use Rattle.layout_model.proofs.Paths.{depth_least}
+use Rattle.layout_model.proofs.Trees.{depth_kid, contains_next}
 use Rattle.block_layout.specs.Counts.{if_displayed, boxes_down, box_count}
 
 pub sum_same : (f g : ℕ → ℕ) (xs : List ℕ) → ((c : ℕ) → Contains xs c → f c ≡ g c) → sum_by f xs ≡ sum_by g xs

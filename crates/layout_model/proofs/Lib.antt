@@ -1,11 +1,11 @@
 mod Rows
-mod Paths
+pub mod Paths
 mod Handed
-mod Inputs
+pub mod Inputs
 mod Caps
 mod Sums
-mod Offsets
-mod Trees
-mod Reaches
-mod Attained
+pub mod Offsets
+pub mod Trees
+pub mod Reaches
+pub mod Attained
 mod Limits

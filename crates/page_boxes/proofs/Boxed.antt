@@ -7,7 +7,7 @@ use Rattle.layout_model.specs.Nodes.{Node, levels, depth_of}
 use Rattle.layout_model.specs.Boxes.{Inputs, inputs_in, if_shown, inputs_if_block}
 use Rattle.layout_model.specs.Clips.{is_block}
 use Rattle.layout_model.specs.Reach.{View, view_inputs, inputs_in_view}
-use Rattle.block_layout.proofs.LayoutInputs.{inputs_child, inputs_top, none_shown, none_below}
+use Rattle.layout_model.proofs.Inputs.{inputs_child, inputs_top, none_shown, none_below}
 use Rattle.page_model.specs.Documents.{is_number}
 
 abbrev pub found_in : (ℕ → Node) → Inputs → ℕ → Option ℕ → Option Inputs

@@ -9,7 +9,8 @@ use Rattle.layout_model.specs.Boxes.{Inputs, Box, computed, child_inputs, used_s
 use Rattle.layout_model.specs.Clips.{is_block}
 use Rattle.layout_model.specs.Points.{capped}
 use Rattle.layout_model.specs.Reach.{View, inputs_in_view, margin_corner, offset_with}
-use Rattle.layout_model.specs.Places.{before, offset_of, offset_from, offset_in, height_above}
+use Rattle.layout_model.specs.Places.{before, offset_of, height_above}
+use Rattle.layout_model.proofs.Offsets.{offset_found, offset_top}
 use Rattle.element_tree.specs.Forest.{Knot, IsForest, parent_of, children_of}
 use Rattle.block_layout.specs.Trees.{layout_tree}
 use Rattle.block_layout.proofs.Nodes.{parent_is, children_is}
@@ -49,18 +50,6 @@ module _ (at : ℕ → Node) (view : View) (c p : ℕ) (is : (at c).parent ≡ S
       let parts = all_three ((at c).item.style.hidden) ((at p).item.kind) (is_some (inputs_in_view at view p)) (sym (boxed_below at view c p is short) ∙ boxed) in
       let found = some_found (inputs_in_view at view p) parts.2 in
       record { inputs = found.0; outer = found.1; own = inputs_of_child found.0 found.1 parts.0 parts.1; block = parts.1; above = parts.2 }
-
-offset_found : (at : ℕ → Node) (view : View) (inputs : Inputs) (c p : ℕ) → (at c).parent ≡ Some p → inputs_in_view at view p ≡ Some inputs
-    → offset_of at view c ≡ offset_with (computed ((at p).item) inputs 0) (height_above at (child_inputs ((at p).item) inputs) (at p) c) (child_inputs ((at p).item) inputs) ((at c).item)
-unfolding offset_of
-offset_found at view inputs c p is found =
-    ap (offset_from at view c) is ∙ ap (λ i. unwrap_or (option_map (λ inputs. offset_in at (at p) inputs c) i) (0, 0)) found
-
-offset_top : (at : ℕ → Node) (view : View) (inputs : Inputs) (n : ℕ) → (at n).parent ≡ None → inputs_in_view at view n ≡ Some inputs
-    → offset_of at view n ≡ capped (used_side (inputs.width) ((at n).item.style.margin.left), used_side (inputs.width) ((at n).item.style.margin.top))
-unfolding offset_of
-offset_top at view inputs n is found =
-    ap (offset_from at view n) is ∙ ap (λ i. unwrap_or (option_map (λ inputs. margin_corner inputs ((at n).item)) i) (0, 0)) found
 
 pub pair_is : (x y : ℕ) (pair : ℕ × ℕ) → x ≡ pair.0 → y ≡ pair.1 → ◌≡◌ {A = ℕ × ℕ} (x, y) pair
 pair_is x y pair first second = ap {B = ℕ × ℕ} (λ a. (a, y)) first ∙ ap {B = ℕ × ℕ} (λ b. (pair.0, b)) second

@@ -1,5 +1,5 @@
 mod LineScan
-mod Runs
+pub mod Runs
 mod LineWords
 mod LineLaw
 mod LineNumbers

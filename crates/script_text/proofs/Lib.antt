@@ -8,7 +8,6 @@ pub mod DeclarationsAgain
 pub mod Values
 pub mod PartsAgain
 pub mod StatementsAgain
-pub mod Runs
 pub mod LineWords
 pub mod QueryLine
 pub mod LinesSay

@@ -11,7 +11,7 @@ use Rattle.script_model.specs.Statements.{Statement, Standing, statement_of}
 use Rattle.script_text.specs.ScriptText.{line_text}
 use Rattle.script_text.specs.NumberedLines.{NumberedLine, numbered}
 use Rattle.script_text.proofs.WordBytes.{AreWordBytes, IsWord, all_bytes}
-use Rattle.script_text.proofs.Runs.{Stops, skips, run}
+use Rattle.script_model.proofs.Runs.{Stops, skips, run}
 use Rattle.script_text.proofs.PartsAgain.{words_at}
 use Rattle.script_text.proofs.StatementsAgain.{Says}
 

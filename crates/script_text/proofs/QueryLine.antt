@@ -26,7 +26,7 @@ use Rattle.script_text.proofs.WordBytes.{IsWord, is_quiet, all_bytes, name_word}
 use Rattle.script_text.proofs.WordsAgain.{fixed, name_again}
 use Rattle.script_text.proofs.PartsAgain.{row, word_read}
 use Rattle.script_text.proofs.StatementsAgain.{is_media, action_behind}
-use Rattle.script_text.proofs.Runs.{skips, joins}
+use Rattle.script_model.proofs.Runs.{skips, joins}
 use Rattle.script_text.proofs.LineWords.{word_spaced, comment_behind, IsLine, spaced_on, line_of, States}
 use Rattle.script_text.proofs.QueryBytes.{Clean, list_clean}
 

@@ -1,7 +1,7 @@
 use Rattle.std.proofs.Common.{◌≡◌, Some, None, ap, sym, ◌∙◌}
 use Rattle.layout_model.specs.Boxes.{box_in, kids_of, padding_size, padding_corner}
 use Rattle.layout_model.specs.Points.{larger, minus, capped}
-use Rattle.block_layout.proofs.LayoutAttained.{reach_is}
+use Rattle.layout_model.proofs.Attained.{reach_is}
 use Rattle.block_layout.specs.Around.{seen_extent}
 use Rattle.block_layout.specs.Seen.{as_size}
 use Rattle.block_layout.specs.Trees.{layout_tree}

@@ -2,7 +2,7 @@ use Rattle.std.proofs.Common.{◌≡◌, ◌++◌, List, Option, Some, None, tru
 use Rattle.std.proofs.lemmas.Bool.Decides.{nat_tests}
 use Rattle.std.proofs.lemmas.Grind.{common_steps}
 use Rattle.layout_model.specs.Boxes.{Box, Inputs, box_of_node, inputs_in, if_shown}
-use Rattle.block_layout.proofs.LayoutInputs.{inputs_child, inputs_top}
+use Rattle.layout_model.proofs.Inputs.{inputs_child, inputs_top}
 use Rattle.block_layout.specs.Held.{held_in}
 use Rattle.block_layout.specs.Seen.{seen_inputs}
 use Rattle.block_layout.specs.Trees.{layout_tree}
