@@ -8,3 +8,4 @@ pub mod Lookups
 pub mod Opened
 pub mod Queries
 pub mod Reversed
+pub mod WholeTexts

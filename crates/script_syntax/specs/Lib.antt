@@ -6,6 +6,7 @@ pub mod Heads
 pub mod Indexes
 pub mod Lines
 pub mod Parsing
+pub mod Read
 pub mod Seen
 pub mod Sizes
 pub mod Statements

@@ -45,7 +45,7 @@ pub fn parse(alloc: Global, text: &Text) -> Result<Script, ParseFault>
         Ok(items) => items,
         Err(stop) => return Err(stop),
     };
-    let script = Script::of_items(alloc, items)?;
+    let script = Script::build(alloc, items)?;
     Ok(script)
 }
 

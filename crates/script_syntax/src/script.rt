@@ -5,6 +5,7 @@ ghost use Rattle.std.specs.List.{All};
 ghost use Rattle.script_model.specs.Scripts.{handlers_in, handler_number};
 ghost use Rattle.script_syntax.specs.Seen.{item_of, is_handler};
 ghost use Rattle.script_syntax.specs.Allowed.{ItemAllowed};
+ghost use Rattle.script_syntax.specs.Read.{IsRead};
 
 use crate::commands::Item;
 use crate::index::{Index, index_of};
@@ -35,26 +36,32 @@ impl Model for Script {
     ghost use Rattle.std.specs.HashMap.{get};
     ghost use Rattle.script_syntax.specs.Allowed.{ItemAllowed};
     ghost use Rattle.script_syntax.specs.Indexes.{Indexed};
+    ghost use Rattle.script_syntax.specs.Read.{IsRead};
 
     ghost view = { λ script. map item_of script.items.items };
 
     ghost invariant = { λ script. All ItemAllowed script.items.items
+        × IsRead (map item_of script.items.items)
         × Indexed (map item_of script.items.items) script.index.places.items (get bytes_eq script.index.numbers) };
 }
 
 impl Script {
-    /// The script of these items.
-    pub(crate) fn of_items(alloc: Global, items: Vec<Item>) -> Result<Script, AllocError>
-        requires { All ItemAllowed items.items }
+    /// The script of these items, which are those of some text: operands, nesting, the names of handlers, line numbers and
+    /// lengths of lines are as the grammar wants them. Which items these are stands in `script_text`, whose laws give the text.
+    /// The error is want of memory.
+    pub fn build(alloc: Global, items: Vec<Item>) -> Result<Script, AllocError>
+        requires allowed { All ItemAllowed items.items }
+        requires read { IsRead (map item_of items.items) }
         ensures { IfOk result (λ script. script ≡ map item_of items.items) }
     {
         let index = index_of(alloc, items.as_slice())?;
         Ok(Script { items, index })
     }
 
-    /// The items in the order of their lines.
+    /// The items in the order of their lines. They are those of some text.
     pub fn items(&self) -> &[Item]
         ensures value { map item_of result.now ≡ self.now }
+        ensures read { IsRead self.now }
         ensures allowed { All ItemAllowed result.now }
     {
         self.items.as_slice()

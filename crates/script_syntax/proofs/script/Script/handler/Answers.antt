@@ -14,6 +14,6 @@ returns c =
     let p = c.in_ok-place.place.now in
     item_found c.get-2.result c.deref-2.result.now p c.get-2.ensures.lookup.3
     ∙ ap (λ (xs : List CodeItem). slice_get (map item_of xs) p) c.deref-2.ensures.value
-    ∙ handler_at _ _ _ n p c.self.invariant.1
+    ∙ handler_at _ _ _ n p c.self.invariant.2
     (ap (λ (xs : List ℕ). slice_get xs n) (sym c.deref.ensures.value) ∙ slice_get_read c.deref.result.now (length c.deref.result.now) n p refl a.3.0 (a.3.1 p))
     ∙ ap (λ (items : List Item). slice_get (filter is_handler items) n) c.self.view_is

@@ -6,5 +6,5 @@ use Rattle.script_syntax.proofs.script.Script.handlers.Goals as goal
 
 pub returns : goal.returns
 returns c =
-    c.len.ensures ∙ c.self.inside.index.places.ok.0 ∙ handler_count _ _ _ c.self.invariant.1
+    c.len.ensures ∙ c.self.inside.index.places.ok.0 ∙ handler_count _ _ _ c.self.invariant.2
     ∙ ap (λ (items : List Item). length (handlers_in items)) c.self.view_is

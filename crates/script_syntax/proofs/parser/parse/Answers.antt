@@ -1,0 +1,8 @@
+-- The text is the one that the items were read from.
+use Rattle.std.proofs.Common.{◌≡◌, ℕ, ◌≤◌, List, length, sym, ap, subst, ◌∙◌}
+use Rattle.script_model.specs.Reading.{read_lexed}
+use Rattle.script_syntax.proofs.WholeTexts.{whole_is_read}
+use Rattle.script_syntax.proofs.parser.parse.Goals as goal
+
+pub build-requires-clause-read : goal.build-requires-clause-read
+build-requires-clause-read c = whole_is_read c.args.text.now.bytes _ (subst (λ (bytes : List ℕ). length bytes ≤ 16777216) c.bytes-bytes.ensures c.if-bytes-gt-MOST_BYTES.false) (ap read_lexed (sym c.requires) ∙ c.in-Ok.ensures.value)
