@@ -1,26 +1,24 @@
--- A tick of a page with at most one resize observer, which calls no handler, delivers the changed sizes once.
+-- The resize loop of a page with at most one resize observer, which calls no handler, delivers the changed sizes once.
 use Rattle.std.proofs.Common.{◌≡◌, refl, ap, ◌∙◌, sym, subst, eq-eqb, true≢false, arith, tests}
 use Rattle.std.specs.Prelude.{ℕ, zero, suc, Bool, true, false, cond, not, ◌&&◌, ◌||◌, ◌==◌, nat_lt, List, [], ◌∷◌, ◌++◌, map, filter, fold, length, Option, Some, None, unwrap_or}
 use Rattle.std.specs.List.{list_any}
 use Rattle.layout_model.specs.Nodes.{depth_of, path_of, path_up, path_above}
-use Rattle.script_model.specs.TraceLines.{TraceLine, RoundLine, TickLine, FiredError}
+use Rattle.script_model.specs.TraceLines.{TraceLine, RoundLine, FiredError}
 use Rattle.script_model.specs.Kinds.{ErrorEvent}
 use Rattle.page_model.specs.World.{World, Observation, ResizeObserver, Extent, WindowTarget}
 use Rattle.page_model.specs.Lookups.{same_extent, element_at}
-use Rattle.page_model.specs.Documents.{is_active, element_depth, active_documents, tree_of}
+use Rattle.page_model.specs.Documents.{is_active, element_depth, tree_of}
 use Rattle.page_model.specs.Names.{document_text}
-use Rattle.page_model.specs.Runs.{Flow, Next, Said, Turn, silent, say, behind, follow, after, with_state, only_if, for_each, repeat, by_place, at_place, most_steps}
-use Rattle.page_model.specs.Callbacks.{Script, SizeEntry, SizeEntries, entry_lines, run_handler, resize_line, call, fire, while_active}
+use Rattle.page_model.specs.Runs.{Flow, Next, Said, Turn, silent, say, behind, follow, after, with_state, only_if, repeat, by_place, at_place, most_steps}
+use Rattle.page_model.specs.Callbacks.{Script, SizeEntry, SizeEntries, entry_lines, run_handler, resize_line, call, fire}
 use Rattle.page_model.specs.Loop.{observed_size, has_changed, is_deeper, gather, gathered, has_active, has_skipped, size_entry, reported, with_reported, Broadcast, shallower, emptied, deliver, due_at, deliver_some, broadcast, round_ended, round, report_skipped, resize_loop}
-use Rattle.built_part.specs.Ticks.{resize_loops, tick}
-use Rattle.built_part.specs.Deliveries.{watched, silent_observer, IsPlain, due, told, told_lines, told_targets}
+use Rattle.built_part.specs.Deliveries.{watched, silent_observer, due, told, told_lines, told_targets}
 use Rattle.built_part.proofs.Pointwise.{pointwise}
 use Rattle.built_part.proofs.Watched.{changed-same, entry-same, deeper-same, size-same}
-use Rattle.built_part.proofs.Plain.{top-active, only-top}
 
 -- lists
 
-ends : {A : Type 0} (xs : List A) → xs ++ [] ≡ xs
+pub ends : {A : Type 0} (xs : List A) → xs ++ [] ≡ xs
 ends [] = refl
 ends (x ∷ xs) = ap (λ rest. x ∷ rest) (ends xs)
 
@@ -54,7 +52,7 @@ and-false false b fails = refl
 
 -- runs
 
-repeat-not : {S : Type 0} (goes_on : S → Bool) (step : S → Said S) (most : ℕ) (state : S) → goes_on state ≡ false → repeat goes_on step most state ≡ silent state
+pub repeat-not : {S : Type 0} (goes_on : S → Bool) (step : S → Said S) (most : ℕ) (state : S) → goes_on state ≡ false → repeat goes_on step most state ≡ silent state
 unfolding repeat
 repeat-not goes_on step zero state fails = refl
 repeat-not goes_on step (suc most) state fails = ap (only_if (λ now. after (repeat goes_on step most) (step now)) state) fails
@@ -235,31 +233,9 @@ module _ (w : World) where
 
     -- with no observer there is nothing to do
 
-    loop-none : resize_loop script 0 (watched [] w) ≡ silent (watched [] w)
+    pub loop-none : resize_loop script 0 (watched [] w) ≡ silent (watched [] w)
     unfolding resize_loop gather
     loop-none =
         ap (after (report_skipped script 0)) (repeat-not goes_on (round script 0) most_steps (watched [] w) (and-false (is_active w 0) false refl))
         ∙ after-say (report_skipped script 0) [] (watched [] w) (watched [] w)
         (ap (only_if (fire script (FiredError (document_text w 0)) (WindowTarget 0) ErrorEvent) (watched [] w)) (and-false (is_active w 0) false refl))
-
-  module _ (script : Script) (plain : IsPlain w) where
-    plainly : (rs : List ResizeObserver) → IsPlain (watched rs w)
-    plainly rs = record { top = plain.top; alone = plain.alone; active = plain.active; unframed = plain.unframed }
-
-    loops-by : (rs : List ResizeObserver) (lines : List TraceLine) (next : World) → resize_loop script 0 (watched rs w) ≡ say lines next → resize_loops script (watched rs w) ≡ say lines next
-    unfolding resize_loops for_each
-    loops-by rs lines next is =
-        ap (λ documents. for_each (λ document. while_active document (resize_loop script document)) documents (watched rs w)) (only-top (watched rs w) (plainly rs))
-        ∙ ap (λ active. after (λ (now : World). silent now) (only_if (resize_loop script 0) (watched rs w) active)) (top-active w plain)
-        ∙ ap (after (λ (now : World). silent now)) is
-        ∙ after-say (λ (now : World). silent now) lines next next refl
-
-    tick-by : (rs : List ResizeObserver) (lines : List TraceLine) (next : World) → resize_loop script 0 (watched rs w) ≡ say lines next → tick script (watched rs w) ≡ say (TickLine (w.clock) ∷ lines) next
-    unfolding tick after follow
-    tick-by rs lines next is = ap (behind (TickLine (w.clock) ∷ [])) (loops-by rs lines next is)
-
-    pub tick-once : (targets : List Observation) → tick script (watched (silent_observer targets ∷ []) w) ≡ say (TickLine (w.clock) ∷ told_lines w (told w targets)) (watched (silent_observer (told_targets w targets) ∷ []) w)
-    tick-once targets = tick-by (silent_observer targets ∷ []) (told_lines w (told w targets)) (watched (silent_observer (told_targets w targets) ∷ []) w) (loop-once script (top-active w plain) targets)
-
-    pub tick-alone : tick script (watched [] w) ≡ say (TickLine (w.clock) ∷ []) (watched [] w)
-    tick-alone = tick-by [] [] (watched [] w) (loop-none script (top-active w plain))

@@ -1,10 +1,12 @@
 -- What a tick tells of a page of one document in which at most one resize observer, which calls no handler, observes
 -- (Resize Observer, 3.4): the changed sizes, once.
-use Rattle.std.specs.Prelude.{◌≡◌, ℕ, List, [], ◌∷◌, ◌++◌, map, filter, fold, Option, Some, None, unwrap_or}
-use Rattle.script_model.specs.TraceLines.{TraceLine, RoundLine}
+use Rattle.std.specs.Prelude.{◌≡◌, ℕ, cond, List, [], ◌∷◌, ◌++◌, map, filter, fold, Option, Some, None, unwrap_or}
+use Rattle.script_model.specs.TraceLines.{TraceLine, EventLine, RoundLine, FiredResize}
 use Rattle.page_model.specs.World.{World, Document, Active, Observation, ResizeObserver}
-use Rattle.page_model.specs.Lookups.{element_at}
+use Rattle.page_model.specs.Lookups.{element_at, document_at, change_document}
 use Rattle.page_model.specs.Names.{document_text}
+use Rattle.page_model.specs.PageBoxes.{viewport_of}
+use Rattle.page_model.specs.Ticks.{differs_from}
 use Rattle.page_model.specs.Callbacks.{SizeEntry, resize_line}
 use Rattle.page_model.specs.Loop.{has_changed, size_entry, reported, shallower}
 
@@ -16,12 +18,30 @@ watched observers world = record world { resize_observers = observers }
 abbrev pub silent_observer : List Observation → ResizeObserver
 silent_observer targets = record { document = 0; handler = None; targets = targets; active = []; skipped = [] }
 
--- only the top document, which is Active, and no frame
+-- only the top document, which is Active, and no frame; and but for resize observers nothing that a tick would run: no
+-- pending scroll, intersection observer, query list, listener, frame callback, timer or task
 pub record IsPlain (world : World) : Type 0 where
   pub top : Document
   pub alone : world.documents ≡ top ∷ []
   pub active : top.state ≡ Active
+  pub frame : top.frame ≡ None
+  pub pending : top.pending ≡ []
   pub unframed : (n : ℕ) → (element_at world n).framed ≡ None
+  pub intersection_observers : world.intersection_observers ≡ []
+  pub queries : world.queries ≡ []
+  pub listeners : world.listeners.held ≡ []
+  pub frame_callbacks : world.frame_callbacks.held ≡ []
+  pub timers : world.timers.held ≡ []
+  pub tasks : world.tasks ≡ []
+
+-- the world once the size of the viewport of `top` is noted (CSSOM View, 13: run the resize steps)
+abbrev pub noted : World → World
+noted world = change_document (λ it. record it { noted = Some (viewport_of world 0) }) 0 world
+
+-- the line of the event that is fired where the size isn't the one that was noted last
+abbrev pub sized_lines : World → List TraceLine
+sized_lines world =
+    cond (differs_from (viewport_of world 0) (document_at world 0).noted) (EventLine (FiredResize (document_text world 0)) ∷ []) []
 
 -- the observations whose size differs from the last reported one
 abbrev pub due : World → List Observation → List Observation

@@ -1,4 +1,3 @@
 pub mod Built
-pub mod Ticks
 pub mod Outcomes
 pub mod Deliveries

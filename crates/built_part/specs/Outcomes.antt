@@ -6,9 +6,8 @@ use Rattle.script_model.specs.Reading.{Reading, reading, Refusal, SyntaxAt, Limi
 use Rattle.script_model.specs.TraceText.{line_text}
 use Rattle.page_model.specs.World.{World}
 use Rattle.page_model.specs.Runs.{Flow, Next, Thrown, Limited, Said}
-use Rattle.page_model.specs.Outcome.{opening_world, bytes_of}
+use Rattle.page_model.specs.Outcome.{opening_world, bytes_of, run_items}
 use Rattle.built_part.specs.Built.{unbuilt_line}
-use Rattle.built_part.specs.Ticks.{run_items}
 
 -- after the last command, at a fault of the text, at a limit, or at something that isn't built
 pub data Ending : Type 0 where

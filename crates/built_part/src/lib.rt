@@ -1,14 +1,20 @@
-//! The scripts that the program runs so far, as definitions, which stand in `specs/`: which commands are built, what a
-//! tick does, and what is written. What they give for some scripts stands here, each as the clause of a function.
+//! The scripts that the program runs so far, as definitions, which stand in `specs/`: which commands are built, and what is
+//! written. Their laws, and what they give for some scripts, stand here, each as the clause of a function.
 #![tactic(auto, unfolding(crate::specs::Outcomes::trace))]
 
-ghost use Rattle.std.specs.Prelude.{◌≡◌, ◌++◌, List, [], ◌∷◌, codes};
-ghost use Rattle.script_model.specs.TraceLines.{TickLine};
+ghost use Rattle.std.specs.Prelude.{◌≡◌, ℕ, ◌++◌, List, [], ◌∷◌, None, Ok, true, codes};
+ghost use Rattle.script_model.specs.Syntax.{Item};
+ghost use Rattle.script_model.specs.Reading.{reading};
+ghost use Rattle.script_model.specs.TraceLines.{TraceLine, TickLine};
 ghost use Rattle.page_model.specs.World.{World, Observation};
+ghost use Rattle.page_model.specs.Documents.{is_active};
 ghost use Rattle.page_model.specs.Runs.{say};
 ghost use Rattle.page_model.specs.Callbacks.{Script};
-ghost use Rattle.built_part.specs.Deliveries.{IsPlain, watched, silent_observer, told, told_lines, told_targets};
-ghost use Rattle.built_part.specs.Ticks.{tick};
+ghost use Rattle.page_model.specs.Loop.{resize_loop};
+ghost use Rattle.page_model.specs.Ticks.{tick};
+ghost use Rattle.page_model.specs.Outcome as model;
+ghost use Rattle.built_part.specs.Built.{unbuilt_line};
+ghost use Rattle.built_part.specs.Deliveries.{IsPlain, watched, silent_observer, told, told_lines, told_targets, noted, sized_lines};
 ghost use Rattle.built_part.specs.Outcomes.{trace};
 
 /// An empty text lacks its first line.
@@ -54,24 +60,36 @@ pub fn percentages_and_border_box_sizing()
         codes "tick 0\nresize o r rect 80 40 318 10 border 400 50\nresize o c rect 0 0 318 10 border 318 10\nround top 1\n" }
 {}
 
-/// The time doesn't go back. A viewport of another size is read, and no event is fired yet.
+/// The time doesn't go back. A viewport of another size is read, and the event is fired at the next tick.
 pub fn the_time_goes_on()
     ensures { trace (
         codes "script 1\ntick 5\nviewport 500px 600px\nread top\ntick 4\ntick 6\n"
         ) ≡
-        codes "tick 5\nread top 0 0 500 600 0 0\nthrow 5 RangeError\ntick 6\n" }
+        codes "tick 5\nread top 0 0 500 600 0 0\nthrow 5 RangeError\ntick 6\nevent resize @top\n" }
 {}
 
-/// With one observer that calls no handler, a tick tells each size that differs from the last reported one, once, with one
-/// round, and these become the last reported sizes.
-pub fn a_tick_tells_changed_sizes_once()
-    ensures { (script : Script) (world : World) (targets : List Observation) → IsPlain world →
-        tick script (watched (silent_observer targets ∷ []) world)
-        ≡ say (TickLine (world.clock) ∷ told_lines world (told world targets)) (watched (silent_observer (told_targets world targets) ∷ []) world) }
+/// With one observer that calls no handler, the resize loop tells each size that differs from the last reported one, once,
+/// with one round, and these become the last reported sizes.
+pub fn the_resize_loop_tells_changed_sizes_once()
+    ensures { (script : Script) (world : World) (targets : List Observation) → is_active world 0 ≡ true →
+        resize_loop script 0 (watched (silent_observer targets ∷ []) world)
+        ≡ say (told_lines world (told world targets)) (watched (silent_observer (told_targets world targets) ∷ []) world) }
 {}
 
-/// With no observer a tick writes its line and changes nothing.
-pub fn a_tick_without_observers_tells_nothing()
-    ensures { (script : Script) (world : World) → IsPlain world →
-        tick script (watched [] world) ≡ say (TickLine (world.clock) ∷ []) (watched [] world) }
+/// With no observer the resize loop tells nothing.
+pub fn a_resize_loop_without_observers_tells_nothing()
+    ensures { (script : Script) (world : World) → is_active world 0 ≡ true → resize_loop script 0 (watched [] world) ≡ say [] (watched [] world) }
+{}
+
+/// Where nothing but resize observers waits for it, a tick writes its line, the event of a viewport that changed, and what
+/// the resize loop tells.
+pub fn a_plain_tick_is_its_resize_loop()
+    ensures { (script : Script) (world next : World) (lines : List TraceLine) →
+        IsPlain world → resize_loop script 0 (noted world) ≡ say lines next → IsPlain next →
+        tick script world ≡ say (TickLine (world.clock) ∷ (sized_lines world ++ lines)) next }
+{}
+
+/// Of a script all of which is built, and of a text that is no script, the trace is written.
+pub fn what_is_built_is_replayed()
+    ensures { (text : List ℕ) → ((items : List Item) → reading text ≡ Ok items → unbuilt_line items ≡ None) → trace text ≡ model.trace text }
 {}
