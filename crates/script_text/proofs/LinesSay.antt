@@ -26,7 +26,7 @@ use Rattle.script_text.proofs.StatementsAgain.{is_media, action_found, action_sa
 use Rattle.script_text.proofs.LineWords.{AreWords, words_append, IsLine, is_line, States, line_states}
 use Rattle.script_text.proofs.QueryLine.{query_line, query_states}
 
-not_true : (b : Bool) → not b ≡ true → b ≡ false
+pub not_true : (b : Bool) → not b ≡ true → b ≡ false
 not_true true h = absurd cc
 not_true false h = refl
 

@@ -19,19 +19,19 @@ use Rattle.script_text.specs.WellFormed.{IsCommand, IsBlock, IsItem, AreItems, c
 use Rattle.script_text.proofs.LineWords.{line_of, States}
 use Rattle.script_text.proofs.LinesSay.{action_states, each_states, when_states, end_states, tick_states, handler_states}
 
-abbrev state : List Frame → List Item → List (List ℕ) → State
+abbrev pub state : List Frame → List Item → List (List ℕ) → State
 state frames items names = record { frames = frames; items = items; names = names }
 
-abbrev blocks : List Frame → ℕ
+abbrev pub blocks : List Frame → ℕ
 blocks frames = count_by (λ frame. is_block frame.opening) frames
 
-each_counts : (line : ℕ) (commands : List Command) (frames : List Frame) → blocks (record { line = line; opening = EachBlock; commands = commands } ∷ frames) ≡ blocks frames + 1
+pub each_counts : (line : ℕ) (commands : List Command) (frames : List Frame) → blocks (record { line = line; opening = EachBlock; commands = commands } ∷ frames) ≡ blocks frames + 1
 each_counts line commands frames = grind (arith, common_steps)
 
-when_counts : (line : ℕ) (condition : Condition) (commands : List Command) (frames : List Frame) → blocks (record { line = line; opening = WhenBlock condition; commands = commands } ∷ frames) ≡ blocks frames + 1
+pub when_counts : (line : ℕ) (condition : Condition) (commands : List Command) (frames : List Frame) → blocks (record { line = line; opening = WhenBlock condition; commands = commands } ∷ frames) ≡ blocks frames + 1
 when_counts line condition commands frames = grind (arith, common_steps)
 
-handler_counts : (line : ℕ) (name : List ℕ) (commands : List Command) (frames : List Frame) → blocks (record { line = line; opening = HandlerBlock name; commands = commands } ∷ frames) ≡ blocks frames
+pub handler_counts : (line : ℕ) (name : List ℕ) (commands : List Command) (frames : List Frame) → blocks (record { line = line; opening = HandlerBlock name; commands = commands } ∷ frames) ≡ blocks frames
 handler_counts line name commands frames = grind (arith, common_steps)
 
 one_step : (s t : State) (l : NumberedLine) (statement : Statement) → States (standing s) l statement → placed l.number statement s ≡ Ok t → (rest : List Line)
@@ -60,7 +60,7 @@ unfolding open_block
 opens line opening s h = ap (λ b. cond b (Ok (opened line opening s)) (Err (LimitAt NestingLimit line))) (lt-ltb (blocks s.frames) 16 h)
 
 -- a frame of an opening with these commands
-abbrev frame : ℕ → Opening → List Command → Frame
+abbrev pub frame : ℕ → Opening → List Command → Frame
 frame line opening commands = record { line = line; opening = opening; commands = commands }
 
 opened_is : (line : ℕ) (opening : Opening) (frames : List Frame) (items : List Item) (names : List (List ℕ))
@@ -109,12 +109,12 @@ does_step : (line : ℕ) (action : Action) (s : State) → placed line (Does act
 unfolding placed
 does_step line action s = refl
 
-put_inside : (f : Frame) (fs : List Frame) (items : List Item) (names : List (List ℕ)) (command : Command)
+pub put_inside : (f : Frame) (fs : List Frame) (items : List Item) (names : List (List ℕ)) (command : Command)
     → put command (state (f ∷ fs) items names) ≡ state (frame f.line f.opening (command ∷ f.commands) ∷ fs) items names
 unfolding put put_in
 put_inside f fs items names command = refl
 
-put_outside : (items : List Item) (names : List (List ℕ)) (command : Command) → put command (state [] items names) ≡ state [] (Outside command ∷ items) names
+pub put_outside : (items : List Item) (names : List (List ℕ)) (command : Command) → put command (state [] items names) ≡ state [] (Outside command ∷ items) names
 unfolding put put_in
 put_outside items names command = refl
 

@@ -22,15 +22,15 @@ abbrev pub LastLineLaw : Type 0
 LastLineLaw = (number : ℕ) (line : List ℕ) → list_all is_line_byte line ≡ true → length line ≤ limit_number LineLimit → 0 < length line
     → lex_on (line_start number) line ≡ lex_on (line_start number) (line ++ (10 ∷ []))
 
-nothing_more : (number : ℕ) → lex_on (line_start number) [] ≡ ends (Whole number)
+pub nothing_more : (number : ℕ) → lex_on (line_start number) [] ≡ ends (Whole number)
 unfolding lex_on line_start add_line line_before close_word word_closed next_line
 nothing_more number = refl
 
-no_words : words_of [] ≡ []
+pub no_words : words_of [] ≡ []
 unfolding words_of runs_from before_comment
 no_words = refl
 
-no_line : (number : ℕ) (lexed : Lexed) → line_with [] number [] lexed ≡ lexed
+pub no_line : (number : ℕ) (lexed : Lexed) → line_with [] number [] lexed ≡ lexed
 unfolding line_with
 no_line number lexed = refl
 

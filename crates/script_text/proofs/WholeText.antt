@@ -91,7 +91,7 @@ lines_again items last all =
     ∙ ap (λ (r : Result State Refusal). r >>= λ s. finished s.frames s.items (Whole last)) all.read
     ∙ finished_is all.reversed last ∙ ap (λ (is : List Item). Ok is) all.same
 
-script_text_is : (items : List Item) → script_text items ≡ codes "script 1" ++ lines_text 1 (items_lines items)
+pub script_text_is : (items : List Item) → script_text items ≡ codes "script 1" ++ lines_text 1 (items_lines items)
 unfolding script_text
 script_text_is items = refl
 

@@ -7,3 +7,4 @@ pub mod NumberedLines
 pub mod ScriptText
 pub mod WellFormed
 pub mod ByteOrder
+pub mod LineOfText

@@ -1,17 +1,20 @@
 //! Laws of the definitions, for every script. Each function does nothing; its clause is proved.
 
-ghost use Rattle.std.specs.Prelude.{◌≡◌, ℕ, ℤ, ◌≤◌, unsigned_abs, true, List, length, Some, Ok};
+ghost use Rattle.std.specs.Prelude.{◌≡◌, ◌↔◌, ℕ, ℤ, ◌≤◌, unsigned_abs, true, List, length, All, Some, Ok};
 ghost use Rattle.word_model.specs.Numbers.{length_of, signed_of, percent_of, number_of};
 ghost use Rattle.media_queries.specs.LengthText.{length_text};
 ghost use Rattle.script_model.specs.Syntax.{Item};
 ghost use Rattle.script_model.specs.Reading.{reading};
 ghost use Rattle.script_text.specs.ByteOrder.{is_not_after};
-ghost use Rattle.script_text.specs.ScriptText.{printed};
+ghost use Rattle.script_text.specs.NumberedLines.{items_lines};
+ghost use Rattle.script_text.specs.ScriptText.{line_text, script_text, printed};
+ghost use Rattle.script_text.specs.LineOfText.{line_numbered};
 ghost use Rattle.script_text.specs.WellFormed.{IsWellFormed};
 ghost use Rattle.script_text.specs.NumberText.{percent_text, signed_text, number_text};
 
 use script_model::laws::{
-    last_line_needs_no_line_feed, line_feed_ends_a_line, script_limit_comes_first,
+    bad_byte_ends_the_text, carriage_return_before_a_line_feed, last_line_needs_no_line_feed,
+    line_feed_ends_a_line, long_line_ends_the_text, script_limit_comes_first,
 };
 
 /// The printed text of a script that is well formed reads as the same script, with the same line numbers.
@@ -21,6 +24,43 @@ pub fn printed_script_reads_back()
     // the laws of the language on which this one rests
     line_feed_ends_a_line();
     last_line_needs_no_line_feed();
+    script_limit_comes_first();
+}
+
+/// Whatever is read is well formed.
+pub fn what_is_read_is_well_formed()
+    ensures { (text : List ℕ) (items : List Item) → reading text ≡ Ok items → IsWellFormed items }
+{
+    // the laws of the language on which this one rests
+    line_feed_ends_a_line();
+    carriage_return_before_a_line_feed();
+    last_line_needs_no_line_feed();
+    bad_byte_ends_the_text();
+    long_line_ends_the_text();
+    script_limit_comes_first();
+}
+
+/// The scripts that are well formed are those that some text is read as.
+pub fn well_formed_scripts_are_those_read()
+    ensures { (items : List Item) → IsWellFormed items ↔ ((text : List ℕ) × (reading text ≡ Ok items)) }
+{
+    printed_script_reads_back();
+    what_is_read_is_well_formed();
+}
+
+/// The line printed for a statement is no longer than the line of its number in the text that was read, and the printed
+/// text of a script, up to its last line feed, is no longer than that text.
+pub fn printed_lines_are_no_longer()
+    ensures lines { (text : List ℕ) (items : List Item) → reading text ≡ Ok items →
+        All (λ l. length (line_text l.words) ≤ length (line_numbered l.number text)) (items_lines items) }
+    ensures text { (text : List ℕ) (items : List Item) → reading text ≡ Ok items → length (script_text items) ≤ length text }
+{
+    // the laws of the language on which this one rests
+    line_feed_ends_a_line();
+    carriage_return_before_a_line_feed();
+    last_line_needs_no_line_feed();
+    bad_byte_ends_the_text();
+    long_line_ends_the_text();
     script_limit_comes_first();
 }
 

@@ -1,0 +1,17 @@
+use Rattle.script_text.proofs.ReadWell.{ReadingLaws, printed_no_longer, printed_text_no_longer}
+use Rattle.script_text.proofs.laws.printed_lines_are_no_longer.Goals as goal
+
+pub returns : goal.returns
+returns c =
+    let laws : ReadingLaws = record {
+      lines = record {
+        line_feed = c.line_feed_ends_a_line.ensures;
+        last_line = c.last_line_needs_no_line_feed.ensures;
+        returned = c.carriage_return_before_a_line_feed.ensures;
+        bad_byte = c.bad_byte_ends_the_text.ensures;
+        long_line = c.long_line_ends_the_text.ensures;
+      };
+      within = c.script_limit_comes_first.ensures.within;
+      above = c.script_limit_comes_first.ensures.above;
+    } in
+    record { lines = printed_no_longer laws; text = printed_text_no_longer laws }
