@@ -1,4 +1,4 @@
-//! Scripts: the commands and handlers of a text, read from its lines and words and printed back.
+//! Scripts: the commands and handlers of a text, read from its lines and words.
 #![tactic(auto)]
 
 mod actions;

@@ -1,0 +1,5 @@
+pub mod Digits
+pub mod LineWords
+pub mod Blocks
+pub mod Walked
+pub mod WholeText

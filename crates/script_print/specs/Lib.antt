@@ -1,0 +1,5 @@
+pub mod Spaced
+pub mod OperandParts
+pub mod LastNumber
+pub mod Minus
+pub mod Ended

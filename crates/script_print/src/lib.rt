@@ -1,0 +1,50 @@
+//! Scripts printed: the text of a script, which reads as the same script.
+#![tactic(auto)]
+
+ghost use Rattle.std.specs.Prelude.{◌≡◌, Ok, IfOk, OnOk};
+ghost use Rattle.script_model.specs.Reading.{reading};
+ghost use Rattle.script_print.specs.Ended.{ended};
+ghost use Rattle.script_text.specs.ScriptText.{printed};
+
+mod actions;
+mod conditions;
+mod declarations;
+mod items;
+mod lines;
+mod numbers;
+mod operands;
+#[cfg(test)]
+mod tests;
+
+use script_syntax::Script;
+use script_text::laws::{printed_script_reads_back, what_is_read_is_well_formed};
+use std::alloc::{AllocError, Global};
+
+/// The most bytes of a script.
+const LARGEST: usize = 16_777_216;
+
+/// Appends the line feed of the last line, where the text then isn't longer than a script may be.
+fn end_last_line(text: &mut Vec<u8>) -> Result<(), AllocError>
+    ensures { OnOk result (text.new.items ≡ ended text.old.items) }
+{
+    if text.len() < LARGEST {
+        text.push(b'\n')?;
+    }
+    Ok(())
+}
+
+/// The text of a script: each line on its own number, one space between each two words of a line, each length, percentage
+/// and number as its shortest text. A line feed ends the last line too, where the text then isn't longer than a script may
+/// be. The text reads as the same script, with the same line numbers. The error is want of memory.
+pub fn print(alloc: Global, script: &Script) -> Result<Vec<u8>, AllocError>
+    ensures text { IfOk result (λ text. text.items ≡ printed script.now) }
+    ensures again { IfOk result (λ text. reading text.items ≡ Ok script.now) }
+{
+    // the laws on which the second clause rests
+    what_is_read_is_well_formed();
+    printed_script_reads_back();
+    let mut text = Vec::new(alloc);
+    items::push_script(&mut text, script.items())?;
+    end_last_line(&mut text)?;
+    Ok(text)
+}

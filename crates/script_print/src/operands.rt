@@ -1,0 +1,256 @@
+//! The operands of a line, each word of them behind a space.
+
+ghost use Rattle.std.specs.Prelude.{◌≡◌, ◌++◌, ◌∷◌, [], map, option_map, OnOk};
+ghost use Rattle.media_queries.specs.QueryText.{list_text};
+ghost use Rattle.script_print.specs.OperandParts.{part_of};
+ghost use Rattle.script_print.specs.Spaced.{spaced};
+ghost use Rattle.script_model.specs.MarginText.{parts_of};
+ghost use Rattle.script_syntax.specs.Seen.{operand_of, aim_of, dimension_of, event_of};
+ghost use Rattle.script_text.specs.NumberText.{signed_text, number_text};
+ghost use Rattle.script_text.specs.Parts.{all_words};
+ghost use Rattle.script_text.specs.WordText.{operand_text, aim_text, event_text, box_text, dimension_text, dash_or};
+ghost use Rattle.script_text.specs.ScriptText.{line_text};
+ghost use Rattle.word_model.specs.Numbers.{decimal};
+ghost use Rattle.media_queries.specs.LengthText.{length_text};
+
+use crate::declarations::push_declaration;
+use crate::numbers::{push_length, push_number, push_signed};
+use media_queries::Query;
+use px_units::BoxKind;
+use script_syntax::{Aim, Axis, MarginText, NumberList, Operand};
+use std::alloc::AllocError;
+use style_values::Declaration;
+use text_io::{EventKind, Name};
+use word_model::push_decimal;
+
+/// An operand of a line. Lengths are in units of 1/64 CSS pixel.
+#[derive(Clone, Copy)]
+pub enum Entry {
+    Word(Name),
+    Node(Operand),
+    Aimed(Aim),
+    /// None for `-`.
+    Handler(Option<Name>),
+    /// None for `-`.
+    Root(Option<Operand>),
+    Length(i64),
+    Signed(i64),
+    Whole(u64),
+    Event(EventKind),
+    Observed(BoxKind),
+    Dimension(Axis),
+    Declared(Declaration),
+}
+
+/// Appends a word behind a space.
+#[tactic(auto, using(crate::proofs::LineWords::word_pushed))]
+pub fn push_word(into: &mut Vec<u8>, word: &[u8]) -> Result<(), AllocError>
+    ensures { OnOk result (into.new.items ≡ into.old.items ++ spaced (word.now ∷ [])) }
+{
+    into.push(b' ')?;
+    into.extend_from_slice(word)
+}
+
+fn push_name(into: &mut Vec<u8>, name: Name) -> Result<(), AllocError>
+    ensures { OnOk result (into.new.items ≡ into.old.items ++ spaced (name ∷ [])) }
+{
+    push_word(into, name.bytes())
+}
+
+fn push_operand(into: &mut Vec<u8>, operand: Operand) -> Result<(), AllocError>
+    ensures { OnOk result (into.new.items ≡ into.old.items ++ spaced (operand_text (operand_of operand) ∷ [])) }
+{
+    match operand {
+        Operand::Named(name) => push_name(into, name),
+        Operand::Target => push_word(into, b"$target"),
+    }
+}
+
+/// Appends a window's document, behind an `@`.
+#[tactic(auto, using(crate::proofs::LineWords::two_pieces))]
+fn push_window(into: &mut Vec<u8>, document: Name) -> Result<(), AllocError>
+    ensures { OnOk result (into.new.items ≡ into.old.items ++ spaced ((64 ∷ document) ∷ [])) }
+{
+    into.extend_from_slice(b" @")?;
+    into.extend_from_slice(document.bytes())
+}
+
+fn push_aim(into: &mut Vec<u8>, aim: Aim) -> Result<(), AllocError>
+    ensures { OnOk result (into.new.items ≡ into.old.items ++ spaced (aim_text (aim_of aim) ∷ [])) }
+{
+    match aim {
+        Aim::Plain(operand) => push_operand(into, operand),
+        Aim::Window(document) => push_window(into, document),
+    }
+}
+
+fn push_handler(into: &mut Vec<u8>, handler: Option<Name>) -> Result<(), AllocError>
+    ensures { OnOk result (into.new.items ≡ into.old.items ++ spaced (dash_or (λ name. name) handler ∷ [])) }
+{
+    match handler {
+        Some(name) => push_name(into, name),
+        None => push_word(into, b"-"),
+    }
+}
+
+fn push_root(into: &mut Vec<u8>, root: Option<Operand>) -> Result<(), AllocError>
+    ensures { OnOk result (into.new.items ≡ into.old.items ++ spaced (dash_or operand_text (option_map operand_of root) ∷ [])) }
+{
+    match root {
+        Some(operand) => push_operand(into, operand),
+        None => push_word(into, b"-"),
+    }
+}
+
+/// Appends a length behind a space.
+#[tactic(auto, using(crate::proofs::LineWords::word_pushed))]
+fn push_spaced_length(into: &mut Vec<u8>, units: u64) -> Result<(), AllocError>
+    ensures { OnOk result (into.new.items ≡ into.old.items ++ spaced (length_text units ∷ [])) }
+{
+    into.push(b' ')?;
+    push_length(into, units)
+}
+
+/// Appends a length with a sign behind a space.
+#[tactic(auto, using(crate::proofs::LineWords::word_pushed))]
+fn push_spaced_signed(into: &mut Vec<u8>, units: i64) -> Result<(), AllocError>
+    ensures { OnOk result (into.new.items ≡ into.old.items ++ spaced (signed_text units ∷ [])) }
+{
+    into.push(b' ')?;
+    push_signed(into, units)
+}
+
+/// Appends a whole number behind a space.
+#[tactic(auto, using(crate::proofs::LineWords::word_pushed))]
+fn push_spaced_whole(into: &mut Vec<u8>, number: u64) -> Result<(), AllocError>
+    ensures { OnOk result (into.new.items ≡ into.old.items ++ spaced (decimal number ∷ [])) }
+{
+    into.push(b' ')?;
+    push_decimal(into, u128::from(number))
+}
+
+/// Appends a number behind a space.
+#[tactic(auto, using(crate::proofs::LineWords::word_pushed))]
+fn push_spaced_number(into: &mut Vec<u8>, number: &i64) -> Result<(), AllocError>
+    ensures { OnOk result (into.new.items ≡ into.old.items ++ spaced (number_text number.now ∷ [])) }
+{
+    let ten_thousandths = *number;
+    into.push(b' ')?;
+    push_number(into, ten_thousandths)
+}
+
+fn box_text(observed: BoxKind) -> &'static [u8]
+    ensures { result.now ≡ box_text observed }
+{
+    match observed {
+        BoxKind::Content => b"content",
+        BoxKind::Border => b"border",
+    }
+}
+
+fn dimension_text(axis: Axis) -> &'static [u8]
+    ensures { result.now ≡ dimension_text (dimension_of axis) }
+{
+    match axis {
+        Axis::Width => b"width",
+        Axis::Height => b"height",
+    }
+}
+
+fn event_text(event: EventKind) -> &'static [u8]
+    ensures { result.now ≡ event_text (event_of event) }
+{
+    match event {
+        EventKind::Resize => b"resize",
+        EventKind::Scroll => b"scroll",
+        EventKind::Error => b"error",
+        EventKind::Change => b"change",
+    }
+}
+
+/// Appends the words of an operand.
+fn push_entry(into: &mut Vec<u8>, entry: Entry) -> Result<(), AllocError>
+    ensures { OnOk result (into.new.items ≡ into.old.items ++ spaced (all_words (part_of entry ∷ []))) }
+{
+    match entry {
+        Entry::Word(name) => push_name(into, name),
+        Entry::Node(operand) => push_operand(into, operand),
+        Entry::Aimed(aim) => push_aim(into, aim),
+        Entry::Handler(handler) => push_handler(into, handler),
+        Entry::Root(root) => push_root(into, root),
+        Entry::Length(units) => push_spaced_length(into, units.unsigned_abs()),
+        Entry::Signed(units) => push_spaced_signed(into, units),
+        Entry::Whole(number) => push_spaced_whole(into, number),
+        Entry::Event(event) => push_word(into, event_text(event)),
+        Entry::Observed(observed) => push_word(into, box_text(observed)),
+        Entry::Dimension(axis) => push_word(into, dimension_text(axis)),
+        Entry::Declared(declaration) => push_declaration(into, declaration),
+    }
+}
+
+/// Appends the words of operands one after the other.
+pub fn push_entries(into: &mut Vec<u8>, entries: &[Entry]) -> Result<(), AllocError>
+    ensures { OnOk result (into.new.items ≡ into.old.items ++ spaced (all_words (map part_of entries.now))) }
+{
+    for entry in entries {
+        push_entry(into, *entry)?;
+    }
+    Ok(())
+}
+
+/// Appends the first word of a line and its operands.
+#[tactic(auto, using(crate::proofs::LineWords::line_pushed))]
+pub fn push_line(into: &mut Vec<u8>, head: &[u8], entries: &[Entry]) -> Result<(), AllocError>
+    ensures { OnOk result (into.new.items ≡ into.old.items ++ line_text (head.now ∷ all_words (map part_of entries.now))) }
+{
+    into.extend_from_slice(head)?;
+    push_entries(into, entries)
+}
+
+/// Appends a word behind a space, and its operands.
+#[tactic(auto, using(crate::proofs::LineWords::phrase_pushed))]
+pub fn push_phrase(into: &mut Vec<u8>, head: &[u8], entries: &[Entry]) -> Result<(), AllocError>
+    ensures { OnOk result (into.new.items ≡ into.old.items ++ spaced (head.now ∷ all_words (map part_of entries.now))) }
+{
+    push_word(into, head)?;
+    push_entries(into, entries)
+}
+
+/// Appends the words of a root margin as they were read.
+#[tactic(auto, using(crate::proofs::LineWords::margin_pushed, crate::proofs::LineWords::no_margin))]
+pub fn push_margin(into: &mut Vec<u8>, margin: &MarginText) -> Result<(), AllocError>
+    ensures { OnOk result (into.new.items ≡ into.old.items ++ spaced (parts_of margin.now)) }
+{
+    let words = margin.bytes();
+    if words.is_empty() {
+        return Ok(());
+    }
+    into.push(b' ')?;
+    into.extend_from_slice(words)
+}
+
+/// Appends numbers, each behind a space.
+fn push_numbers(into: &mut Vec<u8>, numbers: &[i64]) -> Result<(), AllocError>
+    ensures { OnOk result (into.new.items ≡ into.old.items ++ spaced (map number_text numbers.now)) }
+{
+    for number in numbers {
+        push_spaced_number(into, number)?;
+    }
+    Ok(())
+}
+
+/// Appends the thresholds of an observer.
+pub fn push_thresholds(into: &mut Vec<u8>, numbers: &NumberList) -> Result<(), AllocError>
+    ensures { OnOk result (into.new.items ≡ into.old.items ++ spaced (map number_text numbers.now)) }
+{
+    push_numbers(into, numbers.numbers())
+}
+
+/// Appends a list of media queries behind a space.
+#[tactic(auto, using(crate::proofs::LineWords::word_pushed))]
+pub fn push_query(into: &mut Vec<u8>, query: &Query) -> Result<(), AllocError>
+    ensures { OnOk result (into.new.items ≡ into.old.items ++ spaced (list_text query.now ∷ [])) }
+{
+    into.push(b' ')?;
+    query.push_text(into)
+}
