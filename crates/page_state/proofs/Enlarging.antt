@@ -15,7 +15,6 @@ use Rattle.page_model.specs.Edits.{with_element}
 use Rattle.page_model.specs.Names.{with_name}
 use Rattle.page_model.specs.Operands.{NoEntry, new_name, document_named}
 use Rattle.page_model.specs.Steps.{Step, Did, Met, Effect as ModelEffect, becomes, room}
-use Rattle.page_boxes.specs.Worlds.{seen_size}
 use Rattle.page_tree.specs.Faults as tree
 use Rattle.page_tree.specs.Views.{PageElements, placed_in}
 use Rattle.page_tree.specs.declared.faults.MakeFault.{MakeFault}
@@ -25,26 +24,26 @@ use Rattle.page_state.specs.declared.page.Page.TheInside.{Inside}
 use Rattle.page_state.specs.Answers.{Applied}
 use Rattle.page_state.specs.Faults.{unmade}
 use Rattle.page_state.specs.Making.{making, IsMade}
-use Rattle.page_state.specs.Views.{PageView, seen_world}
+use Rattle.page_state.specs.Views.{PageView}
 use Rattle.page_state.specs.Whole.{listed, IsHeld, IsPage}
 use Rattle.page_state.proofs.Doing.{block_makes, image_makes, made}
-use Rattle.page_state.proofs.Held.{Law, held_after, rescaled}
-use Rattle.page_state.proofs.Inside.{inner, base, same_limit}
+use Rattle.page_state.proofs.Held.{Law, held_after}
+use Rattle.page_state.proofs.Inside.{inner, base, same_limit, world_of, held_listed, held_inside}
 use Rattle.page_state.proofs.Parts.{edited}
 
 -- room for an element changes nothing else
 
-pub readied : {names : List Name} {page : PageElements} {boxes : List (Option Box)} {observers : ResizeObservers} {size : Size} {begun : ℕ} {flag : Bool} → IsPage names page boxes observers size begun flag
-    → (after : PageElements) (ready : Bool) → after ≡ record page { ready = ready } → IsPage names after boxes observers size begun flag
-readied {names} {page} {boxes} {observers} {size} {begun} {flag} is after ready same =
-    subst (λ (it : PageElements). IsPage names it boxes observers size begun flag) (sym same) (edited is (record page { ready = ready }) refl refl is.held)
+pub readied : {names : List Name} {page : PageElements} {boxes : List (Option Box)} {observers : ResizeObservers} {size : Size} {noted : Option Size} {begun : ℕ} {flag : Bool} → IsPage names page boxes observers size noted begun flag
+    → (after : PageElements) (ready : Bool) → after ≡ record page { ready = ready } → IsPage names after boxes observers size noted begun flag
+readied {names} {page} {boxes} {observers} {size} {noted} {begun} {flag} is after ready same =
+    subst (λ (it : PageElements). IsPage names it boxes observers size noted begun flag) (sym same) (edited is (record page { ready = ready }) refl refl is.held)
 
 pub readied_world : (inside : Inside) (now : PageView) → record { world = inner inside; begun = inside.begun } ≡ now → (after : PageElements) (ready : Bool) → after ≡ record (inside.tree) { ready = ready }
     → (list : List Name) → list ≡ inside.names.list
-    → seen_world list after inside.observers (seen_size inside.size) inside.clock inside.count ≡ now.world
+    → world_of inside list after inside.observers ≡ now.world
 readied_world inside now view_is after ready same list kept =
-    ap (λ (it : PageElements). seen_world list it inside.observers (seen_size inside.size) inside.clock inside.count) same
-    ∙ (ap (λ (it : List Name). seen_world it inside.tree inside.observers (seen_size inside.size) inside.clock inside.count) kept
+    ap (λ (it : PageElements). world_of inside list it inside.observers) same
+    ∙ (ap (λ (it : List Name). world_of inside it inside.tree inside.observers) kept
     ∙ ap (λ (v : PageView). v.world) view_is)
 
 pub unmade_so : (fault : MakeFault) (page : PageElements) (old new : World) (step : Step ModelEffect) → tree.IsMakeFault page fault
@@ -71,27 +70,27 @@ pub makes : (inside : Inside) (one two : PageElements) (list : List Name) (name 
     → one ≡ record (inside.tree) { ready = ready } → n ≡ length inside.tree.elements
     → list ≡ inside.names.list ++ record { text = name; thing = ElementThing n } ∷ []
     → ((world : World) → with_name name (ElementThing (length one.elements)) (placed_in two world) ≡ with_element name kind 0 None (placed_in one world))
-    → making (inner inside) name document kind ≡ becomes (seen_world list two inside.observers (seen_size inside.size) inside.clock inside.count)
+    → making (inner inside) name document kind ≡ becomes (world_of inside list two inside.observers)
 makes inside one two list name document kind n number ready free there top roomy same is_next given law =
     let zero_number : number ≡ 0 = omega arith in
     let numbers : length one.elements ≡ n = ap (λ (it : PageElements). length it.elements) same ∙ sym is_next in
     made (inner inside) name document kind free 0 (there ∙ ap Did zero_number) roomy
     ∙ ap becomes (ap (λ (it : PageElements). with_element name kind 0 None (placed_in it (base inside))) (sym same)
     ∙ (sym (law (base inside))
-    ∙ (ap (λ (m : ℕ). seen_world (inside.names.list ++ record { text = name; thing = ElementThing m } ∷ []) two inside.observers (seen_size inside.size) inside.clock inside.count) numbers
-    ∙ ap (λ (it : List Name). seen_world it two inside.observers (seen_size inside.size) inside.clock inside.count) (sym given))))
+    ∙ (ap (λ (m : ℕ). world_of inside (inside.names.list ++ record { text = name; thing = ElementThing m } ∷ []) two inside.observers) numbers
+    ∙ ap (λ (it : List Name). world_of inside it two inside.observers) (sym given))))
 
 pub made_held : Law → (inside : Inside) (list : List Name) (two : PageElements) (name document : List ℕ) (kind : ItemKind) → IsMade kind
-    → making (inner inside) name document (seen_kind kind) ≡ becomes (seen_world list two inside.observers (seen_size inside.size) inside.clock inside.count)
+    → making (inner inside) name document (seen_kind kind) ≡ becomes (world_of inside list two inside.observers)
     → IsHeld (listed inside.names.list inside.tree inside.observers) → IsHeld (listed list two inside.observers)
 made_held law inside list two name document Block is e held =
-    rescaled list two inside.observers (seen_size inside.size) _ inside.clock inside.count 0 0
-    (held_after law (inner inside) (seen_world list two inside.observers (seen_size inside.size) inside.clock inside.count) NoEntry (MakeBlock name document) [] tt
+    held_listed inside list two inside.observers
+    (held_after law (inner inside) (world_of inside list two inside.observers) NoEntry (MakeBlock name document) [] tt
     (λ handlers. block_makes handlers (inner inside) NoEntry name document ∙ e)
-    (rescaled inside.names.list inside.tree inside.observers _ (seen_size inside.size) 0 0 inside.clock inside.count held))
+    (held_inside inside inside.names.list inside.tree inside.observers held))
 made_held law inside list two name document (Image size) is e held =
-    rescaled list two inside.observers (seen_size inside.size) _ inside.clock inside.count 0 0
-    (held_after law (inner inside) (seen_world list two inside.observers (seen_size inside.size) inside.clock inside.count) NoEntry (MakeImage name document (unsigned_abs size.width) (unsigned_abs size.height)) [] tt
+    held_listed inside list two inside.observers
+    (held_after law (inner inside) (world_of inside list two inside.observers) NoEntry (MakeImage name document (unsigned_abs size.width) (unsigned_abs size.height)) [] tt
     (λ handlers. image_makes handlers (inner inside) NoEntry name document (unsigned_abs size.width) (unsigned_abs size.height) ∙ e)
-    (rescaled inside.names.list inside.tree inside.observers _ (seen_size inside.size) 0 0 inside.clock inside.count held))
+    (held_inside inside inside.names.list inside.tree inside.observers held))
 made_held law inside list two name document Frame is e held = absurd is

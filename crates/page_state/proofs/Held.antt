@@ -1,5 +1,5 @@
 -- Each number in a world stays that of something.
-use Rattle.std.proofs.Common.{◌≡◌, ℕ, zero, suc, List, [], ◌∷◌, length, refl, sym, ap, subst}
+use Rattle.std.proofs.Common.{◌≡◌, ℕ, zero, suc, List, [], ◌∷◌, Option, length, refl, sym, ap, subst}
 use Rattle.script_model.specs.Syntax.{Action}
 use Rattle.script_model.specs.TraceLines.{TraceLine}
 use Rattle.page_model.specs.World.{Extent, Name, World}
@@ -37,15 +37,15 @@ held_after law world after present action lines is does_so held =
       within = subst (λ (step : Step Effect). OnDid step (λ (effect : Effect). IsInRange (length handlers) (effect.world))) (does_so handlers) (law handlers world within present action is);
     }
 
--- the viewport, the clock and the count have no part in it
-pub rescaled : (names : List Name) (tree : PageElements) (observers : ResizeObservers) (size other : Extent) (clock count time number : ℕ)
-    → IsHeld (seen_world names tree observers size clock count) → IsHeld (seen_world names tree observers other time number)
-rescaled names tree observers size other clock count time number held = record {
+-- the viewport, its noted size, the clock and the count have no part in it
+pub rescaled : (names : List Name) (tree : PageElements) (observers : ResizeObservers) (size other : Extent) (noted another : Option Extent) (clock count time number : ℕ)
+    → IsHeld (seen_world names tree observers size noted clock count) → IsHeld (seen_world names tree observers other another time number)
+rescaled names tree observers size other noted another clock count time number held = record {
   handlers = held.handlers;
   within = record {
     top = held.within.top;
     elements = held.within.elements;
-    documents = held.within.documents;
+    documents = (record { frame = held.within.documents.0.frame; root = held.within.documents.0.root; pending = held.within.documents.0.pending }, tt);
     names = held.within.names;
     resize_observers = held.within.resize_observers;
     intersection_observers = held.within.intersection_observers;

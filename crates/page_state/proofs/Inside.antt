@@ -1,5 +1,5 @@
 -- A page by its fields, and what its calls answer.
-use Rattle.std.proofs.Common.{◌≡◌, ℕ, ◌<◌, Bool, true, false, Option, Some, None, List, [], length, Result, Err, refl, sym, ap, ◌∙◌, subst, arith}
+use Rattle.std.proofs.Common.{◌≡◌, ℕ, ◌<◌, Bool, true, false, Option, Some, None, List, [], length, option_map, Result, Err, refl, sym, ap, ◌∙◌, subst, arith}
 use Rattle.element_tree.specs.declared.node.NodeId.{NodeId}
 use Rattle.text_io.specs.declared.kinds.ThrowKind.{ThrowKind}
 use Rattle.text_io.specs.declared.kinds.ThrowKind.TheVariants.{ReferenceError, TypeError, HierarchyRequestError, NotFoundError, SyntaxError, RangeError}
@@ -8,6 +8,7 @@ use Rattle.text_io.specs.declared.kinds.LimitKind.TheVariants as kinds
 use Rattle.script_model.specs.Syntax.{Action}
 use Rattle.page_model.specs.World.{World}
 use Rattle.page_model.specs.Commands.{does}
+use Rattle.page_model.specs.Lookups.{no_extent}
 use Rattle.page_model.specs.Operands.{Handlers, Present}
 use Rattle.page_model.specs.Outcome.{opening_world}
 use Rattle.page_model.specs.Ranges.{IsPresentIn}
@@ -33,16 +34,30 @@ use Rattle.resize_observer.specs.Observers.{ResizeObservers}
 use Rattle.std.proofs.Common.{◌∷◌, ◌++◌}
 use Rattle.page_model.specs.World.{Name, ResizeObserverThing}
 use Rattle.page_state.specs.Things.{present_of, IsSubject, IsContainerBelow}
-use Rattle.page_state.specs.Views.{PageView, seen_world}
+use Rattle.page_state.specs.Views.{PageView, seen_world, top_noted}
 use Rattle.page_state.specs.Whole.{listed, IsHeld, IsCounted}
 use Rattle.page_state.proofs.Held.{Law, held_after, rescaled}
 
--- the world of a page, and the same without its elements
+-- the world of a page without its lists, with some lists, with its own ones, and with all but its elements
+
+abbrev pub bare : Inside → World
+bare p = record opening_world { documents = top_noted (option_map seen_size p.noted) ∷ []; names = p.names.list; size = seen_size p.size; clock = p.clock; begun = p.count }
+
+abbrev pub world_of : Inside → List Name → PageElements → ResizeObservers → World
+world_of p names tree observers = seen_world names tree observers (seen_size p.size) (option_map seen_size p.noted) p.clock p.count
+
 abbrev pub inner : Inside → World
-inner p = seen_world p.names.list p.tree p.observers (seen_size p.size) p.clock p.count
+inner p = world_of p p.names.list p.tree p.observers
 
 abbrev pub base : Inside → World
-base p = placed p.observers (record opening_world { names = p.names.list; size = seen_size p.size; clock = p.clock; begun = p.count })
+base p = placed p.observers (bare p)
+
+module _ (p : Inside) (names : List Name) (tree : PageElements) (observers : ResizeObservers) where
+  pub held_listed : IsHeld (world_of p names tree observers) → IsHeld (listed names tree observers)
+  held_listed held = rescaled names tree observers (seen_size p.size) no_extent (option_map seen_size p.noted) None p.clock p.count 0 0 held
+
+  pub held_inside : IsHeld (listed names tree observers) → IsHeld (world_of p names tree observers)
+  held_inside held = rescaled names tree observers no_extent (seen_size p.size) None (option_map seen_size p.noted) 0 0 p.clock p.count held
 
 -- exits
 
@@ -62,9 +77,9 @@ module _ (inside : Inside) (now : PageView) (view_is : record { world = inner in
   subject_inside subject is = subst (λ (v : PageView). IsSubject (length v.world.elements) subject) (sym view_is) is
 
   -- a tree that is as before gives the world as before
-  pub same_world : (after : PageElements) → after ≡ inside.tree → seen_world inside.names.list after inside.observers (seen_size inside.size) inside.clock inside.count ≡ now.world
+  pub same_world : (after : PageElements) → after ≡ inside.tree → world_of inside inside.names.list after inside.observers ≡ now.world
   same_world after same =
-      ap (λ (it : PageElements). seen_world inside.names.list it inside.observers (seen_size inside.size) inside.clock inside.count) same
+      ap (λ (it : PageElements). world_of inside inside.names.list it inside.observers) same
       ∙ ap (λ (v : PageView). v.world) view_is
 
 pub subject_in : (world : World) (subject : Option NodeId) → IsSubject (length world.elements) subject → IsPresentIn world (present_of subject)
@@ -110,9 +125,9 @@ pub tree_held : Law → (inside : Inside) (after : PageElements) (present : Pres
     → ((handlers : Handlers) → does handlers (inner inside) present action ≡ becomes (placed_in after (base inside)))
     → IsHeld (listed inside.names.list inside.tree inside.observers) → IsHeld (listed inside.names.list after inside.observers)
 tree_held law inside after present action is does_so held =
-    rescaled inside.names.list after inside.observers _ _ inside.clock inside.count 0 0
+    held_listed inside inside.names.list after inside.observers
     (held_after law (inner inside) (placed_in after (base inside)) present action [] is does_so
-    (rescaled inside.names.list inside.tree inside.observers _ (seen_size inside.size) 0 0 inside.clock inside.count held))
+    (held_inside inside inside.names.list inside.tree inside.observers held))
 
 -- `top` is the only document
 

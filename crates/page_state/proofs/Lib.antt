@@ -8,3 +8,9 @@ pub mod Inside
 pub mod Counting
 pub mod Enlarging
 pub mod Observing
+pub mod Silence
+pub mod Ticking
+mod Telling
+mod Reporting
+mod Delivered
+mod Watched

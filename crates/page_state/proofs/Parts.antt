@@ -13,7 +13,7 @@ use Rattle.page_tree.specs.Views.{PageElements}
 use Rattle.resize_observer.specs.Observers.{ResizeObservers}
 use Rattle.page_state.specs.Things.{in_names}
 use Rattle.page_state.proofs.Found.{find_kept, find_last, find_some, element_absent}
-use Rattle.page_state.specs.Whole.{listed, IsHeld, IsCounted, IsPage}
+use Rattle.page_state.specs.Whole.{listed, AreSilent, IsHeld, IsCounted, IsPage}
 
 -- so many elements, the document `top`, and so many observers
 abbrev Named : List Name → ℕ → ℕ → Type 0
@@ -87,8 +87,8 @@ with_observer_named names text elements observers each (QueryListThing query) is
 
 -- the tree is edited, with as many elements as before
 
-module _ {names : List Name} {tree : PageElements} {boxes : List (Option Box)} {observers : ResizeObservers} {size : Size} {begun : ℕ} {flag : Bool} (page : IsPage names tree boxes observers size begun flag) where
-  pub edited : (after : PageElements) → after.names ≡ tree.names → length after.elements ≡ length tree.elements → IsHeld (listed names after observers) → IsPage names after boxes observers size begun flag
+module _ {names : List Name} {tree : PageElements} {boxes : List (Option Box)} {observers : ResizeObservers} {size : Size} {noted : Option Size} {begun : ℕ} {flag : Bool} (page : IsPage names tree boxes observers size noted begun flag) where
+  pub edited : (after : PageElements) → after.names ≡ tree.names → length after.elements ≡ length tree.elements → IsHeld (listed names after observers) → IsPage names after boxes observers size noted begun flag
   edited after same count held = record {
     held = held;
     named = subst (λ (n : ℕ). Named names n (length observers.made)) (sym count) page.named;
@@ -99,7 +99,9 @@ module _ {names : List Name} {tree : PageElements} {boxes : List (Option Box)} {
     placed = subst (λ (n : ℕ). n ≤ length boxes) (sym count) page.placed;
     limited = page.limited;
     counted = page.counted;
+    silent = page.silent;
     sized = page.sized;
+    noted = page.noted;
   }
 
   -- an element is made, last, with its name and its place
@@ -129,7 +131,7 @@ module _ {names : List Name} {tree : PageElements} {boxes : List (Option Box)} {
 
   pub enlarged : (name : List ℕ) (after : PageElements) (places : List (Option Box)) → after.names ≡ tree.names ++ name ∷ [] → length after.elements ≡ length tree.elements + 1 → length tree.elements + 1 ≤ length places
       → IsHeld (listed (names ++ record { text = name; thing = ElementThing (length tree.elements) } ∷ []) after observers)
-      → IsPage (names ++ record { text = name; thing = ElementThing (length tree.elements) } ∷ []) after places observers size begun flag
+      → IsPage (names ++ record { text = name; thing = ElementThing (length tree.elements) } ∷ []) after places observers size noted begun flag
   enlarged name after places last count room held = record {
     held = held;
     named = subst (λ (n : ℕ). Named (names ++ last_element name ∷ []) n (length observers.made)) (sym count) (with_element_named names name (length tree.elements) (length observers.made) page.named);
@@ -140,16 +142,18 @@ module _ {names : List Name} {tree : PageElements} {boxes : List (Option Box)} {
     placed = subst (λ (n : ℕ). n ≤ length places) (sym count) room;
     limited = page.limited;
     counted = page.counted;
+    silent = page.silent;
     sized = page.sized;
+    noted = page.noted;
   }
 
   -- a resize observer is made, last, with its name
 
   pub watched : (name : List ℕ) (after : ResizeObservers) → after.observed ≡ observers.observed → after.most_observers ≡ observers.most_observers → after.most_observations ≡ observers.most_observations
-      → length after.made ≡ length observers.made + 1
+      → length after.made ≡ length observers.made + 1 → AreSilent after
       → IsHeld (listed (names ++ record { text = name; thing = ResizeObserverThing (length observers.made) } ∷ []) tree after)
-      → IsPage (names ++ record { text = name; thing = ResizeObserverThing (length observers.made) } ∷ []) tree boxes after size begun flag
-  watched name after given most all count held = record {
+      → IsPage (names ++ record { text = name; thing = ResizeObserverThing (length observers.made) } ∷ []) tree boxes after size noted begun flag
+  watched name after given most all count silent held = record {
     held = held;
     named = subst (λ (n : ℕ). Named (names ++ record { text = name; thing = ResizeObserverThing (length observers.made) } ∷ []) (length tree.elements) n) (sym count) (with_observer_named names name (length tree.elements) (length observers.made) page.named);
     elements = record {
@@ -159,33 +163,37 @@ module _ {names : List Name} {tree : PageElements} {boxes : List (Option Box)} {
     placed = page.placed;
     limited = record { observers = most ∙ page.limited.observers; observations = all ∙ page.limited.observations };
     counted = subst (λ (n : ℕ). IsCounted n begun flag) (sym given) page.counted;
+    silent = silent;
     sized = page.sized;
+    noted = page.noted;
   }
 
   -- the observations of an observer change
 
   pub observing_kept : (after : ResizeObservers) → IsCounted after.observed begun flag → after.most_observers ≡ observers.most_observers → after.most_observations ≡ observers.most_observations
-      → length after.made ≡ length observers.made → IsHeld (listed names tree after) → IsPage names tree boxes after size begun flag
-  observing_kept after counted most all count held = record {
+      → length after.made ≡ length observers.made → AreSilent after → IsHeld (listed names tree after) → IsPage names tree boxes after size noted begun flag
+  observing_kept after counted most all count silent held = record {
     held = held;
     named = subst (λ (n : ℕ). Named names (length tree.elements) n) (sym count) page.named;
     elements = page.elements;
     placed = page.placed;
     limited = record { observers = most ∙ page.limited.observers; observations = all ∙ page.limited.observations };
     counted = counted;
+    silent = silent;
     sized = page.sized;
+    noted = page.noted;
   }
 
   -- the viewport, the count, and the places of boxes
 
-  pub resized : (other : Size) → IsNatural other → IsPage names tree boxes observers other begun flag
-  resized other natural = record { held = page.held; named = page.named; elements = page.elements; placed = page.placed; limited = page.limited; counted = page.counted; sized = natural }
+  pub resized : (other : Size) → IsNatural other → IsPage names tree boxes observers other noted begun flag
+  resized other natural = record { held = page.held; named = page.named; elements = page.elements; placed = page.placed; limited = page.limited; counted = page.counted; silent = page.silent; sized = natural; noted = page.noted }
 
-  pub recounted : (number : ℕ) (now : Bool) → IsCounted observers.observed number now → IsPage names tree boxes observers size number now
-  recounted number now counted = record { held = page.held; named = page.named; elements = page.elements; placed = page.placed; limited = page.limited; counted = counted; sized = page.sized }
+  pub recounted : (number : ℕ) (now : Bool) → IsCounted observers.observed number now → IsPage names tree boxes observers size noted number now
+  recounted number now counted = record { held = page.held; named = page.named; elements = page.elements; placed = page.placed; limited = page.limited; counted = counted; silent = page.silent; sized = page.sized; noted = page.noted }
 
-  pub replaced : (places : List (Option Box)) → length boxes ≤ length places → IsPage names tree places observers size begun flag
-  replaced places more = record { held = page.held; named = page.named; elements = page.elements; placed = omega (arith, page.placed); limited = page.limited; counted = page.counted; sized = page.sized }
+  pub replaced : (places : List (Option Box)) → length boxes ≤ length places → IsPage names tree places observers size noted begun flag
+  replaced places more = record { held = page.held; named = page.named; elements = page.elements; placed = omega (arith, page.placed); limited = page.limited; counted = page.counted; silent = page.silent; sized = page.sized; noted = page.noted }
 
 natural_units : (units : ℤ) → pos 0 ≤ℤ units → units ≤ℤ pos 64000000 → units ≤ℤ pos 2147483647
 natural_units units low high = omega (arith, ints)

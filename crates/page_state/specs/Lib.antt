@@ -5,3 +5,4 @@ pub mod Faults
 pub mod Answers
 pub mod Making
 pub mod Whole
+pub mod Telling

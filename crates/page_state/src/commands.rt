@@ -31,6 +31,7 @@ impl Page {
         ensures applied { (handlers : Handlers) (present : Present) → Applied result self.old.world self.new.world
             (does handlers self.old.world present (Viewport (unsigned_abs size.width) (unsigned_abs size.height))) }
         ensures begun { self.new.begun ≡ self.old.begun }
+        ensures observers { length self.new.world.resize_observers ≡ length self.old.world.resize_observers }
         ensures reach { IfOk result ReachesFar }
     {
         self.size = size;
@@ -41,6 +42,7 @@ impl Page {
         ensures applied { (handlers : Handlers) (present : Present) → Applied result self.old.world self.new.world
             (does handlers self.old.world present (MakeBlock name document)) }
         ensures begun { self.new.begun ≡ self.old.begun }
+        ensures observers { length self.new.world.resize_observers ≡ length self.old.world.resize_observers }
         ensures reach { IfOk result ReachesFar }
     {
         self.make(name, document, ItemKind::Block)
@@ -56,6 +58,7 @@ impl Page {
         ensures applied { (handlers : Handlers) (present : Present) → Applied result self.old.world self.new.world
             (does handlers self.old.world present (MakeImage name document (unsigned_abs size.width) (unsigned_abs size.height))) }
         ensures begun { self.new.begun ≡ self.old.begun }
+        ensures observers { length self.new.world.resize_observers ≡ length self.old.world.resize_observers }
         ensures reach { IfOk result ReachesFar }
     {
         self.make(name, document, ItemKind::Image(size))
@@ -66,6 +69,7 @@ impl Page {
         requires { IsMade kind }
         ensures applied { Applied result self.old.world self.new.world (making self.old.world name document (seen_kind kind)) }
         ensures begun { self.new.begun ≡ self.old.begun }
+        ensures observers { length self.new.world.resize_observers ≡ length self.old.world.resize_observers }
         ensures reach { IfOk result ReachesFar }
     {
         self.names.check_free(name)?;
@@ -88,6 +92,7 @@ impl Page {
         ensures applied { (handlers : Handlers) → Applied result self.old.world self.new.world
             (does handlers self.old.world (present_of subject) (Append (operand_of parent) (operand_of node))) }
         ensures begun { self.new.begun ≡ self.old.begun }
+        ensures observers { length self.new.world.resize_observers ≡ length self.old.world.resize_observers }
         ensures reach { IfOk result ReachesFar }
     {
         numbers_stay_in_range();
@@ -108,6 +113,7 @@ impl Page {
         ensures applied { (handlers : Handlers) → Applied result self.old.world self.new.world
             (does handlers self.old.world (present_of subject) (Before (operand_of parent) (operand_of node) (operand_of sibling))) }
         ensures begun { self.new.begun ≡ self.old.begun }
+        ensures observers { length self.new.world.resize_observers ≡ length self.old.world.resize_observers }
         ensures reach { IfOk result ReachesFar }
     {
         numbers_stay_in_range();
@@ -127,6 +133,7 @@ impl Page {
         ensures applied { (handlers : Handlers) → Applied result self.old.world self.new.world
             (does handlers self.old.world (present_of subject) (Remove (operand_of node))) }
         ensures begun { self.new.begun ≡ self.old.begun }
+        ensures observers { length self.new.world.resize_observers ≡ length self.old.world.resize_observers }
         ensures reach { IfOk result ReachesFar }
     {
         numbers_stay_in_range();
@@ -146,6 +153,7 @@ impl Page {
         ensures applied { (handlers : Handlers) → Applied result self.old.world self.new.world
             (does handlers self.old.world (present_of subject) (SetStyle (operand_of node) (seen_declaration declaration))) }
         ensures begun { self.new.begun ≡ self.old.begun }
+        ensures observers { length self.new.world.resize_observers ≡ length self.old.world.resize_observers }
         ensures reach { IfOk result ReachesFar }
     {
         numbers_stay_in_range();
@@ -165,6 +173,7 @@ impl Page {
         ensures applied { (handlers : Handlers) → Applied result self.old.world self.new.world
             (does handlers self.old.world (present_of subject) (Grow (operand_of node) (dimension_of axis) by.0)) }
         ensures begun { self.new.begun ≡ self.old.begun }
+        ensures observers { length self.new.world.resize_observers ≡ length self.old.world.resize_observers }
         ensures reach { IfOk result ReachesFar }
     {
         numbers_stay_in_range();
@@ -184,6 +193,7 @@ impl Page {
         ensures applied { (handlers : Handlers) → Applied result self.old.world self.new.world
             (does handlers self.old.world (present_of subject) (Load (operand_of node) (unsigned_abs size.width) (unsigned_abs size.height))) }
         ensures begun { self.new.begun ≡ self.old.begun }
+        ensures observers { length self.new.world.resize_observers ≡ length self.old.world.resize_observers }
         ensures reach { IfOk result ReachesFar }
     {
         numbers_stay_in_range();

@@ -4,10 +4,14 @@
 
 mod answers;
 mod commands;
+mod delivery;
 mod names;
 mod page;
 mod readings;
 mod resize;
+#[cfg(test)]
+mod tests;
+mod ticks;
 
 pub use answers::{Effect, PageFault};
 pub use page::Page;

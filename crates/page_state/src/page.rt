@@ -1,6 +1,6 @@
 //! A page, and how a command is begun and applied.
 
-ghost use Rattle.std.specs.Prelude.{◌≡◌, ◌<◌, ◌≤◌, IsTrue, Bool, true, false, length, IfOk, OnOk, OnErr};
+ghost use Rattle.std.specs.Prelude.{◌≡◌, ◌<◌, ◌≤◌, ◌+◌, cond, IsTrue, Bool, true, false, length, IfOk, OnOk, OnErr};
 ghost use Rattle.script_model.specs.Syntax.{Action};
 ghost use Rattle.script_model.specs.Scripts.{handlers_in};
 ghost use Rattle.page_model.specs.World.{World};
@@ -10,7 +10,7 @@ ghost use Rattle.page_model.specs.Commands.{begun_in, does};
 ghost use Rattle.page_model.specs.Operands.{Handlers};
 ghost use Rattle.page_model.specs.Outcome.{opening_world};
 ghost use Rattle.page_model.specs.Ticks.{time_set};
-ghost use Rattle.built_part.specs.Built.{is_built};
+ghost use Rattle.built_part.specs.Built.{is_built, is_observer_made};
 ghost use Rattle.script_syntax.specs.Allowed.{ActionAllowed};
 ghost use Rattle.script_syntax.specs.Seen.{action_of};
 ghost use Rattle.page_state.specs.Answers.{Applied, Moved, ReachesFar};
@@ -58,21 +58,24 @@ pub struct Page {
     pub(crate) boxes: FreshBoxes,
     pub(crate) observers: Observers,
     pub(crate) size: Size,
+    // The size of the viewport at the last resize steps.
+    pub(crate) noted: Option<Size>,
     pub(crate) clock: u64,
     pub(crate) count: u32,
     pub(crate) begun: bool,
 }
 
 impl Model for Page {
+    ghost use Rattle.std.specs.Prelude.{option_map};
     ghost use Rattle.page_boxes.specs.Worlds.{seen_size};
     ghost use Rattle.page_state.specs.Views.{PageView, seen_world};
     ghost use Rattle.page_state.specs.Whole.{IsPage};
 
     ghost Value = { PageView };
 
-    ghost view = { λ p. record { world = seen_world p.names.list p.tree p.observers (seen_size p.size) p.clock p.count; begun = p.begun } };
+    ghost view = { λ p. record { world = seen_world p.names.list p.tree p.observers (seen_size p.size) (option_map seen_size p.noted) p.clock p.count; begun = p.begun } };
 
-    ghost invariant = { λ p. IsPage p.names.list p.tree p.boxes p.observers p.size p.count p.begun };
+    ghost invariant = { λ p. IsPage p.names.list p.tree p.boxes p.observers p.size p.noted p.count p.begun };
 }
 
 impl Page {
@@ -93,6 +96,7 @@ impl Page {
             boxes: FreshBoxes::new(alloc),
             observers: Observers::new(alloc, MOST_OBSERVERS, MOST_OBSERVATIONS),
             size: FIRST_SIZE,
+            noted: None,
             clock: 0,
             count: 0,
             begun: false,
@@ -134,7 +138,8 @@ impl Page {
 
     /// Applies a command that was begun and stands outside blocks: what it does is in the definition of commands, for
     /// the target of the present entry if there is one. `viewport`, `block`, `image`, `append`, `before`, `remove`, `set`,
-    /// `grow`, `load`, `read`, `ro-observe`, and `ro` without a handler are built.
+    /// `grow`, `load`, `read`, `ro-observe`, and `ro` without a handler are built. Only `ro` makes a resize observer, and not
+    /// more than one.
     ///
     /// # Errors
     /// `Throw` and `Limit` exactly where the definition says so, and `Memory`. The world is then as it was.
@@ -153,6 +158,8 @@ impl Page {
             (does (handler_names (handlers_in script.now)) self.old.world (present_of subject) (action_of command.now.what)) }
         ensures begun { self.new.begun ≡ false }
         ensures reach { IfOk result ReachesFar }
+        ensures observers { length self.new.world.resize_observers
+            ≤ length self.old.world.resize_observers + cond (is_observer_made (action_of command.now.what)) 1 0 }
     {
         let _handlers = script.items();
         self.begun = false;
@@ -175,6 +182,8 @@ impl Page {
             Applied result self.old.world self.new.world (does handlers self.old.world (present_of subject) (action_of what.now)) }
         ensures begun { self.new.begun ≡ false }
         ensures reach { IfOk result ReachesFar }
+        ensures observers { length self.new.world.resize_observers
+            ≤ length self.old.world.resize_observers + cond (is_observer_made (action_of what.now)) 1 0 }
     {
         match what {
             What::Viewport(size) => self.set_viewport(*size),

@@ -33,6 +33,7 @@ impl Page {
         ensures applied { (handlers : Handlers) → Applied result self.old.world self.new.world
             (does handlers self.old.world (present_of subject) (Read (operand_of target))) }
         ensures begun { self.new.begun ≡ self.old.begun }
+        ensures observers { length self.new.world.resize_observers ≡ length self.old.world.resize_observers }
         ensures reach { IfOk result ReachesFar }
     {
         let container = self.names.container(target, subject)?;

@@ -1,6 +1,6 @@
 //! Resize observers of a page (Resize Observer, 2).
 
-ghost use Rattle.std.specs.Prelude.{◌≡◌, ◌<◌, false, None, length, IfOk};
+ghost use Rattle.std.specs.Prelude.{◌≡◌, ◌<◌, ◌≤◌, ◌+◌, false, None, length, IfOk};
 ghost use Rattle.script_model.specs.Syntax.{MakeResizeObserver, ObserveResize};
 ghost use Rattle.page_model.specs.Commands.{does};
 ghost use Rattle.page_model.specs.Operands.{Handlers, Present};
@@ -23,6 +23,7 @@ impl Page {
         ensures applied { (handlers : Handlers) (present : Present) → Applied result self.old.world self.new.world
             (does handlers self.old.world present (MakeResizeObserver name document None)) }
         ensures begun { self.new.begun ≡ self.old.begun }
+        ensures observers { length self.new.world.resize_observers ≤ length self.old.world.resize_observers + 1 }
         ensures reach { IfOk result ReachesFar }
     {
         self.names.check_free(name)?;
@@ -52,6 +53,7 @@ impl Page {
         ensures applied { (handlers : Handlers) → Applied result self.old.world self.new.world
             (does handlers self.old.world (present_of subject) (ObserveResize observer (operand_of node) observed)) }
         ensures begun { self.new.begun ≡ self.old.begun }
+        ensures observers { length self.new.world.resize_observers ≡ length self.old.world.resize_observers }
         ensures reach { IfOk result ReachesFar }
     {
         numbers_stay_in_range();

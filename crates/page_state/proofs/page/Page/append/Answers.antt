@@ -7,14 +7,12 @@ use Rattle.page_model.specs.Ranges.{counts_of}
 use Rattle.page_model.specs.Steps.{becomes}
 use Rattle.page_tree.specs.Faults.{refusal}
 use Rattle.page_tree.specs.Views.{PageElements, placed_in}
-use Rattle.page_boxes.specs.Worlds.{seen_size}
 use Rattle.page_state.specs.declared.answers.Effect.{Effect}
 use Rattle.page_state.specs.declared.answers.PageFault.{PageFault}
-use Rattle.page_state.specs.Views.{seen_world}
 use Rattle.page_state.specs.Answers.{Applied}
 use Rattle.page_state.specs.Things.{present_of}
 use Rattle.page_state.specs.Whole.{listed, IsPage}
-use Rattle.page_state.proofs.Inside.{inner, base, exit_throws, exit_done, subject_inside, same_world, subject_in, refused_so, tree_held, container_in}
+use Rattle.page_state.proofs.Inside.{inner, base, exit_throws, exit_done, subject_inside, same_world, subject_in, refused_so, tree_held, container_in, world_of}
 use Rattle.page_state.proofs.Parts.{edited}
 use Rattle.script_model.specs.Syntax.{Append}
 use Rattle.script_syntax.specs.Seen.{operand_of}
@@ -42,13 +40,13 @@ place-requires-clause-node c = c.in_ok-node.ensures.held (counts_of c.self.invar
 
 pub invariant_of-self : goal.invariant_of-self
 invariant_of-self c =
-    subst (λ (it : PageElements). IsPage c.self.inside.names.list it c.self.inside.boxes c.self.inside.observers c.self.inside.size c.self.inside.count c.self.inside.begun) (sym c.in_err-place.ensures.same) c.self.invariant
+    subst (λ (it : PageElements). IsPage c.self.inside.names.list it c.self.inside.boxes c.self.inside.observers c.self.inside.size c.self.inside.noted c.self.inside.count c.self.inside.begun) (sym c.in_err-place.ensures.same) c.self.invariant
 
 pub returns-in_err-place-clause-applied : goal.returns-in_err-place-clause-applied
 returns-in_err-place-clause-applied c = λ handlers.
     let p = err_from_is_err_and c.from_residual-in_err-place.result c.from_residual-in_err-place.ensures.1 in
-    subst (λ (it : Result Effect PageFault). Applied it c.args.self.now.world (seen_world c.self.inside.names.list c.place.new.self c.self.inside.observers (seen_size c.self.inside.size) c.self.inside.clock c.self.inside.count) (does handlers c.args.self.now.world (present_of c.args.subject) (Append (operand_of c.args.parent) (operand_of c.args.node)))) (sym (p.1 ∙ ap Err p.2))
-    (refused_so c.in_err-place.field-0.0 c.args.self.now.world (seen_world c.self.inside.names.list c.place.new.self c.self.inside.observers (seen_size c.self.inside.size) c.self.inside.clock c.self.inside.count) (does handlers c.args.self.now.world (present_of c.args.subject) (Append (operand_of c.args.parent) (operand_of c.args.node)))
+    subst (λ (it : Result Effect PageFault). Applied it c.args.self.now.world (world_of c.self.inside c.self.inside.names.list c.place.new.self c.self.inside.observers) (does handlers c.args.self.now.world (present_of c.args.subject) (Append (operand_of c.args.parent) (operand_of c.args.node)))) (sym (p.1 ∙ ap Err p.2))
+    (refused_so c.in_err-place.field-0.0 c.args.self.now.world (world_of c.self.inside c.self.inside.names.list c.place.new.self c.self.inside.observers) (does handlers c.args.self.now.world (present_of c.args.subject) (Append (operand_of c.args.parent) (operand_of c.args.node)))
     (exit_done c.self.inside c.args.self.now c.self.view_is (refusal c.in_err-place.field-0.0) (λ (world : World). does handlers world (present_of c.args.subject) (Append (operand_of c.args.parent) (operand_of c.args.node))) (appends handlers (inner c.self.inside) (present_of c.args.subject) (refusal c.in_err-place.field-0.0) (operand_of c.args.node) c.in_ok-node.node.0 c.in_ok-node.ensures.answer (operand_of c.args.parent) (seen_container c.in_ok-container.container) c.in_ok-container.ensures.answer (c.in_err-place.ensures.refused (base c.self.inside))))
     (same_world c.self.inside c.args.self.now c.self.view_is c.place.new.self c.in_err-place.ensures.same))
 

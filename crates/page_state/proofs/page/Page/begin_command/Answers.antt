@@ -1,5 +1,5 @@
 -- Commands are counted.
-use Rattle.std.proofs.Common.{◌≡◌, ◌+◌, ℕ, refl, sym, ap, ◌∙◌, subst, arith, add-one}
+use Rattle.std.proofs.Common.{◌≡◌, ◌+◌, ℕ, refl, sym, ap, ◌∙◌, subst, arith, add-one, option_map}
 use Rattle.script_model.specs.Kinds.{CommandsLimit}
 use Rattle.page_model.specs.Commands.{begun_in}
 use Rattle.page_model.specs.Steps.{Did, Met}
@@ -20,5 +20,5 @@ invariant_of-self c = recounted c.self.invariant (c.self.inside.count + 1) _ (re
 
 pub returns-clause-counted : goal.returns-clause-counted
 returns-clause-counted c =
-    subst (λ (v : PageView). begun_in v.world ≡ Did (seen_world c.self.inside.names.list c.self.inside.tree c.self.inside.observers (seen_size c.self.inside.size) c.self.inside.clock (c.self.inside.count + 1))) c.self.view_is
-    (begins (inner c.self.inside) (omega arith) ∙ ap (λ (n : ℕ). Did (seen_world c.self.inside.names.list c.self.inside.tree c.self.inside.observers (seen_size c.self.inside.size) c.self.inside.clock n)) (sym (add-one c.self.inside.count)))
+    subst (λ (v : PageView). begun_in v.world ≡ Did (seen_world c.self.inside.names.list c.self.inside.tree c.self.inside.observers (seen_size c.self.inside.size) (option_map seen_size c.self.inside.noted) c.self.inside.clock (c.self.inside.count + 1))) c.self.view_is
+    (begins (inner c.self.inside) (omega arith) ∙ ap (λ (n : ℕ). Did (seen_world c.self.inside.names.list c.self.inside.tree c.self.inside.observers (seen_size c.self.inside.size) (option_map seen_size c.self.inside.noted) c.self.inside.clock n)) (sym (add-one c.self.inside.count)))

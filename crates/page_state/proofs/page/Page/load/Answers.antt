@@ -6,14 +6,12 @@ use Rattle.page_model.specs.Commands.{does}
 use Rattle.page_model.specs.Ranges.{counts_of}
 use Rattle.page_model.specs.Steps.{becomes, Threw}
 use Rattle.page_tree.specs.Views.{PageElements, placed_in}
-use Rattle.page_boxes.specs.Worlds.{seen_size}
 use Rattle.page_state.specs.declared.answers.Effect.{Effect}
 use Rattle.page_state.specs.declared.answers.PageFault.{PageFault}
-use Rattle.page_state.specs.Views.{seen_world}
 use Rattle.page_state.specs.Answers.{Applied}
 use Rattle.page_state.specs.Things.{present_of}
 use Rattle.page_state.specs.Whole.{listed, IsPage}
-use Rattle.page_state.proofs.Inside.{inner, base, exit_throws, exit_done, subject_inside, same_world, subject_in, same_throw, tree_held}
+use Rattle.page_state.proofs.Inside.{inner, base, exit_throws, exit_done, subject_inside, same_world, subject_in, same_throw, tree_held, world_of}
 use Rattle.page_state.proofs.Parts.{edited}
 use Rattle.script_model.specs.Syntax.{Load}
 use Rattle.script_syntax.specs.Seen.{operand_of}
@@ -33,12 +31,12 @@ load-requires-clause-node c = c.in_ok-node.ensures.held (counts_of c.self.invari
 
 pub invariant_of-self : goal.invariant_of-self
 invariant_of-self c =
-    subst (λ (it : PageElements). IsPage c.self.inside.names.list it c.self.inside.boxes c.self.inside.observers c.self.inside.size c.self.inside.count c.self.inside.begun) (sym c.in_err-load.ensures.same) c.self.invariant
+    subst (λ (it : PageElements). IsPage c.self.inside.names.list it c.self.inside.boxes c.self.inside.observers c.self.inside.size c.self.inside.noted c.self.inside.count c.self.inside.begun) (sym c.in_err-load.ensures.same) c.self.invariant
 
 pub returns-in_err-load-clause-applied : goal.returns-in_err-load-clause-applied
 returns-in_err-load-clause-applied c = λ handlers.
     let p = err_from_is_err_and c.from_residual-in_err-load.result c.from_residual-in_err-load.ensures.1 in
-    subst (λ (it : Result Effect PageFault). Applied it c.args.self.now.world (seen_world c.self.inside.names.list c.load.new.self c.self.inside.observers (seen_size c.self.inside.size) c.self.inside.clock c.self.inside.count) (does handlers c.args.self.now.world (present_of c.args.subject) (Load (operand_of c.args.node) (unsigned_abs c.args.size.width) (unsigned_abs c.args.size.height)))) (sym (p.1 ∙ ap Err p.2)) (
+    subst (λ (it : Result Effect PageFault). Applied it c.args.self.now.world (world_of c.self.inside c.self.inside.names.list c.load.new.self c.self.inside.observers) (does handlers c.args.self.now.world (present_of c.args.subject) (Load (operand_of c.args.node) (unsigned_abs c.args.size.width) (unsigned_abs c.args.size.height)))) (sym (p.1 ∙ ap Err p.2)) (
       exit_done c.self.inside c.args.self.now c.self.view_is (Threw (seen_throw c.in_err-load.field-0.0)) (λ (world : World). does handlers world (present_of c.args.subject) (Load (operand_of c.args.node) (unsigned_abs c.args.size.width) (unsigned_abs c.args.size.height))) (loads handlers (inner c.self.inside) (present_of c.args.subject) (Threw (seen_throw c.in_err-load.field-0.0)) (operand_of c.args.node) c.in_ok-node.node.0 c.in_ok-node.ensures.answer (unsigned_abs c.args.size.width) (unsigned_abs c.args.size.height) (c.in_err-load.ensures.refused (base c.self.inside) ∙ ap Threw (same_throw c.in_err-load.field-0.0))),
       same_world c.self.inside c.args.self.now c.self.view_is c.load.new.self c.in_err-load.ensures.same,
     )

@@ -1,5 +1,5 @@
 -- The viewport's size is a length.
-use Rattle.std.proofs.Common.{unsigned_abs}
+use Rattle.std.proofs.Common.{option_map, unsigned_abs}
 use Rattle.page_model.specs.World.{World}
 use Rattle.page_model.specs.Commands.{does}
 use Rattle.page_model.specs.Steps.{becomes}
@@ -17,6 +17,6 @@ invariant_of-self c = resized c.self.invariant c.args.size (natural c.args.size 
 pub returns-clause-applied : goal.returns-clause-applied
 returns-clause-applied c = λ handlers present.
     exit_done c.self.inside c.args.self.now c.self.view_is
-    (becomes (seen_world c.self.inside.names.list c.self.inside.tree c.self.inside.observers (seen_size c.args.size) c.self.inside.clock c.self.inside.count))
+    (becomes (seen_world c.self.inside.names.list c.self.inside.tree c.self.inside.observers (seen_size c.args.size) (option_map seen_size c.self.inside.noted) c.self.inside.clock c.self.inside.count))
     (λ (world : World). does handlers world present (Viewport (unsigned_abs c.args.size.width) (unsigned_abs c.args.size.height)))
     (resizes handlers (inner c.self.inside) present (unsigned_abs c.args.size.width) (unsigned_abs c.args.size.height))
