@@ -1,3 +1,9 @@
 pub mod Writes
-pub mod Deliveries
-pub mod Runs
+pub mod Lines
+pub mod Saying
+pub mod Items
+pub mod Building
+pub mod Following
+pub mod Endings
+pub mod Playing
+pub mod Taking

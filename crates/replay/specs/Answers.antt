@@ -1,30 +1,12 @@
 -- What a run answers and writes.
-use Rattle.std.specs.Prelude.{◌≡◌, ℕ, Bool, true, false, IsTrue, not, List, [], ◌++◌, Option, Result, Ok, Err}
+use Rattle.std.specs.Prelude.{◌≡◌, ℕ, List, [], ◌++◌, drop, Option, Some, Result, Ok, Err}
 use Rattle.std.specs.Io.KnownBytes.{Appends}
 use Rattle.text_io.specs.Streams.{Rose}
-use Rattle.first_path.specs.Reading.{Reading, Script, NotBuilt as NotBuiltAt, reading}
-use Rattle.first_path.specs.Trace.{trace}
+use Rattle.built_part.specs.Outcomes.{Outcome, Ended, Faulty, LimitMet, Unbuilt}
 use Rattle.replay.specs.declared.status.Status.{Status}
-use Rattle.replay.specs.declared.status.Status.TheVariants.{Done, NotBuilt, NoMemory, ReadFault, WriteFault, Usage}
+use Rattle.replay.specs.declared.status.Status.TheVariants.{Done, Syntax, Limit, NotBuilt, NoMemory, ReadFault, WriteFault, Usage}
 use Rattle.replay.specs.declared.status.Stop.{Stop}
 use Rattle.replay.specs.declared.status.Stop.TheVariants.{Memory, Write}
-
--- the exit status of the program
-abbrev pub code_of : Status → ℕ
-code_of Done = 0
-code_of NotBuilt = 9
-code_of NoMemory = 3
-code_of ReadFault = 4
-code_of WriteFault = 5
-code_of Usage = 6
-
-abbrev pub is_done : Status → Bool
-is_done Done = true
-is_done NotBuilt = false
-is_done NoMemory = false
-is_done ReadFault = false
-is_done WriteFault = false
-is_done Usage = false
 
 -- known bytes grow by a first part of a text
 pub record AppendsPart (before after : Option (List ℕ)) (text : List ℕ) : Type 0 where
@@ -39,37 +21,36 @@ Wrote (Ok value) before after faults faults_after text = Appends before after te
 Wrote (Err Memory) before after faults faults_after text = AppendsPart before after text
 Wrote (Err Write) before after faults faults_after text = AppendsPart before after text × Rose faults faults_after
 
-abbrev pub is_script : Reading → Bool
-is_script (Script commands) = true
-is_script (NotBuiltAt line) = false
-
--- what each status says of a text that was read, and of what was written then; a read that failed comes before
-abbrev pub Answers : Status → List ℕ → Option (List ℕ) → Option (List ℕ) → ℕ → ℕ → Type 0
-Answers Done text before after faults faults_after = IsTrue (is_script (reading text)) × Appends before after (trace text)
-Answers NotBuilt text before after faults faults_after = IsTrue (not (is_script (reading text))) × Appends before after (trace text)
-Answers NoMemory text before after faults faults_after = AppendsPart before after (trace text)
-Answers WriteFault text before after faults faults_after = AppendsPart before after (trace text) × Rose faults faults_after
-Answers ReadFault text before after faults faults_after = ⊥
-Answers Usage text before after faults faults_after = ⊥
+-- what each status says of the outcome of a text that was read, and of what was written then; a read that failed comes
+-- before
+abbrev pub Answers : Status → Outcome → Option (List ℕ) → Option (List ℕ) → ℕ → ℕ → Type 0
+Answers Done outcome before after faults faults_after = (outcome.ending ≡ Ended) × Appends before after (outcome.text)
+Answers Syntax outcome before after faults faults_after = (outcome.ending ≡ Faulty) × Appends before after (outcome.text)
+Answers Limit outcome before after faults faults_after = (outcome.ending ≡ LimitMet) × Appends before after (outcome.text)
+Answers NotBuilt outcome before after faults faults_after = (outcome.ending ≡ Unbuilt) × Appends before after (outcome.text)
+Answers NoMemory outcome before after faults faults_after = AppendsPart before after (outcome.text)
+Answers WriteFault outcome before after faults faults_after = AppendsPart before after (outcome.text) × Rose faults faults_after
+Answers ReadFault outcome before after faults faults_after = ⊥
+Answers Usage outcome before after faults faults_after = ⊥
 
 -- the same of the whole call, where nothing was written after a read that failed
-abbrev pub Ends : Status → List ℕ → Option (List ℕ) → Option (List ℕ) → ℕ → ℕ → Type 0
-Ends Done text before after faults faults_after = Answers Done text before after faults faults_after
-Ends NotBuilt text before after faults faults_after = Answers NotBuilt text before after faults faults_after
-Ends NoMemory text before after faults faults_after = Answers NoMemory text before after faults faults_after
-Ends WriteFault text before after faults faults_after = Answers WriteFault text before after faults faults_after
-Ends ReadFault text before after faults faults_after = Appends before after []
-Ends Usage text before after faults faults_after = ⊥
+abbrev pub Ends : Status → Outcome → Option (List ℕ) → Option (List ℕ) → ℕ → ℕ → Type 0
+Ends Done outcome before after faults faults_after = Answers Done outcome before after faults faults_after
+Ends Syntax outcome before after faults faults_after = Answers Syntax outcome before after faults faults_after
+Ends Limit outcome before after faults faults_after = Answers Limit outcome before after faults faults_after
+Ends NotBuilt outcome before after faults faults_after = Answers NotBuilt outcome before after faults faults_after
+Ends NoMemory outcome before after faults faults_after = Answers NoMemory outcome before after faults faults_after
+Ends WriteFault outcome before after faults faults_after = Answers WriteFault outcome before after faults faults_after
+Ends ReadFault outcome before after faults faults_after = Appends before after []
+Ends Usage outcome before after faults faults_after = ⊥
 
--- the one line of a refusal was written, or a first part of it
-abbrev pub Refuses : Status → List ℕ → Option (List ℕ) → Option (List ℕ) → ℕ → ℕ → Type 0
-Refuses NotBuilt line before after faults faults_after = Appends before after line
-Refuses NoMemory line before after faults faults_after = AppendsPart before after line
-Refuses WriteFault line before after faults faults_after = AppendsPart before after line × Rose faults faults_after
-Refuses Done line before after faults faults_after = ⊥
-Refuses ReadFault line before after faults faults_after = ⊥
-Refuses Usage line before after faults faults_after = ⊥
-
-abbrev pub status_of : Stop → Status
-status_of Memory = NoMemory
-status_of Write = WriteFault
+-- what was taken of a text that was read to an answer: all of it, or as many bytes as a script may have and one more
+abbrev pub IsTaken : Status → List ℕ → Option (List ℕ) → Type 0
+IsTaken Done text left = left ≡ Some (drop 16777217 text)
+IsTaken Syntax text left = left ≡ Some (drop 16777217 text)
+IsTaken Limit text left = left ≡ Some (drop 16777217 text)
+IsTaken NotBuilt text left = left ≡ Some (drop 16777217 text)
+IsTaken NoMemory text left = Unit {0}
+IsTaken WriteFault text left = Unit {0}
+IsTaken ReadFault text left = Unit {0}
+IsTaken Usage text left = Unit {0}

@@ -3,11 +3,14 @@
 
 ghost use Rattle.std.specs.Prelude.{◌≡◌, ◌<◌};
 
-mod lines;
+mod built;
+mod limits;
+mod play;
 mod run;
 mod status;
 #[cfg(test)]
 mod tests;
+mod write;
 
 use crate::run::{Report, run};
 use crate::status::Status;

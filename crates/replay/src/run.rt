@@ -1,24 +1,35 @@
-ghost use Rattle.std.specs.Prelude.{◌≡◌, flat_map, false, ◌↔◌, ℕ, ◌<◌, length, is_some, OnOk, OnErr, IfOk, IfSome, Some, [], ◌++◌};
-ghost use Rattle.std.specs.Io.KnownBytes.{Appends, Keeps, Consumes};
-ghost use Rattle.text_io.specs.Streams.{Rose};
-ghost use Rattle.first_reader.specs.Seen.{seen_item};
-ghost use Rattle.first_path.specs.Page.{opening_page, Tick};
-ghost use Rattle.first_path.specs.Trace.{observer_name, tick_line, round_line, tick_lines, lines_by, page_after, lines_of_all, not_built_line, trace};
-ghost use Rattle.replay.specs.Answers.{Answers, Ends, Refuses, Wrote, is_done, status_of};
-ghost use Rattle.replay.specs.Lines.{least_told, lesser, told_line, told_lines};
+//! The top call.
 
-use crate::lines::{not_built_line, resize_line, round_line, tick_line};
-use crate::status::{Status, Stop};
-use first_page::Page;
-use first_reader::{FirstFault, Item, Script, What, parse_first};
-use px_units::Size;
-use std::alloc::{AllocError, Global};
+ghost use Rattle.std.specs.Prelude.{◌≡◌, ◌↔◌, ◌<◌, ◌≤◌, None, Err, length, is_some, false, IfSome, Some, []};
+ghost use Rattle.text_io.specs.Streams.{Rose};
+ghost use Rattle.script_model.specs.Reading.{Reading, reading, LimitAt};
+ghost use Rattle.script_syntax.specs.Parsing.{Parses};
+ghost use Rattle.trace_text.specs.Seen.{seen_limit};
+ghost use Rattle.page_model.specs.Outcome.{opening_world};
+ghost use Rattle.built_part.specs.Built.{unbuilt_line};
+ghost use Rattle.built_part.specs.Outcomes.{outcome, outcome_read, outcome_run};
+ghost use Rattle.replay.specs.Answers.{Answers, Ends, IsTaken};
+ghost use Rattle.replay.specs.Statuses.{is_done, status_after, status_of};
+
+use crate::built::unbuilt_line;
+use crate::limits::number;
+use crate::play::play;
+use crate::status::{Flow, Status, Stop};
+use crate::write::{write_not_built, write_one};
+use page_state::Page;
+use script_lexer::Lexer;
+use script_syntax::{ParseFault, Script, parse};
+use std::alloc::Global;
 use std::sync::ledger::Ledger;
 use step_count::Steps;
-use text_io::{Name, Sink, Source, TextFault, read_all, write_all};
+use text_io::{LimitKind, Sink, Source, TextFault, read_all};
+use trace_text::TraceLine;
 
-/// The most bytes of a source that are built so far.
-const MOST_BYTES: usize = 65536;
+/// The most bytes of a script.
+const MOST_BYTES: usize = 16_777_216;
+
+/// The most bytes of a line.
+const MOST_LINE: usize = 4096;
 
 /// What a run answers.
 #[derive(Drop)]
@@ -28,160 +39,16 @@ pub struct Report {
     pub page: Option<Page>,
 }
 
-fn write<K: Sink>(sink: &mut K, text: &[u8]) -> Result<(), Stop>
-    ensures { Wrote result (K.taken sink.old) (K.taken sink.new) (K.faults sink.old) (K.faults sink.new) text.now }
-{
-    match write_all(sink, text) {
-        Ok(()) => Ok(()),
-        Err(_) => Err(Stop::Write),
-    }
-}
-
-fn write_entries<K: Sink>(
-    alloc: Global,
-    observer: &[u8],
-    told: &[(Name, u32, Size)],
-    sink: &mut K,
-) -> Result<(), Stop>
-    ensures { Wrote result (K.taken sink.old) (K.taken sink.new) (K.faults sink.old) (K.faults sink.new) (flat_map (told_line observer.now) told.now) }
-{
-    for one in told {
-        let Ok(line) = resize_line(alloc, observer, one) else {
-            return Err(Stop::Memory);
-        };
-        if let Err(stop) = write(sink, &line) {
-            return Err(stop);
-        }
-    }
-    Ok(())
-}
-
-fn lesser(least: Option<u32>, depth: u32) -> u32
-    ensures { result ≡ lesser least depth }
-{
-    match least {
-        None => depth,
-        Some(least) => least.min(depth),
-    }
-}
-
-fn least_depth(told: &[(Name, u32, Size)]) -> Option<u32>
-    ensures { result ≡ least_told told.now }
-{
-    told.iter()
-        .fold(None, |least, one| Some(lesser(least, one.1)))
-}
-
-fn write_round<K: Sink>(alloc: Global, depth: u32, sink: &mut K) -> Result<(), Stop>
-    ensures { Wrote result (K.taken sink.old) (K.taken sink.new) (K.faults sink.old) (K.faults sink.new) (round_line depth) }
-{
-    let Ok(line) = round_line(alloc, depth) else {
-        return Err(Stop::Memory);
-    };
-    write(sink, &line)
-}
-
-fn write_delivery<K: Sink>(
-    alloc: Global,
-    observer: &[u8],
-    told: &[(Name, u32, Size)],
-    sink: &mut K,
-) -> Result<(), Stop>
-    ensures { Wrote result (K.taken sink.old) (K.taken sink.new) (K.faults sink.old) (K.faults sink.new) (told_lines observer.now told.now) }
-{
-    if let Err(stop) = write_entries(alloc, observer, told, sink) {
-        return Err(stop);
-    }
-    match least_depth(told) {
-        None => Ok(()),
-        Some(depth) => write_round(alloc, depth, sink),
-    }
-}
-
-fn write_told<K: Sink>(
-    alloc: Global,
-    page: &Page,
-    told: &[(Name, u32, Size)],
-    sink: &mut K,
-) -> Result<(), Stop>
-    ensures { Wrote result (K.taken sink.old) (K.taken sink.new) (K.faults sink.old) (K.faults sink.new) (told_lines (observer_name page.now) told.now) }
-{
-    match page.observer() {
-        None => write_delivery(alloc, b"", told, sink),
-        Some(observer) => write_delivery(alloc, observer.bytes(), told, sink),
-    }
-}
-
-fn write_tick<K: Sink>(alloc: Global, time: u64, sink: &mut K) -> Result<(), Stop>
-    ensures { Wrote result (K.taken sink.old) (K.taken sink.new) (K.faults sink.old) (K.faults sink.new) (tick_line time) }
-{
-    let Ok(line) = tick_line(alloc, time) else {
-        return Err(Stop::Memory);
-    };
-    write(sink, &line)
-}
-
-fn tick<K: Sink>(alloc: Global, page: &mut Page, time: u64, sink: &mut K) -> Result<(), Stop>
-    ensures wrote { Wrote result (K.taken sink.old) (K.taken sink.new) (K.faults sink.old) (K.faults sink.new) (tick_lines page.old time) }
-    ensures page { OnOk result (page.new ≡ page_after page.old (Tick time)) }
-{
-    if let Err(stop) = write_tick(alloc, time, sink) {
-        return Err(stop);
-    }
-    let Ok(told) = page.deliver() else {
-        return Err(Stop::Memory);
-    };
-    write_told(alloc, page, &told, sink)
-}
-
-fn step<K: Sink>(alloc: Global, page: &mut Page, item: &Item, sink: &mut K) -> Result<(), Stop>
-    ensures wrote { Wrote result (K.taken sink.old) (K.taken sink.new) (K.faults sink.old) (K.faults sink.new) (lines_by page.old (seen_item item.now).command) }
-    ensures page { OnOk result (page.new ≡ page_after page.old (seen_item item.now).command) }
-{
-    let Item::Command(command) = item;
-    if let What::Tick(time) = command.what {
-        return tick(alloc, page, time, sink);
-    }
-    match page.apply(command) {
-        Ok(()) => Ok(()),
-        Err(_) => Err(Stop::Memory),
-    }
-}
-
-fn play<K: Sink>(alloc: Global, script: &Script, sink: &mut K) -> Result<Page, Stop>
-    ensures { Wrote result (K.taken sink.old) (K.taken sink.new) (K.faults sink.old) (K.faults sink.new) (lines_of_all opening_page script.now) }
-{
-    let Ok(mut page) = Page::new(alloc) else {
-        return Err(Stop::Memory);
-    };
-    for item in script.items() {
-        if let Err(stop) = step(alloc, &mut page, item, sink) {
-            return Err(stop);
-        }
-    }
-    Ok(page)
-}
-
-fn write_not_built<K: Sink>(alloc: Global, line: u32, sink: &mut K) -> Result<(), Stop>
-    ensures { Wrote result (K.taken sink.old) (K.taken sink.new) (K.faults sink.old) (K.faults sink.new) (not_built_line line) }
-{
-    let Ok(text) = not_built_line(alloc, line) else {
-        return Err(Stop::Memory);
-    };
-    write(sink, &text)
-}
-
 fn without_page(status: Status) -> Report
     requires { is_done status ≡ false }
-    ensures status { result.status ≡ status }
-    ensures page { is_some result.page ≡ false }
+    ensures { result ≡ record { status = status; page = None } }
 {
     Report { status, page: None }
 }
 
 fn stopped(stop: Stop) -> Report
-    ensures status { result.status ≡ status_of stop }
-    ensures page { is_some result.page ≡ false }
+    ensures report { result ≡ record { status = status_of stop; page = None } }
+    ensures done { is_done result.status ≡ false }
 {
     match stop {
         Stop::Memory => without_page(Status::NoMemory),
@@ -189,38 +56,110 @@ fn stopped(stop: Stop) -> Report
     }
 }
 
-fn not_built<K: Sink>(alloc: Global, line: u32, sink: &mut K) -> Report
-    ensures wrote { Refuses result.status (not_built_line line) (K.taken sink.old) (K.taken sink.new) (K.faults sink.old) (K.faults sink.new) }
-    ensures page { is_some result.page ≡ false }
+// The end of a run whose whole text is one line.
+fn conclude(wrote: Result<(), Stop>, status: Status) -> Report
+    requires { is_done status ≡ false }
+    ensures report { result ≡ record { status = status_after wrote status; page = None } }
+    ensures done { is_done result.status ≡ false }
 {
-    match write_not_built(alloc, line, sink) {
-        Ok(()) => without_page(Status::NotBuilt),
+    match wrote {
+        Ok(()) => without_page(status),
         Err(stop) => stopped(stop),
     }
 }
 
-/// Replays the script of a text.
-fn replay<K: Sink>(alloc: Global, text: &[u8], sink: &mut K) -> Report
-    ensures answers { Answers result.status text.now (K.taken sink.old) (K.taken sink.new) (K.faults sink.old) (K.faults sink.new) }
-    ensures page { is_some result.page ≡ is_done result.status }
+// A limit that was met while the text was read.
+fn meet_limit<K: Sink>(alloc: Global, kind: LimitKind, line: u32, sink: &mut K) -> Report
+    ensures answers { Answers result.status (outcome_read (Err (LimitAt (seen_limit kind) line))) (K.taken sink.old) (K.taken sink.new) (K.faults sink.old) (K.faults sink.new) }
+    ensures page { result.page ≡ None }
+    ensures done { is_done result.status ≡ false }
 {
-    match parse_first(alloc, text) {
-        Err(FirstFault::Memory) => without_page(Status::NoMemory),
-        Err(FirstFault::NotBuilt { line }) => not_built(alloc, line, sink),
-        Ok(script) => match play(alloc, &script, sink) {
-            Err(stop) => stopped(stop),
-            Ok(page) => Report {
-                status: Status::Done,
-                page: Some(page),
-            },
+    let line = TraceLine::Limit(kind, line, number(kind));
+    conclude(write_one(alloc, &line, sink), Status::Limit)
+}
+
+fn parse_text(alloc: Global, text: &[u8]) -> Result<Script, ParseFault>
+    requires { length text.now ≤ 16777216 }
+    ensures { Parses result (reading text.now) }
+{
+    let mut lexer = Lexer::new(alloc, MOST_LINE);
+    let Ok(()) = lexer.feed(text) else {
+        return Err(ParseFault::Memory);
+    };
+    let Ok(text) = lexer.finish() else {
+        return Err(ParseFault::Memory);
+    };
+    parse(alloc, &text)
+}
+
+// A text that is no script.
+fn refuse_text<K: Sink>(alloc: Global, fault: ParseFault, sink: &mut K) -> Report
+    ensures answers { (read : Reading) → Parses (Err fault) read → Answers result.status (outcome_read read) (K.taken sink.old) (K.taken sink.new) (K.faults sink.old) (K.faults sink.new) }
+    ensures page { result.page ≡ None }
+    ensures done { is_done result.status ≡ false }
+{
+    match fault {
+        ParseFault::Syntax { line, column } => {
+            let wrote = write_one(alloc, &TraceLine::Syntax(line, column), sink);
+            conclude(wrote, Status::Syntax)
+        }
+        ParseFault::ScriptLimit { kind, line } => meet_limit(alloc, kind, line, sink),
+        ParseFault::Memory => without_page(Status::NoMemory),
+    }
+}
+
+// A script, where all of it is built.
+fn run_script<K: Sink, L: Ledger>(
+    alloc: Global,
+    script: &Script,
+    sink: &mut K,
+    steps: &mut Steps<L>,
+) -> Report
+    ensures answers { Answers result.status (outcome_run (unbuilt_line script.now) script.now)
+        (K.taken sink.old) (K.taken sink.new) (K.faults sink.old) (K.faults sink.new) }
+    ensures page { is_some result.page ≡ is_done result.status }
+    ensures world { IfSome result.page (λ page. page.world ≡ (outcome_run (unbuilt_line script.now) script.now).world) }
+{
+    if let Some(line) = unbuilt_line(script.items()) {
+        return conclude(write_not_built(alloc, line, sink), Status::NotBuilt);
+    }
+    let Ok(mut page) = Page::new(alloc) else {
+        return without_page(Status::NoMemory);
+    };
+    match play(alloc, &mut page, script, sink, steps) {
+        Ok(Flow::Next) => Report {
+            status: Status::Done,
+            page: Some(page),
         },
+        Ok(Flow::Limited) => without_page(Status::Limit),
+        Err(stop) => stopped(stop),
+    }
+}
+
+// The script of a text.
+fn replay<K: Sink, L: Ledger>(
+    alloc: Global,
+    text: &[u8],
+    sink: &mut K,
+    steps: &mut Steps<L>,
+) -> Report
+    requires { length text.now ≤ 16777216 }
+    ensures answers { Answers result.status (outcome text.now) (K.taken sink.old) (K.taken sink.new) (K.faults sink.old) (K.faults sink.new) }
+    ensures page { is_some result.page ≡ is_done result.status }
+    ensures world { IfSome result.page (λ page. page.world ≡ (outcome text.now).world) }
+{
+    match parse_text(alloc, text) {
+        Ok(script) => run_script(alloc, &script, sink, steps),
+        Err(fault) => refuse_text(alloc, fault, sink),
     }
 }
 
 /// Replays the script that the source has left, and writes its trace line by line to the sink. No words are accepted so
-/// far; `steps` counts nothing yet.
+/// far. `steps` counts the boxes that are computed: a `read`, and a tick where there is an observer, computes
+/// every box of the page anew.
 ///
-/// - `Done` and `NotBuilt`: the source is at its end, or has more bytes than are built, and the whole text was written.
+/// - `Done`, `Syntax`, `Limit` and `NotBuilt`: exactly by how the outcome of the text ends; the whole text was written.
+///   The source is at its end then; of more bytes than a script may have one more than that many were taken.
 /// - `ReadFault` and `WriteFault`: only where that count of faults rose in this call.
 /// - `Usage`: exactly for words that aren't accepted; nothing is read or written, and no memory is asked for.
 pub fn run<S: Source, K: Sink, L: Ledger>(
@@ -231,23 +170,23 @@ pub fn run<S: Source, K: Sink, L: Ledger>(
     steps: &mut Steps<L>,
 ) -> Report
     ensures usage { (result.status ≡ Status.Usage) ↔ (0 < length words.now) }
-    ensures untouched { 0 < length words.now → (source.new ≡ source.old) × (sink.new ≡ sink.old) }
+    ensures untouched { 0 < length words.now → (source.new ≡ source.old) × (sink.new ≡ sink.old) × (steps.new ≡ steps.old) }
     // What the status says of a text that the source tells, and of what was written.
     ensures ends { length words.now ≡ 0 → IfSome (S.left source.old) (λ text.
-        Ends result.status text (K.taken sink.old) (K.taken sink.new) (K.faults sink.old) (K.faults sink.new)) }
-    ensures read { result.status ≡ Status.Done → IfSome (S.left source.old) (λ _. S.left source.new ≡ Some []) }
+        Ends result.status (outcome text) (K.taken sink.old) (K.taken sink.new) (K.faults sink.old) (K.faults sink.new)) }
+    ensures read { IfSome (S.left source.old) (λ text. IsTaken result.status text (S.left source.new)) }
     // The causes, also where neither tells its bytes.
     ensures read_fault { result.status ≡ Status.ReadFault → Rose (S.faults source.old) (S.faults source.new) × (sink.new ≡ sink.old) }
     ensures write_fault { result.status ≡ Status.WriteFault → Rose (K.faults sink.old) (K.faults sink.new) }
     ensures page { is_some result.page ≡ is_done result.status }
-    ensures steps { steps.new ≡ steps.old }
+    ensures world { IfSome result.page (λ page. IfSome (S.left source.old) (λ text. page.world ≡ (outcome text).world)) }
 {
     if !words.is_empty() {
         return without_page(Status::Usage);
     }
     match read_all(alloc, source, MOST_BYTES) {
-        Ok(text) => replay(alloc, &text, sink),
-        Err(TextFault::TooLong { .. }) => not_built(alloc, 0, sink),
+        Ok(text) => replay(alloc, &text, sink, steps),
+        Err(TextFault::TooLong { feeds }) => meet_limit(alloc, LimitKind::Script, feeds + 1, sink),
         Err(TextFault::ReadFault) => without_page(Status::ReadFault),
         Err(_) => without_page(Status::NoMemory),
     }

@@ -1,12 +1,18 @@
+//! How a run ends, and why it ends early.
+
 ghost use Rattle.std.specs.Prelude.{◌≡◌};
-ghost use Rattle.replay.specs.Answers.{code_of};
+ghost use Rattle.replay.specs.Statuses.{code_of};
 
 /// How a run ended.
 #[derive(Clone, Copy, Debug, PartialEq, Eq)]
 pub enum Status {
-    /// The whole text was written.
+    /// The script was run to its end; the whole text was written.
     Done,
-    /// The source has something that isn't built yet; the line that says where was written.
+    /// The text is no script; the line that says where was written.
+    Syntax,
+    /// A limit was met; the text up to its line was written.
+    Limit,
+    /// The script has something that isn't built yet; the line that says where was written.
     NotBuilt,
     /// No memory was left; a first part of the text was written.
     NoMemory,
@@ -25,6 +31,8 @@ impl Status {
     {
         match self {
             Status::Done => 0,
+            Status::Syntax => 1,
+            Status::Limit => 2,
             Status::NotBuilt => 9,
             Status::NoMemory => 3,
             Status::ReadFault => 4,
@@ -39,4 +47,11 @@ impl Status {
 pub enum Stop {
     Memory,
     Write,
+}
+
+/// Whether the next item of a script follows, or a limit ended the run.
+#[derive(Clone, Copy, Debug, PartialEq, Eq)]
+pub enum Flow {
+    Next,
+    Limited,
 }

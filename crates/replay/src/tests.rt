@@ -15,19 +15,30 @@ const PAGE: &str =
 // What it writes.
 const TOLD: &str = "tick 0\nresize o r rect 0 0 800 0 border 800 0\nround top 1\n";
 
-// Blocks in blocks: widths go down and heights up. The block d comes into the tree after a tick, and b is observed anew.
-const NESTED: &str =
-    "script 1\nblock r top\nappend top r\nblock p top\nappend r p\nset p width 300px\nblock a top\nappend p a\nset a height 20px\nblock b top\nset b width 40px\nset b height 100px\nappend p b\nblock c top\nappend b c\nblock d top\nro o top -\nro-observe o c content\nro-observe o b content\nro-observe o d content\nro-observe o a content\nro-observe o r content\ntick 0\nappend c d\nset d height 7px\nro-observe o b content\ntick 16\nset p width 0px\ntick 16\n";
+// A block that is not shown at first, and is removed at last.
+const HIDDEN: &str =
+    "script 1\nblock r top\nappend top r\nblock b top\nset b display none\nappend r b\nro o top -\nro-observe o b content\ntick 0\nset b display block\nset b width 40px\nset b height 10px\ntick 16\nremove b\ntick 32\n";
 
-const NESTED_TOLD: &str =
-    "tick 0\nresize o c rect 0 0 40 0 border 40 0\nresize o b rect 0 0 40 100 border 40 100\nresize o a rect 0 0 300 20 border 300 20\nresize o r rect 0 0 800 120 border 800 120\nround top 1\ntick 16\nresize o c rect 0 0 40 7 border 40 7\nresize o d rect 0 0 40 7 border 40 7\nresize o b rect 0 0 40 100 border 40 100\nround top 3\ntick 16\nresize o a rect 0 0 0 20 border 0 20\nround top 3\n";
+const HIDDEN_TOLD: &str =
+    "tick 0\ntick 16\nresize o b rect 0 0 40 10 border 40 10\nround top 2\ntick 32\nresize o b rect 0 0 0 0 border 0 0\nround top 1\n";
 
-// Widths from the root element on, and longer lengths.
-const WIDE: &str =
-    "script 1\nblock r top\nblock p top\nappend top r\nappend r p\nset p height 1000000px\nblock q top\nappend r q\nset q height 1000000px\nblock s top\nappend r s\nro o top -\nro-observe o s content\nro-observe o q content\ntick 5\nset r width 1000000px\nset p width 999999px\nset s height 1px\nro-observe o r content\nro-observe o p content\ntick 1000000000000\n";
+// Percentages of a width with its padding and border in it.
+const PERCENT: &str =
+    "script 1\nblock r top\nappend top r\nset r width 50%\nset r box-sizing border-box\nset r padding-left 10%\nset r padding-top 5%\nset r border-left 2px\nblock c top\nset c height 50%\nset c min-height 10px\nappend r c\nro o top -\nro-observe o r content\nro-observe o c border\ntick 0\n";
 
-const WIDE_TOLD: &str =
-    "tick 5\nresize o s rect 0 0 800 0 border 800 0\nresize o q rect 0 0 800 1000000 border 800 1000000\nround top 2\ntick 1000000000000\nresize o s rect 0 0 1000000 1 border 1000000 1\nresize o q rect 0 0 1000000 1000000 border 1000000 1000000\nresize o r rect 0 0 1000000 2000001 border 1000000 2000001\nresize o p rect 0 0 999999 1000000 border 999999 1000000\nround top 1\n";
+const PERCENT_TOLD: &str =
+    "tick 0\nresize o r rect 80 40 318 10 border 400 50\nresize o c rect 0 0 318 10 border 318 10\nround top 1\n";
+
+// Edits of the tree that throw, and a name that is taken.
+const EDITS: &str =
+    "script 1\nblock a top\nblock b top\nappend a b\nappend b a\nblock c top\nbefore a c a\nremove z\nblock a top\n";
+
+const EDITS_TOLD: &str =
+    "throw 5 HierarchyRequestError\nthrow 7 NotFoundError\nthrow 8 ReferenceError\nthrow 9 TypeError\n";
+
+const VIEWPORT: &str = "script 1\ntick 0\nviewport 500px 600px\ntick 16\ntick 32\n";
+
+const VIEWPORT_TOLD: &str = "tick 0\ntick 16\nevent resize @top\ntick 32\n";
 
 fn numbers(alloc: Global, number: Option<u64>) -> Result<Vec<u64>, AllocError> {
     let mut numbers = Vec::new(alloc);
@@ -43,16 +54,14 @@ const ROOM: usize = 1024;
 // How a source gives and a sink takes: bytes a call, and the number of the call that fails, from 0.
 #[derive(Clone, Copy)]
 struct Streams {
-    read_piece: usize,
+    piece: usize,
     failing_read: Option<u64>,
-    write_piece: usize,
     failing_write: Option<u64>,
 }
 
 const WHOLE: Streams = Streams {
-    read_piece: 65536,
+    piece: 65536,
     failing_read: None,
-    write_piece: 65536,
     failing_write: None,
 };
 
@@ -65,9 +74,9 @@ fn replayed(
 ) -> Result<(Report, MemorySink), AllocError> {
     let bytes = text.to_vec(alloc)?;
     let failing = numbers(alloc, streams.failing_read)?;
-    let mut source = MemorySource::new(bytes, streams.read_piece, failing);
+    let mut source = MemorySource::new(bytes, streams.piece, failing);
     let failing = numbers(alloc, streams.failing_write)?;
-    let mut sink = MemorySink::new(alloc, ROOM, streams.write_piece, failing)?;
+    let mut sink = MemorySink::new(alloc, ROOM, streams.piece, failing)?;
     let report = run_uncounted::<_, _, Brand>(Blank::new(1), alloc, words, &mut source, &mut sink);
     Ok((report, sink))
 }
@@ -90,97 +99,60 @@ fn expect(
 
 #[test]
 fn scripts_give_their_traces(rt: HostRuntime) -> Result<(), Fail> {
-    for (text, told) in [
-        ("script 1\n", ""),
-        (PAGE, TOLD),
-        (NESTED, NESTED_TOLD),
-        (WIDE, WIDE_TOLD),
+    for (text, status, told) in [
+        ("", Status::Syntax, "syntax 1 1\n"),
+        ("script 1\nro-observe o", Status::Syntax, "syntax 2 13\n"),
+        (
+            "script 1\nhandler h\nsay hello\nend\n",
+            Status::NotBuilt,
+            "not-built 2\n",
+        ),
+        (PAGE, Status::Done, TOLD),
+        (HIDDEN, Status::Done, HIDDEN_TOLD),
+        (PERCENT, Status::Done, PERCENT_TOLD),
+        (EDITS, Status::Done, EDITS_TOLD),
+        (VIEWPORT, Status::Done, VIEWPORT_TOLD),
     ] {
-        expect(&rt, rt.alloc(), text, WHOLE, Status::Done, told)?;
+        expect(&rt, rt.alloc(), text, WHOLE, status, told)?;
     }
     Ok(())
 }
 
+// Widths are capped, and the limit ends the run after the reading.
 #[test]
-fn a_second_tick_tells_nothing_of_a_size_that_stays(rt: HostRuntime) -> Result<(), Fail> {
-    let mut text = String::from_str(rt.alloc(), PAGE)?;
-    text.push_str("tick 16\n")?;
-    let mut told = String::from_str(rt.alloc(), TOLD)?;
-    told.push_str("tick 16\n")?;
-    expect(&rt, rt.alloc(), &text, WHOLE, Status::Done, &told)
-}
-
-#[test]
-fn a_height_is_no_longer_than_any_length(rt: HostRuntime) -> Result<(), Fail> {
-    let mut text = String::from_str(rt.alloc(), "script 1\nblock r top\nappend top r\n")?;
-    for k in 1..=34 {
+fn a_chain_is_256_blocks_deep_at_most(rt: HostRuntime) -> Result<(), Fail> {
+    let mut text = String::from_str(rt.alloc(), "script 1\nblock e0 top\nappend top e0\n")?;
+    for k in 0..255u32 {
+        let next = k + 1;
         write!(
             text,
-            "block c{k} top\nset c{k} height 1000000px\nappend r c{k}\n"
+            "block e{next} top\nset e{next} width 10000%\nappend e{k} e{next}\n"
         )?;
     }
-    text.push_str("ro o top -\nro-observe o r content\ntick 0\n")?;
-    let told =
-        "tick 0\nresize o r rect 0 0 800 33554431.984375 border 800 33554431.984375\nround top 1\n";
-    expect(&rt, rt.alloc(), &text, WHOLE, Status::Done, told)
+    text.push_str("read e255\nblock e256 top\nappend e255 e256\nread e0\n")?;
+    let told = "read e255 0 0 33554431.984375 0 0 0\nlimit depth 771 256\n";
+    expect(&rt, rt.alloc(), &text, WHOLE, Status::Limit, told)
 }
 
-#[test]
-fn what_is_not_built_is_told_by_its_line(rt: HostRuntime) -> Result<(), Fail> {
-    let alloc = rt.alloc();
-    let not_built = Status::NotBuilt;
-    expect(&rt, alloc, "", WHOLE, not_built, "not-built 1\n")?;
-    let mut text = String::from_str(alloc, PAGE)?;
-    text.push_str("remove r\n")?;
-    expect(&rt, alloc, &text, WHOLE, not_built, "not-built 7\n")?;
-    let mut text = String::from_str(alloc, "script 1\n")?;
-    for _ in 0..9361 {
-        text.push_str("tick 0\n")?;
-    }
-    text.push_str("\n")?;
-    assert_eq!(&rt; text.len(), 65_537);
-    expect(&rt, alloc, &text, WHOLE, not_built, "not-built 0\n")
-}
-
-#[test]
-fn pieces_of_any_size_give_the_same(rt: HostRuntime) -> Result<(), Fail> {
-    for (read_piece, write_piece) in [(1, 1), (1, 2), (2, 1), (2, 2), (4096, 1), (1, 4096)] {
-        let streams = Streams {
-            read_piece,
-            write_piece,
-            ..WHOLE
-        };
-        expect(&rt, rt.alloc(), PAGE, streams, Status::Done, TOLD)?;
-    }
-    Ok(())
-}
-
-// Each line is one call of the sink here.
+// Each line is one call of the sink here, and the second reading is the end.
 #[test]
 fn a_call_that_fails_ends_the_run(rt: HostRuntime) -> Result<(), Fail> {
     let two_lines = "tick 0\nresize o r rect 0 0 800 0 border 800 0\n";
-    for (failing_read, failing_write, status, taken) in [
-        (Some(0), None, Status::ReadFault, ""),
-        (Some(1), None, Status::ReadFault, ""),
-        (Some(2), None, Status::Done, TOLD),
-        (None, Some(0), Status::WriteFault, ""),
-        (None, Some(1), Status::WriteFault, "tick 0\n"),
-        (None, Some(2), Status::WriteFault, two_lines),
-        (None, Some(3), Status::Done, TOLD),
-        (Some(0), Some(0), Status::ReadFault, ""),
+    for (piece, failing_read, failing_write, status, taken) in [
+        (65536, Some(0), None, Status::ReadFault, ""),
+        (65536, Some(1), None, Status::ReadFault, ""),
+        (65536, None, Some(2), Status::WriteFault, two_lines),
+        (65536, Some(2), Some(3), Status::Done, TOLD),
+        (1, None, None, Status::Done, TOLD),
     ] {
         let streams = Streams {
+            piece,
             failing_read,
             failing_write,
-            ..WHOLE
         };
         expect(&rt, rt.alloc(), PAGE, streams, status, taken)?;
     }
-    let streams = Streams {
-        failing_write: Some(0),
-        ..WHOLE
-    };
-    expect(&rt, rt.alloc(), "", streams, Status::WriteFault, "")
+    Ok(())
 }
 
 #[test]

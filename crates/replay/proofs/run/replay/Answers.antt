@@ -1,13 +1,15 @@
-use Rattle.replay.proofs.Runs.{done_answers, refusal_answers, stopped_answers}
+use Rattle.std.proofs.Common.{◌≡◌, subst}
+use Rattle.std.specs.Prelude.{IfSome}
+use Rattle.built_part.specs.Outcomes.{Outcome}
+use Rattle.replay.proofs.Endings.{answers_same, read_outcome, script_outcome}
 use Rattle.replay.proofs.run.replay.Goals as goal
 
-pub returns-in-Err-NotBuilt-clause-answers : goal.returns-in-Err-NotBuilt-clause-answers
-returns-in-Err-NotBuilt-clause-answers g c =
-    refusal_answers _ _ c.in-Err-NotBuilt.line _ _ _ _ (rw c.in-Err-NotBuilt.field-0-is at c.in-Err-NotBuilt.ensures) c.not_built.ensures.wrote
+pub returns-in-Ok-clause-answers : goal.returns-in-Ok-clause-answers
+returns-in-Ok-clause-answers g c = answers_same c.run_script.result.status _ _ _ _ _ _ (script_outcome _ _ c.in-Ok.ensures) c.run_script.ensures.answers
 
 pub returns-in-Err-clause-answers : goal.returns-in-Err-clause-answers
-returns-in-Err-clause-answers g c =
-    stopped_answers c.in-Err.stop _ _ _ _ _ _ _ c.in-Ok.ensures c.stopped.ensures.status c.in-Err.ensures
+returns-in-Err-clause-answers g c = answers_same c.refuse_text.result.status _ _ _ _ _ _ (read_outcome _) (c.refuse_text.ensures.answers _ c.in-Err.ensures)
 
-pub returns-clause-answers : goal.returns-clause-answers
-returns-clause-answers g c = done_answers _ _ _ _ c.in-Ok.ensures c.in-Ok-play.ensures.0
+pub returns-in-Ok-clause-world : goal.returns-in-Ok-clause-world
+returns-in-Ok-clause-world g c =
+    subst (λ (found : Outcome). IfSome c.run_script.result.page (λ page. page.world ≡ found.world)) (script_outcome _ _ c.in-Ok.ensures) c.run_script.ensures.world

@@ -1,4 +1,0 @@
-pub mod Blocks
-pub mod Observations
-pub mod Views
-pub mod Told

@@ -1,4 +1,0 @@
-pub mod Page
-pub mod Boxes
-pub mod Reading
-pub mod Trace

@@ -1,6 +1,0 @@
-mod BarePages
-mod Cuts
-mod Depths
-mod Fronts
-mod NamesRead
-mod Taken

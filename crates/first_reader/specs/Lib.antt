@@ -1,4 +1,0 @@
-pub mod Bare
-pub mod Pieces
-pub mod Plain
-pub mod Seen

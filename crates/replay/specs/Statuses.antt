@@ -1,0 +1,50 @@
+-- Exit statuses, and which ending of an outcome each status is.
+use Rattle.std.specs.Prelude.{ℕ, Bool, true, false, Result, Ok, Err}
+use Rattle.page_model.specs.Runs as runs
+use Rattle.built_part.specs.Outcomes.{Ending, Ended, Faulty, LimitMet, Unbuilt}
+use Rattle.replay.specs.declared.status.Status.{Status}
+use Rattle.replay.specs.declared.status.Status.TheVariants.{Done, Syntax, Limit, NotBuilt, NoMemory, ReadFault, WriteFault, Usage}
+use Rattle.replay.specs.declared.status.Stop.{Stop}
+use Rattle.replay.specs.declared.status.Stop.TheVariants.{Memory, Write}
+use Rattle.replay.specs.declared.status.Flow.{Flow}
+use Rattle.replay.specs.declared.status.Flow.TheVariants.{Next, Limited}
+
+-- the exit status of the program
+abbrev pub code_of : Status → ℕ
+code_of Done = 0
+code_of Syntax = 1
+code_of Limit = 2
+code_of NotBuilt = 9
+code_of NoMemory = 3
+code_of ReadFault = 4
+code_of WriteFault = 5
+code_of Usage = 6
+
+abbrev pub is_done : Status → Bool
+is_done Done = true
+is_done Syntax = false
+is_done Limit = false
+is_done NotBuilt = false
+is_done NoMemory = false
+is_done ReadFault = false
+is_done WriteFault = false
+is_done Usage = false
+
+abbrev pub status_at : Ending → Status
+status_at Ended = Done
+status_at Faulty = Syntax
+status_at LimitMet = Limit
+status_at Unbuilt = NotBuilt
+
+abbrev pub status_of : Stop → Status
+status_of Memory = NoMemory
+status_of Write = WriteFault
+
+-- the status where all was written, else that of the reason
+abbrev pub status_after : {A : Type 0} → Result A Stop → Status → Status
+status_after (Ok done) status = status
+status_after (Err stop) status = status_of stop
+
+abbrev pub flow_of : Flow → runs.Flow
+flow_of Next = runs.Next
+flow_of Limited = runs.Limited
