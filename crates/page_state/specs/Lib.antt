@@ -6,3 +6,4 @@ pub mod Answers
 pub mod Making
 pub mod Whole
 pub mod Telling
+pub mod Labels

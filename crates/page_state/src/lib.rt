@@ -5,6 +5,7 @@
 mod answers;
 mod commands;
 mod delivery;
+mod labels;
 mod names;
 mod page;
 mod readings;
@@ -14,4 +15,5 @@ mod tests;
 mod ticks;
 
 pub use answers::{Effect, PageFault};
+pub use labels::Label;
 pub use page::Page;

@@ -4,7 +4,7 @@ ghost use Rattle.std.specs.Prelude.{◌≡◌, ◌<◌, ◌≤◌, ◌+◌, cond
 ghost use Rattle.script_model.specs.Syntax.{Action};
 ghost use Rattle.script_model.specs.Scripts.{handlers_in};
 ghost use Rattle.page_model.specs.World.{World};
-ghost use Rattle.page_model.specs.Names.{document_text};
+ghost use Rattle.page_model.specs.Names.{document_text, resize_observer_text};
 ghost use Rattle.page_model.specs.Callbacks.{handler_names};
 ghost use Rattle.page_model.specs.Commands.{begun_in, does};
 ghost use Rattle.page_model.specs.Operands.{Handlers};
@@ -22,7 +22,7 @@ use block_layout::{FreshBoxes, ItemKind};
 use element_tree::NodeId;
 use page_tree::PageTree;
 use px_units::Size;
-use resize_observer::Observers;
+use resize_observer::{ObserverId, Observers};
 use script_syntax::{Command, Script, What};
 use std::alloc::{AllocError, Global};
 use std::marker::Model;
@@ -226,11 +226,17 @@ impl Page {
         }
     }
 
-    /// The name of a document; `top` is number 0.
-    pub fn document_name(&self, document: u32) -> Name
+    pub(crate) fn document_name(&self, document: u32) -> Name
         requires { document < length self.now.world.documents }
         ensures { result ≡ document_text self.now.world document }
     {
         self.names.name_of(Thing::Document(document)).unwrap()
+    }
+
+    pub(crate) fn observer_name(&self, observer: ObserverId) -> Name
+        requires { observer.0 < length self.now.world.resize_observers }
+        ensures { result ≡ resize_observer_text self.now.world observer.0 }
+    {
+        self.names.name_of(Thing::ResizeObserver(observer)).unwrap()
     }
 }

@@ -12,6 +12,7 @@ ghost use Rattle.page_boxes.specs.Worlds.{text_in};
 ghost use Rattle.page_state.specs.Things.{present_of, IsSubject, IsContainerBelow};
 
 use crate::answers::{Effect, PageFault};
+use crate::labels::Label;
 use crate::page::Page;
 use element_tree::NodeId;
 use page_boxes::{read, refresh};
@@ -52,8 +53,8 @@ impl Page {
         ensures { result ≡ text_in self.now.world (seen_container container) }
     {
         match container {
-            Container::Element(node) => self.tree.name_of(node),
-            Container::Document(document) => self.document_name(document),
+            Container::Element(node) => self.label(Label::Element(node)),
+            Container::Document(document) => self.label(Label::Document(document)),
         }
     }
 }

@@ -25,7 +25,7 @@ use crate::limits::number;
 use crate::status::{Flow, Stop};
 use crate::write::{write_each, write_one};
 use built_part::a_plain_tick_is_its_resize_loop;
-use page_state::{Effect, Page, PageFault};
+use page_state::{Effect, Label, Page, PageFault};
 use script_syntax::{Command, Item, Script, What};
 use std::alloc::Global;
 use std::sync::ledger::Ledger;
@@ -97,7 +97,7 @@ fn tick<K: Sink, L: Ledger>(
 {
     a_plain_tick_is_its_resize_loop();
     let _plain = page.is_active(0);
-    let document = page.document_name(0);
+    let document = page.label(Label::Document(0));
     if let Err(stop) = write_one(alloc, &TraceLine::Tick(time), sink) {
         return Err(stop);
     }

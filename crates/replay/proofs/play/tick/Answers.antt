@@ -23,8 +23,8 @@ returns-in-Ok-tell-clause-says g c = λ handlers.
     (subst (λ (world : World). resize_loop handlers 0 world ≡ say (map seen_line c.in-Ok.lines.items) c.deliver.new.self.world) c.viewport_changed-changed.ensures.noted (c.in-Ok.ensures.delivered handlers))
     c.is_active-still_plain.ensures.plain)
     c.in_default.ensures.0 c.in_default.ensures.1
-    (sized_same told _ _ _ _ c.args.page.now.world c.viewport_changed-changed.result c.document_name-document.result (map seen_line c.in-Ok.lines.items)
-    c.viewport_changed-changed.ensures.value c.document_name-document.ensures (rw c.deref.ensures.value at c.in-Ok-tell.ensures))
+    (sized_same told _ _ _ _ c.args.page.now.world c.viewport_changed-changed.result c.label-document.result (map seen_line c.in-Ok.lines.items)
+    c.viewport_changed-changed.ensures.value c.label-document.ensures (rw c.deref.ensures.value at c.in-Ok-tell.ensures))
 
 pub returns-clause-says : goal.returns-clause-says
 returns-clause-says g c = λ handlers.
@@ -34,5 +34,5 @@ returns-clause-says g c = λ handlers.
     (subst (λ (world : World). resize_loop handlers 0 world ≡ say (map seen_line c.in-Ok.lines.items) c.deliver.new.self.world) c.viewport_changed-changed.ensures.noted (c.in-Ok.ensures.delivered handlers))
     c.is_active-still_plain.ensures.plain)
     c.in_default.ensures.0 c.in_default.ensures.1
-    (sized_same told _ _ _ _ c.args.page.now.world c.viewport_changed-changed.result c.document_name-document.result (map seen_line c.in-Ok.lines.items)
-    c.viewport_changed-changed.ensures.value c.document_name-document.ensures (rw c.deref.ensures.value at c.in-Err-tell.ensures))
+    (sized_same told _ _ _ _ c.args.page.now.world c.viewport_changed-changed.result c.label-document.result (map seen_line c.in-Ok.lines.items)
+    c.viewport_changed-changed.ensures.value c.label-document.ensures (rw c.deref.ensures.value at c.in-Err-tell.ensures))

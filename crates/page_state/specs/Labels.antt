@@ -1,0 +1,17 @@
+-- The names of what there is in a page.
+use Rattle.std.specs.Prelude.{ℕ, ◌<◌, List, length}
+use Rattle.page_model.specs.World.{World}
+use Rattle.page_model.specs.Names.{element_text, document_text, resize_observer_text}
+use Rattle.page_state.specs.declared.labels.Label.{Label}
+use Rattle.page_state.specs.declared.labels.Label.TheVariants.{Element, Document, Observer}
+
+abbrev pub label_text : World → Label → List ℕ
+label_text world (Element node) = element_text world node.0
+label_text world (Document document) = document_text world document
+label_text world (Observer observer) = resize_observer_text world observer.0
+
+-- there is such a thing
+abbrev pub IsLabelIn : World → Label → Type 0
+IsLabelIn world (Element node) = node.0 < length world.elements
+IsLabelIn world (Document document) = document < length world.documents
+IsLabelIn world (Observer observer) = observer.0 < length world.resize_observers
