@@ -1,0 +1,7 @@
+pub mod Puts
+pub mod Lists
+pub mod Listing
+pub mod Keeping
+pub mod Offsets
+pub mod Placed
+pub mod Fitting

@@ -1,0 +1,33 @@
+-- What the types of this crate stand for.
+use Rattle.std.specs.Prelude.{Bool, true, false, pos, List, map, unsigned_abs}
+use Rattle.px_units.specs.declared.Point.{Point}
+use Rattle.px_units.specs.declared.Size.{Size}
+use Rattle.page_model.specs.World.{Extent, ScrollTarget as ModelTarget, ScrolledElement, ScrolledDocument}
+use Rattle.page_model.specs.Scrolling.{within_range}
+use Rattle.scrolling.specs.declared.target.ScrollTarget.{ScrollTarget}
+use Rattle.scrolling.specs.declared.target.ScrollTarget.TheVariants.{Node, Document}
+use Rattle.scrolling.specs.declared.target.Outcome.{Outcome}
+use Rattle.scrolling.specs.declared.target.Outcome.TheVariants.{Moved, Same}
+
+-- a size is never negative, so it is seen through absolute values
+abbrev pub seen_size : Size → Extent
+seen_size size = record { across = unsigned_abs size.width; down = unsigned_abs size.height }
+
+abbrev pub point_of : Extent → Point
+point_of extent = record { left = pos extent.across; top = pos extent.down }
+
+abbrev pub seen_target : ScrollTarget → ModelTarget
+seen_target (Node element) = ScrolledElement element.0
+seen_target (Document number) = ScrolledDocument number
+
+abbrev pub seen_targets : List ScrollTarget → List ModelTarget
+seen_targets targets = map seen_target targets
+
+-- a wanted position kept within a range
+abbrev pub kept_in : Size → Point → Extent
+kept_in range wanted = within_range (seen_size range) wanted.left wanted.top
+
+-- what a scroll answers, by whether it leaves the offset in force as it is
+abbrev pub outcome_of : Bool → Outcome
+outcome_of true = Same
+outcome_of false = Moved

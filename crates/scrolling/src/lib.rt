@@ -1,0 +1,17 @@
+//! Scrolling: stored positions, the offset in force, scrolling to a position, and the lists of targets whose scroll events
+//! are pending (CSSOM View, 4 to 6 and 13). All lengths are in units of 1/64 CSS pixel.
+#![tactic(auto)]
+
+mod laws;
+mod pending;
+mod positions;
+mod scrolls;
+mod target;
+#[cfg(test)]
+mod tests;
+
+pub use laws::{
+    a_scroll_comes_to_its_position, scrolls_are_those_of_any_world, what_is_made_is_not_scrolled,
+};
+pub use scrolls::Scrolls;
+pub use target::{Outcome, ScrollTarget};

@@ -1,0 +1,79 @@
+//! The lists of targets whose scroll events are pending, by their documents' numbers.
+
+ghost use Rattle.std.specs.Prelude.{◌≡◌, ◌≤◌, true, [], ◌++◌, ◌-◌, replicate, vec_len, vec_capacity, OnOk, OnErr, IsOk};
+ghost use Rattle.std.specs.List.{list_any};
+ghost use Rattle.page_model.specs.Lookups.{change_at};
+ghost use Rattle.page_model.specs.Scrolling.{is_same_scroll, with_listed};
+ghost use Rattle.scrolling.specs.Pending.{seen_lists};
+ghost use Rattle.scrolling.specs.Places.{entry_or, put_at};
+ghost use Rattle.scrolling.specs.Seen.{seen_target, seen_targets};
+
+use crate::ScrollTarget;
+use crate::target::is_same;
+use std::alloc::AllocError;
+use std::mem::replace;
+
+fn is_listed(list: &[ScrollTarget], target: ScrollTarget) -> bool
+    ensures { result ≡ list_any (λ each. is_same_scroll (seen_target target) (seen_target each)) list.now }
+{
+    list.iter().any(|each| is_same(target, *each))
+}
+
+// Puts a target last on a list, unless it is there, where that takes no memory.
+fn list_target(list: &mut Vec<ScrollTarget>, target: ScrollTarget) -> Result<(), AllocError>
+    ensures listed { OnOk result (seen_targets list.new.items ≡ with_listed (seen_target target) (seen_targets list.old.items)) }
+    ensures same { OnErr result (list.new.items ≡ list.old.items) }
+    ensures there { list_any (is_same_scroll (seen_target target)) (seen_targets list.old.items) ≡ true → IsOk result }
+{
+    if !is_listed(list.as_slice(), target) {
+        list.push(target)?;
+    }
+    Ok(())
+}
+
+// Fills the lists up to a number with empty ones, for which there is room.
+fn fill(lists: &mut Vec<Vec<ScrollTarget>>, count: usize)
+    requires { count ≤ vec_capacity lists.old }
+    ensures lists { seen_lists lists.new.items ≡ seen_lists lists.old.items ++ replicate (count - vec_len lists.old) [] }
+    ensures capacity { vec_capacity lists.new ≡ vec_capacity lists.old }
+{
+    while lists.len() < count {
+        lists.push_reserved(Vec::new(*lists.allocator()));
+    }
+}
+
+// Puts a target last on the list of a document, unless it is there, where that takes no memory.
+pub(crate) fn add_pending(
+    lists: &mut Vec<Vec<ScrollTarget>>,
+    document: u32,
+    target: ScrollTarget,
+) -> Result<(), AllocError>
+    ensures added { OnOk result (seen_lists lists.new.items ≡ put_at [] document (with_listed (seen_target target) (entry_or [] (seen_lists lists.old.items) document)) (seen_lists lists.old.items)) }
+    ensures same { OnErr result (seen_lists lists.new.items ≡ seen_lists lists.old.items) }
+    ensures there { list_any (is_same_scroll (seen_target target)) (entry_or [] (seen_lists lists.old.items) document) ≡ true → IsOk result }
+{
+    let place = document as usize;
+    if place < lists.len() {
+        return list_target(&mut lists[place], target);
+    }
+    let mut list = Vec::new(*lists.allocator());
+    list.push(target)?;
+    lists.reserve(place + 1 - lists.len())?;
+    fill(lists, place);
+    lists.push_reserved(list);
+    Ok(())
+}
+
+// Hands out the list of a document, and leaves it empty.
+pub(crate) fn take_list(lists: &mut Vec<Vec<ScrollTarget>>, document: u32) -> Vec<ScrollTarget>
+    ensures value { seen_targets result.items ≡ entry_or [] (seen_lists lists.old.items) document }
+    ensures taken { seen_lists lists.new.items ≡ change_at (λ list. []) document (seen_lists lists.old.items) }
+{
+    let place = document as usize;
+    let empty = Vec::new(*lists.allocator());
+    if place < lists.len() {
+        replace(&mut lists[place], empty)
+    } else {
+        empty
+    }
+}

@@ -1,0 +1,206 @@
+//! All that is kept of scrolling.
+
+ghost use Rattle.std.specs.Prelude.{◌≡◌, ◌<◌, ◌≤◌, true, [], map, min, unsigned_abs, vec_len, IfOk, OnOk, OnErr, IsOk};
+ghost use Rattle.std.specs.List.{list_any};
+ghost use Rattle.page_model.specs.Edits.{kept_within};
+ghost use Rattle.page_model.specs.Lookups.{no_extent};
+ghost use Rattle.page_model.specs.Scrolling.{is_same_scroll, with_listed};
+ghost use Rattle.scrolling.specs.Pending.{seen_lists};
+ghost use Rattle.scrolling.specs.Places.{entry_or, put_at};
+ghost use Rattle.scrolling.specs.Positions.{seen_position};
+ghost use Rattle.scrolling.specs.Ranges.{IsLength, IsRange};
+ghost use Rattle.scrolling.specs.Scrolls.{unscrolled, position_of, pending_of, offset_of, is_pending, HasNoDoubles, with_position, with_pending, without_pending, stays, scrolled};
+ghost use Rattle.scrolling.specs.Seen.{seen_size, seen_target, seen_targets, point_of, kept_in, outcome_of};
+
+use crate::pending::{add_pending, take_list};
+use crate::positions::{Position, position_at, reserve_place, store};
+use crate::{Outcome, ScrollTarget};
+use px_units::{Point, Size};
+use std::alloc::{AllocError, Global};
+use std::marker::Model;
+
+/// The stored scroll positions of elements and documents, and for each document the targets whose scroll events are
+/// pending, in order and without doubles (CSSOM View, 4 to 6 and 13). A clause sees lists by number.
+///
+/// A range that is handed in is what a target can be scrolled by now: how far its content reaches beyond its box or
+/// viewport, from 0 to 2,147,483,647 units on both axes. Ranges aren't kept, and layout changes nothing that is kept here.
+#[derive(Drop)]
+pub struct Scrolls {
+    elements: Vec<Position>,
+    documents: Vec<Position>,
+    pending: Vec<Vec<ScrollTarget>>,
+}
+
+impl Model for Scrolls {
+    ghost use Rattle.std.specs.Prelude.{map};
+    ghost use Rattle.scrolling.specs.Pending.{seen_lists};
+    ghost use Rattle.scrolling.specs.Positions.{seen_position};
+    ghost use Rattle.scrolling.specs.Scrolls.{ScrollLists, IsHeld};
+
+    ghost Value = { ScrollLists };
+
+    ghost view = { λ o. record { elements = map seen_position o.elements.items; documents = map seen_position o.documents.items; pending = seen_lists o.pending.items } };
+
+    ghost invariant = { λ o. IsHeld (record { elements = map seen_position o.elements.items; documents = map seen_position o.documents.items; pending = seen_lists o.pending.items }) };
+}
+
+// The lesser of a position and a length, which isn't negative.
+fn lesser(units: u64, most: i64) -> u64
+    requires { IsLength most }
+    ensures value { result ≡ min units (unsigned_abs most) }
+    ensures bound { result ≤ 2147483647 }
+{
+    units.min(most.unsigned_abs())
+}
+
+// A wanted position between 0 and a length.
+fn kept(wanted: i64, most: i64) -> u64
+    requires { IsLength most }
+    ensures { result ≡ kept_within wanted (unsigned_abs most) }
+{
+    if wanted < 0 {
+        return 0;
+    }
+    wanted.unsigned_abs().min(most.unsigned_abs())
+}
+
+// Stores the position of a number, and puts a target on the pending list of a document.
+fn move_in(
+    held: &mut Vec<Position>,
+    pending: &mut Vec<Vec<ScrollTarget>>,
+    number: u32,
+    document: u32,
+    target: ScrollTarget,
+    position: Position,
+) -> Result<(), AllocError>
+    ensures held { OnOk result (map seen_position held.new.items ≡ put_at no_extent number (seen_position position) (map seen_position held.old.items)) }
+    ensures pending { OnOk result (seen_lists pending.new.items ≡ put_at [] document (with_listed (seen_target target) (entry_or [] (seen_lists pending.old.items) document)) (seen_lists pending.old.items)) }
+    ensures same_held { OnErr result (map seen_position held.new.items ≡ map seen_position held.old.items) }
+    ensures same_pending { OnErr result (seen_lists pending.new.items ≡ seen_lists pending.old.items) }
+    ensures there { number < vec_len held.old → list_any (is_same_scroll (seen_target target)) (entry_or [] (seen_lists pending.old.items) document) ≡ true → IsOk result }
+{
+    reserve_place(held, number)?;
+    add_pending(pending, document, target)?;
+    store(held, number, position);
+    Ok(())
+}
+
+impl Scrolls {
+    /// Nothing is scrolled, and nothing is pending; it takes no memory yet.
+    pub fn new(alloc: Global) -> Scrolls
+        ensures { result ≡ unscrolled }
+    {
+        Scrolls {
+            elements: Vec::new(alloc),
+            documents: Vec::new(alloc),
+            pending: Vec::new(alloc),
+        }
+    }
+
+    fn position(&self, target: ScrollTarget) -> Position
+        ensures { seen_position result ≡ position_of (seen_target target) self.now }
+    {
+        match target {
+            ScrollTarget::Node(node) => position_at(self.elements.as_slice(), node.0),
+            ScrollTarget::Document(document) => position_at(self.documents.as_slice(), document),
+        }
+    }
+
+    fn in_force(&self, target: ScrollTarget, range: Size) -> Position
+        requires { IsRange range }
+        ensures value { seen_position result ≡ offset_of (seen_target target) (seen_size range) self.now }
+        ensures across { result.across ≤ 2147483647 }
+        ensures down { result.down ≤ 2147483647 }
+    {
+        let stored = self.position(target);
+        Position {
+            across: lesser(stored.across, range.width),
+            down: lesser(stored.down, range.height),
+        }
+    }
+
+    /// The scroll offset in force: on each axis the lesser of the stored position and the range. Where nothing is stored
+    /// it is 0.
+    pub fn offset_in_force(&self, target: ScrollTarget, range: Size) -> Point
+        requires { IsRange range }
+        ensures value { result ≡ point_of (offset_of (seen_target target) (seen_size range) self.now) }
+        ensures bound { IsLength result.left × IsLength result.top }
+    {
+        let offset = self.in_force(target, range);
+        Point {
+            left: offset.across as i64,
+            top: offset.down as i64,
+        }
+    }
+
+    // Stores a position, and puts the target on the pending list of a document.
+    fn move_to(
+        &mut self,
+        document: u32,
+        target: ScrollTarget,
+        position: Position,
+    ) -> Result<(), AllocError>
+        ensures moved { OnOk result (self.new ≡ with_pending document (seen_target target) (with_position (seen_target target) (seen_position position) self.old)) }
+        ensures same { OnErr result (self.new ≡ self.old) }
+        ensures pending { is_pending document (seen_target target) self.old ≡ true → IsOk result }
+    {
+        match target {
+            ScrollTarget::Node(node) => move_in(
+                &mut self.elements,
+                &mut self.pending,
+                node.0,
+                document,
+                target,
+                position,
+            ),
+            ScrollTarget::Document(number) => move_in(
+                &mut self.documents,
+                &mut self.pending,
+                number,
+                document,
+                target,
+                position,
+            ),
+        }
+    }
+
+    /// Scrolls a target to a wanted position, kept within its range (CSSOM View, 6: `scrollTo`). Where that is the offset in
+    /// force already, it answers `Same`, and nothing changes, the stored position included. Else it is stored, and the
+    /// target is put last on the pending list of the document that is named, unless it is there.
+    ///
+    /// It asks for memory only where the target isn't pending there; where there is none, nothing changes.
+    pub fn scroll_to(
+        &mut self,
+        document: u32,
+        target: ScrollTarget,
+        wanted: Point,
+        range: Size,
+    ) -> Result<Outcome, AllocError>
+        requires { IsRange range }
+        ensures scrolled { OnOk result (self.new ≡ scrolled document (seen_target target) (kept_in range wanted) (seen_size range) self.old) }
+        ensures outcome { IfOk result (λ outcome. outcome ≡ outcome_of (stays (seen_target target) (kept_in range wanted) (seen_size range) self.old)) }
+        ensures same { OnErr result (self.new ≡ self.old) }
+        ensures still { stays (seen_target target) (kept_in range wanted) (seen_size range) self.old ≡ true → IsOk result }
+        ensures pending { is_pending document (seen_target target) self.old ≡ true → IsOk result }
+    {
+        let position = Position {
+            across: kept(wanted.left, range.width),
+            down: kept(wanted.top, range.height),
+        };
+        let offset = self.in_force(target, range);
+        if position.across == offset.across && position.down == offset.down {
+            return Ok(Outcome::Same);
+        }
+        self.move_to(document, target, position)?;
+        Ok(Outcome::Moved)
+    }
+
+    /// Hands out a document's pending list, and leaves it empty (CSSOM View, 13: run the scroll steps). It takes no memory.
+    pub fn take_pending(&mut self, document: u32) -> Vec<ScrollTarget>
+        ensures value { seen_targets result.items ≡ pending_of document self.old }
+        ensures taken { self.new ≡ without_pending document self.old }
+        ensures distinct { HasNoDoubles (seen_targets result.items) }
+    {
+        take_list(&mut self.pending, document)
+    }
+}
