@@ -1,0 +1,5 @@
+pub mod Places
+pub mod Changes
+pub mod Gatherings
+pub mod Reported
+pub mod Passing

@@ -1,0 +1,50 @@
+-- The entries of a delivery (Resize Observer, 2.3 and 3.4: ResizeObserverEntry).
+use Rattle.std.specs.Prelude.{pos, unsigned_abs}
+use Rattle.px_units.specs.declared.Size.{Size}
+use Rattle.px_units.specs.declared.Point.{Point}
+use Rattle.px_units.specs.declared.BoxKind.TheVariants.{Content, Border}
+use Rattle.page_model.specs.World.{Extent, Observation}
+use Rattle.page_model.specs.Callbacks.{SizeEntry}
+use Rattle.element_tree.specs.Links.{node_id}
+use Rattle.resize_observer.specs.Observations.{seen_size}
+use Rattle.depth_gather.specs.Sights.{Sight}
+use Rattle.depth_gather.specs.declared.entries.ResizeEntry.{ResizeEntry}
+
+abbrev pub as_size : Extent → Size
+as_size extent = record { width = pos extent.across; height = pos extent.down }
+
+abbrev pub as_point : Extent → Point
+as_point extent = record { left = pos extent.across; top = pos extent.down }
+
+abbrev pub seen_point : Point → Extent
+seen_point point = record { across = unsigned_abs point.left; down = unsigned_abs point.top }
+
+-- what an entry stands for
+abbrev pub seen_entry : ResizeEntry → SizeEntry
+seen_entry entry = record {
+  target = entry.target.0;
+  corner = seen_point entry.corner;
+  content = seen_size entry.content;
+  border = seen_size entry.border;
+  depth = entry.depth;
+}
+
+-- the entry that stands for one of the definitions, with no negative length
+abbrev pub as_entry : SizeEntry → ResizeEntry
+as_entry entry = record {
+  target = node_id entry.target;
+  corner = as_point entry.corner;
+  content = as_size entry.content;
+  border = as_size entry.border;
+  depth = entry.depth;
+}
+
+-- the entry of an observation, of sizes as they are now
+abbrev pub size_entry_in : Sight → Observation → SizeEntry
+size_entry_in sight observation = record {
+  target = observation.target;
+  corner = sight.corner (observation.target);
+  content = sight.size (observation.target) Content;
+  border = sight.size (observation.target) Border;
+  depth = sight.depth (observation.target);
+}

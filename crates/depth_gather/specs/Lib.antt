@@ -1,0 +1,5 @@
+pub mod Sights
+pub mod Gathering
+pub mod Entries
+pub mod Deliveries
+pub mod Turning

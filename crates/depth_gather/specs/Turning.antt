@@ -1,0 +1,13 @@
+-- Places among a document's observers, beside the observers' numbers.
+use Rattle.std.specs.Prelude.{◌≡◌, ℕ, filter, length, take}
+use Rattle.resize_observer.specs.Observers.{ResizeObservers}
+use Rattle.depth_gather.specs.Gathering.{is_of}
+use Rattle.depth_gather.specs.Deliveries.{Turn}
+use Rattle.depth_gather.specs.declared.turns.Found.{Found}
+
+abbrev pub found_turn : Found → Turn
+found_turn found = record { observer = found.observer.0; place = found.place }
+
+-- the place of the next observer is this one where so many of the document's stand before this number
+abbrev pub IsNext : ℕ → ℕ → ℕ → ResizeObservers → Type 0
+IsNext document place number it = place ≡ length (filter (is_of document) (take number it.made))

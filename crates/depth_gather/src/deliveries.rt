@@ -1,0 +1,108 @@
+//! Deliveries: what each observer is told at its turn.
+
+ghost use Rattle.std.specs.Prelude.{◌≡◌, ◌<◌, None, Some, map, fold, length, option_map, IfOk, OnOk, OnErr, IfSome};
+ghost use Rattle.page_model.specs.Loop.{shallower};
+ghost use Rattle.resize_observer.specs.Observations.{seen_observations};
+ghost use Rattle.resize_observer.specs.Observers.{changing, inactive};
+ghost use Rattle.depth_gather.specs.Entries.{seen_entry};
+ghost use Rattle.depth_gather.specs.Deliveries.{turn_from, turn_of, active_at, entries_in, reporting, reporting_turn};
+
+use crate::observation::entry_of;
+use crate::turns::next_turn;
+use crate::{ResizeEntry, ResizeList, Sizes};
+use resize_observer::{Observation, ObserverId, Observers};
+use std::alloc::{AllocError, Global};
+
+/// What an observer's callback is given.
+#[derive(Drop)]
+pub struct Delivery {
+    pub observer: ObserverId,
+    pub entries: ResizeList,
+    /// The place from which the next delivery is looked for.
+    pub place: usize,
+}
+
+/// The next delivery of a document (Resize Observer, 3.4: broadcast active observations, up to the callback): of its
+/// observers from `place` on, as they are now, the first with something active; an entry for each active observation, of
+/// sizes as they are now, which become the last reported ones. None exactly where no observer is left that has something
+/// active.
+///
+/// All is unchanged where memory is refused.
+pub fn next_delivery<Z: Sizes>(
+    alloc: Global,
+    observers: &mut Observers,
+    sizes: &Z,
+    document: u32,
+    place: usize,
+) -> Result<Option<Delivery>, AllocError>
+    ensures turn { IfOk result (λ next. option_map turn_of next ≡ turn_from document place observers.old) }
+    ensures entries { IfOk result (λ next. IfSome next (λ it. it.entries ≡ entries_in (Z.sight sizes.now) (active_at observers.old it.observer.0))) }
+    ensures reported { OnOk result (observers.new ≡ reporting_turn (Z.sight sizes.now) (turn_from document place observers.old) observers.old) }
+    ensures same { OnErr result (observers.new ≡ observers.old) }
+    ensures made { IfOk result (λ next. IfSome next (λ it. it.observer.0 < length observers.old.made)) }
+    ensures some { IfOk result (λ next. IfSome next (λ it. 0 < length it.entries)) }
+    ensures count { length observers.new.made ≡ length observers.old.made }
+{
+    let Some(found) = next_turn(observers, document, place) else {
+        return Ok(None);
+    };
+    let entries = entries_of(alloc, observers.active(found.observer), sizes)?;
+    report_active(observers, sizes, found.observer);
+    Ok(Some(Delivery {
+        observer: found.observer,
+        entries: ResizeList::new(entries),
+        place: found.place,
+    }))
+}
+
+// The entries of these observations.
+fn entries_of<Z: Sizes>(
+    alloc: Global,
+    active: &[Observation],
+    sizes: &Z,
+) -> Result<Vec<ResizeEntry>, AllocError>
+    ensures { IfOk result (λ entries. entries.items ≡ entries_in (Z.sight sizes.now) (seen_observations active.now)) }
+{
+    let mut entries = Vec::new(alloc);
+    for observation in active {
+        entries.push(entry_of(sizes, observation))?;
+    }
+    Ok(entries)
+}
+
+// The sizes of now become the last reported ones of what is active.
+fn report_active<Z: Sizes>(observers: &mut Observers, sizes: &Z, observer: ObserverId)
+    requires { observer.0 < length observers.old.made }
+    ensures reported { observers.new ≡ reporting (Z.sight sizes.now) observer.0 observers.old }
+    ensures count { length observers.new.made ≡ length observers.old.made }
+{
+    for place in 0..observers.active(observer).len() {
+        let observation = observers.active(observer)[place];
+        let size = sizes.size_now(observation.target, observation.observed);
+        observers.report(observer, observation.number, size);
+    }
+}
+
+/// The end of an observer's turn, once its callback was called: its active list is emptied. No memory.
+pub fn end_delivery(observers: &mut Observers, observer: ObserverId)
+    requires { observer.0 < length observers.old.made }
+    ensures ended { observers.new ≡ changing inactive observer.0 observers.old }
+    ensures count { length observers.new.made ≡ length observers.old.made }
+{
+    observers.clear_active(observer);
+}
+
+/// The least depth of the entries, of which there is one. No memory.
+pub fn least_depth(delivery: &Delivery) -> u32
+    requires { 0 < length delivery.now.entries }
+    ensures { fold shallower None (map seen_entry delivery.now.entries) ≡ Some result }
+{
+    let entries = delivery.entries.entries();
+    let mut least = entries[0].depth;
+    for entry in entries {
+        if entry.depth < least {
+            least = entry.depth;
+        }
+    }
+    least
+}

@@ -1,0 +1,81 @@
+//! Gathering at a depth.
+
+ghost use Rattle.std.specs.Prelude.{◌≡◌, ◌+◌, ◌<◌, min, length};
+ghost use Rattle.resize_observer.specs.Observers.{observer_at, changing};
+ghost use Rattle.depth_gather.specs.Gathering.{gathered_in, gathered_first, gathering, active_count};
+
+use crate::Sizes;
+use crate::observation::has_changed;
+use resize_observer::{ObserverId, Observers};
+
+/// Gathers the active observations of a document (Resize Observer, 3.4: gather active observations at depth), and answers
+/// how many there are: each observer of the document holds as active those of its targets whose size isn't the last
+/// reported one and which stand deeper than `depth`, and as skipped those whose size isn't and which don't. No memory.
+///
+/// The number stands still at the end of its type, which no table of observers reaches: it holds fewer observations.
+pub fn gather<Z: Sizes>(observers: &mut Observers, sizes: &Z, document: u32, depth: u32) -> u32
+    ensures gathered { observers.new ≡ gathering (Z.sight sizes.now) document depth observers.old }
+    ensures number { result ≡ min (active_count document observers.new) 4294967295 }
+    ensures count { length observers.new.made ≡ length observers.old.made }
+{
+    gather_all(observers, sizes, document, depth);
+    active_number(observers, document)
+}
+
+// Each observer of the document gathers.
+fn gather_all<Z: Sizes>(observers: &mut Observers, sizes: &Z, document: u32, depth: u32)
+    ensures gathered { observers.new ≡ gathering (Z.sight sizes.now) document depth observers.old }
+    ensures count { length observers.new.made ≡ length observers.old.made }
+{
+    let mut place = 0;
+    while let Some(observer) = observers.of_document(document, place) {
+        gather_targets(observers, sizes, observer, depth);
+        place += 1;
+    }
+}
+
+// How many observations are active in a document.
+fn active_number(observers: &Observers, document: u32) -> u32
+    ensures { result ≡ min (active_count document observers.now) 4294967295 }
+{
+    let mut number: usize = 0;
+    let mut place = 0;
+    while let Some(observer) = observers.of_document(document, place) {
+        number = number.saturating_add(observers.active(observer).len());
+        place += 1;
+    }
+    number.min(4_294_967_295) as u32
+}
+
+// One observer gathers.
+fn gather_targets<Z: Sizes>(observers: &mut Observers, sizes: &Z, observer: ObserverId, depth: u32)
+    requires { observer.0 < length observers.old.made }
+    ensures gathered { observers.new ≡ changing (gathered_in (Z.sight sizes.now) depth) observer.0 observers.old }
+    ensures count { length observers.new.made ≡ length observers.old.made }
+{
+    observers.begin_gather(observer);
+    for place in 0..observers.targets(observer).len() {
+        gather_target(observers, sizes, observer, place, depth);
+    }
+}
+
+// One observer, which gathered the targets before this place, gathers the one that stands there.
+fn gather_target<Z: Sizes>(
+    observers: &mut Observers,
+    sizes: &Z,
+    observer: ObserverId,
+    place: usize,
+    depth: u32,
+)
+    requires observer { observer.0 < length observers.old.made }
+    requires place { place < length (observer_at observers.old observer.0).targets }
+    requires before { observer_at observers.old observer.0 ≡ gathered_first (Z.sight sizes.now) depth place (observer_at observers.old observer.0) }
+    ensures gathered { observers.new ≡ changing (gathered_first (Z.sight sizes.now) depth (place + 1)) observer.0 observers.old }
+    ensures count { length observers.new.made ≡ length observers.old.made }
+{
+    let observation = observers.targets(observer)[place];
+    if has_changed(sizes, &observation) {
+        let active = sizes.depth_now(observation.target) > depth;
+        observers.gathered(observer, place, active);
+    }
+}

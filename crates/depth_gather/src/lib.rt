@@ -1,0 +1,27 @@
+//! Resize observations gathered at a depth, and what is delivered of them, observer by observer, while callbacks change the
+//! lists (Resize Observer, 3.4).
+//!
+//! Sizes, corners and depths are asked of the caller at each moment, so nothing here keeps one. A delivery is found by its
+//! place among a document's observers and owns its entries, so nothing is borrowed while the callback runs. Memory is
+//! asked for by `next_delivery` alone.
+#![tactic(auto)]
+
+mod deliveries;
+mod entries;
+mod gathering;
+mod laws;
+mod observation;
+mod sizes;
+#[cfg(test)]
+mod tests;
+mod turns;
+
+pub use deliveries::{Delivery, end_delivery, least_depth, next_delivery};
+pub use entries::{ResizeEntry, ResizeList};
+pub use gathering::gather;
+pub use laws::{
+    deliveries_are_those_of_any_world, gathering_is_that_of_any_world,
+    turns_are_those_of_a_broadcast,
+};
+pub use sizes::Sizes;
+pub use turns::has_skipped;

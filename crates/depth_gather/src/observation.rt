@@ -1,0 +1,41 @@
+//! One observation, against sizes as they are now.
+
+ghost use Rattle.std.specs.Prelude.{◌≡◌};
+ghost use Rattle.page_model.specs.Lookups.{same_extent};
+ghost use Rattle.resize_observer.specs.Observations.{seen_size, seen_observation};
+ghost use Rattle.depth_gather.specs.Gathering.{has_changed_in};
+ghost use Rattle.depth_gather.specs.Entries.{as_entry, size_entry_in};
+
+use crate::{ResizeEntry, Sizes};
+use px_units::{BoxKind, Size};
+use resize_observer::Observation;
+
+// Sizes have no sign (a last reported one isn't known to be above 0).
+fn is_same(a: Size, b: Size) -> bool
+    ensures { result ≡ same_extent (seen_size a) (seen_size b) }
+{
+    a.width.unsigned_abs() == b.width.unsigned_abs()
+        && a.height.unsigned_abs() == b.height.unsigned_abs()
+}
+
+// Whether the observed size isn't the last reported one (Resize Observer, 3.1: isActive).
+pub(crate) fn has_changed<Z: Sizes>(sizes: &Z, observation: &Observation) -> bool
+    ensures { result ≡ has_changed_in (Z.sight sizes.now) (seen_observation observation.now) }
+{
+    let now = sizes.size_now(observation.target, observation.observed);
+    !is_same(now, observation.last)
+}
+
+// The entry of an observation (Resize Observer, 3.4: create and populate a ResizeObserverEntry).
+pub(crate) fn entry_of<Z: Sizes>(sizes: &Z, observation: &Observation) -> ResizeEntry
+    ensures { result ≡ as_entry (size_entry_in (Z.sight sizes.now) (seen_observation observation.now)) }
+{
+    let target = observation.target;
+    ResizeEntry {
+        target,
+        corner: sizes.corner_now(target),
+        content: sizes.size_now(target, BoxKind::Content),
+        border: sizes.size_now(target, BoxKind::Border),
+        depth: sizes.depth_now(target),
+    }
+}

@@ -1,0 +1,27 @@
+//! Where sizes come from.
+
+ghost use Rattle.std.specs.Prelude.{◌≡◌};
+ghost use Rattle.depth_gather.specs.Entries.{as_size, as_point};
+
+use element_tree::NodeId;
+use px_units::{BoxKind, Point, Size};
+
+/// Sizes, corners and depths of elements as they are now. All lengths are in units of 1/64 CSS pixel, and none is negative.
+pub trait Sizes {
+    ghost use Rattle.depth_gather.specs.Sights.{Sight};
+
+    /// Those of the elements, by number.
+    ghost sight: { Self → Sight };
+
+    /// The size of one of an element's boxes, 0 by 0 without a box.
+    fn size_now(&self, node: NodeId, kind: BoxKind) -> Size
+        ensures { result ≡ as_size ((sight self.now).size node.0 kind) };
+
+    /// The corner of an element's content in its padding box, zeros without a box.
+    fn corner_now(&self, node: NodeId) -> Point
+        ensures { result ≡ as_point ((sight self.now).corner node.0) };
+
+    /// The depth of an element: how many elements stand on the path from it to the top of its tree, itself counted.
+    fn depth_now(&self, node: NodeId) -> u32
+        ensures { result ≡ (sight self.now).depth node.0 };
+}

@@ -1,0 +1,49 @@
+//! The turns of a document's observers.
+
+ghost use Rattle.std.specs.Prelude.{◌≡◌, ◌<◌, length, option_map, IfSome};
+ghost use Rattle.page_model.specs.Loop.{has_skipped};
+ghost use Rattle.resize_observer.specs.Observers.{alone};
+ghost use Rattle.depth_gather.specs.Deliveries.{turn_from, active_at};
+ghost use Rattle.depth_gather.specs.Turning.{found_turn};
+
+use resize_observer::{ObserverId, Observers};
+
+// An observer with something active, and the place behind it.
+#[derive(Clone, Copy)]
+pub(crate) struct Found {
+    pub(crate) observer: ObserverId,
+    pub(crate) place: usize,
+}
+
+// The first observer of the document from this place on with something active.
+pub(crate) fn next_turn(observers: &Observers, document: u32, place: usize) -> Option<Found>
+    ensures value { option_map found_turn result ≡ turn_from document place observers.now }
+    ensures made { IfSome result (λ found. found.observer.0 < length observers.now.made) }
+    ensures some { IfSome result (λ found. 0 < length (active_at observers.now found.observer.0)) }
+{
+    let mut at = place;
+    while let Some(observer) = observers.of_document(document, at) {
+        at += 1;
+        if !observers.active(observer).is_empty() {
+            return Some(Found {
+                observer,
+                place: at,
+            });
+        }
+    }
+    None
+}
+
+/// Whether something is skipped in the document (Resize Observer, 3.4: has skipped observations). No memory.
+pub fn has_skipped(observers: &Observers, document: u32) -> bool
+    ensures { result ≡ has_skipped document (alone observers.now) }
+{
+    let mut place = 0;
+    while let Some(observer) = observers.of_document(document, place) {
+        if !observers.skipped(observer).is_empty() {
+            return true;
+        }
+        place += 1;
+    }
+    false
+}
