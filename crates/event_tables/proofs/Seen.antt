@@ -1,0 +1,63 @@
+-- Lists as they are seen.
+use Rattle.std.proofs.Common.{◌≡◌, ℕ, ◌∙◌, ap, refl, sym}
+use Rattle.std.specs.Prelude.{Bool, true, false, cond, not, ◌||◌, List, [], ◌∷◌, map, filter}
+use Rattle.std.specs.List.{list_any}
+use Rattle.page_model.specs.Lookups.{kept}
+use Rattle.event_tables.specs.Tables.{Bounded}
+
+-- an entry that passes a test is among those that are seen
+any_seen : {A B : Type 0} (seen : A → B) (test : B → Bool) (xs : List A) → list_any (λ x. test (seen x)) xs ≡ list_any test (map seen xs)
+any_seen seen test [] = refl
+any_seen seen test (x ∷ xs) = ap (λ others. test (seen x) || others) (any_seen seen test xs)
+
+-- those that pass a test are kept
+one_seen : {A B : Type 0} (seen : A → B) (keeps : Bool) (x : A) (xs : List A) (ys : List B) → map seen xs ≡ ys → map seen (cond keeps (x ∷ xs) xs) ≡ cond keeps (seen x ∷ ys) ys
+one_seen seen true x xs ys same = ap (λ others. seen x ∷ others) same
+one_seen seen false x xs ys same = same
+
+kept_seen : {A B : Type 0} (seen : A → B) (test : B → Bool) (xs : List A) → map seen (filter (λ x. test (seen x)) xs) ≡ filter test (map seen xs)
+kept_seen seen test [] = refl
+kept_seen seen test (x ∷ xs) = one_seen seen (test (seen x)) x _ _ (kept_seen seen test xs)
+
+-- where nothing passes a test, all is kept that doesn't pass it
+all_kept_by : {A : Type 0} (test : A → Bool) (x : A) (xs : List A) (passes : Bool) → (passes || list_any test xs) ≡ false → filter (λ each. not (test each)) xs ≡ xs → cond (not passes) (x ∷ filter (λ each. not (test each)) xs) (filter (λ each. not (test each)) xs) ≡ x ∷ xs
+all_kept_by test x xs true none same = cc
+all_kept_by test x xs false none same = ap (λ others. x ∷ others) same
+
+rest_fails : (passes others : Bool) → (passes || others) ≡ false → others ≡ false
+rest_fails true others none = cc
+rest_fails false others none = none
+
+all_kept : {A : Type 0} (test : A → Bool) (xs : List A) → list_any test xs ≡ false → filter (λ each. not (test each)) xs ≡ xs
+all_kept test [] none = refl
+all_kept test (x ∷ xs) none = all_kept_by test x xs (test x) none (all_kept test xs (rest_fails (test x) (list_any test xs) none))
+
+-- a table as it is kept
+abbrev pub table_of : {A B : Type 0} → (A → B) → (given most : ℕ) → List A → Bounded B
+table_of seen given most held = record { table = record { given = given; held = map seen held }; most = most }
+
+-- an entry that passes a test is in a table
+pub any_in : {A B : Type 0} (seen : A → B) (test : B → Bool) (given most : ℕ) (read held : List A) (it : Bounded B) (answer : Bool) → answer ≡ list_any (λ x. test (seen x)) read → read ≡ held → table_of seen given most held ≡ it → answer ≡ list_any test (it.table.held)
+any_in seen test given most read held it answer is same view =
+    is
+    ∙ ap (λ these. list_any (λ x. test (seen x)) these) same
+    ∙ any_seen seen test held
+    ∙ ap (λ (now : Bounded _). list_any test (now.table.held)) view
+
+-- the entries of a table that pass a test are copied
+pub copied_from : {A B : Type 0} (seen : A → B) (test : B → Bool) (given most : ℕ) (read held : List A) (it : Bounded B) → read ≡ held → table_of seen given most held ≡ it → map seen (filter (λ x. test (seen x)) read) ≡ filter test (it.table.held)
+copied_from seen test given most read held it same view =
+    ap (λ these. map seen (filter (λ x. test (seen x)) these)) same
+    ∙ kept_seen seen test held
+    ∙ ap (λ (now : Bounded _). filter test (now.table.held)) view
+
+-- the entries of a table that pass a test are kept in it
+pub kept_in : {A B : Type 0} (seen : A → B) (test : B → Bool) (given most : ℕ) (held new : List A) (it : Bounded B) → new ≡ filter (λ x. test (seen x)) held → table_of seen given most held ≡ it → table_of seen given most new ≡ record it { table = kept test (it.table) }
+kept_in seen test given most held new it same view =
+    ap (table_of seen given most) same
+    ∙ ap (λ these. record { table = record { given = given; held = these }; most = most }) (kept_seen seen test held)
+    ∙ ap (λ (now : Bounded _). record now { table = kept test (now.table) }) view
+
+-- where nothing in a table passes a test, taking out what passes it changes nothing
+pub none_out : {B : Type 0} (test : B → Bool) (it : Bounded B) → list_any test (it.table.held) ≡ false → it ≡ record it { table = kept (λ each. not (test each)) (it.table) }
+none_out test it none = sym (ap (λ held. record it { table = record (it.table) { held = held } }) (all_kept test (it.table.held) none))

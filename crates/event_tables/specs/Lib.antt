@@ -1,0 +1,8 @@
+pub mod Answers
+pub mod Handed
+pub mod Seen
+pub mod Tables
+pub mod Listeners
+pub mod FrameCallbacks
+pub mod Timers
+pub mod Tasks

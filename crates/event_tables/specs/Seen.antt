@@ -1,0 +1,44 @@
+-- What the types of the event tables stand for in the definitions.
+use Rattle.text_io.specs.declared.kinds.EventKind.{EventKind}
+use Rattle.text_io.specs.declared.kinds.EventKind.TheVariants as kind
+use Rattle.script_model.specs.Kinds.{EventName, ResizeEvent, ScrollEvent, ErrorEvent, ChangeEvent}
+use Rattle.page_model.specs.World as model
+use Rattle.event_tables.specs.declared.events.EventTarget.{EventTarget}
+use Rattle.event_tables.specs.declared.events.EventTarget.TheVariants as target
+use Rattle.event_tables.specs.declared.events.Task.{Task}
+use Rattle.event_tables.specs.declared.events.Task.TheVariants as task
+use Rattle.event_tables.specs.declared.listeners.Listener.{Listener}
+use Rattle.event_tables.specs.declared.callbacks.Callback.{Callback}
+use Rattle.event_tables.specs.declared.timers.Timer.{Timer}
+
+abbrev pub seen_target : EventTarget → model.EventTarget
+seen_target (target.Node element) = model.ElementTarget element.0
+seen_target (target.Document number) = model.DocumentTarget number
+seen_target (target.Window number) = model.WindowTarget number
+seen_target (target.Query number) = model.QueryTarget number
+
+abbrev pub seen_event : EventKind → EventName
+seen_event kind.Resize = ResizeEvent
+seen_event kind.Scroll = ScrollEvent
+seen_event kind.Error = ErrorEvent
+seen_event kind.Change = ChangeEvent
+
+abbrev pub seen_task : Task → model.Task
+seen_task (task.Notify number) = model.Notify number
+seen_task (task.Posted number handler) = model.Posted number handler.0
+
+abbrev pub seen_listener : Listener → model.Listener
+seen_listener it = record { serial = it.serial; target = seen_target it.target; event = seen_event it.kind; handler = it.handler.0 }
+
+-- a frame callback, or what a timer has but for its due time
+abbrev pub seen_callback : Callback → model.FrameCallback
+seen_callback it = record { serial = it.serial; document = it.document; key = it.key; handler = it.handler.0 }
+
+abbrev pub seen_timer : Timer → model.Timer
+seen_timer it = record {
+  serial = it.callback.serial;
+  document = it.callback.document;
+  key = it.callback.key;
+  due = it.due;
+  handler = it.callback.handler.0;
+}

@@ -1,0 +1,61 @@
+//! What events are fired at, handlers, and tasks.
+
+ghost use Rattle.std.specs.Prelude.{◌≡◌};
+ghost use Rattle.page_model.specs.Observing.{is_same_target, is_same_event, is_posted};
+ghost use Rattle.event_tables.specs.Seen.{seen_target, seen_event, seen_task};
+
+use element_tree::NodeId;
+use text_io::EventKind;
+
+/// What an event is fired at: an element, a document, a document's window, or a media query list.
+#[derive(Clone, Copy, PartialEq, Eq, Debug)]
+pub enum EventTarget {
+    Node(NodeId),
+    Document(u32),
+    Window(u32),
+    Query(u32),
+}
+
+/// The name of a handler: its number, from 0 in the script's order.
+#[derive(Clone, Copy, PartialEq, Eq, Debug)]
+pub struct HandlerId(pub u32);
+
+/// A task that waits: to notify the intersection observers of a document, or to call a handler for a document.
+#[derive(Clone, Copy, PartialEq, Eq, Debug)]
+pub enum Task {
+    Notify(u32),
+    Posted(u32, HandlerId),
+}
+
+pub(crate) fn is_same_target(one: EventTarget, other: EventTarget) -> bool
+    ensures { result ≡ is_same_target (seen_target one) (seen_target other) }
+{
+    match (one, other) {
+        (EventTarget::Node(one), EventTarget::Node(other)) => one.0 == other.0,
+        (EventTarget::Document(one), EventTarget::Document(other)) => one == other,
+        (EventTarget::Window(one), EventTarget::Window(other)) => one == other,
+        (EventTarget::Query(one), EventTarget::Query(other)) => one == other,
+        _ => false,
+    }
+}
+
+pub(crate) fn is_same_kind(one: EventKind, other: EventKind) -> bool
+    ensures { result ≡ is_same_event (seen_event one) (seen_event other) }
+{
+    match (one, other) {
+        (EventKind::Resize, EventKind::Resize) => true,
+        (EventKind::Scroll, EventKind::Scroll) => true,
+        (EventKind::Error, EventKind::Error) => true,
+        (EventKind::Change, EventKind::Change) => true,
+        _ => false,
+    }
+}
+
+pub(crate) fn is_posted(task: Task) -> bool
+    ensures { result ≡ is_posted (seen_task task) }
+{
+    match task {
+        Task::Notify(_) => false,
+        Task::Posted(..) => true,
+    }
+}

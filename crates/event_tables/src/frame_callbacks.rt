@@ -1,0 +1,153 @@
+//! Animation frame callbacks (HTML, animation frames).
+
+ghost use Rattle.std.specs.Prelude.{◌≡◌, ℕ, List, ◌+◌, ◌<◌, ◌≤◌, ◌-◌, ◌^◌, [], ◌==◌, false, find, option_map, IfOk, OnOk, OnErr};
+ghost use Rattle.std.specs.List.{list_any};
+ghost use Rattle.page_model.specs.World.{FrameCallback};
+ghost use Rattle.event_tables.specs.Answers.{Enters};
+ghost use Rattle.event_tables.specs.Handed.{behind_first};
+ghost use Rattle.event_tables.specs.Seen.{seen_callback};
+ghost use Rattle.event_tables.specs.Tables.{has_room};
+ghost use Rattle.event_tables.specs.FrameCallbacks.{is_requested, requesting, cancelling, callbacks_of, callback_stands, without_serial, once_handed, told};
+
+use crate::callbacks::{Callback, contains, copies, is_held, remove, remove_serial};
+use crate::{Batch, HandlerId, TableFault};
+use std::alloc::{AllocError, Global};
+use std::marker::Model;
+use text_io::Name;
+
+/// The frame callbacks of a page in order of making, each with its document and a key of its own there. A clause sees them
+/// as the definitions of a world do, with the number of serial numbers given, and how many there may be.
+#[derive(Drop)]
+pub struct FrameCallbacks {
+    given: u64,
+    held: Vec<Callback>,
+    most: u32,
+}
+
+impl Model for FrameCallbacks {
+    ghost use Rattle.std.specs.Prelude.{map};
+    ghost use Rattle.page_model.specs.World.{FrameCallback};
+    ghost use Rattle.event_tables.specs.Tables.{Bounded};
+
+    ghost Value = { Bounded FrameCallback };
+
+    ghost use Rattle.event_tables.specs.Seen.{seen_callback};
+
+    ghost view = { λ f. record { table = record { given = f.given; held = map seen_callback f.held.items }; most = f.most } };
+}
+
+impl FrameCallbacks {
+    /// No frame callbacks, which take no memory yet. At most `most` can be held.
+    pub fn new(alloc: Global, most: u32) -> FrameCallbacks
+        ensures { result ≡ record { table = record { given = 0; held = [] }; most = most } }
+    {
+        FrameCallbacks {
+            given: 0,
+            held: Vec::new(alloc),
+            most,
+        }
+    }
+
+    /// Requests a frame callback of a document under a key, last.
+    ///
+    /// `Taken` exactly where the document has the key; else `Limit` exactly where `most` are held; else `Memory` where
+    /// there is none. Fewer than 2^64 - 1 serial numbers were given.
+    pub fn request(
+        &mut self,
+        document: u32,
+        key: Name,
+        handler: HandlerId,
+    ) -> Result<(), TableFault>
+        requires { self.old.table.given < 2 ^ 64 - 1 }
+        ensures answer { Enters result (is_requested document key self.old) (has_room self.old) }
+        ensures requested { OnOk result (self.new ≡ requesting document key handler.0 self.old) }
+        ensures same { OnErr result (self.new ≡ self.old) }
+        ensures given { self.new.table.given ≤ self.old.table.given + 1 }
+    {
+        if self.has(document, key) {
+            return Err(TableFault::Taken);
+        }
+        if self.held.len() >= self.most as usize {
+            return Err(TableFault::Limit);
+        }
+        let callback = Callback {
+            serial: self.given,
+            document,
+            key,
+            handler,
+        };
+        let Ok(()) = self.held.push(callback) else {
+            return Err(TableFault::Memory);
+        };
+        self.given += 1;
+        Ok(())
+    }
+
+    /// Cancels the frame callback of a document under a key. The answer is false, and nothing changes, exactly where there
+    /// is none.
+    pub fn cancel(&mut self, document: u32, key: Name) -> bool
+        ensures answer { result ≡ is_requested document key self.old }
+        ensures cancelled { self.new ≡ cancelling document key self.old }
+        ensures same { result ≡ false → self.new ≡ self.old }
+    {
+        let there = self.has(document, key);
+        if there {
+            remove(&mut self.held, document, key);
+        }
+        there
+    }
+
+    /// Copies the frame callbacks of a document as it begins to run them.
+    pub fn begin(&self, document: u32) -> Result<Batch, AllocError>
+        ensures { IfOk result (λ batch. batch ≡ callbacks_of document self.now) }
+    {
+        copies(*self.held.allocator(), self.held.as_slice(), document)
+    }
+
+    /// Takes out the first copied frame callback that still stands, and tells its key and handler; it and those before it
+    /// leave the batch. None exactly where none of those that are left still stands: one that was cancelled and requested
+    /// anew is another.
+    pub fn next(&mut self, batch: &mut Batch) -> Option<(Name, HandlerId)>
+        ensures value { option_map {U = List ℕ × ℕ} (λ called. (called.0, called.1.0)) result ≡ option_map told (find (callback_stands self.old) batch.old) }
+        ensures removed { self.new ≡ once_handed (find (callback_stands self.old) batch.old) self.old }
+        ensures left { batch.new ≡ behind_first (callback_stands self.old) batch.old }
+        ensures given { self.new.table.given ≡ self.old.table.given }
+    {
+        let callback = self.first_standing(batch)?;
+        self.remove_serial(callback.serial);
+        Some((callback.key, callback.handler))
+    }
+
+    // Takes the first callback that still stands off the batch, with those before it.
+    fn first_standing(&self, batch: &mut Batch) -> Option<Callback>
+        ensures value { option_map seen_callback result ≡ find (callback_stands self.now) batch.old }
+        ensures left { batch.new ≡ behind_first (callback_stands self.now) batch.old }
+    {
+        while let Some(callback) = batch.pop() {
+            if self.stands(callback.serial) {
+                return Some(callback);
+            }
+        }
+        None
+    }
+
+    // Takes the one of a serial number out.
+    fn remove_serial(&mut self, serial: u64)
+        ensures { self.new ≡ without_serial serial self.old }
+    {
+        remove_serial(&mut self.held, serial);
+    }
+
+    fn has(&self, document: u32, key: Name) -> bool
+        ensures { result ≡ is_requested document key self.now }
+    {
+        contains(self.held.as_slice(), document, key)
+    }
+
+    // Whether the callback of a serial number is held.
+    fn stands(&self, serial: u64) -> bool
+        ensures { result ≡ list_any (λ (each : FrameCallback). each.serial == serial) self.now.table.held }
+    {
+        is_held(self.held.as_slice(), serial)
+    }
+}

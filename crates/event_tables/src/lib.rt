@@ -1,0 +1,26 @@
+//! The event tables of a page: the listeners, frame callbacks, timers and tasks that wait, in order of making, and the
+//! batches of those that are called.
+#![tactic(auto)]
+
+mod answers;
+mod callbacks;
+mod events;
+mod frame_callbacks;
+mod laws;
+mod listeners;
+mod tasks;
+#[cfg(test)]
+mod tests;
+mod timers;
+
+pub use answers::TableFault;
+pub use callbacks::Batch;
+pub use events::{EventTarget, HandlerId, Task};
+pub use frame_callbacks::FrameCallbacks;
+pub use laws::{
+    frame_callbacks_are_those_of_any_world, handing_out_runs_each_that_stands,
+    listeners_are_those_of_any_world, tasks_are_those_of_any_world, timers_are_those_of_any_world,
+};
+pub use listeners::{Dispatch, Listeners};
+pub use tasks::Tasks;
+pub use timers::Timers;

@@ -1,0 +1,82 @@
+//! Tasks that wait.
+
+ghost use Rattle.std.specs.Prelude.{◌≡◌, [], option_map, OnOk, OnErr};
+ghost use Rattle.event_tables.specs.Answers.{Queues};
+ghost use Rattle.event_tables.specs.Seen.{seen_task};
+ghost use Rattle.event_tables.specs.Tasks.{may_queue, queueing, first_of, others_of};
+
+use crate::events::is_posted;
+use crate::{TableFault, Task};
+use std::alloc::Global;
+use std::collections::VecDeque;
+use std::marker::Model;
+
+/// The tasks of a page that wait, in order of queueing. A clause sees them as the definitions of a world do, with how many
+/// posted ones may wait.
+#[derive(Drop)]
+pub struct Tasks {
+    waiting: VecDeque<Task>,
+    posted: u32,
+    most: u32,
+}
+
+impl Model for Tasks {
+    ghost use Rattle.std.specs.Prelude.{◌≡◌, map};
+    ghost use Rattle.std.specs.List.{count_by};
+    ghost use Rattle.page_model.specs.Observing.{is_posted};
+    ghost use Rattle.event_tables.specs.Tasks.{WaitingTasks};
+
+    ghost Value = { WaitingTasks };
+
+    ghost use Rattle.event_tables.specs.Seen.{seen_task};
+
+    ghost view = { λ t. record { waiting = map seen_task t.waiting.items; most = t.most } };
+
+    ghost invariant = { λ t. t.posted ≡ count_by is_posted (map seen_task t.waiting.items) };
+}
+
+impl Tasks {
+    /// No tasks, which take no memory yet. At most `most` posted tasks can wait.
+    pub fn new(alloc: Global, most: u32) -> Tasks
+        ensures { result ≡ record { waiting = []; most = most } }
+    {
+        Tasks {
+            waiting: VecDeque::new(alloc),
+            posted: 0,
+            most,
+        }
+    }
+
+    /// Queues a task, last.
+    ///
+    /// `Limit` exactly for a posted task where `most` posted tasks wait; else `Memory` where there is none; never `Taken`.
+    pub fn push(&mut self, task: Task) -> Result<(), TableFault>
+        ensures answer { Queues result (may_queue (seen_task task) self.old) }
+        ensures queued { OnOk result (self.new ≡ queueing (seen_task task) self.old) }
+        ensures same { OnErr result (self.new ≡ self.old) }
+    {
+        let posted = is_posted(task);
+        if posted && self.posted >= self.most {
+            return Err(TableFault::Limit);
+        }
+        let Ok(()) = self.waiting.push_back(task) else {
+            return Err(TableFault::Memory);
+        };
+        if posted {
+            self.posted += 1;
+        }
+        Ok(())
+    }
+
+    /// Takes the first task off. None exactly where no task waits.
+    pub fn pop(&mut self) -> Option<Task>
+        ensures value { option_map seen_task result ≡ first_of self.old.waiting }
+        ensures left { self.new ≡ record self.old { waiting = others_of self.old.waiting } }
+    {
+        let task = self.waiting.pop_front()?;
+        if is_posted(task) {
+            self.posted -= 1;
+        }
+        Some(task)
+    }
+}
