@@ -1,7 +1,11 @@
 //! Replays a script from standard input and writes its trace to standard output.
 #![tactic(auto)]
 
-ghost use Rattle.std.specs.Prelude.{◌≡◌, ◌<◌};
+ghost use Rattle.std.specs.Prelude.{◌≡◌, ◌↔◌, ◌<◌, length, is_some, IfSome};
+ghost use Rattle.text_io.specs.Streams.{Rose};
+ghost use Rattle.built_part.specs.Outcomes.{outcome};
+ghost use Rattle.replay.specs.Answers.{Ends, IsTaken};
+ghost use Rattle.replay.specs.Statuses.{is_done};
 
 mod built;
 mod limits;
@@ -22,6 +26,7 @@ use std::{env, io};
 use step_count::Steps;
 use text_io::{Sink, Source, StdSink, StdSource};
 
+// `run`, whose steps nobody counts. Its clauses are those of `run`.
 fn run_uncounted<S: Source, K: Sink, L: Ledger>(
     blank: Blank,
     alloc: Global,
@@ -32,6 +37,15 @@ fn run_uncounted<S: Source, K: Sink, L: Ledger>(
     requires name { blank.name ≡ L.name }
     requires parts { blank.parts ≡ L.parts }
     requires one_part { 0 < blank.parts }
+    ensures usage { (result.status ≡ Status.Usage) ↔ (0 < length words.now) }
+    ensures untouched { 0 < length words.now → (source.new ≡ source.old) × (sink.new ≡ sink.old) }
+    ensures ends { length words.now ≡ 0 → IfSome (S.left source.old) (λ text.
+        Ends result.status (outcome text) (K.taken sink.old) (K.taken sink.new) (K.faults sink.old) (K.faults sink.new)) }
+    ensures read { IfSome (S.left source.old) (λ text. IsTaken result.status text (S.left source.new)) }
+    ensures read_fault { result.status ≡ Status.ReadFault → Rose (S.faults source.old) (S.faults source.new) × (sink.new ≡ sink.old) }
+    ensures write_fault { result.status ≡ Status.WriteFault → Rose (K.faults sink.old) (K.faults sink.new) }
+    ensures page { is_some result.page ≡ is_done result.status }
+    ensures world { IfSome result.page (λ page. IfSome (S.left source.old) (λ text. page.world ≡ (outcome text).world)) }
 {
     let mut steps = Steps::<L>::new(blank);
     run(alloc, words, source, sink, &mut steps)
