@@ -4,7 +4,7 @@ use Rattle.std.specs.Prelude.{ℕ, zero, suc, Bool, true, false, cond, not, ◌&
 use Rattle.std.specs.List.{list_any}
 use Rattle.layout_model.specs.Nodes.{depth_of, path_of, path_up, path_above}
 use Rattle.script_model.specs.TraceLines.{TraceLine, RoundLine, FiredError}
-use Rattle.script_model.specs.Kinds.{ErrorEvent}
+use Rattle.text_io.specs.declared.kinds.EventKind.TheVariants as events
 use Rattle.page_model.specs.World.{World, Observation, ResizeObserver, Extent, WindowTarget}
 use Rattle.page_model.specs.Lookups.{same_extent, element_at}
 use Rattle.page_model.specs.Documents.{is_active, element_depth, tree_of}
@@ -229,7 +229,7 @@ module _ (w : World) where
         ap (λ now. after (report_skipped script 0) (repeat goes_on (round script 0) most_steps now)) (first-gather targets [] [])
         ∙ ap (after (report_skipped script 0)) (loop-by targets (due w targets) refl)
         ∙ after-say (report_skipped script 0) (told_lines w (told w targets)) (observing (told_targets w targets) [] []) (observing (told_targets w targets) [] [])
-        (ap (only_if (fire script (FiredError (document_text w 0)) (WindowTarget 0) ErrorEvent) (observing (told_targets w targets) [] [])) (and-false (is_active w 0) false refl))
+        (ap (only_if (fire script (FiredError (document_text w 0)) (WindowTarget 0) events.Error) (observing (told_targets w targets) [] [])) (and-false (is_active w 0) false refl))
 
     -- with no observer there is nothing to do
 
@@ -238,4 +238,4 @@ module _ (w : World) where
     loop-none =
         ap (after (report_skipped script 0)) (repeat-not goes_on (round script 0) most_steps (watched [] w) (and-false (is_active w 0) false refl))
         ∙ after-say (report_skipped script 0) [] (watched [] w) (watched [] w)
-        (ap (only_if (fire script (FiredError (document_text w 0)) (WindowTarget 0) ErrorEvent) (watched [] w)) (and-false (is_active w 0) false refl))
+        (ap (only_if (fire script (FiredError (document_text w 0)) (WindowTarget 0) events.Error) (watched [] w)) (and-false (is_active w 0) false refl))

@@ -3,7 +3,7 @@
 use Rattle.std.proofs.Common.{◌≡◌, refl, ap, ◌∙◌, sym, subst}
 use Rattle.std.specs.Prelude.{ℕ, suc, Bool, true, false, cond, ◌&&◌, nat_lt, List, [], ◌∷◌, ◌++◌, length, Option, Some, None}
 use Rattle.script_model.specs.TraceLines.{TraceLine, TickLine, EventLine, FiredResize}
-use Rattle.script_model.specs.Kinds.{ResizeEvent}
+use Rattle.text_io.specs.declared.kinds.EventKind.TheVariants as events
 use Rattle.page_model.specs.World.{World, Document, DocumentState, Active, ScrollTarget, IntersectionObserver, QueryList, Listener, FrameCallback, Timer, Task, WindowTarget}
 use Rattle.page_model.specs.Lookups.{element_at, document_at}
 use Rattle.page_model.specs.Documents.{active_documents, is_active}
@@ -74,7 +74,7 @@ module _ (script : Script) (top : Document) (world : World) where
   unfolding run_tasks
   tasks-none = repeat-not (λ (now : World). has_tasks (now.tasks)) (λ now. run_first script (now.tasks) now) most_steps (bare top world) refl
 
-  fired-alone : fire script (FiredResize (document_text (bare top world) 0)) (WindowTarget 0) ResizeEvent (bare top world) ≡ say (EventLine (FiredResize (document_text (bare top world) 0)) ∷ []) (bare top world)
+  fired-alone : fire script (FiredResize (document_text (bare top world) 0)) (WindowTarget 0) events.Resize (bare top world) ≡ say (EventLine (FiredResize (document_text (bare top world) 0)) ∷ []) (bare top world)
   unfolding fire invoke after follow for_each
   fired-alone = refl
 
@@ -84,7 +84,7 @@ module _ (script : Script) (top : Document) (world : World) where
   resized : resize_steps script 0 (bare top world) ≡ say (sized_lines (bare top world)) (noted (bare top world))
   unfolding resize_steps
   resized = chosen (differs_from (viewport_of (bare top world) 0) (top.noted)) where
-    chosen : (changed : Bool) → only_if (fire script (FiredResize (document_text (bare top world) 0)) (WindowTarget 0) ResizeEvent) (noted (bare top world)) changed ≡ say (cond changed (EventLine (FiredResize (document_text (bare top world) 0)) ∷ []) []) (noted (bare top world))
+    chosen : (changed : Bool) → only_if (fire script (FiredResize (document_text (bare top world) 0)) (WindowTarget 0) events.Resize) (noted (bare top world)) changed ≡ say (cond changed (EventLine (FiredResize (document_text (bare top world) 0)) ∷ []) []) (noted (bare top world))
     chosen true = fired-alone script (record top { noted = Some (viewport_of (bare top world) 0) }) world
     chosen false = refl
 

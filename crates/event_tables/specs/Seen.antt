@@ -1,7 +1,4 @@
 -- What the types of the event tables stand for in the definitions.
-use Rattle.text_io.specs.declared.kinds.EventKind.{EventKind}
-use Rattle.text_io.specs.declared.kinds.EventKind.TheVariants as kind
-use Rattle.script_model.specs.Kinds.{EventName, ResizeEvent, ScrollEvent, ErrorEvent, ChangeEvent}
 use Rattle.page_model.specs.World as model
 use Rattle.event_tables.specs.declared.events.EventTarget.{EventTarget}
 use Rattle.event_tables.specs.declared.events.EventTarget.TheVariants as target
@@ -16,12 +13,6 @@ seen_target (target.Node element) = model.ElementTarget element.0
 seen_target (target.Document number) = model.DocumentTarget number
 seen_target (target.Window number) = model.WindowTarget number
 seen_target (target.Query number) = model.QueryTarget number
-
-abbrev pub seen_event : EventKind → EventName
-seen_event kind.Resize = ResizeEvent
-seen_event kind.Scroll = ScrollEvent
-seen_event kind.Error = ErrorEvent
-seen_event kind.Change = ChangeEvent
 
 abbrev pub seen_task : Task → model.Task
 seen_task (task.Notify number) = model.Notify number

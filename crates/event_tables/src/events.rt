@@ -2,7 +2,7 @@
 
 ghost use Rattle.std.specs.Prelude.{◌≡◌};
 ghost use Rattle.page_model.specs.Observing.{is_same_target, is_same_event, is_posted};
-ghost use Rattle.event_tables.specs.Seen.{seen_target, seen_event, seen_task};
+ghost use Rattle.event_tables.specs.Seen.{seen_target, seen_task};
 
 use element_tree::NodeId;
 use text_io::EventKind;
@@ -40,7 +40,7 @@ pub(crate) fn is_same_target(one: EventTarget, other: EventTarget) -> bool
 }
 
 pub(crate) fn is_same_kind(one: EventKind, other: EventKind) -> bool
-    ensures { result ≡ is_same_event (seen_event one) (seen_event other) }
+    ensures { result ≡ is_same_event one other }
 {
     match (one, other) {
         (EventKind::Resize, EventKind::Resize) => true,

@@ -1,7 +1,7 @@
 //! That these tables are those of a world: each law is the clause of a function that does nothing.
 
 ghost use Rattle.std.specs.Prelude.{◌≡◌, ℕ, ◌+◌, Bool, List, find, map};
-ghost use Rattle.script_model.specs.Kinds.{EventName};
+ghost use Rattle.text_io.specs.declared.kinds.EventKind.{EventKind};
 ghost use Rattle.page_model.specs.World.{World, EventTarget, Listener, FrameCallback, Timer, Task};
 ghost use Rattle.page_model.specs.Observing.{with_listener, without_listener, is_listening, with_frame_callback, without_frame_callback, is_frame_requested, with_timer, without_timer, is_timer_set, with_task, posted_tasks};
 ghost use Rattle.page_model.specs.Callbacks.{Script, listeners_of, stands};
@@ -17,10 +17,10 @@ ghost use Rattle.event_tables.specs.Tasks.{WaitingTasks, with_tasks, alone, queu
 /// In whatever world they stand, each call makes of the listeners what the definitions make of that world, and they are
 /// read there as they are here.
 pub fn listeners_are_those_of_any_world()
-    ensures adding { (it : Bounded Listener) (world : World) (target : EventTarget) (event : EventName) (handler : ℕ) → with_listener target event handler (with_listeners it world) ≡ with_listeners (listening target event handler it) world }
-    ensures removing { (it : Bounded Listener) (world : World) (target : EventTarget) (event : EventName) (handler : ℕ) → without_listener target event handler (with_listeners it world) ≡ with_listeners (unlistening target event handler it) world }
-    ensures holding { (it : Bounded Listener) (world : World) (target : EventTarget) (event : EventName) (handler : ℕ) → is_listening target event handler (with_listeners it world) ≡ is_there target event handler it }
-    ensures copying { (it : Bounded Listener) (world : World) (target : EventTarget) (event : EventName) → listeners_of (with_listeners it world) target event ≡ listeners_at target event it }
+    ensures adding { (it : Bounded Listener) (world : World) (target : EventTarget) (event : EventKind) (handler : ℕ) → with_listener target event handler (with_listeners it world) ≡ with_listeners (listening target event handler it) world }
+    ensures removing { (it : Bounded Listener) (world : World) (target : EventTarget) (event : EventKind) (handler : ℕ) → without_listener target event handler (with_listeners it world) ≡ with_listeners (unlistening target event handler it) world }
+    ensures holding { (it : Bounded Listener) (world : World) (target : EventTarget) (event : EventKind) (handler : ℕ) → is_listening target event handler (with_listeners it world) ≡ is_there target event handler it }
+    ensures copying { (it : Bounded Listener) (world : World) (target : EventTarget) (event : EventKind) → listeners_of (with_listeners it world) target event ≡ listeners_at target event it }
     ensures standing { (it : Bounded Listener) (world : World) (listener : Listener) → stands listener (with_listeners it world) ≡ listener_stands it listener }
 {}
 

@@ -6,7 +6,7 @@ ghost use Rattle.page_model.specs.World.{Listener as ModelListener};
 ghost use Rattle.page_model.specs.Observing.{is_listener};
 ghost use Rattle.event_tables.specs.Answers.{Adds};
 ghost use Rattle.event_tables.specs.Handed.{behind_first};
-ghost use Rattle.event_tables.specs.Seen.{seen_target, seen_event, seen_listener};
+ghost use Rattle.event_tables.specs.Seen.{seen_target, seen_listener};
 ghost use Rattle.event_tables.specs.Tables.{has_room};
 ghost use Rattle.event_tables.specs.Listeners.{hears, is_there, listening, unlistening, listeners_at, listener_stands};
 
@@ -29,13 +29,13 @@ pub(crate) struct Listener {
 impl Listener {
     // Whether it listens for this event at this target.
     fn hears(&self, target: EventTarget, kind: EventKind) -> bool
-        ensures { result ≡ hears (seen_target target) (seen_event kind) (seen_listener self.now) }
+        ensures { result ≡ hears (seen_target target) kind (seen_listener self.now) }
     {
         is_same_target(target, self.target) && is_same_kind(kind, self.kind)
     }
 
     fn is(&self, target: EventTarget, kind: EventKind, handler: HandlerId) -> bool
-        ensures { result ≡ is_listener (seen_target target) (seen_event kind) handler.0 (seen_listener self.now) }
+        ensures { result ≡ is_listener (seen_target target) kind handler.0 (seen_listener self.now) }
     {
         self.hears(target, kind) && handler.0 == self.handler.0
     }
@@ -86,8 +86,8 @@ impl Listeners {
         handler: HandlerId,
     ) -> Result<bool, TableFault>
         requires { self.old.table.given < 2 ^ 64 - 1 }
-        ensures answer { Adds result (is_there (seen_target target) (seen_event kind) handler.0 self.old) (has_room self.old) }
-        ensures added { IfOk result (λ added. self.new ≡ (if added then listening (seen_target target) (seen_event kind) handler.0 self.old else self.old)) }
+        ensures answer { Adds result (is_there (seen_target target) kind handler.0 self.old) (has_room self.old) }
+        ensures added { IfOk result (λ added. self.new ≡ (if added then listening (seen_target target) kind handler.0 self.old else self.old)) }
         ensures same { OnErr result (self.new ≡ self.old) }
         ensures given { self.new.table.given ≤ self.old.table.given + 1 }
     {
@@ -113,8 +113,8 @@ impl Listeners {
     /// Removes the listener of a handler for an event at a target (DOM, 2.7: remove an event listener). The answer is
     /// false, and nothing changes, exactly where there is none.
     pub fn remove(&mut self, target: EventTarget, kind: EventKind, handler: HandlerId) -> bool
-        ensures answer { result ≡ is_there (seen_target target) (seen_event kind) handler.0 self.old }
-        ensures removed { self.new ≡ unlistening (seen_target target) (seen_event kind) handler.0 self.old }
+        ensures answer { result ≡ is_there (seen_target target) kind handler.0 self.old }
+        ensures removed { self.new ≡ unlistening (seen_target target) kind handler.0 self.old }
         ensures same { result ≡ false → self.new ≡ self.old }
     {
         let there = self.is_there(target, kind, handler);
@@ -130,7 +130,7 @@ impl Listeners {
         target: EventTarget,
         kind: EventKind,
     ) -> Result<Dispatch, AllocError>
-        ensures { IfOk result (λ dispatch. dispatch ≡ listeners_at (seen_target target) (seen_event kind) self.now) }
+        ensures { IfOk result (λ dispatch. dispatch ≡ listeners_at (seen_target target) kind self.now) }
     {
         let left = copies(*self.held.allocator(), self.held.as_slice(), target, kind)?;
         Ok(Dispatch { left })
@@ -151,7 +151,7 @@ impl Listeners {
     }
 
     fn is_there(&self, target: EventTarget, kind: EventKind, handler: HandlerId) -> bool
-        ensures { result ≡ is_there (seen_target target) (seen_event kind) handler.0 self.now }
+        ensures { result ≡ is_there (seen_target target) kind handler.0 self.now }
     {
         contains(self.held.as_slice(), target, kind, handler)
     }
@@ -166,14 +166,14 @@ impl Listeners {
 
 // Whether the listener of a handler for an event at a target is among these.
 fn contains(held: &[Listener], target: EventTarget, kind: EventKind, handler: HandlerId) -> bool
-    ensures { result ≡ list_any (λ each. is_listener (seen_target target) (seen_event kind) handler.0 (seen_listener each)) held.now }
+    ensures { result ≡ list_any (λ each. is_listener (seen_target target) kind handler.0 (seen_listener each)) held.now }
 {
     held.iter().any(|each| each.is(target, kind, handler))
 }
 
 // Takes the listener of a handler for an event at a target out.
 fn remove(held: &mut Vec<Listener>, target: EventTarget, kind: EventKind, handler: HandlerId)
-    ensures { held.new.items ≡ filter (λ each. not (is_listener (seen_target target) (seen_event kind) handler.0 (seen_listener each))) held.old.items }
+    ensures { held.new.items ≡ filter (λ each. not (is_listener (seen_target target) kind handler.0 (seen_listener each))) held.old.items }
 {
     held.retain(|each| !each.is(target, kind, handler));
 }
@@ -185,7 +185,7 @@ fn copies(
     target: EventTarget,
     kind: EventKind,
 ) -> Result<VecDeque<Listener>, AllocError>
-    ensures { IfOk result (λ left. left.items ≡ filter (λ each. hears (seen_target target) (seen_event kind) (seen_listener each)) held.now) }
+    ensures { IfOk result (λ left. left.items ≡ filter (λ each. hears (seen_target target) kind (seen_listener each)) held.now) }
 {
     let mut left = VecDeque::new(alloc);
     for each in held {

@@ -2,7 +2,7 @@
 use Rattle.std.proofs.Common.{◌≡◌, refl, sym, subst, true≢false}
 use Rattle.std.specs.Prelude.{ℕ, zero, suc, option_map, find, bytes_eq, Bool, true, false, IsTrue, ℤ, List, [], ◌∷◌, ◌++◌, Option, Some, None, slice_get, length}
 use Rattle.layout_model.specs.Items.{Kind, FrameKind}
-use Rattle.script_model.specs.Kinds.{EventName}
+use Rattle.text_io.specs.declared.kinds.EventKind.{EventKind}
 use Rattle.script_model.specs.Syntax.{Action, Viewport, MakeBlock, MakeImage, MakeFrame, Append, Before, Remove, SetStyle, Grow, Load, MakeResizeObserver, ObserveResize, UnobserveResize, DisconnectResize, MakeIntersectionObserver, ObserveIntersection, UnobserveIntersection, DisconnectIntersection, TakeIntersections, Listen, Unlisten, MakeQueryList, ScrollTo, ScrollBy, RequestFrame, CancelFrame, SetTimer, ClearTimer, Post, Say, Read}
 use Rattle.page_model.specs.World.{DocumentState, Document, Name, ElementThing, DocumentThing, EventTarget, Extent, ScrollTarget, ScrolledElement, ScrolledDocument, World}
 use Rattle.page_model.specs.Documents.{Container}
@@ -73,7 +73,7 @@ unfolding observing OnDid
 observing-next world observer n true = still world
 observing-next world observer n false = search (both, alike) depth 9
 
-listening-next : (world : World) (target : EventTarget) (event : EventName) (handler : ℕ) (already : Bool) → OnDid (listening world target event handler already) (Next world)
+listening-next : (world : World) (target : EventTarget) (event : EventKind) (handler : ℕ) (already : Bool) → OnDid (listening world target event handler already) (Next world)
 unfolding listening OnDid
 listening-next world target event handler true = still world
 listening-next world target event handler false = search (both, alike) depth 9

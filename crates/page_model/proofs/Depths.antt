@@ -2,7 +2,10 @@
 use Rattle.std.proofs.Common.{◌≡◌, refl, ap, sym, subst, ◌∙◌, true≢false, arith, tests, ◌≢◌}
 use Rattle.std.specs.Prelude.{ℕ, zero, suc, ◌+◌, ◌<◌, ◌≤◌, nat_le, Bool, true, false, ◌||◌, ◌==◌, List, [], ◌∷◌, length, Option, Some, None, slice_get, unwrap_or}
 use Rattle.layout_model.specs.Nodes.{Node, path_above, path_up, is_among}
-use Rattle.script_model.specs.Kinds.{Exception, HierarchyRequestException, NotFoundException, Limit, DepthLimit}
+use Rattle.text_io.specs.declared.kinds.ThrowKind.{ThrowKind}
+use Rattle.text_io.specs.declared.kinds.ThrowKind.TheVariants.{HierarchyRequestError, NotFoundError}
+use Rattle.text_io.specs.declared.kinds.LimitKind.{LimitKind}
+use Rattle.text_io.specs.declared.kinds.LimitKind.TheVariants as limits
 use Rattle.page_model.specs.World.{Element, World}
 use Rattle.page_model.specs.Lookups.{change_at, change_each, element_at, no_element, without}
 use Rattle.page_model.specs.Documents.{Container, InElement, InDocument, tree_of, is_inclusive_ancestor, element_depth, levels_of, container_of, unlinked, removed, linked, adopted, shown, inserted, sibling_meant, placed_before, inclusive_descendants}
@@ -133,12 +136,12 @@ path-below at at' n parent elsewhere here high none within =
 
 -- the step that put it there
 
-unless-thrown : (test : Bool) (exception : Exception) (next : Step Effect) (Holds : Effect → Type 0) → (test ≡ false → OnDid next Holds) → OnDid (throw_if test exception >> next) Holds
+unless-thrown : (test : Bool) (exception : ThrowKind) (next : Step Effect) (Holds : Effect → Type 0) → (test ≡ false → OnDid next Holds) → OnDid (throw_if test exception >> next) Holds
 unfolding OnDid ◌>>◌
 unless-thrown true exception next Holds there = tt
 unless-thrown false exception next Holds there = there refl
 
-unless-met : (test : Bool) (limit : Limit) (next : Step Effect) (Holds : Effect → Type 0) → (test ≡ true → OnDid next Holds) → OnDid (met_unless test limit >> next) Holds
+unless-met : (test : Bool) (limit : LimitKind) (next : Step Effect) (Holds : Effect → Type 0) → (test ≡ true → OnDid next Holds) → OnDid (met_unless test limit >> next) Holds
 unfolding OnDid ◌>>◌
 unless-met true limit next Holds there = there refl
 unless-met false limit next Holds there = tt
@@ -153,13 +156,13 @@ depth-inserted world parent n sibling within none few =
 
 abbrev last_step : World → Container → ℕ → Option ℕ → Step Effect
 last_step world container n sibling =
-    met_unless (nat_le (container_depth world container + levels_of world n) 256) DepthLimit >> becomes (inserted world container n sibling)
+    met_unless (nat_le (container_depth world container + levels_of world n) 256) limits.Depth >> becomes (inserted world container n sibling)
 
 abbrev steps_of : World → Container → ℕ → Option ℕ → Step Effect
 steps_of world container n sibling =
-    throw_if (would_hold_itself world container n) HierarchyRequestException
-    >> (throw_if (is_no_child world container sibling) NotFoundException
-    >> (throw_if (is_full world container) HierarchyRequestException
+    throw_if (would_hold_itself world container n) HierarchyRequestError
+    >> (throw_if (is_no_child world container sibling) NotFoundError
+    >> (throw_if (is_full world container) HierarchyRequestError
     >> last_step world container n sibling))
 
 placing-steps : (world : World) (container : Container) (n : ℕ) (sibling : Option ℕ) → placing world container n sibling ≡ steps_of world container n sibling

@@ -2,8 +2,11 @@
 use Rattle.std.proofs.Common.{◌≡◌, refl, arith, tests}
 use Rattle.std.specs.Prelude.{ℕ, ◌+◌, ◌<◌, nat_lt, nat_le, Bool, true, false, cond, not, List, [], ◌∷◌, length, find, position, bytes_eq, option_map, Option, Some, None, IfSome}
 use Rattle.std.specs.List.{AllByRecursion, position_or_len}
-use Rattle.script_model.specs.Kinds.{Exception, ReferenceException, TypeException, HierarchyRequestException, NotFoundException, SyntaxException, RangeException, NodesLimit, DepthLimit, DocumentsLimit, ResizeObserversLimit, IntersectionObserversLimit, ResizeObservationsLimit, IntersectionObservationsLimit, ListenersLimit, TimersLimit, FrameCallbacksLimit, TasksLimit, QueriesLimit, EventName}
-use Rattle.script_model.specs.Limits.{limit_number}
+use Rattle.text_io.specs.declared.kinds.EventKind.{EventKind}
+use Rattle.text_io.specs.declared.kinds.ThrowKind.{ThrowKind}
+use Rattle.text_io.specs.declared.kinds.ThrowKind.TheVariants.{HierarchyRequestError, NotFoundError, RangeError, ReferenceError, SyntaxError, TypeError}
+use Rattle.text_io.specs.declared.kinds.LimitKind.TheVariants as limits
+use Rattle.text_io.specs.Limits.{limit_number}
 use Rattle.script_model.specs.MarginText.{margins_of, thresholds_of}
 use Rattle.script_model.specs.Syntax.{Operand, Named, Target, Aim, PlainAim, WindowAim, Action, Viewport, MakeBlock, MakeImage, MakeFrame, Append, Before, Remove, SetStyle, Grow, Load, MakeResizeObserver, ObserveResize, UnobserveResize, DisconnectResize, MakeIntersectionObserver, ObserveIntersection, UnobserveIntersection, DisconnectIntersection, TakeIntersections, Listen, Unlisten, MakeQueryList, ScrollTo, ScrollBy, RequestFrame, CancelFrame, SetTimer, ClearTimer, Post, Say, Read}
 use Rattle.page_model.specs.World.{Thing, DocumentThing, ElementThing, ResizeObserverThing, IntersectionObserverThing, QueryListThing, Name, EventTarget, Posted, World}
@@ -27,7 +30,7 @@ bind-in (Did value) next Fact Holds fact each = each value fact
 bind-in (Threw exception) next Fact Holds fact each = tt
 bind-in (Met limit) next Fact Holds fact each = tt
 
-required-in : {A : Type 0} (exception : Exception) (found : Option A) (Fact : A → Type 0) → IfSome found Fact → OnDid (required exception found) Fact
+required-in : {A : Type 0} (exception : ThrowKind) (found : Option A) (Fact : A → Type 0) → IfSome found Fact → OnDid (required exception found) Fact
 unfolding OnDid
 required-in exception None Fact fact = tt
 required-in exception (Some value) Fact fact = fact
@@ -47,7 +50,7 @@ module _ (handlers : Handlers) (world : World) (within : IsInRange (length handl
   counts = counts_of (length handlers) world
 
   thing-named : (name : List ℕ) → OnDid (thing_named world name) (IsThingIn counts)
-  thing-named name = required-in ReferenceException (named_thing world name) (IsThingIn counts) (name-in counts _ (world.names) within.names)
+  thing-named name = required-in ReferenceError (named_thing world name) (IsThingIn counts) (name-in counts _ (world.names) within.names)
 
   document-of : (thing : Thing) → IsThingIn counts thing → OnDid (as_document thing) (λ document. document < length world.documents)
   unfolding OnDid
@@ -118,7 +121,7 @@ place-in place count false less = tt
 
 handler-named : (handlers : Handlers) (name : List ℕ) → OnDid (handler_named handlers name) (λ handler. handler < length handlers)
 handler-named handlers name =
-    required-in ReferenceException (position (bytes_eq name) handlers) (λ handler. handler < length handlers)
+    required-in ReferenceError (position (bytes_eq name) handlers) (λ handler. handler < length handlers)
     (place-in (position_or_len (bytes_eq name) handlers) (length handlers) (nat_lt (position_or_len (bytes_eq name) handlers) (length handlers)) refl)
 
 handler-given : (handlers : Handlers) (name : Option (List ℕ)) → OnDid (handler_given handlers name) (λ handler. IfSome handler (λ called. called < length handlers))
@@ -136,24 +139,24 @@ module _ (handlers : Handlers) (world : World) (within : IsInRange (length handl
   placed container n sibling is-in is-n =
       let there : IsInRange (length handlers) (inserted world container n sibling) =
       kept-in (length handlers) world (inserted world container n sibling) (inserted-kept (counts_of (length handlers) world) world container n sibling within is-n is-in) within in
-      both (throw_if (would_hold_itself world container n) HierarchyRequestException) _ _
-      (both (throw_if (is_no_child world container sibling) NotFoundException) _ _
-      (both (throw_if (is_full world container) HierarchyRequestException) _ _
-      (both (met_unless (nat_le (container_depth world container + levels_of world n) (limit_number DepthLimit)) DepthLimit) _ _
+      both (throw_if (would_hold_itself world container n) HierarchyRequestError) _ _
+      (both (throw_if (is_no_child world container sibling) NotFoundError) _ _
+      (both (throw_if (is_full world container) HierarchyRequestError) _ _
+      (both (met_unless (nat_le (container_depth world container + levels_of world n) (limit_number limits.Depth)) limits.Depth) _ _
       (did _ Holds there))))
 
   observed : (observer n : ℕ) (already : Bool) → n < length world.elements → OnDid (observing world observer n already) Holds
   unfolding observing
   observed observer n true is-n = did _ Holds within
   observed observer n false is-n =
-      both (room IntersectionObservationsLimit (intersection_observations world)) _ _
+      both (room limits.IntersectionObservations (intersection_observations world)) _ _
       (did _ Holds (kept-in (length handlers) world _ (registration-kept (counts_of (length handlers) world) observer n world is-n) within))
 
-  listened : (target : EventTarget) (event : EventName) (handler : ℕ) (already : Bool) → IsEventTargetIn (counts_of (length handlers) world) target → handler < length handlers → OnDid (listening world target event handler already) Holds
+  listened : (target : EventTarget) (event : EventKind) (handler : ℕ) (already : Bool) → IsEventTargetIn (counts_of (length handlers) world) target → handler < length handlers → OnDid (listening world target event handler already) Holds
   unfolding listening
   listened target event handler true is-target is-handler = did _ Holds within
   listened target event handler false is-target is-handler =
-      both (room ListenersLimit (length world.listeners.held)) _ _
+      both (room limits.Listeners (length world.listeners.held)) _ _
       (did _ Holds (listener-in (length handlers) target event handler world within is-target is-handler))
 
   abbrev kept : (after : World) → IsKept (counts_of (length handlers) world) world after → IsInRange (length handlers) after
@@ -164,13 +167,13 @@ module _ (handlers : Handlers) (world : World) (within : IsInRange (length handl
   does-in present (Viewport width height) here = did _ Holds (size-in (length handlers) _ world within)
   does-in present (MakeBlock name document) here =
       both (new_name world name) _ _ (bind-in _ _ _ _ (document-named handlers world within document) (λ d is-d.
-      both (room NodesLimit (length world.elements)) _ _ (did _ Holds (made-in (length handlers) name _ d world within is-d))))
+      both (room limits.Nodes (length world.elements)) _ _ (did _ Holds (made-in (length handlers) name _ d world within is-d))))
   does-in present (MakeImage name document width height) here =
       both (new_name world name) _ _ (bind-in _ _ _ _ (document-named handlers world within document) (λ d is-d.
-      both (room NodesLimit (length world.elements)) _ _ (did _ Holds (made-in (length handlers) name _ d world within is-d))))
+      both (room limits.Nodes (length world.elements)) _ _ (did _ Holds (made-in (length handlers) name _ d world within is-d))))
   does-in present (MakeFrame name document inside) here =
       both (new_name world name) _ _ (bind-in _ _ _ _ (document-named handlers world within document) (λ d is-d.
-      both (other_new_name world name inside) _ _ (both (room NodesLimit (length world.elements)) _ _ (both (room DocumentsLimit (length world.documents)) _ _
+      both (other_new_name world name inside) _ _ (both (room limits.Nodes (length world.elements)) _ _ (both (room limits.Documents (length world.documents)) _ _
       (did _ Holds (frame-in (length handlers) name d inside world within is-d))))))
   does-in present (Append parent node) here =
       bind-in _ _ _ _ (container-meant handlers world within present parent here) (λ container is-in.
@@ -185,19 +188,19 @@ module _ (handlers : Handlers) (world : World) (within : IsInRange (length handl
       bind-in _ _ _ _ (element-meant handlers world within present node here) (λ n is-n. did _ Holds (kept _ (item-kept _ _ n world)))
   does-in present (Grow node dimension by) here =
       bind-in _ _ _ _ (element-meant handlers world within present node here) (λ n is-n.
-      bind (required TypeException (pixels_of (dimension_of dimension (element_at world n).item.style))) _ _ (λ units. did _ Holds (kept _ (item-kept _ _ n world))))
+      bind (required TypeError (pixels_of (dimension_of dimension (element_at world n).item.style))) _ _ (λ units. did _ Holds (kept _ (item-kept _ _ n world))))
   does-in present (Load node width height) here =
       bind-in _ _ _ _ (element-meant handlers world within present node here) (λ n is-n.
-      both (throw_if (not (is_image (element_at world n).item.kind)) TypeException) _ _ (did _ Holds (kept _ (item-kept _ _ n world))))
+      both (throw_if (not (is_image (element_at world n).item.kind)) TypeError) _ _ (did _ Holds (kept _ (item-kept _ _ n world))))
   does-in present (MakeResizeObserver name document handler) here =
       both (new_name world name) _ _ (bind-in _ _ _ _ (document-named handlers world within document) (λ d is-d.
       bind-in _ _ _ _ (handler-given handlers handler) (λ called is-called.
-      both (room ResizeObserversLimit (length world.resize_observers)) _ _
+      both (room limits.ResizeObservers (length world.resize_observers)) _ _
       (did _ Holds (resize-made-in (length handlers) name d called world within is-d is-called)))))
   does-in present (ObserveResize observer node observed) here =
       bind (resize_observer_named world observer) _ _ (λ o.
       bind-in _ _ _ _ (element-meant handlers world within present node here) (λ n is-n.
-      both (room_unless (is_observed n (resize_observer_at world o).targets) ResizeObservationsLimit (resize_observations world)) _ _
+      both (room_unless (is_observed n (resize_observer_at world o).targets) limits.ResizeObservations (resize_observations world)) _ _
       (did _ Holds (kept _ (resize-target-kept _ o n observed world is-n)))))
   does-in present (UnobserveResize observer node) here =
       bind (resize_observer_named world observer) _ _ (λ o. bind (element_meant world present node) _ _ (λ n. did _ Holds (kept _ (no-resize-target-kept _ o n world))))
@@ -207,9 +210,9 @@ module _ (handlers : Handlers) (world : World) (within : IsInRange (length handl
       both (new_name world making.name) _ _ (bind-in _ _ _ _ (document-named handlers world within making.document) (λ d is-d.
       bind-in _ _ _ _ (handler-given handlers making.handler) (λ called is-called.
       bind-in _ _ _ _ (root-meant handlers world within present making.root here) (λ root is-root.
-      bind (required SyntaxException (margins_of making.margin)) _ _ (λ margins.
-      bind (required RangeException (thresholds_of making.thresholds)) _ _ (λ thresholds.
-      both (room IntersectionObserversLimit (length world.intersection_observers)) _ _
+      bind (required SyntaxError (margins_of making.margin)) _ _ (λ margins.
+      bind (required RangeError (thresholds_of making.thresholds)) _ _ (λ thresholds.
+      both (room limits.IntersectionObservers (length world.intersection_observers)) _ _
       (did _ Holds (intersection-made-in (length handlers) making.name d called root margins thresholds world within is-d is-called is-root))))))))
   does-in present (ObserveIntersection observer node) here =
       bind (intersection_observer_named world observer) _ _ (λ o.
@@ -227,7 +230,7 @@ module _ (handlers : Handlers) (world : World) (within : IsInRange (length handl
       bind (event_target_meant world present aim) _ _ (λ target. bind (handler_named handlers handler) _ _ (λ called. did _ Holds (no-listener-in (length handlers) target event called world within)))
   does-in present (MakeQueryList name document query) here =
       both (new_name world name) _ _ (bind-in _ _ _ _ (document-named handlers world within document) (λ d is-d.
-      both (room QueriesLimit (length world.queries)) _ _ (did _ Holds (query-made-in (length handlers) name d query (matches_now world d query) world within is-d))))
+      both (room limits.Queries (length world.queries)) _ _ (did _ Holds (query-made-in (length handlers) name d query (matches_now world d query) world within is-d))))
   does-in present (ScrollTo scrolled left top) here =
       bind-in _ _ _ _ (container-meant handlers world within present scrolled here) (λ container is-in. did _ Holds (scroll-in (length handlers) left top container world within is-in))
   does-in present (ScrollBy scrolled left top) here =
@@ -235,21 +238,21 @@ module _ (handlers : Handlers) (world : World) (within : IsInRange (length handl
   does-in present (RequestFrame document key handler) here =
       bind-in _ _ _ _ (document-named handlers world within document) (λ d is-d.
       bind-in _ _ _ _ (handler-named handlers handler) (λ called is-called.
-      both (throw_if (is_frame_requested d key world) TypeException) _ _ (both (room FrameCallbacksLimit (length world.frame_callbacks.held)) _ _
+      both (throw_if (is_frame_requested d key world) TypeError) _ _ (both (room limits.FrameCallbacks (length world.frame_callbacks.held)) _ _
       (did _ Holds (frame-callback-in (length handlers) d key called world within is-d is-called)))))
   does-in present (CancelFrame document key) here =
       bind (document_named world document) _ _ (λ d. did _ Holds (no-frame-callback-in (length handlers) d key world within))
   does-in present (SetTimer document key delay handler) here =
       bind-in _ _ _ _ (document-named handlers world within document) (λ d is-d.
       bind-in _ _ _ _ (handler-named handlers handler) (λ called is-called.
-      both (throw_if (is_timer_set d key world) TypeException) _ _ (both (room TimersLimit (length world.timers.held)) _ _
+      both (throw_if (is_timer_set d key world) TypeError) _ _ (both (room limits.Timers (length world.timers.held)) _ _
       (did _ Holds (timer-in (length handlers) d key delay called world within is-d is-called)))))
   does-in present (ClearTimer document key) here =
       bind (document_named world document) _ _ (λ d. did _ Holds (no-timer-in (length handlers) d key world within))
   does-in present (Post document handler) here =
       bind-in _ _ _ _ (document-named handlers world within document) (λ d is-d.
       bind-in _ _ _ _ (handler-named handlers handler) (λ called is-called.
-      both (room TasksLimit (posted_tasks world)) _ _ (did _ Holds (task-in (length handlers) (Posted d called) world within (is-d, is-called)))))
+      both (room limits.Tasks (posted_tasks world)) _ _ (did _ Holds (task-in (length handlers) (Posted d called) world within (is-d, is-called)))))
   does-in present (Say word) here = did _ Holds within
   does-in present (Read shown) here =
       bind (container_meant world present shown) _ _ (λ container. did _ Holds within)

@@ -2,7 +2,8 @@
 use Rattle.std.proofs.Common.{◌≡◌, refl, sym, subst}
 use Rattle.std.specs.Prelude.{ℕ, zero, suc, ◌&&◌, ◌==◌, not, map, filter, Bool, true, false, cond, IsTrue, nat_lt, List, [], ◌∷◌, length, Option, Some, None, option_map, find, bytes_eq, slice_get}
 use Rattle.std.specs.List.{list_any}
-use Rattle.script_model.specs.Kinds.{EventName, ResizeEvent, ScrollEvent, ErrorEvent, ChangeEvent}
+use Rattle.text_io.specs.declared.kinds.EventKind.{EventKind}
+use Rattle.text_io.specs.declared.kinds.EventKind.TheVariants as events
 use Rattle.script_model.specs.Syntax.{Command, Simple, Each, When, Block, NoMore, Then}
 use Rattle.script_model.specs.TraceLines.{FiredEvent, FiredResize, FiredScroll, FiredChange, FiredError, EventLine, TimerLine, FrameLine, TaskLine, TickLine}
 use Rattle.page_model.specs.World.{World, Document, Name, Entry, EventTarget, ElementTarget, DocumentTarget, WindowTarget, QueryTarget, Observation, Task, Notify, Posted, Timer, FrameCallback, QueryList}
@@ -143,7 +144,7 @@ module _ (P : World → Type 0) (kept : IsKept P) where
       (λ now held. after-keeps P (run_handler script handed handler) (say (entry_lines now handed) now) (handler-keeps script handed handler) held)
       here
 
-  invoke-keeps : (script : Script) (target : EventTarget) (event : EventName) (world : World) → P world → P (invoke script target event world).state
+  invoke-keeps : (script : Script) (target : EventTarget) (event : EventKind) (world : World) → P world → P (invoke script target event world).state
   unfolding invoke
   invoke-keeps script target event world here =
       for_each-keeps P (notify_listener script) (listeners_of world target event)
@@ -154,16 +155,16 @@ module _ (P : World → Type 0) (kept : IsKept P) where
       world
       here
 
-  bubble-keeps : (script : Script) (target : EventTarget) (event : EventName) (world : World) → P world → P (bubble script target event world).state
-  bubble-keeps script (DocumentTarget document) ScrollEvent world here = invoke-keeps script (WindowTarget document) ScrollEvent world here
-  bubble-keeps script (DocumentTarget document) ResizeEvent world here = here
-  bubble-keeps script (DocumentTarget document) ErrorEvent world here = here
-  bubble-keeps script (DocumentTarget document) ChangeEvent world here = here
+  bubble-keeps : (script : Script) (target : EventTarget) (event : EventKind) (world : World) → P world → P (bubble script target event world).state
+  bubble-keeps script (DocumentTarget document) events.Scroll world here = invoke-keeps script (WindowTarget document) events.Scroll world here
+  bubble-keeps script (DocumentTarget document) events.Resize world here = here
+  bubble-keeps script (DocumentTarget document) events.Error world here = here
+  bubble-keeps script (DocumentTarget document) events.Change world here = here
   bubble-keeps script (ElementTarget element) event world here = here
   bubble-keeps script (WindowTarget document) event world here = here
   bubble-keeps script (QueryTarget query) event world here = here
 
-  pub fire-keeps : (script : Script) (event : FiredEvent) (target : EventTarget) (name : EventName) (world : World) → P world → P (fire script event target name world).state
+  pub fire-keeps : (script : Script) (event : FiredEvent) (target : EventTarget) (name : EventKind) (world : World) → P world → P (fire script event target name world).state
   unfolding fire
   fire-keeps script event target name world here =
       after-keeps P (bubble script target name) (after (invoke script target name) (say (EventLine event ∷ []) world)) (bubble-keeps script target name)
@@ -252,9 +253,9 @@ module _ (P : World → Type 0) (kept : IsKept P) where
 
   error-keeps : (script : Script) (document : ℕ) (world : World) → P world → P (report_skipped script document world).state
   error-keeps script document world here =
-      only_if-keeps P (fire script (FiredError (document_text world document)) (WindowTarget document) ErrorEvent) world
+      only_if-keeps P (fire script (FiredError (document_text world document)) (WindowTarget document) events.Error) world
       (is_active world document && has_skipped document world)
-      (fire-keeps script (FiredError (document_text world document)) (WindowTarget document) ErrorEvent)
+      (fire-keeps script (FiredError (document_text world document)) (WindowTarget document) events.Error)
       here
 
   loop-keeps : (script : Script) (document : ℕ) (world : World) → P world → P (resize_loop script document world).state
@@ -289,10 +290,10 @@ module _ (P : World → Type 0) (kept : IsKept P) where
   unfolding resize_steps
   resize-keeps script document world here =
       let noting = λ (it : Document). record it { noted = Some (viewport_of world document) } in
-      only_if-keeps P (fire script (FiredResize (document_text world document)) (WindowTarget document) ResizeEvent)
+      only_if-keeps P (fire script (FiredResize (document_text world document)) (WindowTarget document) events.Resize)
       (change_document noting document world)
       (differs_from (viewport_of world document) (document_at world document).noted)
-      (fire-keeps script (FiredResize (document_text world document)) (WindowTarget document) ResizeEvent)
+      (fire-keeps script (FiredResize (document_text world document)) (WindowTarget document) events.Resize)
       (document-keeps noting (λ it. refl) document world here)
 
   scroll-keeps : (script : Script) (document : ℕ) (world : World) → P world → P (scroll_steps script document world).state
@@ -300,19 +301,19 @@ module _ (P : World → Type 0) (kept : IsKept P) where
   scroll-keeps script document world here =
       let taking = λ (it : Document). record it { pending = [] } in
       for_each-keeps P
-      (λ target. while_active document (λ now. fire script (FiredScroll (scrolled_text now target)) (event_target_of target) ScrollEvent now))
+      (λ target. while_active document (λ now. fire script (FiredScroll (scrolled_text now target)) (event_target_of target) events.Scroll now))
       (document_at world document).pending
-      (λ target now held. active-keeps document (λ each. fire script (FiredScroll (scrolled_text each target)) (event_target_of target) ScrollEvent each)
-      (λ each there. fire-keeps script (FiredScroll (scrolled_text each target)) (event_target_of target) ScrollEvent each there) now held)
+      (λ target now held. active-keeps document (λ each. fire script (FiredScroll (scrolled_text each target)) (event_target_of target) events.Scroll each)
+      (λ each there. fire-keeps script (FiredScroll (scrolled_text each target)) (event_target_of target) events.Scroll each there) now held)
       (change_document taking document world)
       (document-keeps taking (λ it. refl) document world here)
 
   evaluated-keeps : (script : Script) (query : ℕ) (matched : Bool) (world : World) → P world → P (evaluated script query matched world).state
   evaluated-keeps script query matched world here =
       let now = record world { queries = change_at (λ (it : QueryList). record it { matched = matched }) query (world.queries) } in
-      only_if-keeps P (fire script (FiredChange (query_list_text world query) matched) (QueryTarget query) ChangeEvent) now
+      only_if-keeps P (fire script (FiredChange (query_list_text world query) matched) (QueryTarget query) events.Change) now
       (not (is_same_bool matched (query_list_at world query).matched))
-      (fire-keeps script (FiredChange (query_list_text world query) matched) (QueryTarget query) ChangeEvent)
+      (fire-keeps script (FiredChange (query_list_text world query) matched) (QueryTarget query) events.Change)
       (same-keeps world now refl refl refl refl here)
 
   media-keeps : (script : Script) (document : ℕ) (world : World) → P world → P (media_steps script document world).state

@@ -4,7 +4,7 @@ use Rattle.std.specs.Prelude.{ℕ, suc, ◌<◌, ℤ, Bool, true, false, cond, L
 use Rattle.std.specs.List.{AllByRecursion, list_any}
 use Rattle.px_units.specs.declared.BoxKind.{BoxKind}
 use Rattle.layout_model.specs.Items.{Kind, FrameKind, Item}
-use Rattle.script_model.specs.Kinds.{EventName}
+use Rattle.text_io.specs.declared.kinds.EventKind.{EventKind}
 use Rattle.script_model.specs.Queries.{MediaQuery}
 use Rattle.script_model.specs.Margins.{Margins}
 use Rattle.page_model.specs.World.{Extent, ScrollTarget, ScrolledElement, ScrolledDocument, Root, QueryList, EventTarget, Task, World}
@@ -115,13 +115,13 @@ no-queue-kept counts observer world =
 
 -- listeners, callbacks and tasks
 
-pub listener-in : (handlers : ℕ) (target : EventTarget) (event : EventName) (handler : ℕ) (world : World) → IsInRange handlers world → IsEventTargetIn (counts_of handlers world) target → handler < handlers → IsInRange handlers (with_listener target event handler world)
+pub listener-in : (handlers : ℕ) (target : EventTarget) (event : EventKind) (handler : ℕ) (world : World) → IsInRange handlers world → IsEventTargetIn (counts_of handlers world) target → handler < handlers → IsInRange handlers (with_listener target event handler world)
 listener-in handlers target event handler world within is-target is-handler =
     let all : AllByRecursion (IsListenerIn (counts_of handlers world)) (with_listener target event handler world).listeners.held =
     all-add _ (world.listeners.held) _ within.listeners (is-target, is-handler) in
     search
 
-pub no-listener-in : (handlers : ℕ) (target : EventTarget) (event : EventName) (handler : ℕ) (world : World) → IsInRange handlers world → IsInRange handlers (without_listener target event handler world)
+pub no-listener-in : (handlers : ℕ) (target : EventTarget) (event : EventKind) (handler : ℕ) (world : World) → IsInRange handlers world → IsInRange handlers (without_listener target event handler world)
 no-listener-in handlers target event handler world within =
     let all : AllByRecursion (IsListenerIn (counts_of handlers world)) (without_listener target event handler world).listeners.held =
     all-filter _ _ (world.listeners.held) within.listeners in

@@ -1,7 +1,8 @@
 -- A run leaves a later world, and a tick leaves the clock where it is set.
 use Rattle.std.proofs.Common.{◌≡◌, refl, ◌∙◌, subst, sym, arith, ap}
 use Rattle.std.specs.Prelude.{ℕ, suc, ◌≤◌, ◌<◌, Bool, true, false, nat_lt, cond, List, [], ◌∷◌}
-use Rattle.script_model.specs.Kinds.{RangeException, CommandsLimit}
+use Rattle.text_io.specs.declared.kinds.ThrowKind.TheVariants.{RangeError}
+use Rattle.text_io.specs.declared.kinds.LimitKind.TheVariants as limits
 use Rattle.script_model.specs.Syntax.{Item, Outside, Tick, Handler}
 use Rattle.script_model.specs.Scripts.{handlers_in}
 use Rattle.script_model.specs.TraceLines.{ThrowLine}
@@ -48,7 +49,7 @@ time-later : (first world : World) (time : ℕ) → IsLater first world → OnDi
 unfolding OnDid
 time-later first world time later = by_order (nat_lt time world.clock) refl
   where
-    by_order : (before : Bool) → nat_lt time world.clock ≡ before → OnDid (cond before (Threw RangeException) (Did (record world { clock = time }))) (λ now. IsLater first now)
+    by_order : (before : Bool) → nat_lt time world.clock ≡ before → OnDid (cond before (Threw RangeError) (Did (record world { clock = time }))) (λ now. IsLater first now)
     by_order true is = tt
     by_order false is = record {
       states = later.states;
@@ -78,7 +79,7 @@ unfolding run_items
 items-later items world =
     for_each-keeps (IsLater world) (run_item (handlers_in items)) items (λ item now later. item-later world (handlers_in items) item now later) world (self world)
 
-begins-by : (has_room : Bool) (begun : ℕ) (now : World) → nat_lt begun 1000000 ≡ has_room → begun < 1000000 → (met_unless has_room CommandsLimit >> Did now) ≡ Did now
+begins-by : (has_room : Bool) (begun : ℕ) (now : World) → nat_lt begun 1000000 ≡ has_room → begun < 1000000 → (met_unless has_room limits.Commands >> Did now) ≡ Did now
 unfolding ◌>>◌
 begins-by true begun now is room = refl
 begins-by false begun now is room = absurd (grind (arith, room, is))
@@ -87,11 +88,11 @@ begins : (world : World) → world.begun < 1000000 → begun_in world ≡ Did (r
 unfolding begun_in
 begins world room = begins-by (nat_lt world.begun 1000000) (world.begun) (record world { begun = suc world.begun }) refl room
 
-refused-by : (is_before : Bool) (time : ℕ) (world : World) → nat_lt time world.clock ≡ is_before → time < world.clock → cond is_before (Threw RangeException) (Did (record world { clock = time })) ≡ Threw RangeException
+refused-by : (is_before : Bool) (time : ℕ) (world : World) → nat_lt time world.clock ≡ is_before → time < world.clock → cond is_before (Threw RangeError) (Did (record world { clock = time })) ≡ Threw RangeError
 refused-by true time world is before = refl
 refused-by false time world is before = absurd (grind (arith, before, is))
 
-pub tick-refused : (script : Script) (line time : ℕ) (world : World) → world.begun < 1000000 → time < world.clock → run_tick script line time world ≡ record { lines = ThrowLine line RangeException ∷ []; flow = Thrown; state = record world { begun = suc world.begun } }
+pub tick-refused : (script : Script) (line time : ℕ) (world : World) → world.begun < 1000000 → time < world.clock → run_tick script line time world ≡ record { lines = ThrowLine line RangeError ∷ []; flow = Thrown; state = record world { begun = suc world.begun } }
 unfolding once_begun settled
 tick-refused script line time world room before =
     ap (settled line world (λ begun. settled line begun (tick script) (time_set time begun))) (begins world room)

@@ -2,7 +2,7 @@
 use Rattle.std.proofs.Common.{◌≡◌, refl, sym, ap, ◌∙◌, subst, eq-eqb}
 use Rattle.std.specs.Prelude.{ℕ, zero, suc, ◌&&◌, ◌==◌, Bool, true, false, not, cond, nat_lt, nat_le, List, [], ◌∷◌, ◌++◌, filter, length, Some, slice_get, unwrap_or}
 use Rattle.std.specs.List.{list_any}
-use Rattle.script_model.specs.Kinds.{ResizeEvent, ScrollEvent, ErrorEvent}
+use Rattle.text_io.specs.declared.kinds.EventKind.TheVariants as events
 use Rattle.script_model.specs.TraceLines.{TraceLine, TickLine, FiredResize, FiredScroll, FiredError}
 use Rattle.page_model.specs.World.{World, Document, Extent, Timer, FrameCallback, ResizeObserver, IntersectionObserver, WindowTarget}
 use Rattle.page_model.specs.Lookups.{change_at, change_each, change_document, document_at, no_document, same_extent}
@@ -143,7 +143,7 @@ same-noted world quiet =
 resize-hushed : (script : Script) (world : World) → IsQuiet world → IsHushed (resize_steps script 0 world)
 unfolding resize_steps
 resize-hushed script world quiet =
-    only_if-not (fire script (FiredResize (document_text world 0)) (WindowTarget 0) ResizeEvent)
+    only_if-not (fire script (FiredResize (document_text world 0)) (WindowTarget 0) events.Resize)
     (change_document (λ it. record it { noted = Some (viewport_of world 0) }) 0 world)
     (differs_from (viewport_of world 0) (document_at world 0).noted)
     (same-noted world quiet)
@@ -152,7 +152,7 @@ resize-hushed script world quiet =
 scroll-hushed : (script : Script) (world : World) → IsQuiet world → IsHushed (scroll_steps script 0 world)
 unfolding scroll_steps
 scroll-hushed script world quiet =
-    for_each-none (λ target. while_active 0 (λ now. fire script (FiredScroll (scrolled_text now target)) (event_target_of target) ScrollEvent now))
+    for_each-none (λ target. while_active 0 (λ now. fire script (FiredScroll (scrolled_text now target)) (event_target_of target) events.Scroll now))
     (document_at world 0).pending
     (change_document (λ it. record it { pending = [] }) 0 world)
     (ap (λ (it : Document). it.pending) (at-top world quiet) ∙ quiet.pending)
@@ -203,7 +203,7 @@ none-skipped world quiet = ap (λ these. list_any (λ (observer : ResizeObserver
 
 error-hushed : (script : Script) (world : World) → IsQuiet world → IsHushed (report_skipped script 0 world)
 error-hushed script world quiet =
-    only_if-not (fire script (FiredError (document_text world 0)) (WindowTarget 0) ErrorEvent) world (is_active world 0 && has_skipped 0 world)
+    only_if-not (fire script (FiredError (document_text world 0)) (WindowTarget 0) events.Error) world (is_active world 0 && has_skipped 0 world)
     (and-false (is_active world 0) (has_skipped 0 world) (none-skipped world quiet))
     quiet
 

@@ -4,7 +4,7 @@ use Rattle.std.specs.Prelude.{ℕ, suc, ◌<◌, nat_lt, Bool, true, false, [], 
 use Rattle.std.specs.List.{AllByRecursion}
 use Rattle.px_units.specs.declared.BoxKind.{BoxKind}
 use Rattle.layout_model.specs.Boxes.{Inputs, box_in}
-use Rattle.script_model.specs.Kinds.{CommandsLimit}
+use Rattle.text_io.specs.declared.kinds.LimitKind.TheVariants as limits
 use Rattle.script_model.specs.Syntax.{Operand, Read}
 use Rattle.page_model.specs.World.{World}
 use Rattle.page_model.specs.Lookups.{no_extent}
@@ -20,7 +20,7 @@ pub reading-same : (handlers : Handlers) (world : World) (present : Present) (op
 unfolding does OnDid
 reading-same handlers world present operand = search bind depth 9
 
-counted-if : (world : World) (more : Bool) → nat_lt (world.begun) 1000000 ≡ more → OnDid (met_unless more CommandsLimit >> Did (record world { begun = suc world.begun })) (λ after. (after ≡ record world { begun = suc world.begun }) × (world.begun < 1000000))
+counted-if : (world : World) (more : Bool) → nat_lt (world.begun) 1000000 ≡ more → OnDid (met_unless more limits.Commands >> Did (record world { begun = suc world.begun })) (λ after. (after ≡ record world { begun = suc world.begun }) × (world.begun < 1000000))
 unfolding ◌>>◌ OnDid
 counted-if world true less = (refl, grind (arith, tests))
 counted-if world false less = tt

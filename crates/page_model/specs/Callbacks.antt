@@ -2,9 +2,10 @@
 -- handler is, and that a callback isn't invoked where its document isn't Active, is this project's own.
 use Rattle.std.specs.Prelude.{ℕ, ◌+◌, Bool, ◌==◌, ◌&&◌, List, [], ◌∷◌, map, filter, slice_get, Option, Some, None, option_map, unwrap_or, pos}
 use Rattle.std.specs.List.{list_any}
-use Rattle.script_model.specs.Kinds.{EventName, ScrollEvent}
+use Rattle.text_io.specs.declared.kinds.EventKind.{EventKind}
+use Rattle.text_io.specs.declared.kinds.EventKind.TheVariants as events
 use Rattle.script_model.specs.Syntax.{Command, Simple, Each, When, Block, NoMore, Then}
-use Rattle.script_model.specs.Limits.{limit_number}
+use Rattle.text_io.specs.Limits.{limit_number}
 use Rattle.script_model.specs.Scripts.{NamedBlock}
 use Rattle.script_model.specs.TraceLines.{TraceLine, FiredEvent, EventLine, ResizeLine, ThrowLine, LimitLine}
 use Rattle.page_model.specs.World.{World, Extent, Entry, EventTarget, ElementTarget, DocumentTarget, WindowTarget, QueryTarget, Listener}
@@ -127,7 +128,7 @@ document_of_target world (DocumentTarget document) = document
 document_of_target world (WindowTarget document) = document
 document_of_target world (QueryTarget query) = (query_list_at world query).document
 
-abbrev pub listeners_of : World → EventTarget → EventName → List Listener
+abbrev pub listeners_of : World → EventTarget → EventKind → List Listener
 listeners_of world target event =
     filter (λ (listener : Listener). is_same_target target (listener.target) && is_same_event event (listener.event)) (world.listeners.held)
 
@@ -140,17 +141,17 @@ notify_listener script listener world =
     only_if (call script (document_of_target world (listener.target)) (Some (listener.handler)) NoEntries) world (stands listener world)
 
 -- the listeners at one target, as they are when the event reaches it (DOM, 2.9: inner invoke)
-unfoldable pub invoke : Script → EventTarget → EventName → World → Said World
+unfoldable pub invoke : Script → EventTarget → EventKind → World → Said World
 unfolding for_each call
 invoke script target event world = for_each (notify_listener script) (listeners_of world target event) world
 
 -- a scroll event at a document bubbles to its window (CSSOM View, 13: scrolling)
-abbrev pub bubble : Script → EventTarget → EventName → World → Said World
-bubble script (DocumentTarget document) ScrollEvent world = invoke script (WindowTarget document) ScrollEvent world
+abbrev pub bubble : Script → EventTarget → EventKind → World → Said World
+bubble script (DocumentTarget document) events.Scroll world = invoke script (WindowTarget document) events.Scroll world
 bubble script target event world = silent world
 
 -- firing an event (DOM, 2.10): its line, and then its listeners
-unfoldable pub fire : Script → FiredEvent → EventTarget → EventName → World → Said World
+unfoldable pub fire : Script → FiredEvent → EventTarget → EventKind → World → Said World
 unfolding after invoke
 fire script event target name world =
     after (bubble script target name) (after (invoke script target name) (say (EventLine event ∷ []) world))

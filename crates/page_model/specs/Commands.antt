@@ -4,16 +4,17 @@
 use Rattle.std.specs.Prelude.{ℕ, suc, Bool, true, false, not, nat_lt, nat_le, ◌+◌, Option, Some, None, List, [], ◌∷◌, length, is_some}
 use Rattle.px_units.specs.declared.BoxKind.TheVariants.{Border}
 use Rattle.layout_model.specs.Items.{BlockKind, ImageKind}
-use Rattle.script_model.specs.Kinds.{ReferenceException, TypeException, HierarchyRequestException, NotFoundException, SyntaxException, RangeException, CommandsLimit, NodesLimit, DepthLimit, DocumentsLimit, ResizeObserversLimit, IntersectionObserversLimit, ResizeObservationsLimit, IntersectionObservationsLimit, ListenersLimit, TimersLimit, FrameCallbacksLimit, TasksLimit, QueriesLimit}
+use Rattle.text_io.specs.declared.kinds.EventKind.{EventKind}
+use Rattle.text_io.specs.declared.kinds.ThrowKind.TheVariants.{HierarchyRequestError, NotFoundError, RangeError, ReferenceError, SyntaxError, TypeError}
+use Rattle.text_io.specs.declared.kinds.LimitKind.TheVariants as limits
 use Rattle.script_model.specs.Syntax.{Action, Viewport, MakeBlock, MakeImage, MakeFrame, Append, Before, Remove, SetStyle, Grow, Load, MakeResizeObserver, ObserveResize, UnobserveResize, DisconnectResize, MakeIntersectionObserver, ObserveIntersection, UnobserveIntersection, DisconnectIntersection, TakeIntersections, Listen, Unlisten, MakeQueryList, ScrollTo, ScrollBy, RequestFrame, CancelFrame, SetTimer, ClearTimer, Post, Say, Read, Test, Wider, Taller, Matches, Attached, Seen, Condition}
 use Rattle.script_model.specs.TraceLines.{TakeLine, SayLine}
-use Rattle.script_model.specs.Kinds.{EventName}
 use Rattle.script_model.specs.Queries.{MediaQuery}
 use Rattle.page_model.specs.World.{Entry, EventTarget, Posted, World}
 use Rattle.page_model.specs.Lookups.{element_at, document_at, resize_observer_at, intersection_observer_at, query_list_at}
 use Rattle.page_model.specs.Names.{intersection_observer_text}
 use Rattle.page_model.specs.Documents.{Container, InElement, InDocument, is_same_container, container_of, is_inclusive_ancestor, element_depth, levels_of, removed, inserted}
-use Rattle.script_model.specs.Limits.{limit_number}
+use Rattle.text_io.specs.Limits.{limit_number}
 use Rattle.script_model.specs.Media.{matches}
 use Rattle.script_model.specs.MarginText.{margins_of, thresholds_of}
 use Rattle.page_model.specs.Steps.{Step, Did, Threw, ◌>>=◌, ◌>>◌, Effect, becomes, writes, required, throw_if, met_unless, room, room_unless}
@@ -52,10 +53,10 @@ container_depth world (InDocument document) = 0
 unfoldable pub placing : World → Container → ℕ → Option ℕ → Step Effect
 unfolding ◌>>=◌ ◌>>◌ is_inclusive_ancestor element_depth levels_of inserted
 placing world container n sibling = do
-  throw_if (would_hold_itself world container n) HierarchyRequestException
-  throw_if (is_no_child world container sibling) NotFoundException
-  throw_if (is_full world container) HierarchyRequestException
-  met_unless (nat_le (container_depth world container + levels_of world n) (limit_number DepthLimit)) DepthLimit
+  throw_if (would_hold_itself world container n) HierarchyRequestError
+  throw_if (is_no_child world container sibling) NotFoundError
+  throw_if (is_full world container) HierarchyRequestError
+  met_unless (nat_le (container_depth world container + levels_of world n) (limit_number limits.Depth)) limits.Depth
   becomes (inserted world container n sibling)
 
 -- a target that is there already is left as it is
@@ -63,7 +64,7 @@ unfoldable pub observing : World → ℕ → ℕ → Bool → Step Effect
 unfolding ◌>>=◌ ◌>>◌
 observing world observer n true = becomes world
 observing world observer n false = do
-  room IntersectionObservationsLimit (intersection_observations world)
+  room limits.IntersectionObservations (intersection_observations world)
   becomes (with_registration observer n world)
 
 -- the queue is copied and cleared
@@ -74,11 +75,11 @@ taking world observer queue =
     (without_queue observer world)
 
 -- a second listener of one kind and handler on a target is ignored (DOM, 2.7)
-unfoldable pub listening : World → EventTarget → EventName → ℕ → Bool → Step Effect
+unfoldable pub listening : World → EventTarget → EventKind → ℕ → Bool → Step Effect
 unfolding ◌>>=◌ ◌>>◌
 listening world target event handler true = becomes world
 listening world target event handler false = do
-  room ListenersLimit (length world.listeners.held)
+  room limits.Listeners (length world.listeners.held)
   becomes (with_listener target event handler world)
 
 -- whether a media query list matches the viewport of a document now
@@ -93,19 +94,19 @@ does handlers world present (Viewport width height) = becomes (record world { si
 does handlers world present (MakeBlock name document) = do
   new_name world name
   made_in ← document_named world document
-  room NodesLimit (length world.elements)
+  room limits.Nodes (length world.elements)
   becomes (with_element name BlockKind made_in None world)
 does handlers world present (MakeImage name document width height) = do
   new_name world name
   made_in ← document_named world document
-  room NodesLimit (length world.elements)
+  room limits.Nodes (length world.elements)
   becomes (with_element name (ImageKind width height) made_in None world)
 does handlers world present (MakeFrame name document inside) = do
   new_name world name
   made_in ← document_named world document
   other_new_name world name inside
-  room NodesLimit (length world.elements)
-  room DocumentsLimit (length world.documents)
+  room limits.Nodes (length world.elements)
+  room limits.Documents (length world.documents)
   becomes (with_frame name made_in inside world)
 does handlers world present (Append parent node) = do
   container ← container_meant world present parent
@@ -124,22 +125,22 @@ does handlers world present (SetStyle node declaration) = do
   becomes (with_declaration declaration n world)
 does handlers world present (Grow node dimension by) = do
   n ← element_meant world present node
-  units ← required TypeException (pixels_of (dimension_of dimension (element_at world n).item.style))
+  units ← required TypeError (pixels_of (dimension_of dimension (element_at world n).item.style))
   becomes (with_declaration (set_dimension dimension (grown units by)) n world)
 does handlers world present (Load node width height) = do
   n ← element_meant world present node
-  throw_if (not (is_image (element_at world n).item.kind)) TypeException
+  throw_if (not (is_image (element_at world n).item.kind)) TypeError
   becomes (with_natural_size width height n world)
 does handlers world present (MakeResizeObserver name document handler) = do
   new_name world name
   owner ← document_named world document
   called ← handler_given handlers handler
-  room ResizeObserversLimit (length world.resize_observers)
+  room limits.ResizeObservers (length world.resize_observers)
   becomes (with_resize_observer name owner called world)
 does handlers world present (ObserveResize observer node observed) = do
   o ← resize_observer_named world observer
   n ← element_meant world present node
-  room_unless (is_observed n (resize_observer_at world o).targets) ResizeObservationsLimit (resize_observations world)
+  room_unless (is_observed n (resize_observer_at world o).targets) limits.ResizeObservations (resize_observations world)
   becomes (with_resize_target o n observed world)
 does handlers world present (UnobserveResize observer node) = do
   o ← resize_observer_named world observer
@@ -153,9 +154,9 @@ does handlers world present (MakeIntersectionObserver making) = do
   owner ← document_named world making.document
   called ← handler_given handlers making.handler
   root ← root_meant world present making.root
-  margins ← required SyntaxException (margins_of making.margin)
-  thresholds ← required RangeException (thresholds_of making.thresholds)
-  room IntersectionObserversLimit (length world.intersection_observers)
+  margins ← required SyntaxError (margins_of making.margin)
+  thresholds ← required RangeError (thresholds_of making.thresholds)
+  room limits.IntersectionObservers (length world.intersection_observers)
   becomes (with_intersection_observer making.name owner called root margins thresholds world)
 does handlers world present (ObserveIntersection observer node) = do
   o ← intersection_observer_named world observer
@@ -182,7 +183,7 @@ does handlers world present (Unlisten aim event handler) = do
 does handlers world present (MakeQueryList name document query) = do
   new_name world name
   owner ← document_named world document
-  room QueriesLimit (length world.queries)
+  room limits.Queries (length world.queries)
   becomes (with_query_list name owner query (matches_now world owner query) world)
 does handlers world present (ScrollTo target left top) = do
   container ← container_meant world present target
@@ -193,8 +194,8 @@ does handlers world present (ScrollBy target left top) = do
 does handlers world present (RequestFrame document key handler) = do
   owner ← document_named world document
   called ← handler_named handlers handler
-  throw_if (is_frame_requested owner key world) TypeException
-  room FrameCallbacksLimit (length world.frame_callbacks.held)
+  throw_if (is_frame_requested owner key world) TypeError
+  room limits.FrameCallbacks (length world.frame_callbacks.held)
   becomes (with_frame_callback owner key called world)
 does handlers world present (CancelFrame document key) = do
   owner ← document_named world document
@@ -202,8 +203,8 @@ does handlers world present (CancelFrame document key) = do
 does handlers world present (SetTimer document key delay handler) = do
   owner ← document_named world document
   called ← handler_named handlers handler
-  throw_if (is_timer_set owner key world) TypeException
-  room TimersLimit (length world.timers.held)
+  throw_if (is_timer_set owner key world) TypeError
+  room limits.Timers (length world.timers.held)
   becomes (with_timer owner key delay called world)
 does handlers world present (ClearTimer document key) = do
   owner ← document_named world document
@@ -211,7 +212,7 @@ does handlers world present (ClearTimer document key) = do
 does handlers world present (Post document handler) = do
   owner ← document_named world document
   called ← handler_named handlers handler
-  room TasksLimit (posted_tasks world)
+  room limits.Tasks (posted_tasks world)
   becomes (with_task (Posted owner called) world)
 does handlers world present (Say word) = writes (SayLine word ∷ []) world
 does handlers world present (Read target) = do
@@ -220,8 +221,8 @@ does handlers world present (Read target) = do
 
 -- whether the present entry intersects
 abbrev pub seen_now : Present → Step Bool
-seen_now NoEntry = Threw ReferenceException
-seen_now (ResizeEntry target) = Threw TypeException
+seen_now NoEntry = Threw ReferenceError
+seen_now (ResizeEntry target) = Threw TypeError
 seen_now (IntersectionEntry target meets) = Did meets
 
 -- what is asked, before a `not`
@@ -256,5 +257,5 @@ holds world present condition = do
 unfoldable pub begun_in : World → Step World
 unfolding ◌>>=◌ ◌>>◌
 begun_in world = do
-  room CommandsLimit world.begun
+  room limits.Commands world.begun
   Did (record world { begun = suc world.begun })

@@ -2,7 +2,7 @@
 use Rattle.std.specs.Prelude.{ℕ, min, Bool, true, false, cond, not, ◌&&◌, ◌==◌, nat_lt, List, [], ◌∷◌, map, filter, fold, length, Option, Some, None, unwrap_or}
 use Rattle.std.specs.List.{list_any}
 use Rattle.px_units.specs.declared.BoxKind.TheVariants.{Content, Border}
-use Rattle.script_model.specs.Kinds.{ErrorEvent}
+use Rattle.text_io.specs.declared.kinds.EventKind.TheVariants as events
 use Rattle.script_model.specs.TraceLines.{RoundLine, FiredError}
 use Rattle.page_model.specs.World.{World, Extent, Observation, ResizeObserver, WindowTarget}
 use Rattle.page_model.specs.Lookups.{same_extent, resize_observer_at, change_each, change_resize_observer}
@@ -138,7 +138,7 @@ round script document world =
 abbrev pub report_skipped : Script → ℕ → World → Said World
 report_skipped script document world =
     only_if
-    (fire script (FiredError (document_text world document)) (WindowTarget document) ErrorEvent)
+    (fire script (FiredError (document_text world document)) (WindowTarget document) events.Error)
     world
     (is_active world document && has_skipped document world)
 

@@ -3,7 +3,8 @@
 use Rattle.std.specs.Prelude.{ℕ, suc, ◌+◌, Bool, true, false, ◌&&◌, not, ◌==◌, Option, None, List, [], ◌∷◌, ◌++◌, length, filter, sum_by, count_by, bytes_eq}
 use Rattle.std.specs.List.{list_any}
 use Rattle.px_units.specs.declared.BoxKind.{BoxKind}
-use Rattle.script_model.specs.Kinds.{EventName, ResizeEvent, ScrollEvent, ErrorEvent, ChangeEvent}
+use Rattle.text_io.specs.declared.kinds.EventKind.{EventKind}
+use Rattle.text_io.specs.declared.kinds.EventKind.TheVariants as events
 use Rattle.script_model.specs.Queries.{MediaQuery}
 use Rattle.script_model.specs.Margins.{Margins}
 use Rattle.page_model.specs.World.{Observation, Root, Registration, EventTarget, ElementTarget, DocumentTarget, WindowTarget, QueryTarget, Listener, FrameCallback, Timer, Task, Notify, Posted, ResizeObserverThing, IntersectionObserverThing, QueryListThing, World}
@@ -96,11 +97,11 @@ with_query_list name document query matched world =
 
 -- listeners
 
-abbrev pub is_same_event : EventName → EventName → Bool
-is_same_event ResizeEvent ResizeEvent = true
-is_same_event ScrollEvent ScrollEvent = true
-is_same_event ErrorEvent ErrorEvent = true
-is_same_event ChangeEvent ChangeEvent = true
+abbrev pub is_same_event : EventKind → EventKind → Bool
+is_same_event events.Resize events.Resize = true
+is_same_event events.Scroll events.Scroll = true
+is_same_event events.Error events.Error = true
+is_same_event events.Change events.Change = true
 is_same_event a b = false
 
 abbrev pub is_same_target : EventTarget → EventTarget → Bool
@@ -110,17 +111,17 @@ is_same_target (WindowTarget a) (WindowTarget b) = a == b
 is_same_target (QueryTarget a) (QueryTarget b) = a == b
 is_same_target a b = false
 
-abbrev pub is_listener : EventTarget → EventName → ℕ → Listener → Bool
+abbrev pub is_listener : EventTarget → EventKind → ℕ → Listener → Bool
 is_listener target event handler listener = is_same_target target listener.target && is_same_event event listener.event && handler == listener.handler
 
-abbrev pub is_listening : EventTarget → EventName → ℕ → World → Bool
+abbrev pub is_listening : EventTarget → EventKind → ℕ → World → Bool
 is_listening target event handler world = list_any (is_listener target event handler) world.listeners.held
 
-abbrev pub with_listener : EventTarget → EventName → ℕ → World → World
+abbrev pub with_listener : EventTarget → EventKind → ℕ → World → World
 with_listener target event handler world =
     record world { listeners = entered (λ serial. record { serial = serial; target = target; event = event; handler = handler }) (world.listeners) }
 
-abbrev pub without_listener : EventTarget → EventName → ℕ → World → World
+abbrev pub without_listener : EventTarget → EventKind → ℕ → World → World
 without_listener target event handler world = record world { listeners = kept (λ each. not (is_listener target event handler each)) (world.listeners) }
 
 -- frame callbacks and timers

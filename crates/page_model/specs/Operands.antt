@@ -2,7 +2,7 @@
 -- no entry, throw ReferenceError; a name of another kind of thing, and a new name that is taken, throw TypeError. (The
 -- commands are this project's own; the exceptions are those of WebIDL.)
 use Rattle.std.specs.Prelude.{ℕ, Bool, ◌||◌, List, Option, Some, None, position, bytes_eq}
-use Rattle.script_model.specs.Kinds.{ReferenceException, TypeException}
+use Rattle.text_io.specs.declared.kinds.ThrowKind.TheVariants.{ReferenceError, TypeError}
 use Rattle.script_model.specs.Syntax.{Operand, Named, Target, Aim, PlainAim, WindowAim}
 use Rattle.page_model.specs.World.{Thing, DocumentThing, ElementThing, ResizeObserverThing, IntersectionObserverThing, QueryListThing, Root, ImplicitRoot, DocumentRoot, ElementRoot, EventTarget, ElementTarget, DocumentTarget, WindowTarget, QueryTarget, World}
 use Rattle.page_model.specs.Names.{named_thing, is_taken}
@@ -21,46 +21,46 @@ abbrev pub Handlers : Type 0
 Handlers = List (List ℕ)
 
 abbrev pub thing_named : World → List ℕ → Step Thing
-thing_named world name = required ReferenceException (named_thing world name)
+thing_named world name = required ReferenceError (named_thing world name)
 
 -- a new name has to be free
 abbrev pub new_name : World → List ℕ → Step (Unit {0})
-new_name world name = throw_if (is_taken world name) TypeException
+new_name world name = throw_if (is_taken world name) TypeError
 
 -- and another one in the same command, too
 abbrev pub other_new_name : World → List ℕ → List ℕ → Step (Unit {0})
-other_new_name world first name = throw_if (is_taken world name || bytes_eq first name) TypeException
+other_new_name world first name = throw_if (is_taken world name || bytes_eq first name) TypeError
 
 abbrev pub as_document : Thing → Step ℕ
 as_document (DocumentThing document) = Did document
-as_document thing = Threw TypeException
+as_document thing = Threw TypeError
 
 abbrev pub as_element : Thing → Step ℕ
 as_element (ElementThing element) = Did element
-as_element thing = Threw TypeException
+as_element thing = Threw TypeError
 
 abbrev pub as_resize_observer : Thing → Step ℕ
 as_resize_observer (ResizeObserverThing observer) = Did observer
-as_resize_observer thing = Threw TypeException
+as_resize_observer thing = Threw TypeError
 
 abbrev pub as_intersection_observer : Thing → Step ℕ
 as_intersection_observer (IntersectionObserverThing observer) = Did observer
-as_intersection_observer thing = Threw TypeException
+as_intersection_observer thing = Threw TypeError
 
 abbrev pub as_query_list : Thing → Step ℕ
 as_query_list (QueryListThing query) = Did query
-as_query_list thing = Threw TypeException
+as_query_list thing = Threw TypeError
 
 abbrev pub as_container : Thing → Step Container
 as_container (ElementThing element) = Did (InElement element)
 as_container (DocumentThing document) = Did (InDocument document)
-as_container thing = Threw TypeException
+as_container thing = Threw TypeError
 
 abbrev pub as_event_target : Thing → Step EventTarget
 as_event_target (ElementThing element) = Did (ElementTarget element)
 as_event_target (DocumentThing document) = Did (DocumentTarget document)
 as_event_target (QueryListThing query) = Did (QueryTarget query)
-as_event_target thing = Threw TypeException
+as_event_target thing = Threw TypeError
 
 abbrev pub document_named : World → List ℕ → Step ℕ
 document_named world name = thing_named world name >>= as_document
@@ -76,7 +76,7 @@ query_list_named world name = thing_named world name >>= as_query_list
 
 -- `$target`
 abbrev pub present_target : Present → Step ℕ
-present_target NoEntry = Threw ReferenceException
+present_target NoEntry = Threw ReferenceError
 present_target (ResizeEntry target) = Did target
 present_target (IntersectionEntry target meets) = Did target
 
@@ -105,7 +105,7 @@ root_meant world present None = Did ImplicitRoot
 root_meant world present (Some operand) = container_meant world present operand >>= λ container. Did (root_at container)
 
 abbrev pub handler_named : Handlers → List ℕ → Step ℕ
-handler_named handlers name = required ReferenceException (position (bytes_eq name) handlers)
+handler_named handlers name = required ReferenceError (position (bytes_eq name) handlers)
 
 -- an observer's handler, where one is given
 abbrev pub handler_given : Handlers → Option (List ℕ) → Step (Option ℕ)

@@ -1,15 +1,16 @@
 -- What a step comes to: a value, an exception that it throws, or a limit that it meets. One that throws or meets a limit
 -- has no other effect.
 use Rattle.std.specs.Prelude.{ℕ, Bool, true, false, ◌||◌, nat_lt, Option, Some, None, List, []}
-use Rattle.script_model.specs.Kinds.{Exception, Limit}
+use Rattle.text_io.specs.declared.kinds.ThrowKind.{ThrowKind}
+use Rattle.text_io.specs.declared.kinds.LimitKind.{LimitKind}
 use Rattle.script_model.specs.TraceLines.{TraceLine}
 use Rattle.page_model.specs.World.{World}
-use Rattle.script_model.specs.Limits.{limit_number}
+use Rattle.text_io.specs.Limits.{limit_number}
 
 pub data Step (A : Type 0) : Type 0 where
   Did : (value : A) → Step A
-  Threw : (exception : Exception) → Step A
-  Met : (limit : Limit) → Step A
+  Threw : (exception : ThrowKind) → Step A
+  Met : (limit : LimitKind) → Step A
 
 infixl 10 ◌>>=◌
 infixl 10 ◌>>◌
@@ -36,22 +37,22 @@ abbrev pub writes : List TraceLine → World → Step Effect
 writes lines world = Did (record { world = world; lines = lines })
 
 -- a value that has to be there
-abbrev pub required : {A : Type 0} → Exception → Option A → Step A
+abbrev pub required : {A : Type 0} → ThrowKind → Option A → Step A
 required exception None = Threw exception
 required exception (Some value) = Did value
 
-abbrev pub throw_if : Bool → Exception → Step (Unit {0})
+abbrev pub throw_if : Bool → ThrowKind → Step (Unit {0})
 throw_if true exception = Threw exception
 throw_if false exception = Did tt
 
-abbrev pub met_unless : Bool → Limit → Step (Unit {0})
+abbrev pub met_unless : Bool → LimitKind → Step (Unit {0})
 met_unless true limit = Did tt
 met_unless false limit = Met limit
 
 -- room for one more where so many are there
-abbrev pub room : Limit → ℕ → Step (Unit {0})
+abbrev pub room : LimitKind → ℕ → Step (Unit {0})
 room limit count = met_unless (nat_lt count (limit_number limit)) limit
 
 -- the same, but where what is asked for is there already no room is needed
-abbrev pub room_unless : Bool → Limit → ℕ → Step (Unit {0})
+abbrev pub room_unless : Bool → LimitKind → ℕ → Step (Unit {0})
 room_unless already limit count = met_unless (already || nat_lt count (limit_number limit)) limit

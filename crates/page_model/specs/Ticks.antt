@@ -2,7 +2,8 @@
 -- that no update is skipped, is this project's own.
 use Rattle.std.specs.Prelude.{ℕ, Bool, true, false, cond, not, ◌==◌, ◌&&◌, nat_lt, nat_le, List, [], ◌∷◌, filter, length, Option, Some, None}
 use Rattle.std.specs.List.{list_any}
-use Rattle.script_model.specs.Kinds.{RangeException, ResizeEvent, ScrollEvent, ChangeEvent}
+use Rattle.text_io.specs.declared.kinds.EventKind.TheVariants as events
+use Rattle.text_io.specs.declared.kinds.ThrowKind.TheVariants.{RangeError}
 use Rattle.script_model.specs.TraceLines.{TraceLine, TickLine, TimerLine, FrameLine, TaskLine, FiredResize, FiredScroll, FiredChange}
 use Rattle.page_model.specs.World.{World, Extent, ScrollTarget, ScrolledElement, ScrolledDocument, EventTarget, ElementTarget, DocumentTarget, WindowTarget, QueryTarget, QueryList, FrameCallback, Timer, Task, Notify, Posted}
 use Rattle.page_model.specs.Lookups.{same_extent, document_at, query_list_at, change_at, change_document, kept}
@@ -61,7 +62,7 @@ unfolding fire viewport_of
 resize_steps script document world =
     let size = viewport_of world document in
     only_if
-    (fire script (FiredResize (document_text world document)) (WindowTarget document) ResizeEvent)
+    (fire script (FiredResize (document_text world document)) (WindowTarget document) events.Resize)
     (change_document (λ it. record it { noted = Some size }) document world)
     (differs_from size (document_at world document).noted)
 
@@ -78,14 +79,14 @@ unfoldable pub scroll_steps : Script → ℕ → World → Said World
 unfolding for_each fire
 scroll_steps script document world =
     for_each
-    (λ target. while_active document (λ now. fire script (FiredScroll (scrolled_text now target)) (event_target_of target) ScrollEvent now))
+    (λ target. while_active document (λ now. fire script (FiredScroll (scrolled_text now target)) (event_target_of target) events.Scroll now))
     (document_at world document).pending
     (change_document (λ it. record it { pending = [] }) document world)
 
 abbrev pub evaluated : Script → ℕ → Bool → World → Said World
 evaluated script query matched world =
     only_if
-    (fire script (FiredChange (query_list_text world query) matched) (QueryTarget query) ChangeEvent)
+    (fire script (FiredChange (query_list_text world query) matched) (QueryTarget query) events.Change)
     (record world { queries = change_at (λ (it : QueryList). record it { matched = matched }) query (world.queries) })
     (not (is_same_bool matched (query_list_at world query).matched))
 
@@ -158,7 +159,7 @@ run_tasks script world = repeat (λ now. has_tasks (now.tasks)) (λ now. run_fir
 
 -- the clock doesn't go back
 abbrev pub time_set : ℕ → World → Step World
-time_set time world = cond (nat_lt time world.clock) (Threw RangeException) (Did (record world { clock = time }))
+time_set time world = cond (nat_lt time world.clock) (Threw RangeError) (Did (record world { clock = time }))
 
 -- a tick, once its time is set
 unfoldable pub tick : Script → World → Said World

@@ -5,7 +5,7 @@ use Rattle.std.specs.Prelude.{ℕ, Bool, List, Option}
 use Rattle.px_units.specs.declared.BoxKind.{BoxKind}
 use Rattle.px_units.specs.declared.Rect.{Rect}
 use Rattle.layout_model.specs.Items.{Item}
-use Rattle.script_model.specs.Kinds.{EventName}
+use Rattle.text_io.specs.declared.kinds.EventKind.{EventKind}
 use Rattle.script_model.specs.Margins.{Margins}
 use Rattle.script_model.specs.Queries.{MediaQuery}
 
@@ -122,7 +122,7 @@ pub data EventTarget : Type 0 where
 pub record Listener : Type 0 where
   pub serial : ℕ
   pub target : EventTarget
-  pub event : EventName
+  pub event : EventKind
   pub handler : ℕ
 
 pub record FrameCallback : Type 0 where

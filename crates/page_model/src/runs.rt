@@ -1,7 +1,7 @@
 //! Laws of callbacks, ticks and whole runs.
 
 ghost use Rattle.std.specs.Prelude.{◌≡◌, ℕ, suc, ◌<◌, ◌≤◌, List, [], ◌∷◌, Option};
-ghost use Rattle.script_model.specs.Kinds.{RangeException};
+ghost use Rattle.text_io.specs.declared.kinds.ThrowKind.TheVariants.{RangeError};
 ghost use Rattle.script_model.specs.Syntax.{Command, Item};
 ghost use Rattle.script_model.specs.TraceLines.{ThrowLine, TickLine};
 ghost use Rattle.page_model.specs.World.{World};
@@ -25,7 +25,7 @@ pub fn runs_take_nothing_back()
 /// The clock stands at a tick's time until the tick has ended, and a time before it is refused.
 pub fn the_clock_stands_in_a_tick()
     ensures stands { (script : Script) (world : World) → (tick script world).state.clock ≡ world.clock }
-    ensures refused { (script : Script) (line time : ℕ) (world : World) → world.begun < 1000000 → time < world.clock → run_tick script line time world ≡ record { lines = ThrowLine line RangeException ∷ []; flow = Thrown; state = record world { begun = suc world.begun } } }
+    ensures refused { (script : Script) (line time : ℕ) (world : World) → world.begun < 1000000 → time < world.clock → run_tick script line time world ≡ record { lines = ThrowLine line RangeError ∷ []; flow = Thrown; state = record world { begun = suc world.begun } } }
 {}
 
 /// In a quiet page a tick writes its own line and nothing else, and leaves the page quiet.

@@ -2,7 +2,9 @@
 use Rattle.std.proofs.Common.{◌≡◌, ℕ, ℤ, List, [], ◌∷◌, Some, None, length, refl, ◌∙◌}
 use Rattle.layout_model.specs.Items.{Kind, BlockKind, ImageKind}
 use Rattle.layout_model.specs.Styles.{Declaration}
-use Rattle.script_model.specs.Kinds.{Exception, Limit, NodesLimit}
+use Rattle.text_io.specs.declared.kinds.ThrowKind.{ThrowKind}
+use Rattle.text_io.specs.declared.kinds.LimitKind.{LimitKind}
+use Rattle.text_io.specs.declared.kinds.LimitKind.TheVariants as limits
 use Rattle.script_model.specs.Syntax.{Operand, Dimension, MakeBlock, MakeImage, Append, Before, Remove, SetStyle, Grow, Load, Read, Viewport}
 use Rattle.page_model.specs.World.{World}
 use Rattle.page_model.specs.Documents.{Container, removed}
@@ -51,7 +53,7 @@ module _ (handlers : Handlers) (world : World) (present : Present) (answer : Ste
 
 -- what isn't found
 
-module _ (handlers : Handlers) (world : World) (present : Present) (exception : Exception) where
+module _ (handlers : Handlers) (world : World) (present : Present) (exception : ThrowKind) where
   module _ (node : Operand) (missing : element_meant world present node ≡ Threw exception) where
     pub remove_throws : does handlers world present (Remove node) ≡ Threw exception
     unfolding does
@@ -109,20 +111,20 @@ unfolding does making
 image_makes handlers world present name document width height = refl
 
 module _ (world : World) (name document : List ℕ) (kind : Kind) where
-  pub making_taken : (exception : Exception) → new_name world name ≡ Threw exception → making world name document kind ≡ Threw exception
+  pub making_taken : (exception : ThrowKind) → new_name world name ≡ Threw exception → making world name document kind ≡ Threw exception
   unfolding making
-  making_taken exception taken = λ i. taken i >> (document_named world document >>= λ (made_in : ℕ). room NodesLimit (length world.elements) >> becomes (with_element name kind made_in None world))
+  making_taken exception taken = λ i. taken i >> (document_named world document >>= λ (made_in : ℕ). room limits.Nodes (length world.elements) >> becomes (with_element name kind made_in None world))
 
   module _ (free : new_name world name ≡ Did tt) where
-    pub making_missing : (exception : Exception) → document_named world document ≡ Threw exception → making world name document kind ≡ Threw exception
+    pub making_missing : (exception : ThrowKind) → document_named world document ≡ Threw exception → making world name document kind ≡ Threw exception
     unfolding making
-    making_missing exception missing = λ i. free i >> (missing i >>= λ (made_in : ℕ). room NodesLimit (length world.elements) >> becomes (with_element name kind made_in None world))
+    making_missing exception missing = λ i. free i >> (missing i >>= λ (made_in : ℕ). room limits.Nodes (length world.elements) >> becomes (with_element name kind made_in None world))
 
-    pub making_full : (n : ℕ) (limit : Limit) → document_named world document ≡ Did n → room NodesLimit (length world.elements) ≡ Met limit → making world name document kind ≡ Met limit
+    pub making_full : (n : ℕ) (limit : LimitKind) → document_named world document ≡ Did n → room limits.Nodes (length world.elements) ≡ Met limit → making world name document kind ≡ Met limit
     unfolding making
     making_full n limit there full = λ i. free i >> (there i >>= λ (made_in : ℕ). full i >> becomes (with_element name kind made_in None world))
 
-    pub made : (n : ℕ) → document_named world document ≡ Did n → room NodesLimit (length world.elements) ≡ Did tt → making world name document kind ≡ becomes (with_element name kind n None world)
+    pub made : (n : ℕ) → document_named world document ≡ Did n → room limits.Nodes (length world.elements) ≡ Did tt → making world name document kind ≡ becomes (with_element name kind n None world)
     unfolding making
     made n there roomy = λ i. free i >> (there i >>= λ (made_in : ℕ). roomy i >> becomes (with_element name kind made_in None world))
 

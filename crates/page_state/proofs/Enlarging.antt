@@ -4,7 +4,8 @@ use Rattle.std.proofs.lemmas.List.{length-replicate}
 use Rattle.px_units.specs.declared.Size.{Size}
 use Rattle.layout_model.specs.Boxes.{Box}
 use Rattle.layout_model.specs.Items.{Kind}
-use Rattle.script_model.specs.Kinds.{Limit as ModelLimit, NodesLimit}
+use Rattle.text_io.specs.declared.kinds.LimitKind.{LimitKind as ModelLimit}
+use Rattle.text_io.specs.declared.kinds.LimitKind.TheVariants as limits
 use Rattle.script_model.specs.Syntax.{MakeBlock, MakeImage}
 use Rattle.block_layout.specs.declared.ItemKind.{ItemKind}
 use Rattle.block_layout.specs.declared.ItemKind.TheVariants.{Block, Image, Frame}
@@ -47,8 +48,8 @@ readied_world inside now view_is after ready same list kept =
     ∙ ap (λ (v : PageView). v.world) view_is)
 
 pub unmade_so : (fault : MakeFault) (page : PageElements) (old new : World) (step : Step ModelEffect) → tree.IsMakeFault page fault
-    → ((limit : ModelLimit) → room NodesLimit (length page.elements) ≡ Met limit → step ≡ Met limit) → new ≡ old → Applied (Err (unmade fault)) old new step
-unmade_so (make.Limit kind) page old new step full each same = (each (tree.seen_limit kind) full ∙ ap Met (same_limit kind), same)
+    → ((limit : ModelLimit) → room limits.Nodes (length page.elements) ≡ Met limit → step ≡ Met limit) → new ≡ old → Applied (Err (unmade fault)) old new step
+unmade_so (make.Limit kind) page old new step full each same = (each kind full ∙ ap Met (same_limit kind), same)
 unmade_so make.Memory page old new step short each same = same
 
 -- a place
@@ -66,7 +67,7 @@ places_kept n boxes =
 -- the element itself
 
 pub makes : (inside : Inside) (one two : PageElements) (list : List Name) (name document : List ℕ) (kind : Kind) (n number : ℕ) (ready : Bool)
-    → new_name (inner inside) name ≡ Did tt → document_named (inner inside) document ≡ Did number → number < 1 → room NodesLimit (length inside.tree.elements) ≡ Did tt
+    → new_name (inner inside) name ≡ Did tt → document_named (inner inside) document ≡ Did number → number < 1 → room limits.Nodes (length inside.tree.elements) ≡ Did tt
     → one ≡ record (inside.tree) { ready = ready } → n ≡ length inside.tree.elements
     → list ≡ inside.names.list ++ record { text = name; thing = ElementThing n } ∷ []
     → ((world : World) → with_name name (ElementThing (length one.elements)) (placed_in two world) ≡ with_element name kind 0 None (placed_in one world))

@@ -1,7 +1,7 @@
 -- Operands that are looked up in two steps.
 use Rattle.std.proofs.Common.{◌≡◌, Result, Err, Option, Some, None, sym, subst}
 use Rattle.element_tree.specs.declared.node.NodeId.{NodeId}
-use Rattle.script_model.specs.Kinds.{ReferenceException}
+use Rattle.text_io.specs.declared.kinds.ThrowKind.TheVariants.{ReferenceError}
 use Rattle.page_model.specs.World.{ElementThing, World}
 use Rattle.page_model.specs.Operands.{operand_thing}
 use Rattle.script_syntax.specs.declared.operands.Operand.{Operand}
@@ -18,8 +18,8 @@ module _ {B C D : Type 0} (seen : D → C) (next : B → Step C) (step : Step B)
   pub finds_then : (value : B) (result : Result D ThrowKind) → step ≡ Did value → Finds seen result (next value) → Finds seen result (step >>= next)
   finds_then value result found rest = subst (λ (it : Step C). Finds seen result it) (sym (then_did next step value found)) rest
 
-  pub finds_none : (kind : ThrowKind) → step ≡ Threw (seen_throw kind) → Finds seen (Err kind) (step >>= next)
-  finds_none kind threw = then_threw next step (seen_throw kind) threw
+  pub finds_none : (kind : ThrowKind) → step ≡ Threw kind → Finds seen (Err kind) (step >>= next)
+  finds_none kind threw = then_threw next step kind threw
 
 pub target_given : (world : World) (subject : Option NodeId) (operand : Operand) (node : NodeId) → operand ≡ Target → subject ≡ Some node
     → operand_thing world (present_of subject) (operand_of operand) ≡ Did (ElementThing node.0)
@@ -27,6 +27,6 @@ unfolding ◌>>=◌
 target_given world subject operand node target given = λ i. operand_thing world (present_of (given i)) (operand_of (target i))
 
 pub target_missing : (world : World) (subject : Option NodeId) (operand : Operand) → operand ≡ Target → subject ≡ None
-    → operand_thing world (present_of subject) (operand_of operand) ≡ Threw ReferenceException
+    → operand_thing world (present_of subject) (operand_of operand) ≡ Threw ReferenceError
 unfolding ◌>>=◌
 target_missing world subject operand target none = λ i. operand_thing world (present_of (none i)) (operand_of (target i))

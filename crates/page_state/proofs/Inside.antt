@@ -62,13 +62,13 @@ module _ (p : Inside) (names : List Name) (tree : PageElements) (observers : Res
 -- exits
 
 thrown : (result : Result Effect PageFault) (fault : PageFault) (kind : ThrowKind) (old : World) (step : Step ModelEffect) → result ≡ Err fault → fault ≡ Throw kind
-    → step ≡ Threw (seen_throw kind) → Applied result old old step
+    → step ≡ Threw kind → Applied result old old step
 thrown result fault kind old step is throws e = subst (λ (it : Result Effect PageFault). Applied it old old step) (sym (is ∙ ap Err throws)) (e, refl)
 
 module _ (inside : Inside) (now : PageView) (view_is : record { world = inner inside; begun = inside.begun } ≡ now) where
   pub exit_throws : (result : Result Effect PageFault) (fault : PageFault) (kind : ThrowKind) (step : World → Step ModelEffect) → result ≡ Err fault → fault ≡ Throw kind
-      → step (inner inside) ≡ Threw (seen_throw kind) → Applied result now.world now.world (step now.world)
-  exit_throws result fault kind step is throws e = thrown result fault kind now.world (step now.world) is throws (subst (λ (v : PageView). step v.world ≡ Threw (seen_throw kind)) view_is e)
+      → step (inner inside) ≡ Threw kind → Applied result now.world now.world (step now.world)
+  exit_throws result fault kind step is throws e = thrown result fault kind now.world (step now.world) is throws (subst (λ (v : PageView). step v.world ≡ Threw kind) view_is e)
 
   pub exit_done : (answer : Step ModelEffect) (step : World → Step ModelEffect) → step (inner inside) ≡ answer → step now.world ≡ answer
   exit_done answer step e = subst (λ (v : PageView). step v.world ≡ answer) view_is e

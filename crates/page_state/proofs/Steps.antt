@@ -1,6 +1,7 @@
 -- Steps that are made one after another.
 use Rattle.std.proofs.Common.{◌≡◌, ap}
-use Rattle.script_model.specs.Kinds.{Exception, Limit}
+use Rattle.text_io.specs.declared.kinds.ThrowKind.{ThrowKind}
+use Rattle.text_io.specs.declared.kinds.LimitKind.{LimitKind}
 use Rattle.page_model.specs.Steps.{Step, Did, Threw, Met, ◌>>=◌, ◌>>◌}
 
 module _ {A B : Type 0} (next : A → Step B) where
@@ -8,11 +9,11 @@ module _ {A B : Type 0} (next : A → Step B) where
   unfolding ◌>>=◌
   then_did step value e = ap (λ it. it >>= next) e
 
-  pub then_threw : (step : Step A) (exception : Exception) → step ≡ Threw exception → (step >>= next) ≡ Threw exception
+  pub then_threw : (step : Step A) (exception : ThrowKind) → step ≡ Threw exception → (step >>= next) ≡ Threw exception
   unfolding ◌>>=◌
   then_threw step exception e = ap (λ it. it >>= next) e
 
-  pub then_met : (step : Step A) (limit : Limit) → step ≡ Met limit → (step >>= next) ≡ Met limit
+  pub then_met : (step : Step A) (limit : LimitKind) → step ≡ Met limit → (step >>= next) ≡ Met limit
   unfolding ◌>>=◌
   then_met step limit e = ap (λ it. it >>= next) e
 
@@ -21,10 +22,10 @@ module _ {A B : Type 0} (next : Step B) where
   unfolding ◌>>◌
   and_did step value e = ap (λ it. it >> next) e
 
-  pub and_threw : (step : Step A) (exception : Exception) → step ≡ Threw exception → (step >> next) ≡ Threw exception
+  pub and_threw : (step : Step A) (exception : ThrowKind) → step ≡ Threw exception → (step >> next) ≡ Threw exception
   unfolding ◌>>◌
   and_threw step exception e = ap (λ it. it >> next) e
 
-  pub and_met : (step : Step A) (limit : Limit) → step ≡ Met limit → (step >> next) ≡ Met limit
+  pub and_met : (step : Step A) (limit : LimitKind) → step ≡ Met limit → (step >> next) ≡ Met limit
   unfolding ◌>>◌
   and_met step limit e = ap (λ it. it >> next) e

@@ -19,20 +19,20 @@ lines_of (Line line) = seen_line line ∷ []
 -- a value that is found, or the exception
 abbrev pub Finds : {A B : Type 0} → (A → B) → Result A ThrowKind → Step B → Type 0
 Finds seen (Ok value) step = step ≡ Did (seen value)
-Finds seen (Err kind) step = step ≡ Threw (seen_throw kind)
+Finds seen (Err kind) step = step ≡ Threw kind
 
 -- what a command does, or why it does nothing; want of memory says nothing of the step
 abbrev pub Applied : Result Effect PageFault → World → World → Step ModelEffect → Type 0
 Applied (Ok effect) old new step = step ≡ Did (record { world = new; lines = lines_of effect })
-Applied (Err (Throw kind)) old new step = (step ≡ Threw (seen_throw kind)) × (new ≡ old)
-Applied (Err (Limit kind)) old new step = (step ≡ Met (seen_limit kind)) × (new ≡ old)
+Applied (Err (Throw kind)) old new step = (step ≡ Threw kind) × (new ≡ old)
+Applied (Err (Limit kind)) old new step = (step ≡ Met kind) × (new ≡ old)
 Applied (Err Memory) old new step = new ≡ old
 
 -- the same of a step that takes no memory and writes nothing
 abbrev pub Moved : Result (Unit {0}) PageFault → World → World → Step World → Type 0
 Moved (Ok done) old new step = step ≡ Did new
-Moved (Err (Throw kind)) old new step = (step ≡ Threw (seen_throw kind)) × (new ≡ old)
-Moved (Err (Limit kind)) old new step = (step ≡ Met (seen_limit kind)) × (new ≡ old)
+Moved (Err (Throw kind)) old new step = (step ≡ Threw kind) × (new ≡ old)
+Moved (Err (Limit kind)) old new step = (step ≡ Met kind) × (new ≡ old)
 Moved (Err Memory) old new step = ⊥
 
 -- the lengths of the lines can be written

@@ -3,7 +3,7 @@ use Rattle.std.specs.Prelude.{ℕ, List, None, length}
 use Rattle.layout_model.specs.Items.{Kind}
 use Rattle.block_layout.specs.declared.ItemKind.{ItemKind}
 use Rattle.block_layout.specs.declared.ItemKind.TheVariants.{Block, Image, Frame}
-use Rattle.script_model.specs.Kinds.{NodesLimit}
+use Rattle.text_io.specs.declared.kinds.LimitKind.TheVariants as limits
 use Rattle.page_model.specs.World.{World}
 use Rattle.page_model.specs.Edits.{with_element}
 use Rattle.page_model.specs.Operands.{new_name, document_named}
@@ -15,7 +15,7 @@ unfolding ◌>>=◌ ◌>>◌
 making world name document kind = do
   new_name world name
   made_in ← document_named world document
-  room NodesLimit (length world.elements)
+  room limits.Nodes (length world.elements)
   becomes (with_element name kind made_in None world)
 
 -- no frame is made

@@ -4,8 +4,8 @@ use Rattle.std.specs.List.{AllByRecursion}
 use Rattle.std.specs.Option.{ForSome}
 use Rattle.px_units.specs.declared.Size.{Size}
 use Rattle.layout_model.specs.Boxes.{Box}
-use Rattle.script_model.specs.Kinds.{CommandsLimit, ResizeObserversLimit, ResizeObservationsLimit}
-use Rattle.script_model.specs.Limits.{limit_number}
+use Rattle.text_io.specs.declared.kinds.LimitKind.TheVariants as limits
+use Rattle.text_io.specs.Limits.{limit_number}
 use Rattle.page_model.specs.World.{Thing, Name, World}
 use Rattle.page_model.specs.Lookups.{no_extent}
 use Rattle.page_model.specs.Names.{is_same_thing, element_text}
@@ -41,8 +41,8 @@ ArePlaced boxes tree = length tree.elements ≤ length boxes
 
 -- the observers have the limits of a page
 pub record AreLimited (it : ResizeObservers) : Type 0 where
-  pub observers : it.most_observers ≡ limit_number ResizeObserversLimit
-  pub observations : it.most_observations ≡ limit_number ResizeObservationsLimit
+  pub observers : it.most_observers ≡ limit_number limits.ResizeObservers
+  pub observations : it.most_observations ≡ limit_number limits.ResizeObservations
 
 -- each observer is one of `top` that calls no handler, and nothing is gathered between two calls
 abbrev pub AreSilent : ResizeObservers → Type 0
@@ -51,7 +51,7 @@ AreSilent it = AllByRecursion (λ observer. observer ≡ silent_observer (observ
 -- a serial number is given by a command, and a command that was begun may give one yet
 pub record IsCounted (observed begun : ℕ) (flag : Bool) : Type 0 where
   pub given : observed + cond flag 1 0 ≤ begun
-  pub limited : begun ≤ limit_number CommandsLimit
+  pub limited : begun ≤ limit_number limits.Commands
 
 pub record IsPage (names : List Name) (tree : PageElements) (boxes : List (Option Box)) (observers : ResizeObservers) (size : Size) (last : Option Size) (begun : ℕ) (flag : Bool) : Type 0 where
   pub held : IsHeld (listed names tree observers)

@@ -2,7 +2,7 @@
 use Rattle.std.proofs.Common.{◌≡◌, ℕ, ℤ, Option, Some, None, Bool, false, not, refl, ap, sym, ◌∙◌}
 use Rattle.px_units.specs.declared.Size.{Size}
 use Rattle.layout_model.specs.Styles.{Declaration}
-use Rattle.script_model.specs.Kinds.{TypeException}
+use Rattle.text_io.specs.declared.kinds.ThrowKind.TheVariants.{TypeError}
 use Rattle.script_model.specs.Syntax.{Operand, Dimension, Grow, Load}
 use Rattle.page_model.specs.World.{World}
 use Rattle.page_model.specs.Lookups.{element_at}
@@ -18,13 +18,13 @@ use Rattle.page_tree.specs.Steps.{growing, loading, growing_named, loading_named
 module _ (world : World) (dimension : Dimension) (n : ℕ) (by : ℤ) where
   grown_from : Option ℕ → Step Effect
   unfolding ◌>>=◌
-  grown_from found = required TypeException found >>= (λ units. becomes (with_declaration (set_dimension dimension (grown units by)) n world))
+  grown_from found = required TypeError found >>= (λ units. becomes (with_declaration (set_dimension dimension (grown units by)) n world))
 
   growing_from : growing world dimension n by ≡ grown_from (pixels_of (dimension_of dimension (element_at world n).item.style))
   unfolding growing grown_from ◌>>=◌
   growing_from = refl
 
-  pub grow_refused : (found : Option ℕ) → found ≡ pixels_of (dimension_of dimension (element_at world n).item.style) → found ≡ None → growing world dimension n by ≡ Threw TypeException
+  pub grow_refused : (found : Option ℕ) → found ≡ pixels_of (dimension_of dimension (element_at world n).item.style) → found ≡ None → growing world dimension n by ≡ Threw TypeError
   unfolding grown_from ◌>>=◌
   grow_refused found is none = growing_from ∙ ap grown_from (sym is ∙ none)
 
@@ -43,13 +43,13 @@ no_image Frame none = refl
 module _ (world : World) (n width height : ℕ) where
   loaded_from : Bool → Step Effect
   unfolding ◌>>◌
-  loaded_from image = throw_if (not image) TypeException >> becomes (with_natural_size width height n world)
+  loaded_from image = throw_if (not image) TypeError >> becomes (with_natural_size width height n world)
 
   loading_from : loading world n width height ≡ loaded_from (is_image (element_at world n).item.kind)
   unfolding loading loaded_from ◌>>◌
   loading_from = refl
 
-  pub load_refused : (kind : ItemKind) → seen_kind kind ≡ (element_at world n).item.kind → ((size : Size) → kind ≡ Image size → ⊥) → loading world n width height ≡ Threw TypeException
+  pub load_refused : (kind : ItemKind) → seen_kind kind ≡ (element_at world n).item.kind → ((size : Size) → kind ≡ Image size → ⊥) → loading world n width height ≡ Threw TypeError
   unfolding loaded_from ◌>>◌
   load_refused kind is none = loading_from ∙ ap loaded_from (sym (ap is_image is) ∙ no_image kind none)
 

@@ -2,18 +2,18 @@
 use Rattle.std.proofs.Common.{◌≡◌, ℕ, zero, suc, ◌<◌, ◌++◌, List, [], ◌∷◌, length, length-append, Option, Bool, true, false, nat_lt, refl, ap, sym, subst, ◌∙◌, arith}
 use Rattle.std.proofs.lemmas.List.{length-map}
 use Rattle.std.proofs.lemmas.Bool.Decides.{nat_tests}
-use Rattle.script_model.specs.Kinds.{NodesLimit}
+use Rattle.text_io.specs.declared.kinds.LimitKind.TheVariants as limits
 use Rattle.page_model.specs.Steps.{Did, room, met_unless}
 use Rattle.element_tree.specs.Forest.{Knot, Forest, parent_of}
 use Rattle.element_tree.specs.Edits.{lone}
 use Rattle.page_tree.specs.Items.{Described}
 use Rattle.page_tree.specs.Views.{PageElements, element_of, seen_page, IsPage}
 
-did_below : (below : Bool) → met_unless below NodesLimit ≡ Did tt → below ≡ true
+did_below : (below : Bool) → met_unless below limits.Nodes ≡ Did tt → below ≡ true
 did_below true e = refl
 did_below false e = cc
 
-below_limit : (count : ℕ) → room NodesLimit count ≡ Did tt → count < 20000
+below_limit : (count : ℕ) → room limits.Nodes count ≡ Did tt → count < 20000
 below_limit count e = let below = did_below (nat_lt count 20000) e in grind (arith, nat_tests)
 
 parent-grown : (extra : Knot Described) (nodes : List (Knot Described)) (m : ℕ) → m < length nodes → parent_of (nodes ++ extra ∷ []) m ≡ parent_of nodes m
@@ -27,7 +27,7 @@ module _ (forest : Forest Described) (root : Option ℕ) (is : IsPage forest roo
       subst (λ f. IsPage f root) (sym same)
       (record { most_nodes = is.most_nodes; counted = is.counted; most_depth = is.most_depth; rooted = is.rooted })
 
-  pub IsPage-made : (old middle : PageElements) → seen_page forest root ≡ middle → middle ≡ record old { ready = middle.ready } → room NodesLimit (length old.elements) ≡ Did tt
+  pub IsPage-made : (old middle : PageElements) → seen_page forest root ≡ middle → middle ≡ record old { ready = middle.ready } → room limits.Nodes (length old.elements) ≡ Did tt
       → (payload : Described) → later ≡ record forest { nodes = forest.nodes ++ lone payload ∷ []; ready = later.ready } → IsPage later root
   IsPage-made old middle seen same roomy payload added =
       let count : length forest.nodes ≡ length old.elements

@@ -1,7 +1,7 @@
 -- What becomes of the page as its tree and its root element change.
 use Rattle.std.proofs.Common.{◌≡◌, ℕ, ◌<◌, List, map, length, Option, Some, None, Bool, true, false, option_map, refl, ap, sym, subst, ◌∙◌, arith, is_some, cond}
 use Rattle.std.proofs.lemmas.List.{length-map}
-use Rattle.script_model.specs.Kinds.{HierarchyRequestException, NotFoundException}
+use Rattle.text_io.specs.declared.kinds.ThrowKind.TheVariants.{HierarchyRequestError, NotFoundError}
 use Rattle.page_model.specs.World.{World}
 use Rattle.page_model.specs.Lookups.{element_at}
 use Rattle.page_model.specs.Documents.{InElement, InDocument, removed}
@@ -126,11 +126,11 @@ module _ (old : PageElements) (forest : Forest Described) (root : Option ℕ) (s
       put_rest = rest_same old forest root seen (put_in p n (mark_for n sibling forest.nodes)) later left put (names_inserted p n (mark_for n sibling forest.nodes) forest.nodes)
 
   module _ (sibling : Option ℕ) where
-    pub topped_missing : is_absent root sibling ≡ true → (world : World) → placing (placed_in old world) (InDocument 0) n sibling ≡ Threw NotFoundException
+    pub topped_missing : is_absent root sibling ≡ true → (world : World) → placing (placed_in old world) (InDocument 0) n sibling ≡ Threw NotFoundError
     topped_missing e world =
         ap (λ page. placing (placed_in page world) (InDocument 0) n sibling) (sym seen) ∙ top_missing forest root is trees world n sibling e
 
-    pub topped_full : is_absent root sibling ≡ false → is_some root ≡ true → (world : World) → placing (placed_in old world) (InDocument 0) n sibling ≡ Threw HierarchyRequestException
+    pub topped_full : is_absent root sibling ≡ false → is_some root ≡ true → (world : World) → placing (placed_in old world) (InDocument 0) n sibling ≡ Threw HierarchyRequestError
     topped_full e full world =
         ap (λ page. placing (placed_in page world) (InDocument 0) n sibling) (sym seen) ∙ top_full forest root is trees world n sibling e full
 

@@ -1,7 +1,8 @@
 -- Pre-inserting as the page judges it and as the tree does.
 use Rattle.std.proofs.Common.{◌≡◌, ℕ, ◌+◌, map, Option, Some, None, Bool, true, false, not, cond, nat_eq, nat_le, nat_lt, refl, ap, sym, ◌∙◌, arith, is_some, eqb-true}
 use Rattle.std.proofs.lemmas.Bool.Decides.{nat_tests}
-use Rattle.script_model.specs.Kinds.{HierarchyRequestException, NotFoundException, DepthLimit as DeepLimit}
+use Rattle.text_io.specs.declared.kinds.ThrowKind.TheVariants.{HierarchyRequestError, NotFoundError}
+use Rattle.text_io.specs.declared.kinds.LimitKind.TheVariants as limits
 use Rattle.page_model.specs.World.{World}
 use Rattle.page_model.specs.Lookups.{element_at}
 use Rattle.page_model.specs.Documents.{Container, InElement, InDocument, container_by, is_number, tree_of, is_inclusive_ancestor, element_depth, levels_of, sibling_meant, next_after, inserted}
@@ -26,14 +27,14 @@ use Rattle.page_tree.proofs.Places.{page, container_found, inserted_page, insert
 
 -- what comes of the four questions, in their order
 abbrev pub judged : Bool → Bool → Bool → Bool → World → Step Effect
-judged true missing full fits later = Threw HierarchyRequestException
-judged false true full fits later = Threw NotFoundException
-judged false false true fits later = Threw HierarchyRequestException
+judged true missing full fits later = Threw HierarchyRequestError
+judged false true full fits later = Threw NotFoundError
+judged false false true fits later = Threw HierarchyRequestError
 judged false false false true later = becomes later
 judged false false false false later = Met DeepLimit
 
 tried : (inside missing full fits : Bool) (later : World)
-    → (throw_if inside HierarchyRequestException >> (throw_if missing NotFoundException >> (throw_if full HierarchyRequestException >> (met_unless fits DeepLimit >> becomes later))))
+    → (throw_if inside HierarchyRequestError >> (throw_if missing NotFoundError >> (throw_if full HierarchyRequestError >> (met_unless fits DeepLimit >> becomes later))))
     ≡ judged inside missing full fits later
 unfolding ◌>>◌
 tried true missing full fits later = refl
@@ -48,28 +49,28 @@ unfolding placing
 placing_judged world container n sibling = tried _ _ _ _ _
 
 -- the tree's refusals
-append_done : (inside deep : Bool) (later : World) → cond inside (Some Hierarchy) (cond deep (Some DepthLimit) None) ≡ None → judged inside false false (not deep) later ≡ becomes later
+append_done : (inside deep : Bool) (later : World) → cond inside (Some Hierarchy) (cond deep (Some limits.Depth) None) ≡ None → judged inside false false (not deep) later ≡ becomes later
 append_done true deep later e = cc
 append_done false true later e = cc
 append_done false false later e = refl
 
-append_refused : (inside deep : Bool) (later : World) (fault : TreeFault) → cond inside (Some Hierarchy) (cond deep (Some DepthLimit) None) ≡ Some fault → judged inside false false (not deep) later ≡ refusal (refusal_of fault)
+append_refused : (inside deep : Bool) (later : World) (fault : TreeFault) → cond inside (Some Hierarchy) (cond deep (Some limits.Depth) None) ≡ Some fault → judged inside false false (not deep) later ≡ refusal (refusal_of fault)
 append_refused true deep later fault e = let same : Hierarchy ≡ fault = cc in ap (λ it. refusal (refusal_of it)) same
-append_refused false true later fault e = let same : DepthLimit ≡ fault = cc in ap (λ it. refusal (refusal_of it)) same
+append_refused false true later fault e = let same : limits.Depth ≡ fault = cc in ap (λ it. refusal (refusal_of it)) same
 append_refused false false later fault e = cc
 
-insert_done : (inside missing deep : Bool) (later : World) → cond inside (Some Hierarchy) (cond missing (Some NotAChild) (cond deep (Some DepthLimit) None)) ≡ None
+insert_done : (inside missing deep : Bool) (later : World) → cond inside (Some Hierarchy) (cond missing (Some NotAChild) (cond deep (Some limits.Depth) None)) ≡ None
     → (judged inside missing false (not deep) later ≡ becomes later) × (missing ≡ false)
 insert_done true missing deep later e = cc
 insert_done false true deep later e = cc
 insert_done false false true later e = cc
 insert_done false false false later e = (refl, refl)
 
-insert_refused : (inside missing deep : Bool) (later : World) (fault : TreeFault) → cond inside (Some Hierarchy) (cond missing (Some NotAChild) (cond deep (Some DepthLimit) None)) ≡ Some fault
+insert_refused : (inside missing deep : Bool) (later : World) (fault : TreeFault) → cond inside (Some Hierarchy) (cond missing (Some NotAChild) (cond deep (Some limits.Depth) None)) ≡ Some fault
     → judged inside missing false (not deep) later ≡ refusal (refusal_of fault)
 insert_refused true missing deep later fault e = let same : Hierarchy ≡ fault = cc in ap (λ it. refusal (refusal_of it)) same
 insert_refused false true deep later fault e = let same : NotAChild ≡ fault = cc in ap (λ it. refusal (refusal_of it)) same
-insert_refused false false true later fault e = let same : DepthLimit ≡ fault = cc in ap (λ it. refusal (refusal_of it)) same
+insert_refused false false true later fault e = let same : limits.Depth ≡ fault = cc in ap (λ it. refusal (refusal_of it)) same
 insert_refused false false false later fault e = cc
 
 at_most : (a b : ℕ) → nat_le a b ≡ not (nat_lt b a)
@@ -180,10 +181,10 @@ module _ (forest : Forest Described) (root : Option ℕ) (is : IsPage forest roo
       let later : World = inserted now (InDocument 0) n sibling in
       judged_top n sibling ∙ ap (λ it. judged false it (is_some root) fits later) e ∙ ap (λ it. judged false missing it fits later) f
 
-  pub top_missing : (n : ℕ) (sibling : Option ℕ) → is_absent root sibling ≡ true → placing (spread (map element_of forest.nodes) root world) (InDocument 0) n sibling ≡ Threw NotFoundException
+  pub top_missing : (n : ℕ) (sibling : Option ℕ) → is_absent root sibling ≡ true → placing (spread (map element_of forest.nodes) root world) (InDocument 0) n sibling ≡ Threw NotFoundError
   top_missing n sibling e = top_as n sibling true (is_some root) e refl
 
-  pub top_full : (n : ℕ) (sibling : Option ℕ) → is_absent root sibling ≡ false → is_some root ≡ true → placing (spread (map element_of forest.nodes) root world) (InDocument 0) n sibling ≡ Threw HierarchyRequestException
+  pub top_full : (n : ℕ) (sibling : Option ℕ) → is_absent root sibling ≡ false → is_some root ≡ true → placing (spread (map element_of forest.nodes) root world) (InDocument 0) n sibling ≡ Threw HierarchyRequestError
   top_full n sibling e full = top_as n sibling false true e full
 
   low : (n : ℕ) → nat_le (0 + levels_of now n) 256 ≡ true

@@ -1,7 +1,7 @@
 -- The commands `grow` and `load` once their node is found: what the definition of commands says of them (a law of this
 -- crate tells it).
 use Rattle.std.specs.Prelude.{◌≡◌, ◌<◌, ℕ, ℤ, not, length}
-use Rattle.script_model.specs.Kinds.{TypeException}
+use Rattle.text_io.specs.declared.kinds.ThrowKind.TheVariants.{TypeError}
 use Rattle.script_model.specs.Syntax.{Operand, Dimension, WidthDimension, HeightDimension}
 use Rattle.page_model.specs.World.{World}
 use Rattle.page_model.specs.Lookups.{element_at}
@@ -26,13 +26,13 @@ seen_axis Height = HeightDimension
 unfoldable pub growing : World → Dimension → ℕ → ℤ → Step Effect
 unfolding ◌>>=◌
 growing world dimension n by = do
-  units ← required TypeException (pixels_of (dimension_of dimension (element_at world n).item.style))
+  units ← required TypeError (pixels_of (dimension_of dimension (element_at world n).item.style))
   becomes (with_declaration (set_dimension dimension (grown units by)) n world)
 
 unfoldable pub loading : World → ℕ → ℕ → ℕ → Step Effect
 unfolding ◌>>◌
 loading world n width height = do
-  throw_if (not (is_image (element_at world n).item.kind)) TypeException
+  throw_if (not (is_image (element_at world n).item.kind)) TypeError
   becomes (with_natural_size width height n world)
 
 -- the two commands with their node found

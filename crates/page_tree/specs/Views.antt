@@ -1,8 +1,8 @@
 -- What the tree of the page is seen as: the lists of a world (DOM, 4.2.1 and 4.5) in which `top` is the only document.
 -- No element is a frame with a document yet, and each stands in or belongs to `top`.
 use Rattle.std.specs.Prelude.{◌≡◌, ◌<◌, ◌≤◌, ℕ, Bool, cond, List, [], ◌∷◌, length, map, Option, Some, None}
-use Rattle.script_model.specs.Kinds.{NodesLimit, DepthLimit}
-use Rattle.script_model.specs.Limits.{limit_number}
+use Rattle.text_io.specs.declared.kinds.LimitKind.TheVariants as limits
+use Rattle.text_io.specs.Limits.{limit_number}
 use Rattle.element_tree.specs.Forest.{Knot, Forest, parent_of}
 use Rattle.page_model.specs.World.{Element, Document, Active, World}
 use Rattle.page_model.specs.Lookups.{no_extent, document_at}
@@ -59,7 +59,7 @@ IsRoot nodes n = (n < length nodes) × (parent_of nodes n ≡ None)
 
 -- the tree has the limits of the page, and its root element is one
 pub record IsPage (forest : Forest Described) (root : Option ℕ) : Type 0 where
-  pub most_nodes : forest.most_nodes ≡ limit_number NodesLimit
-  pub counted : length forest.nodes ≤ limit_number NodesLimit
-  pub most_depth : forest.most_depth ≡ limit_number DepthLimit
+  pub most_nodes : forest.most_nodes ≡ limit_number limits.Nodes
+  pub counted : length forest.nodes ≤ limit_number limits.Nodes
+  pub most_depth : forest.most_depth ≡ limit_number limits.Depth
   pub rooted : (n : ℕ) → root ≡ Some n → IsRoot forest.nodes n

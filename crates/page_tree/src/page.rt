@@ -3,7 +3,7 @@
 ghost use Rattle.std.specs.Prelude.{◌≡◌, ◌+◌, ◌<◌, ◌++◌, ◌∷◌, [], length, map, option_map, unsigned_abs, Some, None, Ok, Err, IfOk, IfErr, IfSome, OnOk, OnErr, MatchResult, true};
 ghost use Rattle.std.specs.Option.{ForSome};
 ghost use Rattle.px_units.specs.Lengths.{Pixels};
-ghost use Rattle.script_model.specs.Kinds.{NodesLimit};
+ghost use Rattle.text_io.specs.declared.kinds.LimitKind.TheVariants as limits;
 ghost use Rattle.style_values.specs.Ranges.{IsAllowed, IsUnits};
 ghost use Rattle.style_values.specs.Seen.{seen_declaration};
 ghost use Rattle.element_tree.specs.Links.{number};
@@ -98,7 +98,7 @@ impl PageTree {
     /// none. Besides the room nothing changes.
     pub fn reserve(&mut self) -> Result<NodeId, MakeFault>
         ensures node { IfOk result (λ node. node.0 ≡ length self.old.elements) }
-        ensures roomy { OnOk result (room NodesLimit (length self.old.elements) ≡ Did tt) }
+        ensures roomy { OnOk result (room limits.Nodes (length self.old.elements) ≡ Did tt) }
         ensures ready { OnOk result (self.new.ready ≡ true) }
         ensures kept { self.old.ready ≡ true → self.new.ready ≡ true }
         ensures same { self.new ≡ record self.old { ready = self.new.ready } }
@@ -117,7 +117,7 @@ impl PageTree {
     pub fn make(&mut self, name: Name, kind: ItemKind) -> Result<NodeId, MakeFault>
         requires { IsKind kind }
         ensures node { IfOk result (λ node. node.0 ≡ length self.old.elements) }
-        ensures roomy { OnOk result (room NodesLimit (length self.old.elements) ≡ Did tt) }
+        ensures roomy { OnOk result (room limits.Nodes (length self.old.elements) ≡ Did tt) }
         ensures made { OnOk result ((world : World) →
             with_name name (ElementThing (length self.old.elements)) (placed_in self.new world)
             ≡ with_element name (seen_kind kind) 0 None (placed_in self.old world)) }
@@ -208,7 +208,7 @@ impl PageTree {
         ensures rest { OnOk result (self.new ≡ record self.old { elements = self.new.elements }) }
         ensures count { length self.new.elements ≡ length self.old.elements }
         ensures refused { IfErr result (λ kind. (world : World) →
-            growing (placed_in self.old world) (seen_axis axis) node.0 by.0 ≡ Threw (seen_throw kind)) }
+            growing (placed_in self.old world) (seen_axis axis) node.0 by.0 ≡ Threw kind) }
         ensures same { OnErr result (self.new ≡ self.old) }
     {
         let Some(units) = self.pixels(node, axis) else {
@@ -231,7 +231,7 @@ impl PageTree {
         ensures count { length self.new.elements ≡ length self.old.elements }
         ensures refused { IfErr result (λ kind. (world : World) →
             loading (placed_in self.old world) node.0 (unsigned_abs size.width) (unsigned_abs size.height)
-            ≡ Threw (seen_throw kind)) }
+            ≡ Threw kind) }
         ensures same { OnErr result (self.new ≡ self.old) }
     {
         let ItemKind::Image(_) = self.kind(node) else {

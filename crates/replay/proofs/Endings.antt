@@ -3,7 +3,7 @@ use Rattle.std.proofs.Common.{◌≡◌, ◌∙◌, ℕ, List, Option, refl, ap,
 use Rattle.std.specs.Prelude.{Some, None, Result, Ok, Err}
 use Rattle.std.specs.Io.KnownBytes.{Appends}
 use Rattle.text_io.specs.declared.kinds.LimitKind.{LimitKind}
-use Rattle.script_model.specs.Limits.{limit_number}
+use Rattle.text_io.specs.Limits.{limit_number}
 use Rattle.script_model.specs.Syntax.{Item}
 use Rattle.script_model.specs.Reading.{Reading, reading, Refusal, SyntaxAt, LimitAt, refusal_line}
 use Rattle.script_model.specs.TraceLines.{LimitLine}
@@ -54,10 +54,10 @@ pub refused_answers : {A : Type 0} (r : Result A Stop) (refusal : Refusal) (befo
 unfolding outcome_read
 refused_answers r refusal before after f g w = concluded r (refused_ending refusal) (outcome_read (Err refusal)) before after f g refl w
 
-pub limit_answers : {A : Type 0} (r : Result A Stop) (kind : LimitKind) (line most : ℕ) (before after : Option (List ℕ)) (f g : ℕ) → most ≡ limit_number (seen_limit kind)
-    → Wrote r before after f g (line_text (LimitLine (seen_limit kind) line most)) → Answers (status_after r Limit) (outcome_read (Err (LimitAt (seen_limit kind) line))) before after f g
+pub limit_answers : {A : Type 0} (r : Result A Stop) (kind : LimitKind) (line most : ℕ) (before after : Option (List ℕ)) (f g : ℕ) → most ≡ limit_number kind
+    → Wrote r before after f g (line_text (LimitLine kind line most)) → Answers (status_after r Limit) (outcome_read (Err (LimitAt kind line))) before after f g
 limit_answers r kind line most before after f g is w =
-    refused_answers r (LimitAt (seen_limit kind) line) before after f g (subst (λ (n : ℕ). Wrote r before after f g (line_text (LimitLine (seen_limit kind) line n))) is w)
+    refused_answers r (LimitAt kind line) before after f g (subst (λ (n : ℕ). Wrote r before after f g (line_text (LimitLine kind line n))) is w)
 
 pub syntax_answers : {A : Type 0} (r : Result A Stop) (line column : ℕ) (read : Reading) (before after : Option (List ℕ)) (f g : ℕ) → read ≡ Err (SyntaxAt line column)
     → Wrote r before after f g (line_text (refusal_line (SyntaxAt line column))) → Answers (status_after r Syntax) (outcome_read read) before after f g

@@ -1,8 +1,8 @@
 -- The items of a script as the code has them.
 use Rattle.std.proofs.Common.{◌≡◌, ◌≤◌, ◌+◌, ℕ, List, length, refl, ap, ◌∙◌, sym, subst}
 use Rattle.std.specs.Prelude.{nat_lt, suc, cond, Bool, true, false, Some, None}
-use Rattle.script_model.specs.Kinds.{CommandsLimit}
-use Rattle.script_model.specs.Limits.{limit_number}
+use Rattle.text_io.specs.declared.kinds.LimitKind.TheVariants as limits
+use Rattle.text_io.specs.Limits.{limit_number}
 use Rattle.script_syntax.specs.Seen.{action_of, item_at}
 use Rattle.script_syntax.specs.declared.commands.What.{What}
 use Rattle.script_syntax.specs.declared.commands.What.TheVariants as what
@@ -35,14 +35,14 @@ begun_item handlers line (what.Tick time) world built = refl
 begun_item handlers line other world built = refl
 
 -- a command that was begun is counted, and nothing else is changed
-counted-same : (room_left : Bool) (old new : World) → met_unless room_left CommandsLimit >> Did (record old { begun = suc old.begun }) ≡ Did new → new.resize_observers ≡ old.resize_observers
+counted-same : (room_left : Bool) (old new : World) → met_unless room_left limits.Commands >> Did (record old { begun = suc old.begun }) ≡ Did new → new.resize_observers ≡ old.resize_observers
 unfolding ◌>>◌
 counted-same true old new is = let same : record old { begun = suc old.begun } ≡ new = cc in ap (λ (world : World). world.resize_observers) (sym same)
 counted-same false old new is = cc
 
 pub begun_same : (old new : World) → begun_in old ≡ Did new → new.resize_observers ≡ old.resize_observers
 unfolding begun_in
-begun_same old new is = counted-same (nat_lt old.begun (limit_number CommandsLimit)) old new is
+begun_same old new is = counted-same (nat_lt old.begun (limit_number limits.Commands)) old new is
 
 begun-rest : (handlers : Script) (line : ℕ) (it : What) (world begun : World) → unbuilt_item false (item_at line it) ≡ None → begun_in world ≡ Did begun
     → run_item handlers (item_at line it) world ≡ caught (rest_of handlers line it begun)

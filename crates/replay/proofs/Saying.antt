@@ -2,7 +2,7 @@
 use Rattle.std.proofs.Common.{◌≡◌, ℕ, List, [], ◌∷◌, ◌++◌, Option, refl, ap, sym, subst, ◌∙◌}
 use Rattle.std.specs.Prelude.{Bool, true, cond, Result, Ok, Err}
 use Rattle.std.specs.Io.KnownBytes.{Appends}
-use Rattle.script_model.specs.Limits.{limit_number}
+use Rattle.text_io.specs.Limits.{limit_number}
 use Rattle.script_model.specs.TraceLines as model
 use Rattle.script_model.specs.TraceLines.{TickLine, EventLine, FiredResize, ThrowLine, LimitLine}
 use Rattle.script_model.specs.TraceText.{line_text}
@@ -51,8 +51,8 @@ says_same r before after f g world said other is w = subst (λ (s : Said World).
 
 -- a call that was refused: what it does not do, by its step
 abbrev pub Failed : {A : Type 0} → PageFault → World → World → Step A → Type 0
-Failed (Throw kind) old new step = (step ≡ Threw (seen_throw kind)) × (new ≡ old)
-Failed (Limit kind) old new step = (step ≡ Met (seen_limit kind)) × (new ≡ old)
+Failed (Throw kind) old new step = (step ≡ Threw kind) × (new ≡ old)
+Failed (Limit kind) old new step = (step ≡ Met kind) × (new ≡ old)
 Failed NoRoom old new step = new ≡ old
 
 pub moved_failed : (fault : PageFault) (old new : World) (step : Step World) → Moved (Err fault) old new step → Failed fault old new step
@@ -75,10 +75,10 @@ pub refused_says : {A : Type 0} (fault : PageFault) (line : ℕ) (r : Result Flo
 unfolding settled caught caught_flow
 refused_says (Throw kind) line r before after f g old new step next failed refused =
     says_same r before after f g new _ _ (ap (λ s. caught (settled line old next s)) failed.0)
-    (subst (λ (w : World). Says r before after f g new (record { lines = ThrowLine line (seen_throw kind) ∷ []; flow = runs.Next; state = w })) failed.1 (refused new))
+    (subst (λ (w : World). Says r before after f g new (record { lines = ThrowLine line kind ∷ []; flow = runs.Next; state = w })) failed.1 (refused new))
 refused_says (Limit kind) line r before after f g old new step next failed refused =
     says_same r before after f g new _ _ (ap (λ s. caught (settled line old next s)) failed.0)
-    (subst (λ (w : World). Says r before after f g new (record { lines = LimitLine (seen_limit kind) line (limit_number (seen_limit kind)) ∷ []; flow = runs.Limited; state = w })) failed.1 (refused new))
+    (subst (λ (w : World). Says r before after f g new (record { lines = LimitLine kind line (limit_number kind) ∷ []; flow = runs.Limited; state = w })) failed.1 (refused new))
 refused_says NoRoom line r before after f g old new step next failed refused = refused new (caught (settled line old next step))
 
 pub settled_did : {A : Type 0} (line : ℕ) (world : World) (next : A → Said World) (step : Step A) (value : A) → step ≡ Did value → settled line world next step ≡ next value

@@ -3,7 +3,7 @@ use Rattle.std.proofs.Common.{◌≡◌, ◌<◌, ◌≤◌, ◌+◌, ◌∙◌,
 use Rattle.std.proofs.lemmas.List.{drop_all}
 use Rattle.std.specs.Prelude.{Some, None, Err, IfSome, true, cond, nat_lt, take, count_by, ◌==◌}
 use Rattle.text_io.specs.Streams.{PassesLimit}
-use Rattle.script_model.specs.Kinds.{ScriptLimit}
+use Rattle.text_io.specs.declared.kinds.LimitKind.TheVariants as limits
 use Rattle.script_model.specs.Lexing.{lexed}
 use Rattle.script_model.specs.Reading.{LimitAt, reading, read_lexed, last_line}
 use Rattle.built_part.specs.Outcomes.{outcome, outcome_read}
@@ -42,22 +42,22 @@ taken_past status (Some text) after feeds passes = taken status text after passe
 longer : (n : ℕ) → 16777216 < n → nat_lt 16777216 n ≡ true
 longer n more = grind (arith, tests)
 
-long-reading : (text : List ℕ) → nat_lt 16777216 (length text) ≡ true → reading text ≡ Err (LimitAt ScriptLimit (last_line 16777216 text))
+long-reading : (text : List ℕ) → nat_lt 16777216 (length text) ≡ true → reading text ≡ Err (LimitAt limits.Script (last_line 16777216 text))
 unfolding reading
-long-reading text more = ap (λ long. cond long (Err (LimitAt ScriptLimit (last_line 16777216 text))) (read_lexed (lexed text))) more
+long-reading text more = ap (λ long. cond long (Err (LimitAt limits.Script (last_line 16777216 text))) (read_lexed (lexed text))) more
 
 long-line : (text : List ℕ) (feeds : ℕ) → feeds ≡ count_by (λ b. b == 10) (take 16777216 text) → last_line 16777216 text ≡ feeds + 1
 unfolding last_line
 long-line text feeds is = omega arith
 
-long-outcome : (text : List ℕ) (after : Option (List ℕ)) (feeds : ℕ) → PassesLimit text after 16777216 feeds → outcome text ≡ outcome_read (Err (LimitAt ScriptLimit (feeds + 1)))
+long-outcome : (text : List ℕ) (after : Option (List ℕ)) (feeds : ℕ) → PassesLimit text after 16777216 feeds → outcome text ≡ outcome_read (Err (LimitAt limits.Script (feeds + 1)))
 unfolding outcome
 long-outcome text after feeds passes =
     ap outcome_read (long-reading text (longer (length text) passes.longer))
-    ∙ ap (λ line. outcome_read (Err (LimitAt ScriptLimit line))) (long-line text feeds passes.feeds_counted)
+    ∙ ap (λ line. outcome_read (Err (LimitAt limits.Script line))) (long-line text feeds passes.feeds_counted)
 
 pub long_ends : (status : Status) (left rest : Option (List ℕ)) (feeds : ℕ) (before after : Option (List ℕ)) (f g : ℕ) → IfSome left (λ text. PassesLimit text rest 16777216 feeds)
-    → Answers status (outcome_read (Err (LimitAt ScriptLimit (feeds + 1)))) before after f g → IfSome left (λ text. Ends status (outcome text) before after f g)
+    → Answers status (outcome_read (Err (LimitAt limits.Script (feeds + 1)))) before after f g → IfSome left (λ text. Ends status (outcome text) before after f g)
 long_ends status None rest feeds before after f g passes w = tt
 long_ends status (Some text) rest feeds before after f g passes w =
     answers_end status (outcome text) before after f g (subst (λ it. Answers status it before after f g) (sym (long-outcome text rest feeds passes)) w)

@@ -3,7 +3,7 @@
 use Rattle.std.specs.Prelude.{◌≡◌, ℕ, List, [], ◌∷◌, Option, Result, Ok, Err}
 use Rattle.std.specs.Io.KnownBytes.{Appends}
 use Rattle.text_io.specs.Streams.{Rose}
-use Rattle.script_model.specs.Limits.{limit_number}
+use Rattle.text_io.specs.Limits.{limit_number}
 use Rattle.script_model.specs.TraceLines.{ThrowLine, LimitLine}
 use Rattle.page_model.specs.World.{World}
 use Rattle.page_model.specs.Outcome.{bytes_of}
@@ -28,9 +28,9 @@ Says (Err Write) before after faults faults_after world said = AppendsPart befor
 abbrev pub Refused : PageFault → ℕ → Result Flow Stop → Option (List ℕ) → Option (List ℕ) → ℕ → ℕ → Type 0
 Refused (Throw kind) line result before after faults faults_after = (world : World) →
     Says result before after faults faults_after world
-    (record { lines = ThrowLine line (seen_throw kind) ∷ []; flow = runs.Next; state = world })
+    (record { lines = ThrowLine line kind ∷ []; flow = runs.Next; state = world })
 Refused (Limit kind) line result before after faults faults_after = (world : World) →
     Says result before after faults faults_after world
-    (record { lines = LimitLine (seen_limit kind) line (limit_number (seen_limit kind)) ∷ []; flow = runs.Limited; state = world })
+    (record { lines = LimitLine kind line (limit_number kind) ∷ []; flow = runs.Limited; state = world })
 Refused NoRoom line result before after faults faults_after = (world : World) (said : Said World) →
     Says result before after faults faults_after world said

@@ -1,14 +1,14 @@
 //! The numbers of the limits.
 
 ghost use Rattle.std.specs.Prelude.{◌≡◌};
-ghost use Rattle.script_model.specs.Limits.{limit_number};
+ghost use Rattle.text_io.specs.Limits.{limit_number};
 ghost use Rattle.trace_text.specs.Seen.{seen_limit};
 
 use text_io::LimitKind;
 
 /// As many as there may be.
 pub fn number(kind: LimitKind) -> u64
-    ensures { result ≡ limit_number (seen_limit kind) }
+    ensures { result ≡ limit_number kind }
 {
     match kind {
         LimitKind::Script => 16_777_216,

@@ -70,7 +70,7 @@ fn conclude(wrote: Result<(), Stop>, status: Status) -> Report
 
 // A limit that was met while the text was read.
 fn meet_limit<K: Sink>(alloc: Global, kind: LimitKind, line: u32, sink: &mut K) -> Report
-    ensures answers { Answers result.status (outcome_read (Err (LimitAt (seen_limit kind) line))) (K.taken sink.old) (K.taken sink.new) (K.faults sink.old) (K.faults sink.new) }
+    ensures answers { Answers result.status (outcome_read (Err (LimitAt kind line))) (K.taken sink.old) (K.taken sink.new) (K.faults sink.old) (K.faults sink.new) }
     ensures page { result.page ≡ None }
     ensures done { is_done result.status ≡ false }
 {

@@ -2,8 +2,8 @@
 use Rattle.std.proofs.Common.{◌≡◌, ◌∙◌, refl, sym, ap, ℕ, ◌+◌, Bool, true, false, List, [], ◌∷◌, ◌++◌, length}
 use Rattle.std.specs.Prelude.{cond, map, reverse, nat_lt, fold, count_by, Result, Ok, Err}
 use Rattle.std.proofs.lemmas.List.{map-append, reverse-append}
-use Rattle.script_model.specs.Kinds.{HandlersLimit, NestingLimit}
-use Rattle.script_model.specs.Limits.{limit_number}
+use Rattle.text_io.specs.declared.kinds.LimitKind.TheVariants as limits
+use Rattle.text_io.specs.Limits.{limit_number}
 use Rattle.script_model.specs.Syntax.{Command, Simple, Each, When, Block, NoMore, Then, Item}
 use Rattle.script_model.specs.Readers.{◌>>=◌, with_fault, is_empty}
 use Rattle.script_model.specs.Lexing.{Line, Ending, Whole, BadByte, LongLine, Lexed}
@@ -66,8 +66,8 @@ chosen_later false lines near refusal = refl
 open_later : (line lines : ℕ) (opening : Opening) (s : State) → open_block (line + lines) opening (state_later lines s) ≡ result_later (state_later lines) lines (open_block line opening s)
 unfolding open_block opened
 open_later line lines opening s =
-    ap (λ (n : ℕ). cond (nat_lt n (limit_number NestingLimit)) (Ok (opened (line + lines) opening (state_later lines s))) (Err (LimitAt NestingLimit (line + lines)))) (blocks_later s.frames lines)
-    ∙ chosen_later _ lines (opened line opening s) (LimitAt NestingLimit line)
+    ap (λ (n : ℕ). cond (nat_lt n (limit_number limits.Nesting)) (Ok (opened (line + lines) opening (state_later lines s))) (Err (LimitAt limits.Nesting (line + lines)))) (blocks_later s.frames lines)
+    ∙ chosen_later _ lines (opened line opening s) (LimitAt limits.Nesting line)
 
 placed_later : (statement : Statement) (line lines : ℕ) (s : State) → placed (line + lines) statement (state_later lines s) ≡ result_later (state_later lines) lines (placed line statement s)
 unfolding placed put open_handler opened command_later item_later
@@ -76,7 +76,7 @@ placed_later (Ticks time) line lines s = refl
 placed_later OpensEach line lines s = open_later line lines EachBlock s
 placed_later (OpensWhen condition) line lines s = open_later line lines (WhenBlock condition) s
 placed_later (OpensHandler name) line lines s =
-    chosen_later (nat_lt (length s.names) (limit_number HandlersLimit)) lines (opened line (HandlerBlock name) (record s { names = name ∷ s.names })) (LimitAt HandlersLimit line)
+    chosen_later (nat_lt (length s.names) (limit_number limits.Handlers)) lines (opened line (HandlerBlock name) (record s { names = name ∷ s.names })) (LimitAt limits.Handlers line)
 placed_later Ends line lines s = ap (λ (t : State). Ok t) (close_later s.frames line lines s)
 
 empty_later : (frames : List Frame) (lines : ℕ) → is_empty (map (frame_later lines) frames) ≡ is_empty frames

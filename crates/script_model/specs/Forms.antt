@@ -6,7 +6,7 @@ use Rattle.std.specs.List.{join_with_byte}
 use Rattle.word_model.specs.Numbers.{whole_of, length_of, signed_of, number_of}
 use Rattle.px_units.specs.declared.BoxKind.{BoxKind}
 use Rattle.layout_model.specs.Styles.{Declaration}
-use Rattle.script_model.specs.Kinds.{EventName}
+use Rattle.text_io.specs.declared.kinds.EventKind.{EventKind}
 use Rattle.script_model.specs.Queries.{MediaQuery}
 use Rattle.script_model.specs.Syntax.{Operand, Aim, Dimension}
 use Rattle.script_model.specs.Readers.{◌>>=◌, or_fault, with_fault}
@@ -118,7 +118,7 @@ Meant RootForm = Option Operand
 Meant LengthForm = ℕ
 Meant SignedForm = ℤ
 Meant WholeForm = ℕ
-Meant EventForm = EventName
+Meant EventForm = EventKind
 Meant BoxForm = BoxKind
 Meant DimensionForm = Dimension
 Meant DeclarationForm = Declaration

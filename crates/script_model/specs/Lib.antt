@@ -1,9 +1,7 @@
-pub mod Kinds
 pub mod Queries
 pub mod Margins
 pub mod Syntax
 pub mod TraceLines
-pub mod Limits
 pub mod Readers
 pub mod Keywords
 pub mod Lexing

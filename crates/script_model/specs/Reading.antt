@@ -2,8 +2,9 @@
 -- bytes come before the words, and the words before the limits of handlers and nested blocks. All of this is this
 -- project's own choice.
 use Rattle.std.specs.Prelude.{ℕ, ◌+◌, Bool, true, false, cond, ◌==◌, nat_lt, List, [], ◌∷◌, length, take, reverse, count_by, Result, Ok, Err}
-use Rattle.script_model.specs.Kinds.{Limit, ScriptLimit, LineLimit, HandlersLimit, NestingLimit}
-use Rattle.script_model.specs.Limits.{limit_number}
+use Rattle.text_io.specs.declared.kinds.LimitKind.{LimitKind}
+use Rattle.text_io.specs.declared.kinds.LimitKind.TheVariants as limits
+use Rattle.text_io.specs.Limits.{limit_number}
 use Rattle.script_model.specs.Syntax.{Condition, Command, Simple, Each, When, Block, NoMore, Then, Item, Outside, Tick, Handler}
 use Rattle.script_model.specs.TraceLines.{TraceLine, LimitLine, SyntaxLine}
 use Rattle.script_model.specs.Readers.{◌>>=◌, with_fault, is_empty}
@@ -13,7 +14,7 @@ use Rattle.script_model.specs.Statements.{Statement, Does, Ticks, OpensEach, Ope
 -- a fault at a column of a line, or a limit that a line meets
 pub data Refusal : Type 0 where
   SyntaxAt : (line column : ℕ) → Refusal
-  LimitAt : (limit : Limit) (line : ℕ) → Refusal
+  LimitAt : (limit : LimitKind) (line : ℕ) → Refusal
 
 -- the trace of a text that is refused
 abbrev pub refusal_line : Refusal → TraceLine
@@ -68,15 +69,15 @@ opened line opening s =
 unfoldable pub open_block : ℕ → Opening → State → Result State Refusal
 unfolding opened
 open_block line opening s =
-    cond (nat_lt (count_by (λ frame. is_block frame.opening) s.frames) (limit_number NestingLimit))
-    (Ok (opened line opening s)) (Err (LimitAt NestingLimit line))
+    cond (nat_lt (count_by (λ frame. is_block frame.opening) s.frames) (limit_number limits.Nesting))
+    (Ok (opened line opening s)) (Err (LimitAt limits.Nesting line))
 
 unfoldable pub open_handler : ℕ → List ℕ → State → Result State Refusal
 unfolding opened
 open_handler line name s =
-    cond (nat_lt (length s.names) (limit_number HandlersLimit))
+    cond (nat_lt (length s.names) (limit_number limits.Handlers))
     (Ok (opened line (HandlerBlock name) (record s { names = name ∷ s.names })))
-    (Err (LimitAt HandlersLimit line))
+    (Err (LimitAt limits.Handlers line))
 
 -- what an opening has become once its block is closed; a handler is an item
 unfoldable pub closed : Opening → ℕ → Block → ℕ → State → State
@@ -121,7 +122,7 @@ steps s (l ∷ ls) = step s l >>= λ next. steps next ls
 abbrev pub refused_at : Ending → Refusal
 refused_at (Whole next_line) = SyntaxAt next_line 1
 refused_at (BadByte line column) = SyntaxAt line column
-refused_at (LongLine line) = LimitAt LineLimit line
+refused_at (LongLine line) = LimitAt limits.Line line
 
 -- nothing may be open at the end
 unfoldable pub finished : List Frame → List Item → Ending → Result (List Item) Refusal
@@ -150,5 +151,5 @@ Reading = Result (List Item) Refusal
 unfoldable pub reading : List ℕ → Reading
 unfolding last_line read_lexed lexed
 reading text =
-    cond (nat_lt (limit_number ScriptLimit) (length text))
-    (Err (LimitAt ScriptLimit (last_line (limit_number ScriptLimit) text))) (read_lexed (lexed text))
+    cond (nat_lt (limit_number limits.Script) (length text))
+    (Err (LimitAt limits.Script (last_line (limit_number limits.Script) text))) (read_lexed (lexed text))

@@ -3,7 +3,7 @@
 use Rattle.std.specs.Prelude.{ℕ, ℤ, Bool, List, Option}
 use Rattle.px_units.specs.declared.BoxKind.{BoxKind}
 use Rattle.layout_model.specs.Styles.{Declaration}
-use Rattle.script_model.specs.Kinds.{EventName}
+use Rattle.text_io.specs.declared.kinds.EventKind.{EventKind}
 use Rattle.script_model.specs.Queries.{MediaQuery}
 
 -- a node by its name, or `$target`, the target of the present entry
@@ -51,8 +51,8 @@ pub data Action : Type 0 where
   UnobserveIntersection : (observer : List ℕ) (node : Operand) → Action
   DisconnectIntersection : (observer : List ℕ) → Action
   TakeIntersections : (observer : List ℕ) → Action
-  Listen : (aim : Aim) (event : EventName) (handler : List ℕ) → Action
-  Unlisten : (aim : Aim) (event : EventName) (handler : List ℕ) → Action
+  Listen : (aim : Aim) (event : EventKind) (handler : List ℕ) → Action
+  Unlisten : (aim : Aim) (event : EventKind) (handler : List ℕ) → Action
   MakeQueryList : (name document : List ℕ) (query : List MediaQuery) → Action
   ScrollTo : (target : Operand) (left top : ℤ) → Action
   ScrollBy : (target : Operand) (left top : ℤ) → Action

@@ -3,7 +3,8 @@ use Rattle.std.specs.Prelude.{ℕ, Bool, List}
 use Rattle.px_units.specs.declared.Rect.{Rect}
 use Rattle.px_units.specs.declared.Point.{Point}
 use Rattle.px_units.specs.declared.Size.{Size}
-use Rattle.script_model.specs.Kinds.{Exception, Limit}
+use Rattle.text_io.specs.declared.kinds.ThrowKind.{ThrowKind}
+use Rattle.text_io.specs.declared.kinds.LimitKind.{LimitKind}
 
 pub data FiredEvent : Type 0 where
   FiredResize : (document : List ℕ) → FiredEvent
@@ -35,6 +36,6 @@ pub data TraceLine : Type 0 where
   TakeLine : (observer : List ℕ) (count : ℕ) → TraceLine
   SayLine : (word : List ℕ) → TraceLine
   ReadLine : (target : List ℕ) (rect : Rect) (scroll : Point) → TraceLine
-  ThrowLine : (line : ℕ) (exception : Exception) → TraceLine
-  LimitLine : (limit : Limit) (line number : ℕ) → TraceLine
+  ThrowLine : (line : ℕ) (exception : ThrowKind) → TraceLine
+  LimitLine : (limit : LimitKind) (line number : ℕ) → TraceLine
   SyntaxLine : (line column : ℕ) → TraceLine

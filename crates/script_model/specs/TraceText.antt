@@ -7,35 +7,8 @@ use Rattle.px_units.specs.Texts.{pixel_text}
 use Rattle.px_units.specs.declared.Rect.{Rect}
 use Rattle.px_units.specs.declared.Point.{Point}
 use Rattle.px_units.specs.declared.Size.{Size}
-use Rattle.script_model.specs.Kinds.{Exception, ReferenceException, TypeException, HierarchyRequestException, NotFoundException, SyntaxException, RangeException, Limit, ScriptLimit, LineLimit, HandlersLimit, NestingLimit, CommandsLimit, NodesLimit, DepthLimit, DocumentsLimit, ResizeObserversLimit, IntersectionObserversLimit, ResizeObservationsLimit, IntersectionObservationsLimit, ListenersLimit, TimersLimit, FrameCallbacksLimit, TasksLimit, QueriesLimit}
+use Rattle.text_io.specs.Kinds.{limit_word, throw_word}
 use Rattle.script_model.specs.TraceLines.{FiredEvent, FiredResize, FiredScroll, FiredChange, FiredError, Intersection, TraceLine, TickLine, TimerLine, FrameLine, TaskLine, EventLine, ResizeLine, RoundLine, IntersectLine, TakeLine, SayLine, ReadLine, ThrowLine, LimitLine, SyntaxLine}
-
-abbrev pub exception_text : Exception → List ℕ
-exception_text ReferenceException = codes "ReferenceError"
-exception_text TypeException = codes "TypeError"
-exception_text HierarchyRequestException = codes "HierarchyRequestError"
-exception_text NotFoundException = codes "NotFoundError"
-exception_text SyntaxException = codes "SyntaxError"
-exception_text RangeException = codes "RangeError"
-
-abbrev pub limit_text : Limit → List ℕ
-limit_text ScriptLimit = codes "script"
-limit_text LineLimit = codes "line"
-limit_text HandlersLimit = codes "handlers"
-limit_text NestingLimit = codes "nesting"
-limit_text CommandsLimit = codes "commands"
-limit_text NodesLimit = codes "nodes"
-limit_text DepthLimit = codes "depth"
-limit_text DocumentsLimit = codes "documents"
-limit_text ResizeObserversLimit = codes "resize-observers"
-limit_text IntersectionObserversLimit = codes "intersection-observers"
-limit_text ResizeObservationsLimit = codes "resize-observations"
-limit_text IntersectionObservationsLimit = codes "intersection-observations"
-limit_text ListenersLimit = codes "listeners"
-limit_text TimersLimit = codes "timers"
-limit_text FrameCallbacksLimit = codes "frame-callbacks"
-limit_text TasksLimit = codes "tasks"
-limit_text QueriesLimit = codes "queries"
 
 -- the window of a document
 abbrev pub window_text : List ℕ → List ℕ
@@ -118,8 +91,8 @@ fields_of (IntersectLine found) = intersection_fields found
 fields_of (TakeLine observer count) = observer ∷ decimal count ∷ []
 fields_of (SayLine word) = word ∷ []
 fields_of (ReadLine target rect scroll) = (target ∷ rect_fields rect) ++ point_fields scroll
-fields_of (ThrowLine line exception) = decimal line ∷ exception_text exception ∷ []
-fields_of (LimitLine limit line number) = limit_text limit ∷ decimal line ∷ decimal number ∷ []
+fields_of (ThrowLine line exception) = decimal line ∷ throw_word exception ∷ []
+fields_of (LimitLine limit line number) = limit_word limit ∷ decimal line ∷ decimal number ∷ []
 fields_of (SyntaxLine line column) = decimal line ∷ decimal column ∷ []
 
 -- the line with its line feed

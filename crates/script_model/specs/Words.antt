@@ -3,7 +3,8 @@ use Rattle.std.specs.Prelude.{ℕ, cond, ◌==◌, List, [], ◌∷◌, Option, 
 use Rattle.word_model.specs.Names.{is_name}
 use Rattle.px_units.specs.declared.BoxKind.{BoxKind}
 use Rattle.px_units.specs.declared.BoxKind.TheVariants.{Content, Border}
-use Rattle.script_model.specs.Kinds.{EventName, ResizeEvent, ScrollEvent, ErrorEvent, ChangeEvent}
+use Rattle.text_io.specs.declared.kinds.EventKind.{EventKind}
+use Rattle.text_io.specs.declared.kinds.EventKind.TheVariants as kinds
 use Rattle.script_model.specs.Keywords.{Keyword, keyword}
 use Rattle.script_model.specs.Syntax.{Operand, Named, Target, Aim, PlainAim, WindowAim, Dimension, WidthDimension, HeightDimension}
 
@@ -29,12 +30,12 @@ or_dash of text = cond (bytes_eq text (codes "-")) (Some None) (option_map Some 
 unfoldable pub just : List ℕ → List ℕ → Option (Unit {0})
 just word text = cond (bytes_eq text word) (Some tt) None
 
-abbrev pub events : List (Keyword EventName)
+abbrev pub events : List (Keyword EventKind)
 events =
-    keyword (codes "resize") ResizeEvent
-    ∷ keyword (codes "scroll") ScrollEvent
-    ∷ keyword (codes "error") ErrorEvent
-    ∷ keyword (codes "change") ChangeEvent
+    keyword (codes "resize") kinds.Resize
+    ∷ keyword (codes "scroll") kinds.Scroll
+    ∷ keyword (codes "error") kinds.Error
+    ∷ keyword (codes "change") kinds.Change
     ∷ []
 
 abbrev pub boxes : List (Keyword BoxKind)

@@ -3,7 +3,7 @@
 
 ghost use Rattle.std.specs.Prelude.{◌≡◌, ◌++◌, [], ◌∷◌, Ok, Err, Some, None, true, pos, negsuc, replicate, codes};
 ghost use Rattle.std.specs.List.{concat};
-ghost use Rattle.script_model.specs.Kinds.{LineLimit, HandlersLimit, NestingLimit};
+ghost use Rattle.text_io.specs.declared.kinds.LimitKind.TheVariants as limits;
 ghost use Rattle.script_model.specs.Reading.{SyntaxAt, LimitAt, HandlerBlock, nothing_read, opened, open_handler, reading};
 ghost use Rattle.script_model.specs.Syntax.{Tick, Handler, Outside, Then, NoMore, Simple, Each, When, Say, Seen, MakeIntersectionObserver};
 
@@ -164,7 +164,7 @@ pub fn longest_line()
 
 /// The next byte is the limit, whatever it is, and its words aren't looked at.
 pub fn line_too_long()
-    ensures { reading (codes "scrip 1" ++ replicate 4089 32 ++ (0 ∷ [])) ≡ Err (LimitAt LineLimit 1) }
+    ensures { reading (codes "scrip 1" ++ replicate 4089 32 ++ (0 ∷ [])) ≡ Err (LimitAt limits.Line 1) }
 {}
 
 /// A handler isn't a block, so 16 blocks may be open in it; the fault is the missing end.
@@ -174,7 +174,7 @@ pub fn deepest_block()
 
 /// The line that opens the seventeenth block meets the limit.
 pub fn nesting_too_deep()
-    ensures { reading (codes "script 1\n" ++ concat (replicate 17 (codes "when seen\n"))) ≡ Err (LimitAt NestingLimit 18) }
+    ensures { reading (codes "script 1\n" ++ concat (replicate 17 (codes "when seen\n"))) ≡ Err (LimitAt limits.Nesting 18) }
 {}
 
 /// The 4,097th handler meets the limit.
@@ -182,7 +182,7 @@ pub fn nesting_too_deep()
 pub fn one_handler_too_many()
     ensures last { open_handler 8193 (codes "h") (record nothing_read { names = replicate 4095 [] }) ≡
         Ok (opened 8193 (HandlerBlock (codes "h")) (record nothing_read { names = codes "h" ∷ replicate 4095 [] })) }
-    ensures next { open_handler 8195 (codes "h") (record nothing_read { names = replicate 4096 [] }) ≡ Err (LimitAt HandlersLimit 8195) }
+    ensures next { open_handler 8195 (codes "h") (record nothing_read { names = replicate 4096 [] }) ≡ Err (LimitAt limits.Handlers 8195) }
 {}
 
 /// A fault of the same line comes before the limit.

@@ -6,7 +6,8 @@ ghost use Rattle.std.specs.Prelude.{◌≡◌, true, false, [], ◌∷◌, ◌++
 ghost use Rattle.layout_model.specs.Styles.{Sides};
 ghost use Rattle.script_model.specs.Queries.{Exactly, AtLeast, AtMost, WidthFeature, HeightFeature, OrientationFeature, AllMedia, ScreenMedia, PrintMedia, NoPrefix, NotPrefix, OnlyPrefix, Typed, NotFeature, AllFeatures, AnyFeatures};
 ghost use Rattle.script_model.specs.Margins.{MarginPixels, MarginPercentage};
-ghost use Rattle.script_model.specs.Kinds.{HierarchyRequestException, DepthLimit, LineLimit};
+ghost use Rattle.text_io.specs.declared.kinds.ThrowKind.TheVariants.{HierarchyRequestError};
+ghost use Rattle.text_io.specs.declared.kinds.LimitKind.TheVariants as limits;
 ghost use Rattle.script_model.specs.TraceLines.{FiredChange, FiredError, TickLine, EventLine, ResizeLine, IntersectLine, ThrowLine, LimitLine, SyntaxLine};
 ghost use Rattle.script_model.specs.Media.{query_list, matches};
 ghost use Rattle.script_model.specs.MarginText.{margins_of, thresholds_of};
@@ -104,14 +105,14 @@ pub fn trace_lines()
     ensures loop_error { line_text (EventLine (FiredError (codes "top"))) ≡
         codes "event error @top ResizeObserver loop completed with undelivered notifications.\n" }
     ensures change { line_text (EventLine (FiredChange (codes "q") false)) ≡ codes "event change q false\n" }
-    ensures throw { line_text (ThrowLine 5 HierarchyRequestException) ≡ codes "throw 5 HierarchyRequestError\n" }
+    ensures throw { line_text (ThrowLine 5 HierarchyRequestError) ≡ codes "throw 5 HierarchyRequestError\n" }
     ensures syntax { line_text (refusal_line (SyntaxAt 2 14)) ≡ codes "syntax 2 14\n" }
-    ensures limit { line_text (refusal_line (LimitAt LineLimit 2)) ≡ codes "limit line 2 4096\n" }
+    ensures limit { line_text (refusal_line (LimitAt limits.Line 2)) ≡ codes "limit line 2 4096\n" }
 {}
 
 /// A summary has a line for each kind, in the order of the kinds.
 pub fn summaries()
-    ensures { summary_text (TickLine 0 ∷ TickLine 16 ∷ LimitLine DepthLimit 772 256 ∷ []) ≡
+    ensures { summary_text (TickLine 0 ∷ TickLine 16 ∷ LimitLine limits.Depth 772 256 ∷ []) ≡
         codes "tick 2\ntimer 0\nframe 0\ntask 0\nevent 0\nresize 0\nround 0\nintersect 0\ntake 0\nsay 0\nread 0\nthrow 0\nlimit 1\nsyntax 0\n" }
 {}
 

@@ -1,38 +1,16 @@
 -- What a parser answers against the definition's reading; want of memory is free.
 use Rattle.std.specs.Prelude.{◌≡◌, ◌+◌, ◌<◌, ◌^◌, List, None, Result, Ok, Err}
-use Rattle.text_io.specs.declared.kinds.LimitKind.{LimitKind}
-use Rattle.text_io.specs.declared.kinds.LimitKind.TheVariants as kind
 use Rattle.script_lexer.specs.Texts.{TextParts}
-use Rattle.script_model.specs.Kinds.{Limit, ScriptLimit, LineLimit, HandlersLimit, NestingLimit, CommandsLimit, NodesLimit, DepthLimit, DocumentsLimit, ResizeObserversLimit, IntersectionObserversLimit, ResizeObservationsLimit, IntersectionObservationsLimit, ListenersLimit, TimersLimit, FrameCallbacksLimit, TasksLimit, QueriesLimit}
 use Rattle.script_model.specs.Syntax.{Item}
 use Rattle.script_model.specs.Reading.{Reading, Refusal, SyntaxAt, LimitAt}
 use Rattle.script_syntax.specs.declared.faults.ParseFault.{ParseFault}
 use Rattle.script_syntax.specs.declared.faults.ParseFault.TheVariants.{Syntax, ScriptLimit as MeetsLimit, Memory}
 
-abbrev pub limit_of : LimitKind → Limit
-limit_of kind.Script = ScriptLimit
-limit_of kind.Line = LineLimit
-limit_of kind.Handlers = HandlersLimit
-limit_of kind.Nesting = NestingLimit
-limit_of kind.Commands = CommandsLimit
-limit_of kind.Nodes = NodesLimit
-limit_of kind.Depth = DepthLimit
-limit_of kind.Documents = DocumentsLimit
-limit_of kind.ResizeObservers = ResizeObserversLimit
-limit_of kind.IntersectionObservers = IntersectionObserversLimit
-limit_of kind.ResizeObservations = ResizeObservationsLimit
-limit_of kind.IntersectionObservations = IntersectionObservationsLimit
-limit_of kind.Listeners = ListenersLimit
-limit_of kind.Timers = TimersLimit
-limit_of kind.FrameCallbacks = FrameCallbacksLimit
-limit_of kind.Tasks = TasksLimit
-limit_of kind.Queries = QueriesLimit
-
 -- a value is what was read, as it is seen, and a fault or limit is the refusal; want of memory is free
 abbrev pub Answers : {A B : Type 0} → (A → B) → Result A ParseFault → Result B Refusal → Type 0
 Answers seen (Ok value) reading = reading ≡ Ok (seen value)
 Answers seen (Err (Syntax line column)) reading = reading ≡ Err (SyntaxAt line column)
-Answers seen (Err (MeetsLimit kind line)) reading = reading ≡ Err (LimitAt (limit_of kind) line)
+Answers seen (Err (MeetsLimit kind line)) reading = reading ≡ Err (LimitAt kind line)
 Answers seen (Err Memory) reading = Unit {0}
 
 -- a script is the text's reading, a fault or limit its refusal
@@ -42,7 +20,7 @@ Parses result reading = Answers (λ items. items) result reading
 -- this fault or limit is the refusal
 abbrev pub IsRefused : ParseFault → Refusal → Type 0
 IsRefused (Syntax line column) refusal = refusal ≡ SyntaxAt line column
-IsRefused (MeetsLimit kind line) refusal = refusal ≡ LimitAt (limit_of kind) line
+IsRefused (MeetsLimit kind line) refusal = refusal ≡ LimitAt kind line
 IsRefused Memory refusal = ⊥
 
 -- where a text ends whole, the number of the line behind its last one is below 2^32

@@ -4,7 +4,8 @@ use Rattle.std.specs.Prelude.{ℕ, ◌+◌, Bool, true, false, List, [], ◌∷�
 use Rattle.text_io.specs.declared.kinds.EventKind.{EventKind}
 use Rattle.text_io.specs.declared.kinds.EventKind.TheVariants as event
 use Rattle.style_values.specs.Seen.{seen_declaration}
-use Rattle.script_model.specs.Kinds.{EventName, ResizeEvent, ScrollEvent, ErrorEvent, ChangeEvent}
+use Rattle.text_io.specs.declared.kinds.EventKind.{EventKind}
+use Rattle.text_io.specs.declared.kinds.EventKind.TheVariants as events
 use Rattle.script_model.specs.Syntax as model
 use Rattle.script_syntax.specs.declared.operands.Operand.{Operand}
 use Rattle.script_syntax.specs.declared.operands.Operand.TheVariants as operand
@@ -34,11 +35,11 @@ abbrev pub dimension_of : Axis → model.Dimension
 dimension_of axis.Width = model.WidthDimension
 dimension_of axis.Height = model.HeightDimension
 
-abbrev pub event_of : EventKind → EventName
-event_of event.Resize = ResizeEvent
-event_of event.Scroll = ScrollEvent
-event_of event.Error = ErrorEvent
-event_of event.Change = ChangeEvent
+abbrev pub event_of : EventKind → EventKind
+event_of event.Resize = events.Resize
+event_of event.Scroll = events.Scroll
+event_of event.Error = events.Error
+event_of event.Change = events.Change
 
 abbrev pub making_of : IoMaking → model.ObserverMaking
 making_of making = record {

@@ -6,7 +6,7 @@ use Rattle.std.proofs.lemmas.Bool.{lt-ltb}
 use Rattle.std.proofs.lemmas.Grind.{common_steps}
 use Rattle.std.proofs.lemmas.List.{reverse-append}
 use Rattle.word_model.specs.Numbers.{decimal}
-use Rattle.script_model.specs.Kinds.{HandlersLimit, NestingLimit}
+use Rattle.text_io.specs.declared.kinds.LimitKind.TheVariants as limits
 use Rattle.script_model.specs.Readers.{◌>>=◌, with_fault, is_empty}
 use Rattle.script_model.specs.Syntax.{Action, Condition, Command, Simple, Each, When, Block, NoMore, Then, Item, Outside, Tick, Handler}
 use Rattle.script_model.specs.Scripts.{handlers_in}
@@ -57,7 +57,7 @@ lines_append (l ∷ ls) ms rest = ap (λ (xs : List Line). line_of l ∷ xs) (li
 
 opens : (line : ℕ) (opening : Opening) (s : State) → blocks s.frames < 16 → open_block line opening s ≡ Ok (opened line opening s)
 unfolding open_block
-opens line opening s h = ap (λ b. cond b (Ok (opened line opening s)) (Err (LimitAt NestingLimit line))) (lt-ltb (blocks s.frames) 16 h)
+opens line opening s h = ap (λ b. cond b (Ok (opened line opening s)) (Err (LimitAt limits.Nesting line))) (lt-ltb (blocks s.frames) 16 h)
 
 -- a frame of an opening with these commands
 abbrev pub frame : ℕ → Opening → List Command → Frame
@@ -173,7 +173,7 @@ handler_step : (line : ℕ) (name : List ℕ) (items : List Item) (names : List 
     → placed line (OpensHandler name) (state [] items names) ≡ Ok (state (frame line (HandlerBlock name) [] ∷ []) items (name ∷ names))
 unfolding placed open_handler opened
 handler_step line name items names h =
-    ap (λ b. cond b (Ok (state (frame line (HandlerBlock name) [] ∷ []) items (name ∷ names))) (Err (LimitAt HandlersLimit line))) (lt-ltb (length names) 4096 h)
+    ap (λ b. cond b (Ok (state (frame line (HandlerBlock name) [] ∷ []) items (name ∷ names))) (Err (LimitAt limits.Handlers line))) (lt-ltb (length names) 4096 h)
 
 -- what an item's handlers want
 abbrev MayStand : List (List ℕ) → Item → Type 0

@@ -6,7 +6,7 @@ use Rattle.std.specs.Prelude.{bytes_eq, Result, Ok, Err, codes}
 use Rattle.std.specs.List.{list_any}
 use Rattle.std.proofs.lemmas.Bool.{ltb-true}
 use Rattle.word_model.specs.Numbers.{decimal}
-use Rattle.script_model.specs.Kinds.{HandlersLimit, NestingLimit}
+use Rattle.text_io.specs.declared.kinds.LimitKind.TheVariants as limits
 use Rattle.script_model.specs.Readers.{is_empty}
 use Rattle.script_model.specs.Syntax.{Action, Condition, Command, Simple, Each, When, Block, NoMore, Then, Item, Outside, Tick, Handler}
 use Rattle.script_model.specs.Statements.{Statement, Does, Ticks, OpensEach, OpensWhen, OpensHandler, Ends}
@@ -333,14 +333,14 @@ block_opened : (line : ℕ) (opening : Opening) (frames : List Frame) (items : L
     → (blocks frames < 16) × (state (frame line opening [] ∷ frames) items names ≡ t)
 unfolding open_block opened
 block_opened line opening frames items names t e =
-    let c = chosen (nat_lt (blocks frames) 16) (state (frame line opening [] ∷ frames) items names) (LimitAt NestingLimit line) t e in
+    let c = chosen (nat_lt (blocks frames) 16) (state (frame line opening [] ∷ frames) items names) (LimitAt limits.Nesting line) t e in
     (ltb-true (blocks frames) 16 c.0, c.1)
 
 handler_may : (line : ℕ) (name : List ℕ) (frames : List Frame) (items : List Item) (names : List (List ℕ)) (t : State) → open_handler line name (state frames items names) ≡ Ok t
     → (length names < 4096) × (state (frame line (HandlerBlock name) [] ∷ frames) items (name ∷ names) ≡ t)
 unfolding open_handler opened
 handler_may line name frames items names t e =
-    let c = chosen (nat_lt (length names) 4096) (state (frame line (HandlerBlock name) [] ∷ frames) items (name ∷ names)) (LimitAt HandlersLimit line) t e in
+    let c = chosen (nat_lt (length names) 4096) (state (frame line (HandlerBlock name) [] ∷ frames) items (name ∷ names)) (LimitAt limits.Handlers line) t e in
     (ltb-true (length names) 4096 c.0, c.1)
 
 simple_good : (line : ℕ) (action : Action) → AreMeant (action_parts action) → IsCommand (Simple line action)

@@ -5,7 +5,8 @@ use Rattle.std.specs.List.{list_all}
 use Rattle.word_model.specs.Names.{is_name}
 use Rattle.px_units.specs.declared.BoxKind.{BoxKind}
 use Rattle.px_units.specs.declared.BoxKind.TheVariants.{Content, Border}
-use Rattle.script_model.specs.Kinds.{EventName, ResizeEvent, ScrollEvent, ErrorEvent, ChangeEvent}
+use Rattle.text_io.specs.declared.kinds.EventKind.{EventKind}
+use Rattle.text_io.specs.declared.kinds.EventKind.TheVariants as events
 use Rattle.script_model.specs.Syntax.{Operand, Named, Target, Aim, PlainAim, WindowAim, Dimension, WidthDimension, HeightDimension}
 use Rattle.script_model.specs.Keywords.{lookup}
 use Rattle.script_model.specs.Lines.{is_word_byte}
@@ -86,12 +87,12 @@ root_again None h = record { read = refl; word = dash_word }
 root_again (Some (Named name)) h = record { read = some_again node_of (Named name) name (node_named name h) (no_dash_name name h); word = name_word name h }
 root_again (Some Target) h = record { read = some_again node_of Target (codes "$target") (node_again Target tt).read refl; word = target_word }
 
-pub event_again : (event : EventName) → IsReadAs (lookup events) event (event_text event)
+pub event_again : (event : EventKind) → IsReadAs (lookup events) event (event_text event)
 unfolding lookup
-event_again ResizeEvent = record { read = refl; word = fixed 114 (codes "esize") refl refl }
-event_again ScrollEvent = record { read = refl; word = fixed 115 (codes "croll") refl refl }
-event_again ErrorEvent = record { read = refl; word = fixed 101 (codes "rror") refl refl }
-event_again ChangeEvent = record { read = refl; word = fixed 99 (codes "hange") refl refl }
+event_again events.Resize = record { read = refl; word = fixed 114 (codes "esize") refl refl }
+event_again events.Scroll = record { read = refl; word = fixed 115 (codes "croll") refl refl }
+event_again events.Error = record { read = refl; word = fixed 101 (codes "rror") refl refl }
+event_again events.Change = record { read = refl; word = fixed 99 (codes "hange") refl refl }
 
 pub box_again : (box : BoxKind) → IsReadAs (lookup boxes) box (box_text box)
 unfolding lookup

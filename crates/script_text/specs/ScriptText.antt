@@ -2,8 +2,8 @@
 -- space between each two. The form is this project's own choice.
 use Rattle.std.specs.Prelude.{ℕ, ◌-◌, nat_lt, cond, List, [], ◌∷◌, ◌++◌, length, replicate, codes}
 use Rattle.std.specs.List.{join_with_byte}
-use Rattle.script_model.specs.Kinds.{ScriptLimit}
-use Rattle.script_model.specs.Limits.{limit_number}
+use Rattle.text_io.specs.declared.kinds.LimitKind.TheVariants as limits
+use Rattle.text_io.specs.Limits.{limit_number}
 use Rattle.script_model.specs.Syntax.{Item}
 use Rattle.script_text.specs.NumberedLines.{NumberedLine, items_lines}
 
@@ -25,4 +25,4 @@ script_text items = codes "script 1" ++ lines_text 1 (items_lines items)
 unfoldable pub printed : List Item → List ℕ
 unfolding script_text
 printed items =
-    cond (nat_lt (length (script_text items)) (limit_number ScriptLimit)) (script_text items ++ (10 ∷ [])) (script_text items)
+    cond (nat_lt (length (script_text items)) (limit_number limits.Script)) (script_text items ++ (10 ∷ [])) (script_text items)

@@ -7,8 +7,8 @@ use Rattle.word_model.specs.Names.{is_name}
 use Rattle.word_model.specs.Numbers.{begins_with}
 use Rattle.px_units.specs.Lengths.{LengthValue, Automatic, Pixels, Percentage}
 use Rattle.layout_model.specs.Styles.{Declaration, SetDisplay, SetWidth, SetHeight, SetMinWidth, SetMinHeight, SetMaxWidth, SetMaxHeight, SetMargin, SetPadding, SetBorder, SetBoxSizing, SetOverflow}
-use Rattle.script_model.specs.Kinds.{ScriptLimit, LineLimit, HandlersLimit, NestingLimit}
-use Rattle.script_model.specs.Limits.{limit_number}
+use Rattle.text_io.specs.declared.kinds.LimitKind.TheVariants as limits
+use Rattle.text_io.specs.Limits.{limit_number}
 use Rattle.script_model.specs.Readers.{is_empty}
 use Rattle.script_model.specs.Queries.{Feature, WidthFeature, HeightFeature, OrientationFeature, MediaQuery, Typed, NotFeature, AllFeatures, AnyFeatures}
 use Rattle.script_model.specs.Lines.{is_word_byte}
@@ -192,13 +192,13 @@ Rise number (l ∷ ls) = (number < l.number) × Rise l.number ls
 unfoldable pub AreShort : List NumberedLine → Type 0
 unfolding line_text
 AreShort [] = Unit {0}
-AreShort (l ∷ ls) = (length (line_text l.words) ≤ limit_number LineLimit) × AreShort ls
+AreShort (l ∷ ls) = (length (line_text l.words) ≤ limit_number limits.Line) × AreShort ls
 
 pub record IsWellFormed (items : List Item) : Type 0 where
   pub operands : AreItems items
-  pub nested : items_depth items ≤ limit_number NestingLimit
-  pub few_handlers : length (handlers_in items) ≤ limit_number HandlersLimit
+  pub nested : items_depth items ≤ limit_number limits.Nesting
+  pub few_handlers : length (handlers_in items) ≤ limit_number limits.Handlers
   pub names_differ : AreNew [] (handlers_in items)
   pub numbers_rise : Rise 1 (items_lines items)
   pub short_lines : AreShort (items_lines items)
-  pub short_text : length (script_text items) ≤ limit_number ScriptLimit
+  pub short_text : length (script_text items) ≤ limit_number limits.Script

@@ -17,7 +17,10 @@ use Rattle.text_io.specs.declared.kinds.ThrowKind.{ThrowKind}
 use Rattle.text_io.specs.declared.kinds.ThrowKind.TheVariants.{ReferenceError, TypeError, HierarchyRequestError, NotFoundError, SyntaxError, RangeError}
 use Rattle.text_io.specs.declared.kinds.LimitKind.{LimitKind}
 use Rattle.text_io.specs.declared.kinds.LimitKind.TheVariants.{Script, Line, Handlers, Nesting, Commands, Nodes, Depth, Documents, ResizeObservers, IntersectionObservers, ResizeObservations, IntersectionObservations, Listeners, Timers, FrameCallbacks, Tasks, Queries}
-use Rattle.script_model.specs.Kinds.{Exception, ReferenceException, TypeException, HierarchyRequestException, NotFoundException, SyntaxException, RangeException, Limit, ScriptLimit, LineLimit, HandlersLimit, NestingLimit, CommandsLimit, NodesLimit, DepthLimit, DocumentsLimit, ResizeObserversLimit, IntersectionObserversLimit, ResizeObservationsLimit, IntersectionObservationsLimit, ListenersLimit, TimersLimit, FrameCallbacksLimit, TasksLimit, QueriesLimit}
+use Rattle.text_io.specs.declared.kinds.ThrowKind.{ThrowKind}
+use Rattle.text_io.specs.declared.kinds.ThrowKind.TheVariants.{HierarchyRequestError, NotFoundError, RangeError, ReferenceError, SyntaxError, TypeError}
+use Rattle.text_io.specs.declared.kinds.LimitKind.{LimitKind}
+use Rattle.text_io.specs.declared.kinds.LimitKind.TheVariants as limits
 use Rattle.script_model.specs.TraceLines.{FiredEvent, FiredResize, FiredScroll, FiredChange, FiredError, Intersection, TraceLine, TickLine, TimerLine, FrameLine, TaskLine, EventLine, ResizeLine, RoundLine, IntersectLine, TakeLine, SayLine, ReadLine, ThrowLine, LimitLine, SyntaxLine}
 use Rattle.script_model.specs.TraceText.{exception_text, limit_text, window_text, bool_text, meets_text, rect_fields, size_fields, point_fields, ratio_text, loop_error, event_fields, intersection_fields, kind_text, fields_of, line_text}
 use Rattle.trace_text.specs.declared.kinds.LineKind.{LineKind}
@@ -283,7 +286,7 @@ entry_fields_are p = refl
 
 -- ---- exceptions and limits by the kinds of the code
 
-throw_text : (k : ThrowKind) → throw_word k ≡ exception_text (seen_throw k)
+throw_text : (k : ThrowKind) → throw_word k ≡ exception_text k
 throw_text ReferenceError = refl
 throw_text TypeError = refl
 throw_text HierarchyRequestError = refl
@@ -291,15 +294,15 @@ throw_text NotFoundError = refl
 throw_text SyntaxError = refl
 throw_text RangeError = refl
 
-throw_of_exception : (exception : Exception) → (k : ThrowKind) × (seen_throw k ≡ exception)
-throw_of_exception ReferenceException = (ReferenceError, refl)
-throw_of_exception TypeException = (TypeError, refl)
-throw_of_exception HierarchyRequestException = (HierarchyRequestError, refl)
-throw_of_exception NotFoundException = (NotFoundError, refl)
-throw_of_exception SyntaxException = (SyntaxError, refl)
-throw_of_exception RangeException = (RangeError, refl)
+throw_of_exception : (exception : ThrowKind) → (k : ThrowKind) × (seen_throw k ≡ exception)
+throw_of_exception ReferenceError = (ReferenceError, refl)
+throw_of_exception TypeError = (TypeError, refl)
+throw_of_exception HierarchyRequestError = (HierarchyRequestError, refl)
+throw_of_exception NotFoundError = (NotFoundError, refl)
+throw_of_exception SyntaxError = (SyntaxError, refl)
+throw_of_exception RangeError = (RangeError, refl)
 
-limit_text_is : (k : LimitKind) → limit_word k ≡ limit_text (seen_limit k)
+limit_text_is : (k : LimitKind) → limit_word k ≡ limit_text k
 limit_text_is Script = refl
 limit_text_is Line = refl
 limit_text_is Handlers = refl
@@ -318,24 +321,24 @@ limit_text_is FrameCallbacks = refl
 limit_text_is Tasks = refl
 limit_text_is Queries = refl
 
-limit_of_limit : (limit : Limit) → (k : LimitKind) × (seen_limit k ≡ limit)
-limit_of_limit ScriptLimit = (Script, refl)
-limit_of_limit LineLimit = (Line, refl)
-limit_of_limit HandlersLimit = (Handlers, refl)
-limit_of_limit NestingLimit = (Nesting, refl)
-limit_of_limit CommandsLimit = (Commands, refl)
-limit_of_limit NodesLimit = (Nodes, refl)
-limit_of_limit DepthLimit = (Depth, refl)
-limit_of_limit DocumentsLimit = (Documents, refl)
-limit_of_limit ResizeObserversLimit = (ResizeObservers, refl)
-limit_of_limit IntersectionObserversLimit = (IntersectionObservers, refl)
-limit_of_limit ResizeObservationsLimit = (ResizeObservations, refl)
-limit_of_limit IntersectionObservationsLimit = (IntersectionObservations, refl)
-limit_of_limit ListenersLimit = (Listeners, refl)
-limit_of_limit TimersLimit = (Timers, refl)
-limit_of_limit FrameCallbacksLimit = (FrameCallbacks, refl)
-limit_of_limit TasksLimit = (Tasks, refl)
-limit_of_limit QueriesLimit = (Queries, refl)
+limit_of_limit : (limit : LimitKind) → (k : LimitKind) × (seen_limit k ≡ limit)
+limit_of_limit limits.Script = (Script, refl)
+limit_of_limit limits.Line = (Line, refl)
+limit_of_limit limits.Handlers = (Handlers, refl)
+limit_of_limit limits.Nesting = (Nesting, refl)
+limit_of_limit limits.Commands = (Commands, refl)
+limit_of_limit limits.Nodes = (Nodes, refl)
+limit_of_limit limits.Depth = (Depth, refl)
+limit_of_limit limits.Documents = (Documents, refl)
+limit_of_limit limits.ResizeObservers = (ResizeObservers, refl)
+limit_of_limit limits.IntersectionObservers = (IntersectionObservers, refl)
+limit_of_limit limits.ResizeObservations = (ResizeObservations, refl)
+limit_of_limit limits.IntersectionObservations = (IntersectionObservations, refl)
+limit_of_limit limits.Listeners = (Listeners, refl)
+limit_of_limit limits.Timers = (Timers, refl)
+limit_of_limit limits.FrameCallbacks = (FrameCallbacks, refl)
+limit_of_limit limits.Tasks = (Tasks, refl)
+limit_of_limit limits.Queries = (Queries, refl)
 
 -- ---- lines
 
@@ -409,11 +412,11 @@ read_line : IsExact kind.Read (both name_at (both rect_at point_at)) placed Plac
 unfolding fields_of
 read_line = record { exact = reads; each = λ p h. (refl, refl, record { fits = h.0; reach = h.1 }) }
 
-throw_line : IsExact kind.Throw (both u32_at throw_at) threw ThrewFits (λ (p : Threw). ThrowLine p.0 (seen_throw p.1))
+throw_line : IsExact kind.Throw (both u32_at throw_at) threw ThrewFits (λ (p : Threw). ThrowLine p.0 p.1)
 unfolding fields_of
 throw_line = record { exact = throwing; each = λ p h. (ap (λ w. decimal p.0 ∷ w ∷ []) (throw_text p.1), refl, record { fits = h.0; reach = tt }) }
 
-limit_line : IsExact kind.Limit (both limit_at (both u32_at u64_at)) limited LimitedFits (λ (p : Limited). LimitLine (seen_limit p.0) p.1.0 p.1.1)
+limit_line : IsExact kind.Limit (both limit_at (both u32_at u64_at)) limited LimitedFits (λ (p : Limited). LimitLine p.0 p.1.0 p.1.1)
 unfolding fields_of
 limit_line = record { exact = limiting; each = λ p h. (ap (λ w. w ∷ decimal p.1.0 ∷ decimal p.1.1 ∷ []) (limit_text_is p.0), refl, record { fits = h.1; reach = tt }) }
 
@@ -434,21 +437,21 @@ line_by_sound kind.Intersect t q h = stands kind.Intersect (both seen_at rects_a
 line_by_sound kind.Take t q h = stands kind.Take (both name_at u64_at) counted (λ p. IsName p.0 × (p.1 < 2 ^ 64)) (λ (p : Counted). TakeLine p.0 p.1) take_line t q h
 line_by_sound kind.Say t q h = stands kind.Say name_at one_name IsName SayLine say_line t q h
 line_by_sound kind.Read t q h = stands kind.Read (both name_at (both rect_at point_at)) placed PlacedFits (λ (p : Place). ReadLine p.0 p.1.0 p.1.1) read_line t q h
-line_by_sound kind.Throw t q h = stands kind.Throw (both u32_at throw_at) threw ThrewFits (λ (p : Threw). ThrowLine p.0 (seen_throw p.1)) throw_line t q h
-line_by_sound kind.Limit t q h = stands kind.Limit (both limit_at (both u32_at u64_at)) limited LimitedFits (λ (p : Limited). LimitLine (seen_limit p.0) p.1.0 p.1.1) limit_line t q h
+line_by_sound kind.Throw t q h = stands kind.Throw (both u32_at throw_at) threw ThrewFits (λ (p : Threw). ThrowLine p.0 p.1) throw_line t q h
+line_by_sound kind.Limit t q h = stands kind.Limit (both limit_at (both u32_at u64_at)) limited LimitedFits (λ (p : Limited). LimitLine p.0 p.1.0 p.1.1) limit_line t q h
 line_by_sound kind.Syntax t q h = stands kind.Syntax (both u32_at u32_at) two_numbers (λ p. (p.0 < 2 ^ 32) × (p.1 < 2 ^ 32)) (λ (p : Numbers). SyntaxLine p.0 p.1) syntax_line t q h
 
 -- the line is read by its kind, and its fields have no line feed
 Written : TraceLine → Type 0
 Written l = (k : LineKind) × (kind_word k ≡ kind_text l) × (line_by k (line_end (fields_of l)) ≡ Some (l, 10 ∷ [])) × (list_all is_no_feed (before (fields_of l) []) ≡ true)
 
-throw_written : (row : ℕ) (k : ThrowKind) → row < 2 ^ 32 → Written (ThrowLine row (seen_throw k))
+throw_written : (row : ℕ) (k : ThrowKind) → row < 2 ^ 32 → Written (ThrowLine row k)
 unfolding Written line_by
-throw_written row k h = (kind.Throw, refl, again kind.Throw (both u32_at throw_at) threw ThrewFits (λ (p : Threw). ThrowLine p.0 (seen_throw p.1)) throw_line (row, k) (h, tt), clean kind.Throw (both u32_at throw_at) threw ThrewFits (λ (p : Threw). ThrowLine p.0 (seen_throw p.1)) throw_line (row, k) (h, tt))
+throw_written row k h = (kind.Throw, refl, again kind.Throw (both u32_at throw_at) threw ThrewFits (λ (p : Threw). ThrowLine p.0 p.1) throw_line (row, k) (h, tt), clean kind.Throw (both u32_at throw_at) threw ThrewFits (λ (p : Threw). ThrowLine p.0 p.1) throw_line (row, k) (h, tt))
 
-limit_written : (k : LimitKind) (row most : ℕ) → (row < 2 ^ 32) × (most < 2 ^ 64) → Written (LimitLine (seen_limit k) row most)
+limit_written : (k : LimitKind) (row most : ℕ) → (row < 2 ^ 32) × (most < 2 ^ 64) → Written (LimitLine k row most)
 unfolding Written line_by
-limit_written k row most h = (kind.Limit, refl, again kind.Limit (both limit_at (both u32_at u64_at)) limited LimitedFits (λ (p : Limited). LimitLine (seen_limit p.0) p.1.0 p.1.1) limit_line (k, (row, most)) (tt, h), clean kind.Limit (both limit_at (both u32_at u64_at)) limited LimitedFits (λ (p : Limited). LimitLine (seen_limit p.0) p.1.0 p.1.1) limit_line (k, (row, most)) (tt, h))
+limit_written k row most h = (kind.Limit, refl, again kind.Limit (both limit_at (both u32_at u64_at)) limited LimitedFits (λ (p : Limited). LimitLine p.0 p.1.0 p.1.1) limit_line (k, (row, most)) (tt, h), clean kind.Limit (both limit_at (both u32_at u64_at)) limited LimitedFits (λ (p : Limited). LimitLine p.0 p.1.0 p.1.1) limit_line (k, (row, most)) (tt, h))
 
 line_written : (l : TraceLine) → IsLine l → Written l
 unfolding Written line_by
@@ -465,11 +468,11 @@ line_written (SayLine word) h = (kind.Say, refl, again kind.Say name_at one_name
 line_written (ReadLine target rect scroll) h = (kind.Read, refl, again kind.Read (both name_at (both rect_at point_at)) placed PlacedFits (λ (p : Place). ReadLine p.0 p.1.0 p.1.1) read_line (target, (rect, scroll)) (h.fits, h.reach), clean kind.Read (both name_at (both rect_at point_at)) placed PlacedFits (λ (p : Place). ReadLine p.0 p.1.0 p.1.1) read_line (target, (rect, scroll)) (h.fits, h.reach))
 line_written (ThrowLine row exception) h =
     let k = throw_of_exception exception in
-    let T : Exception → Type 0 = λ e. Written (ThrowLine row e) in
+    let T : ThrowKind → Type 0 = λ e. Written (ThrowLine row e) in
     subst T k.1 (throw_written row k.0 h.fits)
 line_written (LimitLine limit row most) h =
     let k = limit_of_limit limit in
-    let T : Limit → Type 0 = λ l. Written (LimitLine l row most) in
+    let T : LimitKind → Type 0 = λ l. Written (LimitLine l row most) in
     subst T k.1 (limit_written k.0 row most h.fits)
 line_written (SyntaxLine row column) h = (kind.Syntax, refl, again kind.Syntax (both u32_at u32_at) two_numbers (λ p. (p.0 < 2 ^ 32) × (p.1 < 2 ^ 32)) (λ (p : Numbers). SyntaxLine p.0 p.1) syntax_line (row, column) h.fits, clean kind.Syntax (both u32_at u32_at) two_numbers (λ p. (p.0 < 2 ^ 32) × (p.1 < 2 ^ 32)) (λ (p : Numbers). SyntaxLine p.0 p.1) syntax_line (row, column) h.fits)
 

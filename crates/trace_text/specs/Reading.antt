@@ -272,9 +272,9 @@ line_by kind.Take text = line_at (λ (p : List ℕ × ℕ). TakeLine p.0 p.1) (b
 line_by kind.Say text = line_at SayLine name_at text
 line_by kind.Read text =
     line_at (λ (p : List ℕ × (Rect × Point)). ReadLine p.0 p.1.0 p.1.1) (both name_at (both rect_at point_at)) text
-line_by kind.Throw text = line_at (λ (p : ℕ × ThrowKind). ThrowLine p.0 (seen_throw p.1)) (both u32_at throw_at) text
+line_by kind.Throw text = line_at (λ (p : ℕ × ThrowKind). ThrowLine p.0 p.1) (both u32_at throw_at) text
 line_by kind.Limit text =
-    line_at (λ (p : LimitKind × (ℕ × ℕ)). LimitLine (seen_limit p.0) p.1.0 p.1.1) (both limit_at (both u32_at u64_at)) text
+    line_at (λ (p : LimitKind × (ℕ × ℕ)). LimitLine p.0 p.1.0 p.1.1) (both limit_at (both u32_at u64_at)) text
 line_by kind.Syntax text = line_at (λ (p : ℕ × ℕ). SyntaxLine p.0 p.1) (both u32_at u32_at) text
 
 -- the line, where a line feed and nothing else stands behind its fields

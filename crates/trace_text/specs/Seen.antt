@@ -1,41 +1,9 @@
 -- What the types of the code stand for.
-use Rattle.script_model.specs.Kinds.{Exception, ReferenceException, TypeException, HierarchyRequestException, NotFoundException, SyntaxException, RangeException, Limit, ScriptLimit, LineLimit, HandlersLimit, NestingLimit, CommandsLimit, NodesLimit, DepthLimit, DocumentsLimit, ResizeObserversLimit, IntersectionObserversLimit, ResizeObservationsLimit, IntersectionObservationsLimit, ListenersLimit, TimersLimit, FrameCallbacksLimit, TasksLimit, QueriesLimit}
 use Rattle.script_model.specs.TraceLines.{FiredEvent, FiredResize, FiredScroll, FiredChange, FiredError, TraceLine as LineModel, TickLine, TimerLine, FrameLine, TaskLine, EventLine as FiredLine, ResizeLine, RoundLine, IntersectLine, TakeLine, SayLine, ReadLine, ThrowLine, LimitLine, SyntaxLine}
-use Rattle.text_io.specs.declared.kinds.LimitKind.{LimitKind}
-use Rattle.text_io.specs.declared.kinds.LimitKind.TheVariants.{Script, Line, Handlers, Nesting, Commands, Nodes, Depth, Documents, ResizeObservers, IntersectionObservers, ResizeObservations, IntersectionObservations, Listeners, Timers, FrameCallbacks, Tasks, Queries}
-use Rattle.text_io.specs.declared.kinds.ThrowKind.{ThrowKind}
-use Rattle.text_io.specs.declared.kinds.ThrowKind.TheVariants.{ReferenceError, TypeError, HierarchyRequestError, NotFoundError, SyntaxError, RangeError}
 use Rattle.trace_text.specs.declared.EventLine.{EventLine}
 use Rattle.trace_text.specs.declared.EventLine.TheVariants as event
 use Rattle.trace_text.specs.declared.TraceLine.{TraceLine}
 use Rattle.trace_text.specs.declared.TraceLine.TheVariants as line
-
-abbrev pub seen_limit : LimitKind → Limit
-seen_limit Script = ScriptLimit
-seen_limit Line = LineLimit
-seen_limit Handlers = HandlersLimit
-seen_limit Nesting = NestingLimit
-seen_limit Commands = CommandsLimit
-seen_limit Nodes = NodesLimit
-seen_limit Depth = DepthLimit
-seen_limit Documents = DocumentsLimit
-seen_limit ResizeObservers = ResizeObserversLimit
-seen_limit IntersectionObservers = IntersectionObserversLimit
-seen_limit ResizeObservations = ResizeObservationsLimit
-seen_limit IntersectionObservations = IntersectionObservationsLimit
-seen_limit Listeners = ListenersLimit
-seen_limit Timers = TimersLimit
-seen_limit FrameCallbacks = FrameCallbacksLimit
-seen_limit Tasks = TasksLimit
-seen_limit Queries = QueriesLimit
-
-abbrev pub seen_throw : ThrowKind → Exception
-seen_throw ReferenceError = ReferenceException
-seen_throw TypeError = TypeException
-seen_throw HierarchyRequestError = HierarchyRequestException
-seen_throw NotFoundError = NotFoundException
-seen_throw SyntaxError = SyntaxException
-seen_throw RangeError = RangeException
 
 abbrev pub seen_event : EventLine → FiredEvent
 seen_event (event.Resize document) = FiredResize document
@@ -65,6 +33,6 @@ seen_line (line.Intersect observer target time meets part whole root bounds cut)
 seen_line (line.Take observer count) = TakeLine observer count
 seen_line (line.Say word) = SayLine word
 seen_line (line.Read target rect scroll) = ReadLine target rect scroll
-seen_line (line.Throw number kind) = ThrowLine number (seen_throw kind)
-seen_line (line.Limit kind number most) = LimitLine (seen_limit kind) number most
+seen_line (line.Throw number kind) = ThrowLine number kind
+seen_line (line.Limit kind number most) = LimitLine kind number most
 seen_line (line.Syntax number column) = SyntaxLine number column

@@ -177,14 +177,14 @@ fn push_numbers(out: &mut Vec<u8>, first: u64, second: u64) -> Result<(), AllocE
 }
 
 fn push_throw(out: &mut Vec<u8>, number: u32, kind: ThrowKind) -> Result<(), AllocError>
-    ensures { OnOk result (out.new.items ≡ with_fields out.old.items (decimal number ∷ exception_text (seen_throw kind) ∷ [])) }
+    ensures { OnOk result (out.new.items ≡ with_fields out.old.items (decimal number ∷ exception_text kind ∷ [])) }
 {
     push_number(out, u128::from(number))?;
     push_field(out, kind.text().as_bytes())
 }
 
 fn push_limit(out: &mut Vec<u8>, kind: LimitKind, number: u32, most: u64) -> Result<(), AllocError>
-    ensures { OnOk result (out.new.items ≡ with_fields out.old.items (limit_text (seen_limit kind) ∷ decimal number ∷ decimal most ∷ [])) }
+    ensures { OnOk result (out.new.items ≡ with_fields out.old.items (limit_text kind ∷ decimal number ∷ decimal most ∷ [])) }
 {
     push_field(out, kind.text().as_bytes())?;
     push_numbers(out, u64::from(number), most)

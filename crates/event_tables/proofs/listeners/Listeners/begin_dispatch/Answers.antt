@@ -1,5 +1,5 @@
 use Rattle.std.proofs.Common.{◌∙◌, ap, map}
-use Rattle.event_tables.specs.Seen.{seen_target, seen_event, seen_listener}
+use Rattle.event_tables.specs.Seen.{seen_target, seen_listener}
 use Rattle.event_tables.specs.Listeners.{hears}
 use Rattle.event_tables.proofs.Seen.{copied_from}
 use Rattle.event_tables.proofs.listeners.Listeners.begin_dispatch.Goals as goal
@@ -7,4 +7,4 @@ use Rattle.event_tables.proofs.listeners.Listeners.begin_dispatch.Goals as goal
 pub returns : goal.returns
 returns c =
     ap (map seen_listener) c.in_ok-left.ensures
-    ∙ copied_from seen_listener (hears (seen_target c.args.target) (seen_event c.args.kind)) c.self.inside.given c.self.inside.most _ _ _ c.as_slice.ensures.value c.self.view_is
+    ∙ copied_from seen_listener (hears (seen_target c.args.target) c.args.kind) c.self.inside.given c.self.inside.most _ _ _ c.as_slice.ensures.value c.self.view_is

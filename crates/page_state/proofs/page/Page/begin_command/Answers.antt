@@ -1,6 +1,6 @@
 -- Commands are counted.
 use Rattle.std.proofs.Common.{◌≡◌, ◌+◌, ℕ, refl, sym, ap, ◌∙◌, subst, arith, add-one, option_map}
-use Rattle.script_model.specs.Kinds.{CommandsLimit}
+use Rattle.text_io.specs.declared.kinds.LimitKind.TheVariants as limits
 use Rattle.page_model.specs.Commands.{begun_in}
 use Rattle.page_model.specs.Steps.{Did, Met}
 use Rattle.page_boxes.specs.Worlds.{seen_size}
@@ -13,7 +13,7 @@ use Rattle.page_state.proofs.page.Page.begin_command.Goals as goal
 
 pub returns-then-self-ge-MOST_COMMANDS-clause-counted : goal.returns-then-self-ge-MOST_COMMANDS-clause-counted
 returns-then-self-ge-MOST_COMMANDS-clause-counted c =
-    (subst (λ (v : PageView). begun_in v.world ≡ Met CommandsLimit) c.self.view_is (is_full (inner c.self.inside) (omega arith)), refl)
+    (subst (λ (v : PageView). begun_in v.world ≡ Met limits.Commands) c.self.view_is (is_full (inner c.self.inside) (omega arith)), refl)
 
 pub invariant_of-self : goal.invariant_of-self
 invariant_of-self c = recounted c.self.invariant (c.self.inside.count + 1) _ (record { given = omega (arith, c.self.invariant.counted.given); limited = omega arith })

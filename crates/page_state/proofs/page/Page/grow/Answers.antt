@@ -39,7 +39,7 @@ pub returns-in_err-grow-clause-applied : goal.returns-in_err-grow-clause-applied
 returns-in_err-grow-clause-applied c = λ handlers.
     let p = err_from_is_err_and c.from_residual-in_err-grow.result c.from_residual-in_err-grow.ensures.1 in
     subst (λ (it : Result Effect PageFault). Applied it c.args.self.now.world (world_of c.self.inside c.self.inside.names.list c.grow.new.self c.self.inside.observers) (does handlers c.args.self.now.world (present_of c.args.subject) (Grow (operand_of c.args.node) (dimension_of c.args.axis) c.args.by.0))) (sym (p.1 ∙ ap Err p.2)) (
-      exit_done c.self.inside c.args.self.now c.self.view_is (Threw (seen_throw c.in_err-grow.field-0.0)) (λ (world : World). does handlers world (present_of c.args.subject) (Grow (operand_of c.args.node) (dimension_of c.args.axis) c.args.by.0)) (grows handlers (inner c.self.inside) (present_of c.args.subject) (Threw (seen_throw c.in_err-grow.field-0.0)) (operand_of c.args.node) c.in_ok-node.node.0 c.in_ok-node.ensures.answer (dimension_of c.args.axis) c.args.by.0 (ap (λ (it : Dimension). growing (inner c.self.inside) it c.in_ok-node.node.0 c.args.by.0) (sym c.side.ensures) ∙ c.in_err-grow.ensures.refused (base c.self.inside) ∙ ap Threw (same_throw c.in_err-grow.field-0.0))),
+      exit_done c.self.inside c.args.self.now c.self.view_is (Threw c.in_err-grow.field-0.0) (λ (world : World). does handlers world (present_of c.args.subject) (Grow (operand_of c.args.node) (dimension_of c.args.axis) c.args.by.0)) (grows handlers (inner c.self.inside) (present_of c.args.subject) (Threw c.in_err-grow.field-0.0) (operand_of c.args.node) c.in_ok-node.node.0 c.in_ok-node.ensures.answer (dimension_of c.args.axis) c.args.by.0 (ap (λ (it : Dimension). growing (inner c.self.inside) it c.in_ok-node.node.0 c.args.by.0) (sym c.side.ensures) ∙ c.in_err-grow.ensures.refused (base c.self.inside) ∙ ap Threw (same_throw c.in_err-grow.field-0.0))),
       same_world c.self.inside c.args.self.now c.self.view_is c.grow.new.self c.in_err-grow.ensures.same,
     )
 

@@ -37,7 +37,7 @@ pub returns-in_err-load-clause-applied : goal.returns-in_err-load-clause-applied
 returns-in_err-load-clause-applied c = λ handlers.
     let p = err_from_is_err_and c.from_residual-in_err-load.result c.from_residual-in_err-load.ensures.1 in
     subst (λ (it : Result Effect PageFault). Applied it c.args.self.now.world (world_of c.self.inside c.self.inside.names.list c.load.new.self c.self.inside.observers) (does handlers c.args.self.now.world (present_of c.args.subject) (Load (operand_of c.args.node) (unsigned_abs c.args.size.width) (unsigned_abs c.args.size.height)))) (sym (p.1 ∙ ap Err p.2)) (
-      exit_done c.self.inside c.args.self.now c.self.view_is (Threw (seen_throw c.in_err-load.field-0.0)) (λ (world : World). does handlers world (present_of c.args.subject) (Load (operand_of c.args.node) (unsigned_abs c.args.size.width) (unsigned_abs c.args.size.height))) (loads handlers (inner c.self.inside) (present_of c.args.subject) (Threw (seen_throw c.in_err-load.field-0.0)) (operand_of c.args.node) c.in_ok-node.node.0 c.in_ok-node.ensures.answer (unsigned_abs c.args.size.width) (unsigned_abs c.args.size.height) (c.in_err-load.ensures.refused (base c.self.inside) ∙ ap Threw (same_throw c.in_err-load.field-0.0))),
+      exit_done c.self.inside c.args.self.now c.self.view_is (Threw c.in_err-load.field-0.0) (λ (world : World). does handlers world (present_of c.args.subject) (Load (operand_of c.args.node) (unsigned_abs c.args.size.width) (unsigned_abs c.args.size.height))) (loads handlers (inner c.self.inside) (present_of c.args.subject) (Threw c.in_err-load.field-0.0) (operand_of c.args.node) c.in_ok-node.node.0 c.in_ok-node.ensures.answer (unsigned_abs c.args.size.width) (unsigned_abs c.args.size.height) (c.in_err-load.ensures.refused (base c.self.inside) ∙ ap Threw (same_throw c.in_err-load.field-0.0))),
       same_world c.self.inside c.args.self.now c.self.view_is c.load.new.self c.in_err-load.ensures.same,
     )
 

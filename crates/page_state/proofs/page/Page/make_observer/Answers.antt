@@ -1,7 +1,7 @@
 -- A resize observer that is made.
 use Rattle.std.proofs.Common.{List, [], ◌∷◌, ◌++◌, true, false, None, Err, Result, length, ap, sym, subst, ◌∙◌}
 use Rattle.std.proofs.lemmas.Result.{err_from_is_err_and}
-use Rattle.script_model.specs.Kinds.{ResizeObserversLimit}
+use Rattle.text_io.specs.declared.kinds.LimitKind.TheVariants as limits
 use Rattle.script_model.specs.Syntax.{MakeResizeObserver}
 use Rattle.page_model.specs.World.{Name, World, ResizeObserverThing}
 use Rattle.page_model.specs.Commands.{does}
@@ -50,7 +50,7 @@ invariant_of-self-in-Err-Limit c =
 
 pub returns-in-Err-Limit-clause-applied : goal.returns-in-Err-Limit-clause-applied
 returns-in-Err-Limit-clause-applied c = λ handlers present. (
-  exit_done c.self.inside c.args.self.now c.self.view_is (Met ResizeObserversLimit) (λ (world : World). does handlers world present (MakeResizeObserver c.args.name c.args.document None))
+  exit_done c.self.inside c.args.self.now c.self.view_is (Met limits.ResizeObservers) (λ (world : World). does handlers world present (MakeResizeObserver c.args.name c.args.document None))
       (ro_full handlers (inner c.self.inside) present c.args.name c.args.document c.in_ok-check_free.ensures.answer c.in_ok-document.document c.in_ok-document.ensures.answer (ro_room c.self.inside.observers false (c.make.ensures.limit (c.in-Err-Limit.is ∙ ap Err c.in-Err-Limit.field-0-is)) c.self.invariant.limited)),
   ap (λ (it : ResizeObservers). (world_of c.self.inside c.reserve.new.self.list c.self.inside.tree it)) c.in-Err-Limit.ensures.same ∙ (ap (λ (it : List Name). (world_of c.self.inside it c.self.inside.tree c.self.inside.observers)) c.reserve.ensures.same ∙ ap (λ (v : PageView). v.world) c.self.view_is),
 )

@@ -1,7 +1,7 @@
 -- A target that is observed.
 use Rattle.std.proofs.Common.{Err, ◌<◌, [], true, false, ap, sym, subst, ◌∙◌}
 use Rattle.std.proofs.lemmas.Result.{err_from_is_err_and}
-use Rattle.script_model.specs.Kinds.{ResizeObservationsLimit}
+use Rattle.text_io.specs.declared.kinds.LimitKind.TheVariants as limits
 use Rattle.script_model.specs.Syntax.{ObserveResize}
 use Rattle.script_syntax.specs.Seen.{operand_of}
 use Rattle.page_model.specs.World.{World}
@@ -41,7 +41,7 @@ observe-requires-clause-serials c =
 
 pub returns-in-Err-Limit-clause-applied : goal.returns-in-Err-Limit-clause-applied
 returns-in-Err-Limit-clause-applied c = λ handlers. (
-  exit_done c.self.inside c.args.self.now c.self.view_is (Met ResizeObservationsLimit) (λ (world : World). does handlers world (present_of c.args.subject) (ObserveResize c.args.observer (operand_of c.args.node) c.args.observed))
+  exit_done c.self.inside c.args.self.now c.self.view_is (Met limits.ResizeObservations) (λ (world : World). does handlers world (present_of c.args.subject) (ObserveResize c.args.observer (operand_of c.args.node) c.args.observed))
       (observe_limited handlers (inner c.self.inside) (present_of c.args.subject) c.args.observer (operand_of c.args.node) c.args.observed c.in_ok-observer.observer.0 c.in_ok-observer.ensures.answer c.in_ok-node.node.0 c.in_ok-node.ensures.answer
       (room_so c.self.inside.observers (placed_in c.self.inside.tree (bare c.self.inside)) c.in_ok-observer.observer.0 c.in_ok-node.node.0 false (c.observe.ensures.limit (c.in-Err-Limit.is ∙ ap Err c.in-Err-Limit.field-0-is)) c.self.invariant.limited)),
   ap (λ (it : ResizeObservers). placed it (placed_in c.self.inside.tree (bare c.self.inside))) c.in-Err-Limit.ensures.same ∙ ap (λ (v : PageView). v.world) c.self.view_is,
