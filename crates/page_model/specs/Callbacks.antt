@@ -8,16 +8,17 @@ use Rattle.script_model.specs.Syntax.{Command, Simple, Each, When, Block, NoMore
 use Rattle.text_io.specs.Limits.{limit_number}
 use Rattle.script_model.specs.Scripts.{NamedBlock}
 use Rattle.script_model.specs.TraceLines.{TraceLine, FiredEvent, EventLine, ResizeLine, ThrowLine, LimitLine}
-use Rattle.page_model.specs.World.{World, Extent, Entry, EventTarget, ElementTarget, DocumentTarget, WindowTarget, QueryTarget, Listener}
+use Rattle.page_model.specs.World.{World, Name, Entry, EventTarget, ElementTarget, DocumentTarget, WindowTarget, QueryTarget, Listener}
 use Rattle.page_model.specs.Lookups.{element_at, query_list_at}
 use Rattle.page_model.specs.Documents.{is_active}
 use Rattle.page_model.specs.Names.{element_text, resize_observer_text}
 use Rattle.page_model.specs.Steps.{Step, Did, Threw, Met, Effect}
 use Rattle.page_model.specs.Operands.{Present, NoEntry, ResizeEntry, IntersectionEntry, Handlers}
+use Rattle.page_model.specs.Gathering.{SizeEntry}
 use Rattle.page_model.specs.EntryLines.{intersection_lines}
-use Rattle.page_model.specs.Observing.{is_same_target, is_same_event}
+use Rattle.page_model.specs.Listeners.{listeners_of, listener_stands}
 use Rattle.page_model.specs.Commands.{does, holds, begun_in}
-use Rattle.page_model.specs.Runs.{Said, Thrown, Limited, silent, say, after, for_each, caught, only_if}
+use Rattle.page_model.specs.Runs.{Said, Thrown, Limited, silent, say, ◌followed_by◌, for_each, caught, only_if}
 
 -- the handlers of a script: a handler's number is its place
 abbrev pub Script : Type 0
@@ -32,15 +33,6 @@ handler_block script handler = unwrap_or (option_map (λ (it : NamedBlock). it.b
 abbrev pub handler_text : Script → ℕ → List ℕ
 handler_text script handler = unwrap_or (option_map (λ (it : NamedBlock). it.name) (slice_get script handler)) []
 
--- an entry of a resize observer (Resize Observer, 2.3): the content box's corner in the padding box, its size, the border
--- box's size, and the target's depth
-pub record SizeEntry : Type 0 where
-  pub target : ℕ
-  pub corner : Extent
-  pub content : Extent
-  pub border : Extent
-  pub depth : ℕ
-
 -- what a callback is given
 pub data Entries : Type 0 where
   NoEntries : Entries
@@ -48,11 +40,11 @@ pub data Entries : Type 0 where
   CutEntries : (observer : ℕ) (entries : List Entry) → Entries
 
 -- the entry's content rectangle and border box
-abbrev pub resize_line : World → ℕ → SizeEntry → TraceLine
-resize_line world observer entry =
+abbrev pub resize_line : List Name → ℕ → SizeEntry → TraceLine
+resize_line names observer entry =
     ResizeLine
-    (resize_observer_text world observer)
-    (element_text world (entry.target))
+    (resize_observer_text names observer)
+    (element_text names (entry.target))
     (record {
       left = pos (entry.corner.across);
       top = pos (entry.corner.down);
@@ -61,10 +53,10 @@ resize_line world observer entry =
     })
     (record { width = pos (entry.border.across); height = pos (entry.border.down) })
 
-abbrev pub entry_lines : World → Entries → List TraceLine
-entry_lines world NoEntries = []
-entry_lines world (SizeEntries observer entries) = map (resize_line world observer) entries
-entry_lines world (CutEntries observer entries) = intersection_lines world observer entries
+abbrev pub entry_lines : List Name → Entries → List TraceLine
+entry_lines names NoEntries = []
+entry_lines names (SizeEntries observer entries) = map (resize_line names observer) entries
+entry_lines names (CutEntries observer entries) = intersection_lines names observer entries
 
 -- what `each` goes over
 abbrev pub presents : Entries → List Present
@@ -73,36 +65,36 @@ presents (SizeEntries observer entries) = map (λ (entry : SizeEntry). ResizeEnt
 presents (CutEntries observer entries) = map (λ (entry : Entry). IntersectionEntry (entry.target) (entry.finding.meets)) entries
 
 -- what a command's step comes to, on the command's line, and how it goes on with the value
-unfoldable pub settled : {A : Type 0} → ℕ → World → (A → Said World) → Step A → Said World
-settled line world next (Did value) = next value
-settled line world next (Threw exception) = record { lines = ThrowLine line exception ∷ []; flow = Thrown; state = world }
-settled line world next (Met limit) = record { lines = LimitLine limit line (limit_number limit) ∷ []; flow = Limited; state = world }
+unfoldable pub answered : {A : Type 0} → ℕ → World → (A → Said World) → Step A → Said World
+answered line world next (Did value) = next value
+answered line world next (Threw exception) = record { lines = ThrowLine line exception ∷ []; flow = Thrown; state = world }
+answered line world next (Met limit) = record { lines = LimitLine limit line (limit_number limit) ∷ []; flow = Limited; state = world }
 
 abbrev pub said_by : Effect → Said World
 said_by effect = say (effect.lines) (effect.world)
 
 -- a command is begun, which is counted, before anything else is looked at
 unfoldable pub once_begun : ℕ → World → (World → Said World) → Said World
-unfolding settled begun_in
-once_begun line world run = settled line world run (begun_in world)
+unfolding answered begun_in
+once_begun line world run = answered line world run (begun_in world)
 
 unfoldable mutual
-  unfolding settled once_begun for_each after does holds
+  unfolding answered once_begun for_each ◌followed_by◌ does holds
 
   -- a command in a callback with these entries, `present` being the one that the innermost `each` is at
   pub run_command : Script → List Present → Command → Present → World → Said World
   run_command script entries (Simple line action) present world =
-      once_begun line world λ begun. settled line begun said_by (does (handler_names script) begun present action)
+      once_begun line world λ begun. answered line begun said_by (does (handler_names script) begun present action)
   run_command script entries (Each line block end_line) present world =
       once_begun line world λ begun. for_each (run_block script entries block) entries begun
   run_command script entries (When line condition block end_line) present world =
       once_begun line world λ begun.
-      settled line begun (only_if (run_block script entries block present) begun) (holds begun present condition)
+      answered line begun (only_if (run_block script entries block present) begun) (holds begun present condition)
 
   pub run_block : Script → List Present → Block → Present → World → Said World
   run_block script entries NoMore present world = silent world
   run_block script entries (Then command others) present world =
-      after (run_block script entries others present) (run_command script entries command present world)
+      run_command script entries command present world followed_by run_block script entries others present
 
 -- a handler with the entries of its callback; a throw ends it
 abbrev pub run_handler : Script → Entries → Option ℕ → World → Said World
@@ -111,39 +103,32 @@ run_handler script handed (Some handler) world =
     caught (run_block script (presents handed) (handler_block script handler) NoEntry world)
 
 abbrev pub while_active : ℕ → (World → Said World) → World → Said World
-while_active document run world = only_if run world (is_active world document)
+while_active document run world = only_if run world (is_active (world.tree) document)
 
 -- invoking a callback that belongs to a document
 unfoldable pub call : Script → ℕ → Option ℕ → Entries → World → Said World
-unfolding run_command after caught intersection_lines
+unfolding run_command ◌followed_by◌ caught intersection_lines
 call script document handler handed world =
-    while_active document (λ now. after (run_handler script handed handler) (say (entry_lines now handed) now)) world
+    while_active document (λ now. say (entry_lines (now.names) handed) now followed_by run_handler script handed handler) world
 
 -- events and what they are fired at ----------------------------------------------------------------------------------------
 
 -- the document that decides whether a target's listeners are called
 abbrev pub document_of_target : World → EventTarget → ℕ
-document_of_target world (ElementTarget element) = (element_at world element).document
+document_of_target world (ElementTarget element) = (element_at (world.tree) element).document
 document_of_target world (DocumentTarget document) = document
 document_of_target world (WindowTarget document) = document
-document_of_target world (QueryTarget query) = (query_list_at world query).document
-
-abbrev pub listeners_of : World → EventTarget → EventKind → List Listener
-listeners_of world target event =
-    filter (λ (listener : Listener). is_same_target target (listener.target) && is_same_event event (listener.event)) (world.listeners.held)
-
-abbrev pub stands : Listener → World → Bool
-stands listener world = list_any (λ (held : Listener). held.serial == listener.serial) (world.listeners.held)
+document_of_target world (QueryTarget query) = (query_list_at (world.queries) query).document
 
 -- a listener is called where it still stands: one that was removed and made anew is another
 abbrev pub notify_listener : Script → Listener → World → Said World
 notify_listener script listener world =
-    only_if (call script (document_of_target world (listener.target)) (Some (listener.handler)) NoEntries) world (stands listener world)
+    only_if (call script (document_of_target world (listener.target)) (Some (listener.handler)) NoEntries) world (listener_stands listener (world.listeners))
 
 -- the listeners at one target, as they are when the event reaches it (DOM, 2.9: inner invoke)
 unfoldable pub invoke : Script → EventTarget → EventKind → World → Said World
 unfolding for_each call
-invoke script target event world = for_each (notify_listener script) (listeners_of world target event) world
+invoke script target event world = for_each (notify_listener script) (listeners_of target event (world.listeners)) world
 
 -- a scroll event at a document bubbles to its window (CSSOM View, 13: scrolling)
 abbrev pub bubble : Script → EventTarget → EventKind → World → Said World
@@ -152,6 +137,6 @@ bubble script target event world = silent world
 
 -- firing an event (DOM, 2.10): its line, and then its listeners
 unfoldable pub fire : Script → FiredEvent → EventTarget → EventKind → World → Said World
-unfolding after invoke
+unfolding ◌followed_by◌ invoke
 fire script event target name world =
-    after (bubble script target name) (after (invoke script target name) (say (EventLine event ∷ []) world))
+    say (EventLine event ∷ []) world followed_by invoke script target name followed_by bubble script target name

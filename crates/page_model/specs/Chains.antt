@@ -8,9 +8,9 @@ use Rattle.px_units.specs.Rects.{has_points, overlap, shifted}
 use Rattle.layout_model.specs.Boxes.{Box, padding_size, padding_corner, inner_corner}
 use Rattle.layout_model.specs.Clips.{clips}
 use Rattle.script_model.specs.Margins.{MarginPart, MarginPixels, MarginPercentage, Margins}
-use Rattle.page_model.specs.World.{World, Root, ImplicitRoot, DocumentRoot, ElementRoot}
+use Rattle.page_model.specs.World.{World, Tree, Root, ImplicitRoot, DocumentRoot, ElementRoot}
 use Rattle.page_model.specs.Lookups.{element_at, document_at}
-use Rattle.page_model.specs.Documents.{frame_levels, Container, InElement, InDocument, container_of, tree_of}
+use Rattle.page_model.specs.Documents.{frame_levels, Container, InElement, InDocument, container_of, nodes_of}
 use Rattle.page_model.specs.PageBoxes.{extent_of, viewport_of, has_box, box_of, size_of, place_of}
 use Rattle.page_model.specs.Readings.{rect_of}
 
@@ -44,17 +44,17 @@ content_corner_at place (Some box) = beside place (inner_corner box)
 
 abbrev pub origin_with_box : (ℕ → Point) → World → Bool → ℕ → Point
 origin_with_box above world true frame =
-    added (content_corner_at (place_of world frame) (box_of world frame)) (above (element_at world frame).document)
+    added (content_corner_at (place_of (world.tree) (world.viewports.size) (world.scrolls) frame) (box_of (world.tree) (world.viewports.size) frame)) (above (element_at (world.tree) frame).document)
 origin_with_box above world false frame = zero_point
 
 abbrev pub origin_by_frame : (ℕ → Point) → World → Option ℕ → Point
 origin_by_frame above world None = zero_point
-origin_by_frame above world (Some frame) = origin_with_box above world (has_box world frame) frame
+origin_by_frame above world (Some frame) = origin_with_box above world (has_box (world.tree) (world.viewports.size) frame) frame
 
 unfoldable pub origin_up : ℕ → World → ℕ → Point
 unfolding has_box box_of place_of
 origin_up zero world document = zero_point
-origin_up (suc high) world document = origin_by_frame (origin_up high world) world (document_at world document).frame
+origin_up (suc high) world document = origin_by_frame (origin_up high world) world (document_at (world.tree) document).frame
 
 -- where a document's viewport begins: at the zero point for the top document, and for one whose frame has no box
 unfoldable pub origin : World → ℕ → Point
@@ -62,45 +62,45 @@ unfolding origin_up
 origin world document = origin_up frame_levels world document
 
 abbrev pub origin_of_element : World → ℕ → Point
-origin_of_element world element = origin world (element_at world element).document
+origin_of_element world element = origin world (element_at (world.tree) element).document
 
 -- in the coordinates of the top document: the viewport of a document, and the border box and the padding box of an element
 unfoldable pub viewport_rect : World → ℕ → Rect
 unfolding origin viewport_of
-viewport_rect world document = rect_of (origin world document) (viewport_of world document)
+viewport_rect world document = rect_of (origin world document) (viewport_of (world.tree) (world.viewports.size) document)
 
 unfoldable pub border_rect : World → ℕ → Rect
 unfolding origin place_of size_of
-border_rect world element = moved_by (origin_of_element world element) (rect_of (place_of world element) (size_of world element Border))
+border_rect world element = moved_by (origin_of_element world element) (rect_of (place_of (world.tree) (world.viewports.size) (world.scrolls) element) (size_of (world.tree) (world.viewports.size) element Border))
 
 unfoldable pub padding_rect : World → ℕ → Rect
 unfolding origin place_of box_of
-padding_rect world element = moved_by (origin_of_element world element) (padding_box_at (place_of world element) (box_of world element))
+padding_rect world element = moved_by (origin_of_element world element) (padding_box_at (place_of (world.tree) (world.viewports.size) (world.scrolls) element) (box_of (world.tree) (world.viewports.size) element))
 
 abbrev pub clips_in : World → ℕ → Bool
-clips_in world element = clips (tree_of world element)
+clips_in world element = clips (nodes_of (world.tree) element)
 
 -- what a container stands in: a document in its frame
-abbrev pub container_beyond : World → Container → Option Container
-container_beyond world (InElement element) = container_of world element
-container_beyond world (InDocument document) = option_map InElement (document_at world document).frame
+abbrev pub container_beyond : Tree → Container → Option Container
+container_beyond tree (InElement element) = container_of tree element
+container_beyond tree (InDocument document) = option_map InElement (document_at tree document).frame
 
 abbrev pub containers_by : (Container → List Container) → Option Container → List Container
 containers_by outwards None = []
 containers_by outwards (Some container) = outwards container
 
-unfoldable pub containers_from : ℕ → World → Container → List Container
-containers_from zero world container = []
-containers_from (suc most) world container =
-    container ∷ containers_by (containers_from most world) (container_beyond world container)
+unfoldable pub containers_from : ℕ → Tree → Container → List Container
+containers_from zero tree container = []
+containers_from (suc most) tree container =
+    container ∷ containers_by (containers_from most tree) (container_beyond tree container)
 
 -- more containers than an element can stand in: the levels of the trees of 64 documents, and these; a bound of this project
 abbrev pub most_containers : ℕ
 most_containers = 65536
 
 -- all containers of an element, from its parent up to the top document
-abbrev pub containers_of : World → ℕ → List Container
-containers_of world element = containers_by (containers_from most_containers world) (container_of world element)
+abbrev pub containers_of : Tree → ℕ → List Container
+containers_of tree element = containers_by (containers_from most_containers tree) (container_of tree element)
 
 -- the implicit root is the top document
 abbrev pub is_root : Root → Container → Bool
@@ -117,7 +117,7 @@ clip_of world (InDocument document) = Some (viewport_rect world document)
 -- the clips strictly between a target and a root
 unfoldable pub clips_between : World → Root → ℕ → List Rect
 unfolding containers_from viewport_rect padding_rect
-clips_between world root target = filter_map (clip_of world) (take_while (λ c. not (is_root root c)) (containers_of world target))
+clips_between world root target = filter_map (clip_of world) (take_while (λ c. not (is_root root c)) (containers_of (world.tree) target))
 
 -- the common part of a rectangle and others, none where no point is common to all
 unfoldable pub common_part : Rect → List Rect → Option Rect
@@ -149,7 +149,7 @@ element_root_bounds world element false = zero_rect
 abbrev pub root_bounds : World → Root → Rect
 root_bounds world ImplicitRoot = viewport_rect world 0
 root_bounds world (DocumentRoot document) = viewport_rect world document
-root_bounds world (ElementRoot element) = element_root_bounds world element (has_box world element)
+root_bounds world (ElementRoot element) = element_root_bounds world element (has_box (world.tree) (world.viewports.size) element)
 
 -- the root intersection rectangle (Intersection Observer, 2.2)
 unfoldable pub root_rect : World → Root → Margins → Rect

@@ -2,50 +2,50 @@
 -- document is Fresh until its frame is shown, and Dead for good once its frame was taken out, is this project's own.
 use Rattle.std.specs.Prelude.{ℕ, zero, suc, max, Bool, true, false, ◌==◌, cond, List, [], ◌∷◌, ◌++◌, map, flat_map, filter, filter_map, fold, Option, Some, None}
 use Rattle.layout_model.specs.Nodes.{Node, levels, top_of, is_in_path, depth_of}
-use Rattle.page_model.specs.World.{Element, DocumentState, Fresh, Active, Dead, World}
+use Rattle.page_model.specs.World.{Element, DocumentState, Fresh, Active, Dead, Tree}
 use Rattle.page_model.specs.Lookups.{element_at, document_at, change_each, change_element, change_document, without}
 
 -- how many frames deep documents are looked for: more than there can be documents, a bound of this project
 abbrev pub frame_levels : ℕ
 frame_levels = 65536
 
--- the elements as layout sees them
+-- an element as layout sees it
 abbrev pub node_of : Element → Node
 node_of element = record { item = element.item; parent = element.parent; children = element.children }
 
-abbrev pub tree_of : World → ℕ → Node
-tree_of world n = node_of (element_at world n)
+abbrev pub nodes_of : Tree → ℕ → Node
+nodes_of tree n = node_of (element_at tree n)
 
 -- the root of the tree that an element stands in
-unfoldable pub root_of : World → ℕ → ℕ
+unfoldable pub root_of : Tree → ℕ → ℕ
 unfolding top_of
-root_of world n = top_of (tree_of world) n
+root_of tree n = top_of (nodes_of tree) n
 
-unfoldable pub is_inclusive_ancestor : World → ℕ → ℕ → Bool
+unfoldable pub is_inclusive_ancestor : Tree → ℕ → ℕ → Bool
 unfolding is_in_path
-is_inclusive_ancestor world a n = is_in_path (tree_of world) a n
+is_inclusive_ancestor tree a n = is_in_path (nodes_of tree) a n
 
-unfoldable pub element_depth : World → ℕ → ℕ
+unfoldable pub element_depth : Tree → ℕ → ℕ
 unfolding depth_of
-element_depth world n = depth_of (tree_of world) n
+element_depth tree n = depth_of (nodes_of tree) n
 
 -- an element and its descendants in tree order
-unfoldable pub order_down : ℕ → World → ℕ → List ℕ
-order_down zero world n = []
-order_down (suc deep) world n = n ∷ flat_map (order_down deep world) (element_at world n).children
+unfoldable pub order_down : ℕ → Tree → ℕ → List ℕ
+order_down zero tree n = []
+order_down (suc deep) tree n = n ∷ flat_map (order_down deep tree) (element_at tree n).children
 
-unfoldable pub inclusive_descendants : World → ℕ → List ℕ
+unfoldable pub inclusive_descendants : Tree → ℕ → List ℕ
 unfolding order_down
-inclusive_descendants world n = order_down levels world n
+inclusive_descendants tree n = order_down levels tree n
 
 -- the number of levels of the tree below an element, its own counted
-unfoldable pub levels_down : ℕ → World → ℕ → ℕ
-levels_down zero world n = 0
-levels_down (suc deep) world n = suc (fold max 0 (map (levels_down deep world) (element_at world n).children))
+unfoldable pub levels_down : ℕ → Tree → ℕ → ℕ
+levels_down zero tree n = 0
+levels_down (suc deep) tree n = suc (fold max 0 (map (levels_down deep tree) (element_at tree n).children))
 
-unfoldable pub levels_of : World → ℕ → ℕ
+unfoldable pub levels_of : Tree → ℕ → ℕ
 unfolding levels_down
-levels_of world n = levels_down levels world n
+levels_of tree n = levels_down levels tree n
 
 -- where an element stands: as a child of an element, or as the root element of a document
 pub data Container : Type 0 where
@@ -62,21 +62,21 @@ is_number None n = false
 is_number (Some m) n = m == n
 
 -- whether an element is a root element, which is that of its node document
-abbrev pub is_root_element : World → ℕ → Bool
-is_root_element world n = is_number (document_at world (element_at world n).document).root n
+abbrev pub is_root_element : Tree → ℕ → Bool
+is_root_element tree n = is_number (document_at tree (element_at tree n).document).root n
 
 abbrev pub container_by : Option ℕ → Bool → ℕ → Option Container
 container_by (Some parent) is_root document = Some (InElement parent)
 container_by None true document = Some (InDocument document)
 container_by None false document = None
 
-abbrev pub container_of : World → ℕ → Option Container
-container_of world n = container_by (element_at world n).parent (is_root_element world n) (element_at world n).document
+abbrev pub container_of : Tree → ℕ → Option Container
+container_of tree n = container_by (element_at tree n).parent (is_root_element tree n) (element_at tree n).document
 
 -- the document in whose tree an element stands, which can only be its node document
-unfoldable pub tree_document : World → ℕ → Option ℕ
+unfoldable pub tree_document : Tree → ℕ → Option ℕ
 unfolding root_of
-tree_document world n = cond (is_root_element world (root_of world n)) (Some (element_at world n).document) None
+tree_document tree n = cond (is_root_element tree (root_of tree n)) (Some (element_at tree n).document) None
 
 abbrev pub is_active_state : DocumentState → Bool
 is_active_state Active = true
@@ -86,64 +86,64 @@ abbrev pub is_fresh_state : DocumentState → Bool
 is_fresh_state Fresh = true
 is_fresh_state state = false
 
-abbrev pub is_active : World → ℕ → Bool
-is_active world document = is_active_state (document_at world document).state
+abbrev pub is_active : Tree → ℕ → Bool
+is_active tree document = is_active_state (document_at tree document).state
 
-abbrev pub is_active_there : World → Option ℕ → Bool
-is_active_there world None = false
-is_active_there world (Some document) = is_active world document
+abbrev pub is_active_there : Tree → Option ℕ → Bool
+is_active_there tree None = false
+is_active_there tree (Some document) = is_active tree document
 
 -- whether an element stands in the tree of an Active document
-unfoldable pub stands_in_active : World → ℕ → Bool
+unfoldable pub stands_in_active : Tree → ℕ → Bool
 unfolding tree_document
-stands_in_active world n = is_active_there world (tree_document world n)
+stands_in_active tree n = is_active_there tree (tree_document tree n)
 
 -- the documents of the frames among an element and its descendants, in tree order
-unfoldable pub frames_in : World → ℕ → List ℕ
+unfoldable pub frames_in : Tree → ℕ → List ℕ
 unfolding inclusive_descendants
-frames_in world n = filter_map (λ each. (element_at world each).framed) (inclusive_descendants world n)
+frames_in tree n = filter_map (λ each. (element_at tree each).framed) (inclusive_descendants tree n)
 
-abbrev pub frames_below : World → Option ℕ → List ℕ
-frames_below world None = []
-frames_below world (Some root) = frames_in world root
+abbrev pub frames_below : Tree → Option ℕ → List ℕ
+frames_below tree None = []
+frames_below tree (Some root) = frames_in tree root
 
 -- of these documents those in a state, each followed by those that frames in its own tree lead to in turn
-unfoldable pub led_to : ℕ → (DocumentState → Bool) → World → List ℕ → List ℕ
+unfoldable pub led_to : ℕ → (DocumentState → Bool) → Tree → List ℕ → List ℕ
 unfolding frames_in
-led_to zero test world documents = []
-led_to (suc deep) test world documents =
+led_to zero test tree documents = []
+led_to (suc deep) test tree documents =
     flat_map
-    (λ document. document ∷ led_to deep test world (frames_below world (document_at world document).root))
-    (filter (λ document. test (document_at world document).state) documents)
+    (λ document. document ∷ led_to deep test tree (frames_below tree (document_at tree document).root))
+    (filter (λ document. test (document_at tree document).state) documents)
 
 -- the documents in a state that frames among an element and its descendants lead to, by preorder
-unfoldable pub documents_inside : (DocumentState → Bool) → World → ℕ → List ℕ
+unfoldable pub documents_inside : (DocumentState → Bool) → Tree → ℕ → List ℕ
 unfolding led_to frames_in
-documents_inside test world n = led_to frame_levels test world (frames_in world n)
+documents_inside test tree n = led_to frame_levels test tree (frames_in tree n)
 
 -- the Active documents by preorder of the frame tree, from the top document, which is number 0
-unfoldable pub active_documents : World → List ℕ
+unfoldable pub active_documents : Tree → List ℕ
 unfolding led_to
-active_documents world = led_to frame_levels is_active_state world (0 ∷ [])
+active_documents tree = led_to frame_levels is_active_state tree (0 ∷ [])
 
-abbrev pub with_state : DocumentState → List ℕ → World → World
-with_state state documents world =
-    record world { documents = change_each (λ document. record document { state = state }) documents (world.documents) }
+abbrev pub with_state : DocumentState → List ℕ → Tree → Tree
+with_state state documents tree =
+    record tree { documents = change_each (λ document. record document { state = state }) documents (tree.documents) }
 
--- the world in which an element isn't where it stood
-abbrev pub unlinked : World → ℕ → Option Container → World
-unlinked world n None = world
-unlinked world n (Some (InElement parent)) =
+-- the tree in which an element isn't where it stood
+abbrev pub unlinked : Tree → ℕ → Option Container → Tree
+unlinked tree n None = tree
+unlinked tree n (Some (InElement parent)) =
     change_element (λ element. record element { children = without n (element.children) }) parent
-    (change_element (λ element. record element { parent = None }) n world)
-unlinked world n (Some (InDocument document)) = change_document (λ it. record it { root = None }) document world
+    (change_element (λ element. record element { parent = None }) n tree)
+unlinked tree n (Some (InDocument document)) = change_document (λ it. record it { root = None }) document tree
 
 -- removing (DOM, 4.2.3): Active documents in frames of the subtree become Dead with those inside
-unfoldable pub removed : World → ℕ → World
+unfoldable pub removed : Tree → ℕ → Tree
 unfolding stands_in_active documents_inside
-removed world n =
-    let dying = cond (stands_in_active world n) (documents_inside is_active_state world n) [] in
-    with_state Dead dying (unlinked world n (container_of world n))
+removed tree n =
+    let dying = cond (stands_in_active tree n) (documents_inside is_active_state tree n) [] in
+    with_state Dead dying (unlinked tree n (container_of tree n))
 
 -- the children with a new one before a sibling, or last
 abbrev pub placed_before : ℕ → Option ℕ → List ℕ → List ℕ
@@ -163,37 +163,37 @@ next_after n [] = None
 next_after n (x ∷ xs) = cond (x == n) (first_of_list xs) (next_after n xs)
 
 -- the sibling that an element is put before: where it is the element itself, its next sibling takes its place
-abbrev pub sibling_meant : World → Container → ℕ → Option ℕ → Option ℕ
-sibling_meant world (InElement parent) n (Some sibling) =
-    cond (sibling == n) (next_after n (element_at world parent).children) (Some sibling)
-sibling_meant world container n sibling = sibling
+abbrev pub sibling_meant : Tree → Container → ℕ → Option ℕ → Option ℕ
+sibling_meant tree (InElement parent) n (Some sibling) =
+    cond (sibling == n) (next_after n (element_at tree parent).children) (Some sibling)
+sibling_meant tree container n sibling = sibling
 
-abbrev pub linked : World → Container → ℕ → Option ℕ → World
-linked world (InElement parent) n sibling =
+abbrev pub linked : Tree → Container → ℕ → Option ℕ → Tree
+linked tree (InElement parent) n sibling =
     change_element (λ element. record element { children = placed_before n sibling (element.children) }) parent
-    (change_element (λ element. record element { parent = Some parent }) n world)
-linked world (InDocument document) n sibling = change_document (λ it. record it { root = Some n }) document world
+    (change_element (λ element. record element { parent = Some parent }) n tree)
+linked tree (InDocument document) n sibling = change_document (λ it. record it { root = Some n }) document tree
 
-abbrev pub document_of_container : World → Container → ℕ
-document_of_container world (InElement parent) = (element_at world parent).document
-document_of_container world (InDocument document) = document
+abbrev pub document_of_container : Tree → Container → ℕ
+document_of_container tree (InElement parent) = (element_at tree parent).document
+document_of_container tree (InDocument document) = document
 
 -- adopting (DOM, 4.5): the node document of an element and its descendants
-unfoldable pub adopted : World → ℕ → ℕ → World
+unfoldable pub adopted : Tree → ℕ → ℕ → Tree
 unfolding inclusive_descendants
-adopted world document n =
-    record world { elements = change_each (λ element. record element { document = document }) (inclusive_descendants world n) (world.elements) }
+adopted tree document n =
+    record tree { elements = change_each (λ element. record element { document = document }) (inclusive_descendants tree n) (tree.elements) }
 
 -- Fresh documents in frames of the subtree become Active with those inside
-unfoldable pub shown : World → ℕ → World
+unfoldable pub shown : Tree → ℕ → Tree
 unfolding stands_in_active documents_inside
-shown world n =
-    with_state Active (cond (stands_in_active world n) (documents_inside is_fresh_state world n) []) world
+shown tree n =
+    with_state Active (cond (stands_in_active tree n) (documents_inside is_fresh_state tree n) []) tree
 
 -- inserting (DOM, 4.2.3): a removal where the element stands somewhere, and then the insertion
-unfoldable pub inserted : World → Container → ℕ → Option ℕ → World
+unfoldable pub inserted : Tree → Container → ℕ → Option ℕ → Tree
 unfolding removed adopted shown
-inserted world container n sibling =
-    let apart = removed world n in
-    let joined = linked apart container n (sibling_meant world container n sibling) in
-    shown (adopted joined (document_of_container world container) n) n
+inserted tree container n sibling =
+    let apart = removed tree n in
+    let joined = linked apart container n (sibling_meant tree container n sibling) in
+    shown (adopted joined (document_of_container tree container) n) n

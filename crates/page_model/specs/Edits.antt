@@ -1,44 +1,33 @@
--- What single commands make of a world: elements, documents and styles (DOM, 4.5; HTML, 4.8.5; CSSOM, 6.6).
+-- What single commands make of elements and documents: making them, styles and natural sizes (DOM, 4.5; HTML, 4.8.5; CSSOM, 6.6).
 use Rattle.std.specs.Prelude.{ℕ, ℤ, pos, negsuc, ◌+ℤ◌, min, Bool, true, false, Option, Some, None, List, [], ◌∷◌, ◌++◌, length}
 use Rattle.px_units.specs.Lengths.{LengthValue, Automatic, Pixels, Percentage}
 use Rattle.layout_model.specs.Styles.{Style, Declaration, SetWidth, SetHeight, first_style, declared}
 use Rattle.layout_model.specs.Items.{Kind, BlockKind, ImageKind, FrameKind, Item}
 use Rattle.script_model.specs.Syntax.{Dimension, WidthDimension, HeightDimension}
-use Rattle.page_model.specs.World.{Fresh, Document, DocumentThing, ElementThing, World}
-use Rattle.page_model.specs.Lookups.{no_extent, new_element, change_element}
-use Rattle.page_model.specs.Names.{with_name}
+use Rattle.page_model.specs.World.{Fresh, Document, Tree}
+use Rattle.page_model.specs.Lookups.{new_element, change_element}
 
 -- a document just made, in a frame
 abbrev pub new_document : ℕ → Document
-new_document frame = record {
-  state = Fresh;
-  frame = Some frame;
-  root = None;
-  scroll = no_extent;
-  noted = None;
-  pending = [];
-  notifying = false;
-}
+new_document frame = record { state = Fresh; frame = Some frame; root = None }
 
 -- an element of a kind, made in a document and standing nowhere
-abbrev pub with_element : List ℕ → Kind → ℕ → Option ℕ → World → World
-with_element name kind document framed world =
-    with_name name (ElementThing (length world.elements))
-    (record world { elements = world.elements ++ new_element (record { style = first_style; kind = kind }) document framed ∷ [] })
+abbrev pub with_element : Kind → ℕ → Option ℕ → Tree → Tree
+with_element kind document framed tree =
+    record tree { elements = tree.elements ++ new_element (record { style = first_style; kind = kind }) document framed ∷ [] }
 
 -- a frame with its document
-abbrev pub with_frame : List ℕ → ℕ → List ℕ → World → World
-with_frame name document inside world =
-    with_name inside (DocumentThing (length world.documents))
-    (record (with_element name FrameKind document (Some (length world.documents)) world) {
-      documents = world.documents ++ new_document (length world.elements) ∷ [];
-    })
+abbrev pub with_frame : ℕ → Tree → Tree
+with_frame document tree =
+    record (with_element FrameKind document (Some (length tree.documents)) tree) {
+      documents = tree.documents ++ new_document (length tree.elements) ∷ [];
+    }
 
-abbrev pub change_item : (Item → Item) → ℕ → World → World
-change_item change n world = change_element (λ element. record element { item = change (element.item) }) n world
+abbrev pub change_item : (Item → Item) → ℕ → Tree → Tree
+change_item change n tree = change_element (λ element. record element { item = change (element.item) }) n tree
 
-abbrev pub with_declaration : Declaration → ℕ → World → World
-with_declaration declaration n world = change_item (λ item. record item { style = declared declaration (item.style) }) n world
+abbrev pub with_declaration : Declaration → ℕ → Tree → Tree
+with_declaration declaration n tree = change_item (λ item. record item { style = declared declaration (item.style) }) n tree
 
 abbrev pub pixels_of : LengthValue → Option ℕ
 pixels_of Automatic = None
@@ -67,5 +56,5 @@ is_image BlockKind = false
 is_image (ImageKind width height) = true
 is_image FrameKind = false
 
-abbrev pub with_natural_size : ℕ → ℕ → ℕ → World → World
-with_natural_size width height n world = change_item (λ item. record item { kind = ImageKind width height }) n world
+abbrev pub with_natural_size : ℕ → ℕ → ℕ → Tree → Tree
+with_natural_size width height n tree = change_item (λ item. record item { kind = ImageKind width height }) n tree

@@ -1,14 +1,14 @@
 -- The line of an intersection observer's entry, its rectangles in the coordinates that they were found in.
 use Rattle.std.specs.Prelude.{ℕ, List, map}
 use Rattle.script_model.specs.TraceLines.{TraceLine, IntersectLine}
-use Rattle.page_model.specs.World.{Entry, World}
+use Rattle.page_model.specs.World.{Entry, Name}
 use Rattle.page_model.specs.Names.{element_text, intersection_observer_text}
 
-unfoldable pub intersection_line : World → ℕ → Entry → TraceLine
-intersection_line world observer entry =
+unfoldable pub intersection_line : List Name → ℕ → Entry → TraceLine
+intersection_line names observer entry =
     IntersectLine (record {
-      observer = intersection_observer_text world observer;
-      target = element_text world (entry.target);
+      observer = intersection_observer_text names observer;
+      target = element_text names (entry.target);
       time = entry.time;
       meets = entry.finding.meets;
       part = entry.finding.part;
@@ -18,6 +18,6 @@ intersection_line world observer entry =
       cut = entry.finding.cut;
     })
 
-unfoldable pub intersection_lines : World → ℕ → List Entry → List TraceLine
+unfoldable pub intersection_lines : List Name → ℕ → List Entry → List TraceLine
 unfolding intersection_line
-intersection_lines world observer entries = map (intersection_line world observer) entries
+intersection_lines names observer entries = map (intersection_line names observer) entries

@@ -4,7 +4,7 @@ use Rattle.std.specs.Prelude.{ℕ, ◌*◌, Bool, true, false, cond, not, ◌||�
 use Rattle.px_units.specs.declared.Rect.{Rect}
 use Rattle.px_units.specs.declared.Point.{Point}
 use Rattle.px_units.specs.Rects.{area}
-use Rattle.page_model.specs.World.{World, Root, ImplicitRoot, DocumentRoot, ElementRoot, Finding, IntersectionObserver}
+use Rattle.page_model.specs.World.{World, Tree, Root, ImplicitRoot, DocumentRoot, ElementRoot, Finding, IntersectionObserver}
 use Rattle.page_model.specs.Lookups.{element_at}
 use Rattle.page_model.specs.Documents.{is_inclusive_ancestor}
 use Rattle.page_model.specs.PageBoxes.{has_box}
@@ -16,19 +16,19 @@ pub data Relation : Type 0 where
   Boxless : Relation
   Chained : Relation
 
-abbrev pub is_proper_ancestor : World → ℕ → ℕ → Bool
-is_proper_ancestor world ancestor element = cond (ancestor == element) false (is_inclusive_ancestor world ancestor element)
+abbrev pub is_proper_ancestor : Tree → ℕ → ℕ → Bool
+is_proper_ancestor tree ancestor element = cond (ancestor == element) false (is_inclusive_ancestor tree ancestor element)
 
 -- apart from a root that isn't implicit is a target of another node document; and from an element also one that isn't a
 -- descendant, or where one of the two has no box
 abbrev pub is_apart : World → Root → ℕ → Bool
 is_apart world ImplicitRoot target = false
-is_apart world (DocumentRoot root) target = not ((element_at world target).document == root)
+is_apart world (DocumentRoot root) target = not ((element_at (world.tree) target).document == root)
 is_apart world (ElementRoot root) target =
-    not ((element_at world target).document == (element_at world root).document) || not (is_proper_ancestor world root target) || not (has_box world root) || not (has_box world target)
+    not ((element_at (world.tree) target).document == (element_at (world.tree) root).document) || not (is_proper_ancestor (world.tree) root target) || not (has_box (world.tree) (world.viewports.size) root) || not (has_box (world.tree) (world.viewports.size) target)
 
 abbrev pub relation : World → Root → ℕ → Relation
-relation world root target = cond (is_apart world root target) Apart (cond (has_box world target) Chained Boxless)
+relation world root target = cond (is_apart world root target) Apart (cond (has_box (world.tree) (world.viewports.size) target) Chained Boxless)
 
 -- the count of thresholds, in ten-thousandths, that aren't greater than the part of the whole
 abbrev pub index_of : List ℕ → ℕ → ℕ → ℕ
@@ -78,7 +78,7 @@ seen_at thresholds from bounds cut root =
 abbrev pub root_origin : World → Root → Point
 root_origin world ImplicitRoot = zero_point
 root_origin world (DocumentRoot document) = origin world document
-root_origin world (ElementRoot element) = cond (has_box world element) (origin_of_element world element) zero_point
+root_origin world (ElementRoot element) = cond (has_box (world.tree) (world.viewports.size) element) (origin_of_element world element) zero_point
 
 abbrev pub found : World → IntersectionObserver → ℕ → Rect → Relation → Finding
 found world observer target root Apart = unseen 0 root

@@ -4,7 +4,7 @@
 use Rattle.std.specs.Prelude.{ℕ, Bool, ◌||◌, List, Option, Some, None, position, bytes_eq}
 use Rattle.text_io.specs.declared.kinds.ThrowKind.TheVariants.{ReferenceError, TypeError}
 use Rattle.script_model.specs.Syntax.{Operand, Named, Target, Aim, PlainAim, WindowAim}
-use Rattle.page_model.specs.World.{Thing, DocumentThing, ElementThing, ResizeObserverThing, IntersectionObserverThing, QueryListThing, Root, ImplicitRoot, DocumentRoot, ElementRoot, EventTarget, ElementTarget, DocumentTarget, WindowTarget, QueryTarget, World}
+use Rattle.page_model.specs.World.{Thing, DocumentThing, ElementThing, ResizeObserverThing, IntersectionObserverThing, QueryListThing, Root, ImplicitRoot, DocumentRoot, ElementRoot, EventTarget, ElementTarget, DocumentTarget, WindowTarget, QueryTarget, Name}
 use Rattle.page_model.specs.Names.{named_thing, is_taken}
 use Rattle.page_model.specs.Documents.{Container, InElement, InDocument}
 use Rattle.page_model.specs.Steps.{Step, Did, Threw, ◌>>=◌, required, throw_if}
@@ -20,16 +20,16 @@ pub data Present : Type 0 where
 abbrev pub Handlers : Type 0
 Handlers = List (List ℕ)
 
-abbrev pub thing_named : World → List ℕ → Step Thing
-thing_named world name = required ReferenceError (named_thing world name)
+abbrev pub thing_named : List Name → List ℕ → Step Thing
+thing_named names name = required ReferenceError (named_thing names name)
 
 -- a new name has to be free
-abbrev pub new_name : World → List ℕ → Step (Unit {0})
-new_name world name = throw_if (is_taken world name) TypeError
+abbrev pub new_name : List Name → List ℕ → Step (Unit {0})
+new_name names name = throw_if (is_taken names name) TypeError
 
 -- and another one in the same command, too
-abbrev pub other_new_name : World → List ℕ → List ℕ → Step (Unit {0})
-other_new_name world first name = throw_if (is_taken world name || bytes_eq first name) TypeError
+abbrev pub other_new_name : List Name → List ℕ → List ℕ → Step (Unit {0})
+other_new_name names first name = throw_if (is_taken names name || bytes_eq first name) TypeError
 
 abbrev pub as_document : Thing → Step ℕ
 as_document (DocumentThing document) = Did document
@@ -62,17 +62,17 @@ as_event_target (DocumentThing document) = Did (DocumentTarget document)
 as_event_target (QueryListThing query) = Did (QueryTarget query)
 as_event_target thing = Threw TypeError
 
-abbrev pub document_named : World → List ℕ → Step ℕ
-document_named world name = thing_named world name >>= as_document
+abbrev pub document_named : List Name → List ℕ → Step ℕ
+document_named names name = thing_named names name >>= as_document
 
-abbrev pub resize_observer_named : World → List ℕ → Step ℕ
-resize_observer_named world name = thing_named world name >>= as_resize_observer
+abbrev pub resize_observer_named : List Name → List ℕ → Step ℕ
+resize_observer_named names name = thing_named names name >>= as_resize_observer
 
-abbrev pub intersection_observer_named : World → List ℕ → Step ℕ
-intersection_observer_named world name = thing_named world name >>= as_intersection_observer
+abbrev pub intersection_observer_named : List Name → List ℕ → Step ℕ
+intersection_observer_named names name = thing_named names name >>= as_intersection_observer
 
-abbrev pub query_list_named : World → List ℕ → Step ℕ
-query_list_named world name = thing_named world name >>= as_query_list
+abbrev pub query_list_named : List Name → List ℕ → Step ℕ
+query_list_named names name = thing_named names name >>= as_query_list
 
 -- `$target`
 abbrev pub present_target : Present → Step ℕ
@@ -80,29 +80,29 @@ present_target NoEntry = Threw ReferenceError
 present_target (ResizeEntry target) = Did target
 present_target (IntersectionEntry target meets) = Did target
 
-abbrev pub operand_thing : World → Present → Operand → Step Thing
-operand_thing world present (Named name) = thing_named world name
-operand_thing world present Target = present_target present >>= λ target. Did (ElementThing target)
+abbrev pub operand_thing : List Name → Present → Operand → Step Thing
+operand_thing names present (Named name) = thing_named names name
+operand_thing names present Target = present_target present >>= λ target. Did (ElementThing target)
 
-abbrev pub element_meant : World → Present → Operand → Step ℕ
-element_meant world present operand = operand_thing world present operand >>= as_element
+abbrev pub element_meant : List Name → Present → Operand → Step ℕ
+element_meant names present operand = operand_thing names present operand >>= as_element
 
 -- an element or a document
-abbrev pub container_meant : World → Present → Operand → Step Container
-container_meant world present operand = operand_thing world present operand >>= as_container
+abbrev pub container_meant : List Name → Present → Operand → Step Container
+container_meant names present operand = operand_thing names present operand >>= as_container
 
-abbrev pub event_target_meant : World → Present → Aim → Step EventTarget
-event_target_meant world present (PlainAim operand) = operand_thing world present operand >>= as_event_target
-event_target_meant world present (WindowAim name) = document_named world name >>= λ document. Did (WindowTarget document)
+abbrev pub event_target_meant : List Name → Present → Aim → Step EventTarget
+event_target_meant names present (PlainAim operand) = operand_thing names present operand >>= as_event_target
+event_target_meant names present (WindowAim name) = document_named names name >>= λ document. Did (WindowTarget document)
 
 abbrev pub root_at : Container → Root
 root_at (InElement element) = ElementRoot element
 root_at (InDocument document) = DocumentRoot document
 
 -- the root of an intersection observer, the implicit one where none is given
-abbrev pub root_meant : World → Present → Option Operand → Step Root
-root_meant world present None = Did ImplicitRoot
-root_meant world present (Some operand) = container_meant world present operand >>= λ container. Did (root_at container)
+abbrev pub root_meant : List Name → Present → Option Operand → Step Root
+root_meant names present None = Did ImplicitRoot
+root_meant names present (Some operand) = container_meant names present operand >>= λ container. Did (root_at container)
 
 abbrev pub handler_named : Handlers → List ℕ → Step ℕ
 handler_named handlers name = required ReferenceError (position (bytes_eq name) handlers)

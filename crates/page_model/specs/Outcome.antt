@@ -9,48 +9,38 @@ use Rattle.script_model.specs.TraceLines.{TraceLine}
 use Rattle.script_model.specs.TraceText.{line_text}
 use Rattle.script_model.specs.Summary.{summary_text}
 use Rattle.page_model.specs.World.{World, Active, DocumentThing}
-use Rattle.page_model.specs.Lookups.{no_extent}
 use Rattle.page_model.specs.Operands.{NoEntry}
 use Rattle.page_model.specs.Runs.{Flow, Next, Thrown, Limited, Said, silent, for_each, caught}
-use Rattle.page_model.specs.Callbacks.{run_command, once_begun, settled}
+use Rattle.page_model.specs.Callbacks.{run_command, once_begun, answered}
 use Rattle.page_model.specs.Ticks.{time_set, tick}
 
 -- the top document, Active and empty, with a viewport of 800 by 600 pixels
 abbrev pub opening_world : World
 opening_world = record {
-  elements = [];
-  documents = record {
-    state = Active;
-    frame = None;
-    root = None;
-    scroll = no_extent;
-    noted = None;
-    pending = [];
-    notifying = false;
-  } ∷ [];
+  tree = record { elements = []; documents = record { state = Active; frame = None; root = None } ∷ [] };
   names = record { text = codes "top"; thing = DocumentThing 0 } ∷ [];
-  size = record { across = 51200; down = 38400 };
-  clock = 0;
-  begun = 0;
-  observed = 0;
-  resize_observers = [];
-  registered = 0;
-  intersection_observers = [];
+  viewports = record { size = record { across = 51200; down = 38400 }; noted = [] };
+  scrolls = record { elements = []; documents = []; pending = [] };
+  resize_observers = record { given = 0; made = [] };
+  intersection_observers = record { given = 0; made = [] };
+  notifying = [];
   queries = [];
   listeners = record { given = 0; held = [] };
   frame_callbacks = record { given = 0; held = [] };
   timers = record { given = 0; held = [] };
   tasks = [];
+  clock = 0;
+  begun = 0;
 }
 
 -- a tick is begun as any command is
 abbrev pub run_tick : List NamedBlock → ℕ → ℕ → World → Said World
 run_tick script line time world =
-    once_begun line world λ begun. settled line begun (tick script) (time_set time begun)
+    once_begun line world λ begun. answered line begun (tick script) (time_set time begun)
 
 -- what stands outside handlers; a throw ends this item alone
 unfoldable pub run_item : List NamedBlock → Item → World → Said World
-unfolding caught run_command settled once_begun tick
+unfolding caught run_command answered once_begun tick
 run_item script (Outside command) world = caught (run_command script [] command NoEntry world)
 run_item script (Tick line time) world = caught (run_tick script line time world)
 run_item script (Handler line name block end_line) world = silent world

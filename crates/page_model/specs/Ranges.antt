@@ -1,7 +1,8 @@
--- That each number in a world is the number of something, so that no lookup ever comes to a default.
-use Rattle.std.specs.Prelude.{ℕ, ◌<◌, List, length, IfSome, ⊤}
+-- That each number in a world is the number of something, so that no lookup ever comes to a default; and that nothing is
+-- stored past what there is, so that what is made later begins unscrolled, with no size noted and no notify task queued.
+use Rattle.std.specs.Prelude.{ℕ, ◌<◌, ◌≤◌, List, length, IfSome, ⊤}
 use Rattle.std.specs.List.{AllByRecursion}
-use Rattle.page_model.specs.World.{Element, Document, ScrollTarget, ScrolledElement, ScrolledDocument, Thing, DocumentThing, ElementThing, ResizeObserverThing, IntersectionObserverThing, QueryListThing, Observation, ResizeObserver, Root, ImplicitRoot, DocumentRoot, ElementRoot, Registration, Entry, IntersectionObserver, EventTarget, ElementTarget, DocumentTarget, WindowTarget, QueryTarget, Listener, FrameCallback, Timer, Task, Notify, Posted, World}
+use Rattle.page_model.specs.World.{Element, Document, Tree, Scrolls, ScrollTarget, ScrolledElement, ScrolledDocument, Thing, DocumentThing, ElementThing, ResizeObserverThing, IntersectionObserverThing, QueryListThing, Observation, ResizeObserver, Root, ImplicitRoot, DocumentRoot, ElementRoot, Registration, Entry, IntersectionObserver, EventTarget, ElementTarget, DocumentTarget, WindowTarget, QueryTarget, Listener, FrameCallback, Timer, Task, Notify, Posted, World}
 use Rattle.page_model.specs.Operands.{Present, NoEntry, ResizeEntry, IntersectionEntry}
 
 -- how much there is of each thing
@@ -15,10 +16,10 @@ pub record Counts : Type 0 where
 
 abbrev pub counts_of : ℕ → World → Counts
 counts_of handlers world = record {
-  elements = length world.elements;
-  documents = length world.documents;
-  resize_observers = length world.resize_observers;
-  intersection_observers = length world.intersection_observers;
+  elements = length world.tree.elements;
+  documents = length world.tree.documents;
+  resize_observers = length world.resize_observers.made;
+  intersection_observers = length world.intersection_observers.made;
   queries = length world.queries;
   handlers = handlers;
 }
@@ -36,7 +37,16 @@ IsScrollIn counts (ScrolledDocument document) = document < counts.documents
 pub record IsDocumentIn (counts : Counts) (it : Document) : Type 0 where
   pub frame : IfSome it.frame (λ n. n < counts.elements)
   pub root : IfSome it.root (λ n. n < counts.elements)
-  pub pending : AllByRecursion (IsScrollIn counts) it.pending
+
+pub record IsTreeIn (counts : Counts) (it : Tree) : Type 0 where
+  pub elements : AllByRecursion (IsElementIn counts) it.elements
+  pub documents : AllByRecursion (IsDocumentIn counts) it.documents
+
+pub record AreScrollsIn (counts : Counts) (it : Scrolls) : Type 0 where
+  pub elements : length it.elements ≤ counts.elements
+  pub documents : length it.documents ≤ counts.documents
+  pub listed : length it.pending ≤ counts.documents
+  pub pending : AllByRecursion (AllByRecursion (IsScrollIn counts)) it.pending
 
 abbrev pub IsThingIn : Counts → Thing → Type 0
 IsThingIn counts (DocumentThing document) = document < counts.documents
@@ -86,14 +96,16 @@ abbrev pub IsTaskIn : Counts → Task → Type 0
 IsTaskIn counts (Notify document) = document < counts.documents
 IsTaskIn counts (Posted document handler) = document < counts.documents × handler < counts.handlers
 
--- the lists of a world, with numbers below these counts
+-- the parts of a world, with numbers below these counts
 pub record IsWithin (counts : Counts) (world : World) : Type 0 where
   pub top : 0 < counts.documents
-  pub elements : AllByRecursion (IsElementIn counts) world.elements
-  pub documents : AllByRecursion (IsDocumentIn counts) world.documents
+  pub tree : IsTreeIn counts world.tree
   pub names : AllByRecursion (λ named. IsThingIn counts named.thing) world.names
-  pub resize_observers : AllByRecursion (IsResizeObserverIn counts) world.resize_observers
-  pub intersection_observers : AllByRecursion (IsIntersectionObserverIn counts) world.intersection_observers
+  pub noted : length world.viewports.noted ≤ counts.documents
+  pub scrolls : AreScrollsIn counts world.scrolls
+  pub resize_observers : AllByRecursion (IsResizeObserverIn counts) world.resize_observers.made
+  pub intersection_observers : AllByRecursion (IsIntersectionObserverIn counts) world.intersection_observers.made
+  pub notifying : length world.notifying ≤ counts.documents
   pub queries : AllByRecursion (λ list. list.document < counts.documents) world.queries
   pub listeners : AllByRecursion (IsListenerIn counts) world.listeners.held
   pub frame_callbacks : AllByRecursion (IsFrameCallbackIn counts) world.frame_callbacks.held
@@ -106,5 +118,5 @@ IsInRange handlers world = IsWithin (counts_of handlers world) world
 -- the target of the present entry
 abbrev pub IsPresentIn : World → Present → Type 0
 IsPresentIn world NoEntry = ⊤
-IsPresentIn world (ResizeEntry target) = target < length world.elements
-IsPresentIn world (IntersectionEntry target meets) = target < length world.elements
+IsPresentIn world (ResizeEntry target) = target < length world.tree.elements
+IsPresentIn world (IntersectionEntry target meets) = target < length world.tree.elements

@@ -24,7 +24,7 @@ point_at extent = record { left = pos (extent.across); top = pos (extent.down) }
 
 -- the scroll offset in force of an element, none where it is no scroll container with a box, as a root element never is
 abbrev pub shown_scroll : World → ℕ → Bool → Extent
-shown_scroll world n true = scroll_offset world (ScrolledElement n)
+shown_scroll world n true = scroll_offset (world.tree) (world.viewports.size) (world.scrolls) (ScrolledElement n)
 shown_scroll world n false = no_extent
 
 -- for an element its border box in its document's viewport, all zeros without a box; for a document its viewport; and the
@@ -32,11 +32,11 @@ shown_scroll world n false = no_extent
 abbrev pub reading_of : World → Container → TraceLine
 reading_of world (InElement n) =
     ReadLine
-    (element_text world n)
-    (rect_of (place_of world n) (size_of world n Border))
-    (point_at (shown_scroll world n (is_scroller world n)))
+    (element_text (world.names) n)
+    (rect_of (place_of (world.tree) (world.viewports.size) (world.scrolls) n) (size_of (world.tree) (world.viewports.size) n Border))
+    (point_at (shown_scroll world n (is_scroller (world.tree) (world.viewports.size) n)))
 reading_of world (InDocument document) =
     ReadLine
-    (document_text world document)
-    (rect_of (point_at no_extent) (viewport_of world document))
-    (point_at (scroll_offset world (ScrolledDocument document)))
+    (document_text (world.names) document)
+    (rect_of (point_at no_extent) (viewport_of (world.tree) (world.viewports.size) document))
+    (point_at (scroll_offset (world.tree) (world.viewports.size) (world.scrolls) (ScrolledDocument document)))

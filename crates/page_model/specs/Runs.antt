@@ -31,10 +31,11 @@ follow Next rest said = behind (said.lines) (rest (said.state))
 follow Thrown rest said = said
 follow Limited rest said = said
 
+infixl 10 ◌followed_by◌
 -- what is said and then the rest, unless a throw or a limit came
-unfoldable pub after : {S : Type 0} → (S → Said S) → Said S → Said S
+unfoldable pub ◌followed_by◌ : {S : Type 0} → Said S → (S → Said S) → Said S
 unfolding follow
-after rest said = follow (said.flow) rest said
+◌followed_by◌ said rest = follow (said.flow) rest said
 
 unfoldable pub caught_flow : Flow → Flow
 caught_flow Next = Next
@@ -47,8 +48,8 @@ unfolding caught_flow
 caught said = record said { flow = caught_flow (said.flow) }
 
 -- the same said of another state
-abbrev pub with_state : {S R : Type 0} → (S → R) → Said S → Said R
-with_state change said = record { lines = said.lines; flow = said.flow; state = change (said.state) }
+abbrev pub lifted : {S R : Type 0} → (S → R) → Said S → Said R
+lifted change said = record { lines = said.lines; flow = said.flow; state = change (said.state) }
 
 abbrev pub only_if : {S : Type 0} → (S → Said S) → S → Bool → Said S
 only_if step state true = step state
@@ -56,16 +57,16 @@ only_if step state false = silent state
 
 -- the step for each of the items, in order
 unfoldable pub for_each : {A S : Type 0} → (A → S → Said S) → List A → S → Said S
-unfolding after
+unfolding ◌followed_by◌
 for_each step [] state = silent state
-for_each step (item ∷ others) state = after (for_each step others) (step item state)
+for_each step (item ∷ others) state = step item state followed_by for_each step others
 
 -- step after step as long as a test holds, so many at most
 unfoldable pub repeat : {S : Type 0} → (S → Bool) → (S → Said S) → ℕ → S → Said S
-unfolding after
+unfolding ◌followed_by◌
 repeat goes_on step zero state = silent state
 repeat goes_on step (suc most) state =
-    only_if (λ now. after (repeat goes_on step most) (step now)) state (goes_on state)
+    only_if (λ now. step now followed_by repeat goes_on step most) state (goes_on state)
 
 -- More steps than any loop of a tick has, so that none is cut off. A run begins at most 1,000,000 commands. Each posted
 -- task, observer and query list is made by one, and at most 64 notify tasks wait at a time. Between two commands of a
@@ -86,9 +87,9 @@ at_place place state = record { place = place; state = state }
 unfoldable pub by_place : {S : Type 0} → (S → ℕ) → (S → Bool) → (ℕ → S → Said S) → S → Said S
 unfolding repeat
 by_place count goes_on step state =
-    with_state (λ turn. turn.state)
+    lifted (λ turn. turn.state)
     (repeat
     (λ turn. goes_on (turn.state) && nat_lt (turn.place) (count (turn.state)))
-    (λ turn. with_state (at_place (suc turn.place)) (step (turn.place) (turn.state)))
+    (λ turn. lifted (at_place (suc turn.place)) (step (turn.place) (turn.state)))
     most_steps
     (at_place 0 state))

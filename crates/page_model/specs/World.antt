@@ -1,6 +1,10 @@
--- The world of a page: plain lists, and no box, clip or other kept result (DOM; HTML, event loops and documents;
--- Resize Observer, 3; Intersection Observer, 3.1). Elements, documents, observers, query lists and handlers are named
--- by their numbers, from 0 in order of making. Lengths are in units of 1/64 pixel, times in milliseconds.
+-- The world of a page, a record of parts: plain lists, and no box, clip or other kept result (DOM; HTML, event loops and
+-- documents; Resize Observer, 3; Intersection Observer, 3.1). Elements, documents, observers, query lists and handlers are
+-- named by their numbers, from 0 in order of making. Lengths are in units of 1/64 pixel, times in milliseconds.
+--
+-- Each part is what one crate keeps, and a definition of what happens to a part takes that part and what it needs of
+-- others. Some lists have an entry for each document or element but may end before a number: nothing is stored there then
+-- (`entry_or` and `put_at` of Lookups), so that nothing is added to them when a document or an element is made.
 use Rattle.std.specs.Prelude.{ℕ, Bool, List, Option}
 use Rattle.px_units.specs.declared.BoxKind.{BoxKind}
 use Rattle.px_units.specs.declared.Rect.{Rect}
@@ -14,6 +18,8 @@ pub record Extent : Type 0 where
   pub across : ℕ
   pub down : ℕ
 
+-- elements and documents -----------------------------------------------------------------------------------------------------
+
 -- a root element has no parent; `document` is the node document, and `framed` the document of a frame
 pub record Element : Type 0 where
   pub item : Item
@@ -21,7 +27,6 @@ pub record Element : Type 0 where
   pub children : List ℕ
   pub document : ℕ
   pub framed : Option ℕ
-  pub scroll : Extent
 
 -- a frame's document is Fresh until its frame first stands in the tree of an Active document, and Dead once it was
 -- taken out of one
@@ -30,19 +35,35 @@ pub data DocumentState : Type 0 where
   Active : DocumentState
   Dead : DocumentState
 
-pub data ScrollTarget : Type 0 where
-  ScrolledElement : (element : ℕ) → ScrollTarget
-  ScrolledDocument : (document : ℕ) → ScrollTarget
-
--- `noted` is the viewport's size at the last resize steps; `notifying` tells whether a notify task is queued
+-- a document, with the frame that it is in and its root element
 pub record Document : Type 0 where
   pub state : DocumentState
   pub frame : Option ℕ
   pub root : Option ℕ
-  pub scroll : Extent
-  pub noted : Option Extent
-  pub pending : List ScrollTarget
-  pub notifying : Bool
+
+-- all elements and documents, whether they stand somewhere or not
+pub record Tree : Type 0 where
+  pub elements : List Element
+  pub documents : List Document
+
+-- viewports and scrolling ------------------------------------------------------------------------------------------------------
+
+-- the size of the top document's viewport, and for each document the size noted at its last resize steps, if any
+pub record Viewports : Type 0 where
+  pub size : Extent
+  pub noted : List (Option Extent)
+
+pub data ScrollTarget : Type 0 where
+  ScrolledElement : (element : ℕ) → ScrollTarget
+  ScrolledDocument : (document : ℕ) → ScrollTarget
+
+-- the stored scroll positions of elements and of documents, and each document's list of pending scroll events
+pub record Scrolls : Type 0 where
+  pub elements : List Extent
+  pub documents : List Extent
+  pub pending : List (List ScrollTarget)
+
+-- names ------------------------------------------------------------------------------------------------------------------------
 
 -- what a name can stand for
 pub data Thing : Type 0 where
@@ -55,6 +76,8 @@ pub data Thing : Type 0 where
 pub record Name : Type 0 where
   pub text : List ℕ
   pub thing : Thing
+
+-- observers --------------------------------------------------------------------------------------------------------------------
 
 -- `last` is the last reported size
 pub record Observation : Type 0 where
@@ -69,6 +92,11 @@ pub record ResizeObserver : Type 0 where
   pub targets : List Observation
   pub active : List Observation
   pub skipped : List Observation
+
+-- `given` is how many serial numbers were given to observations, so that it is the next one's
+pub record ResizeObservers : Type 0 where
+  pub given : ℕ
+  pub made : List ResizeObserver
 
 pub data Root : Type 0 where
   ImplicitRoot : Root
@@ -106,6 +134,13 @@ pub record IntersectionObserver : Type 0 where
   pub thresholds : List ℕ
   pub registrations : List Registration
   pub queue : List Entry
+
+-- `given` is how many serial numbers were given to registrations
+pub record IntersectionObservers : Type 0 where
+  pub given : ℕ
+  pub made : List IntersectionObserver
+
+-- query lists, listeners, callbacks and tasks ----------------------------------------------------------------------------------
 
 -- `matched` is the state at the last evaluation, or at creation
 pub record QueryList : Type 0 where
@@ -147,21 +182,21 @@ pub record Table (A : Type 0) : Type 0 where
   pub given : ℕ
   pub held : List A
 
--- `size` is the viewport of the top document, `begun` the number of commands begun; `observed` and `registered` are
--- the serial numbers given to resize observations and to registrations
+-- the whole --------------------------------------------------------------------------------------------------------------------
+
+-- `notifying` tells for each document whether a notify task is queued; `begun` is the number of commands begun
 pub record World : Type 0 where
-  pub elements : List Element
-  pub documents : List Document
+  pub tree : Tree
   pub names : List Name
-  pub size : Extent
-  pub clock : ℕ
-  pub begun : ℕ
-  pub observed : ℕ
-  pub resize_observers : List ResizeObserver
-  pub registered : ℕ
-  pub intersection_observers : List IntersectionObserver
+  pub viewports : Viewports
+  pub scrolls : Scrolls
+  pub resize_observers : ResizeObservers
+  pub intersection_observers : IntersectionObservers
+  pub notifying : List Bool
   pub queries : List QueryList
   pub listeners : Table Listener
   pub frame_callbacks : Table FrameCallback
   pub timers : Table Timer
   pub tasks : List Task
+  pub clock : ℕ
+  pub begun : ℕ

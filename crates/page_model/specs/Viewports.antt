@@ -1,0 +1,19 @@
+-- The size of the top document's viewport, and the sizes that resize steps noted (CSSOM View, 13).
+use Rattle.std.specs.Prelude.{ℕ, Bool, false, not, Option, Some, None}
+use Rattle.page_model.specs.World.{Extent, Viewports}
+use Rattle.page_model.specs.Lookups.{same_extent, entry_or, put_at}
+
+abbrev pub with_size : ℕ → ℕ → Viewports → Viewports
+with_size width height it = record it { size = record { across = width; down = height } }
+
+-- the size that was noted for a document, if any was
+abbrev pub noted_size : ℕ → Viewports → Option Extent
+noted_size document it = entry_or None it.noted document
+
+abbrev pub with_noted : ℕ → Extent → Viewports → Viewports
+with_noted document size it = record it { noted = put_at None document (Some size) (it.noted) }
+
+-- whether a size is another one than was noted; where none was, it isn't
+abbrev pub differs_from : Extent → Option Extent → Bool
+differs_from size None = false
+differs_from size (Some noted) = not (same_extent noted size)
