@@ -5,10 +5,10 @@ use Rattle.std.specs.Prelude.{true, false, not, cond, ◌==◌, ◌||◌, nat_lt
 use Rattle.std.proofs.lemmas.Bool.{false≢true, ltb-true, or_cases}
 use Rattle.std.proofs.lemmas.List.Filters.{length-filter_both}
 use Rattle.page_model.specs.World.{Observation, ResizeObserver}
-use Rattle.page_model.specs.Observing.{is_observed, without_observed}
+use Rattle.page_model.specs.ResizeObserving.{is_observed, without_observed}
 use Rattle.resize_observer.specs.Held.{IsHeld, targets_in}
 use Rattle.resize_observer.specs.Serials.{HasSerials}
-use Rattle.resize_observer.specs.Observers.{ResizeObservers, observer_at, may_observe}
+use Rattle.resize_observer.specs.Observers.{HeldObservers, observer_at, may_observe}
 use Rattle.resize_observer.proofs.Places.{within, read}
 use Rattle.resize_observer.proofs.Numbers.{KeepsSerials, serials-kept, serials-made, serials-observed, with_new, no_serials}
 
@@ -26,31 +26,31 @@ counted made place old there is =
 
 pub held-changed :
     (change : ResizeObserver → ResizeObserver) → KeepsSerials change →
-    {inside it : ResizeObservers} {count count' place : ℕ} {old new : ResizeObserver} →
-    inside ≡ it → place < length it.made → IsHeld inside.made inside.observed count inside.most_observers inside.most_observations →
-    old ≡ get_or inside.made place old → new ≡ change old →
+    {inside it : HeldObservers} {count count' place : ℕ} {old new : ResizeObserver} →
+    inside ≡ it → place < length it.part.made → IsHeld inside.part.made inside.part.given count inside.most_observers inside.most_observations →
+    old ≡ get_or inside.part.made place old → new ≡ change old →
     count' + length (old.targets) ≡ count + length (new.targets) → length (new.targets) ≤ length (old.targets) →
-    IsHeld (set inside.made place new) inside.observed count' inside.most_observers inside.most_observations
+    IsHeld (set inside.part.made place new) inside.part.given count' inside.most_observers inside.most_observations
 held-changed change keeps {inside} {it} {count} {count'} {place} {old} {new} seen inside_it was is same moves fewer =
-    let there : place < length inside.made = within seen inside_it in
-    let sums : targets_in (set inside.made place new) + length (old.targets) ≡ targets_in inside.made + length (new.targets) = recounted (inside.made) place old new there is in
-    let counts : count ≡ targets_in inside.made = was.counted in
+    let there : place < length inside.part.made = within seen inside_it in
+    let sums : targets_in (set inside.part.made place new) + length (old.targets) ≡ targets_in inside.part.made + length (new.targets) = recounted (inside.part.made) place old new there is in
+    let counts : count ≡ targets_in inside.part.made = was.counted in
     let bound : count ≤ inside.most_observations = was.observations in
     record {
-      observers = subst (λ n. n ≤ inside.most_observers) (sym (length-set (inside.made) place new)) was.observers;
+      observers = subst (λ n. n ≤ inside.most_observers) (sym (length-set (inside.part.made) place new)) was.observers;
       numbers = was.numbers;
       counted = omega (arith, sums, counts, moves);
       observations = omega (arith, bound, moves, fewer);
-      serials = serials-kept change keeps (inside.observed) (inside.made) place old new there is same was.serials;
+      serials = serials-kept change keeps (inside.part.given) (inside.part.made) place old new there is same was.serials;
     }
 
 -- a change that takes no target away
 pub held-kept :
     (change : ResizeObserver → ResizeObserver) → KeepsSerials change → ((it : ResizeObserver) → length (change it).targets ≡ length it.targets) →
-    {inside it : ResizeObservers} {count place : ℕ} {old new : ResizeObserver} →
-    inside ≡ it → place < length it.made → IsHeld inside.made inside.observed count inside.most_observers inside.most_observations →
-    old ≡ get_or inside.made place old → new ≡ change old →
-    IsHeld (set inside.made place new) inside.observed count inside.most_observers inside.most_observations
+    {inside it : HeldObservers} {count place : ℕ} {old new : ResizeObserver} →
+    inside ≡ it → place < length it.part.made → IsHeld inside.part.made inside.part.given count inside.most_observers inside.most_observations →
+    old ≡ get_or inside.part.made place old → new ≡ change old →
+    IsHeld (set inside.part.made place new) inside.part.given count inside.most_observers inside.most_observations
 held-kept change keeps counts {count = count} {old = old} {new = new} seen there was is same =
     let same_count : length (new.targets) ≡ length (old.targets) = ap (λ (it : ResizeObserver). length (it.targets)) same ∙ counts old in
     held-changed change keeps seen there was is same (ap (λ n. count + n) (sym same_count)) (omega (arith, same_count))
@@ -81,23 +81,23 @@ pub without-fewer : (n : ℕ) (xs : List Observation) → length (without_observ
 without-fewer n xs = omega (arith, length-filter_both (λ (each : Observation). not (each.target == n)) (λ (each : Observation). not (not (each.target == n))) (λ _. refl) xs)
 
 pub held-observed :
-    (new : Observation) {inside it : ResizeObservers} {count count' place : ℕ} {old after : ResizeObserver} →
-    inside ≡ it → place < length it.made → IsHeld inside.made inside.observed count inside.most_observers inside.most_observations →
-    new.serial ≡ inside.observed →
-    old ≡ get_or inside.made place old → after ≡ with_new new old →
+    (new : Observation) {inside it : HeldObservers} {count count' place : ℕ} {old after : ResizeObserver} →
+    inside ≡ it → place < length it.part.made → IsHeld inside.part.made inside.part.given count inside.most_observers inside.most_observations →
+    new.serial ≡ inside.part.given →
+    old ≡ get_or inside.part.made place old → after ≡ with_new new old →
     count' + length (old.targets) ≡ count + length (after.targets) → count' ≤ inside.most_observations →
-    IsHeld (set inside.made place after) (inside.observed + 1) count' inside.most_observers inside.most_observations
+    IsHeld (set inside.part.made place after) (inside.part.given + 1) count' inside.most_observers inside.most_observations
 held-observed new {inside} {it} {count} {count'} {place} {old} {after} seen inside_it was next is same moves bound =
-    let there : place < length inside.made = within seen inside_it in
-    let sums : targets_in (set inside.made place after) + length (old.targets) ≡ targets_in inside.made + length (after.targets) = recounted (inside.made) place old after there is in
-    let counts : count ≡ targets_in inside.made = was.counted in
-    let following : suc new.serial ≡ inside.observed + 1 = omega (arith, next) in
+    let there : place < length inside.part.made = within seen inside_it in
+    let sums : targets_in (set inside.part.made place after) + length (old.targets) ≡ targets_in inside.part.made + length (after.targets) = recounted (inside.part.made) place old after there is in
+    let counts : count ≡ targets_in inside.part.made = was.counted in
+    let following : suc new.serial ≡ inside.part.given + 1 = omega (arith, next) in
     record {
-      observers = subst (λ n. n ≤ inside.most_observers) (sym (length-set (inside.made) place after)) was.observers;
+      observers = subst (λ n. n ≤ inside.most_observers) (sym (length-set (inside.part.made) place after)) was.observers;
       numbers = was.numbers;
       counted = omega (arith, sums, counts, moves);
       observations = bound;
-      serials = subst (λ n. HasSerials n (set inside.made place after)) following (serials-observed (inside.made) place new old after there is same (subst (λ n. HasSerials n (inside.made)) (sym next) was.serials));
+      serials = subst (λ n. HasSerials n (set inside.part.made place after)) following (serials-observed (inside.part.made) place new old after there is same (subst (λ n. HasSerials n (inside.part.made)) (sym next) was.serials));
     }
 
 -- a target that is there leaves a place
@@ -121,23 +121,23 @@ within-limit n xs held count most may bound moves =
 
 -- that an observer may observe a target, of the fields and of the observer as it is found
 may-found :
-    (n : ℕ) {inside it : ResizeObservers} {place held : ℕ} {old : ResizeObserver} →
-    inside ≡ it → place < length it.made → held ≡ targets_in inside.made → old ≡ get_or inside.made place old →
+    (n : ℕ) {inside it : HeldObservers} {place held : ℕ} {old : ResizeObserver} →
+    inside ≡ it → place < length it.part.made → held ≡ targets_in inside.part.made → old ≡ get_or inside.part.made place old →
     may_observe place n it ≡ true → (is_observed n (old.targets) || nat_lt held inside.most_observations) ≡ true
 may-found n {inside} {it} {place} {held} {old} seen there counts is may =
-    ap (λ (x : ResizeObserver). is_observed n (x.targets) || nat_lt held inside.most_observations) (sym (read (inside.made) place old (within seen there) is))
+    ap (λ (x : ResizeObserver). is_observed n (x.targets) || nat_lt held inside.most_observations) (sym (read (inside.part.made) place old (within seen there) is))
     ∙ ap (λ count. is_observed n (observer_at inside place).targets || nat_lt count inside.most_observations) counts
     ∙ ap (may_observe place n) seen
     ∙ may
 
 -- what one more observation makes of the count
 pub count-observed :
-    (new : Observation) {inside it : ResizeObservers} {place held before count : ℕ} {old after : ResizeObserver} →
-    inside ≡ it → place < length it.made → held ≡ targets_in inside.made → held ≤ inside.most_observations → may_observe place (new.target) it ≡ true →
-    old ≡ get_or inside.made place old → after ≡ with_new new old → before ≡ length old.targets → count ≡ length after.targets →
+    (new : Observation) {inside it : HeldObservers} {place held before count : ℕ} {old after : ResizeObserver} →
+    inside ≡ it → place < length it.part.made → held ≡ targets_in inside.part.made → held ≤ inside.most_observations → may_observe place (new.target) it ≡ true →
+    old ≡ get_or inside.part.made place old → after ≡ with_new new old → before ≡ length old.targets → count ≡ length after.targets →
     (held - before + count + length old.targets ≡ held + length after.targets) × (held - before + count ≤ inside.most_observations)
 count-observed new {inside} {it} {place} {held} {before} {count} {old} {after} seen there counts bound may is same before_is count_is =
-    let few : length old.targets ≤ targets_in inside.made = counted (inside.made) place old (within seen there) is in
+    let few : length old.targets ≤ targets_in inside.part.made = counted (inside.part.made) place old (within seen there) is in
     let grown : length after.targets ≡ length (without_observed (new.target) (old.targets)) + 1 =
     ap (λ (x : ResizeObserver). length x.targets) same ∙ length-append (without_observed (new.target) (old.targets)) (new ∷ []) in
     let moves : held - before + count + length old.targets ≡ held + length after.targets = omega (arith, few, counts, before_is, count_is) in

@@ -5,7 +5,7 @@ use Rattle.std.proofs.lemmas.List.Elements.{All-nil, All-cons, All-head, All-tai
 use Rattle.std.specs.Prelude.{Bool, true, false, List, [], ◌∷◌, ◌++◌, All, slice_get, option_to_list, Option}
 use Rattle.px_units.specs.declared.BoxKind.TheVariants.{Content}
 use Rattle.page_model.specs.World.{Extent, Observation, ResizeObserver}
-use Rattle.page_model.specs.Observing.{without_observed}
+use Rattle.page_model.specs.ResizeObserving.{without_observed}
 use Rattle.resize_observer.specs.Reports.{with_last}
 use Rattle.resize_observer.specs.Serials.{Subject, subject_of, IsNumbered, AreNumbered, HasSerials}
 use Rattle.resize_observer.specs.Observers.{ungathered, gathered_at, reported_at, inactive}

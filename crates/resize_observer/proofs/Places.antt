@@ -6,9 +6,10 @@ use Rattle.std.specs.Prelude.{List, [], ◌∷◌, ◌++◌, slice_get, unwrap_o
 use Rattle.px_units.specs.declared.BoxKind.{BoxKind}
 use Rattle.page_model.specs.World.{ResizeObserver}
 use Rattle.page_model.specs.Lookups.{change_at, no_extent, no_resize_observer}
-use Rattle.page_model.specs.Observing.{without_observed}
+use Rattle.page_model.specs.ResizeObserving.{without_observed, with_resize_target}
+use Rattle.page_model.specs.Gathering.{is_of}
 use Rattle.page_model.specs.Intersections.{places_from}
-use Rattle.resize_observer.specs.Observers.{ResizeObservers, changing, observing}
+use Rattle.resize_observer.specs.Observers.{HeldObservers, changing}
 
 pub change_at-set : {A : Type 0} (change : A → A) (xs : List A) (place : ℕ) (x : A) → place < length xs → x ≡ get_or xs place x → set xs place (change x) ≡ change_at change place xs
 change_at-set change [] place x within is = refl
@@ -16,16 +17,16 @@ change_at-set change (y ∷ ys) zero x within is = ap (λ it. change it ∷ ys) 
 change_at-set change (y ∷ ys) (suc place) x within is = ap (λ others. y ∷ others) (change_at-set change ys place x (omega arith) is)
 
 -- a place of the fields that is one of the value
-pub within : {inside it : ResizeObservers} {place : ℕ} → inside ≡ it → place < length it.made → place < length inside.made
-within {place = place} seen there = subst (λ (these : ResizeObservers). place < length these.made) (sym seen) there
+pub within : {inside it : HeldObservers} {place : ℕ} → inside ≡ it → place < length it.part.made → place < length inside.part.made
+within {place = place} seen there = subst (λ (these : HeldObservers). place < length these.part.made) (sym seen) there
 
 pub once_changed :
-    (change : ResizeObserver → ResizeObserver) {inside it : ResizeObservers} {place : ℕ} {old new : ResizeObserver} →
-    inside ≡ it → place < length it.made → old ≡ get_or inside.made place old → new ≡ change old →
-    record inside { made = set inside.made place new } ≡ changing change place it
+    (change : ResizeObserver → ResizeObserver) {inside it : HeldObservers} {place : ℕ} {old new : ResizeObserver} →
+    inside ≡ it → place < length it.part.made → old ≡ get_or inside.part.made place old → new ≡ change old →
+    record inside { part = record (inside.part) { made = set inside.part.made place new } } ≡ changing change place it
 once_changed change {inside} {it} {place} {old} {new} seen there is same =
-    ap (λ (observer : ResizeObserver). record inside { made = set inside.made place observer }) same
-    ∙ ap (λ (made : List ResizeObserver). record inside { made = made }) (change_at-set change (inside.made) place old (within seen there) is)
+    ap (λ (observer : ResizeObserver). record inside { part = record (inside.part) { made = set inside.part.made place observer } }) same
+    ∙ ap (λ (made : List ResizeObserver). record inside { part = record (inside.part) { made = made } }) (change_at-set change (inside.part.made) place old (within seen there) is)
     ∙ ap (changing change place) seen
 
 -- an observer that is read at a place
@@ -33,16 +34,16 @@ pub read : (made : List ResizeObserver) (place : ℕ) (x : ResizeObserver) → p
 read made place x there is = ap (λ found. unwrap_or found no_resize_observer) (slice_get_read made (length made) place x refl there is)
 
 pub once_observed :
-    (n : ℕ) (observed : BoxKind) {inside it : ResizeObservers} {place : ℕ} {old new : ResizeObserver} →
-    inside ≡ it → place < length it.made → old ≡ get_or inside.made place old →
-    new ≡ record old { targets = without_observed n (old.targets) ++ record { serial = inside.observed; target = n; observed = observed; last = no_extent } ∷ [] } →
-    record inside { made = set inside.made place new; observed = inside.observed + 1 } ≡ observing place n observed it
+    (n : ℕ) (observed : BoxKind) {inside it : HeldObservers} {place : ℕ} {old new : ResizeObserver} →
+    inside ≡ it → place < length it.part.made → old ≡ get_or inside.part.made place old →
+    new ≡ record old { targets = without_observed n (old.targets) ++ record { serial = inside.part.given; target = n; observed = observed; last = no_extent } ∷ [] } →
+    record inside { part = record { given = inside.part.given + 1; made = set inside.part.made place new } } ≡ record it { part = with_resize_target place n observed (it.part) }
 once_observed n observed {inside} {it} {place} {old} {new} seen there is same =
-    let change : ResizeObserver → ResizeObserver = λ x. record x { targets = without_observed n (x.targets) ++ record { serial = inside.observed; target = n; observed = observed; last = no_extent } ∷ [] } in
-    ap (λ (observer : ResizeObserver). record inside { made = set inside.made place observer; observed = inside.observed + 1 }) same
-    ∙ ap (λ (made : List ResizeObserver). record inside { made = made; observed = inside.observed + 1 }) (change_at-set change (inside.made) place old (within seen there) is)
-    ∙ ap (λ (given : ℕ). record inside { made = change_at change place (inside.made); observed = given }) (add-one inside.observed)
-    ∙ ap (observing place n observed) seen
+    let change : ResizeObserver → ResizeObserver = λ x. record x { targets = without_observed n (x.targets) ++ record { serial = inside.part.given; target = n; observed = observed; last = no_extent } ∷ [] } in
+    ap (λ (observer : ResizeObserver). record inside { part = record { given = inside.part.given + 1; made = set inside.part.made place observer } }) same
+    ∙ ap (λ (made : List ResizeObserver). record inside { part = record { given = inside.part.given + 1; made = made } }) (change_at-set change (inside.part.made) place old (within seen there) is)
+    ∙ ap (λ (given : ℕ). record inside { part = record { given = given; made = change_at change place (inside.part.made) } }) (add-one inside.part.given)
+    ∙ ap (λ (these : HeldObservers). record these { part = with_resize_target place n observed (these.part) }) seen
 
 -- the observers of a document, looked up one after the other
 
@@ -59,10 +60,10 @@ behind_first x xs (suc left) some = let one : suc left - 1 ≡ left = omega arit
 
 pub passed :
     (document : ℕ) (made : List ResizeObserver) (number left : ℕ) (x : ResizeObserver) → number < length made → x ≡ get_or made number x → x.document ≡ document → 0 < left →
-    slice_get (places_from (number + 1) (λ (it : ResizeObserver). it.document == document) (drop (number + 1) made)) (left - 1)
-    ≡ slice_get (places_from number (λ (it : ResizeObserver). it.document == document) (drop number made)) left
+    slice_get (places_from (number + 1) (is_of document) (drop (number + 1) made)) (left - 1)
+    ≡ slice_get (places_from number (is_of document) (drop number made)) left
 passed document made number left x there is its some =
-    let test : ResizeObserver → Bool = λ it. it.document == document in
+    let test : ResizeObserver → Bool = is_of document in
     ap (λ (next : ℕ). slice_get (places_from next test (drop next made)) (left - 1)) (add-one number)
     ∙ behind_first number _ left some
     ∙ ap (λ (these : List ℕ). slice_get these left) (sym (found test made number x there is (eq-eqb (x.document) document its)))

@@ -7,7 +7,7 @@ use Rattle.std.specs.Prelude.{Bool, true, false, cond, not, ◌==◌, ◌||◌, 
 use Rattle.std.specs.List.{list_any}
 use Rattle.px_units.specs.declared.Size.{Size}
 use Rattle.page_model.specs.World.{Observation as ModelObservation, ResizeObserver}
-use Rattle.page_model.specs.Observing.{is_observed, without_observed}
+use Rattle.page_model.specs.ResizeObserving.{is_observed, without_observed}
 use Rattle.resize_observer.specs.declared.observation.Observation.{Observation}
 use Rattle.resize_observer.specs.Observations.{seen_size, seen_observation, seen_observations}
 use Rattle.resize_observer.specs.Reports.{with_last}

@@ -1,64 +1,40 @@
--- The resize observers of a page as the definitions of a world have them (Resize Observer, 2 and 3).
+-- The resize observers that this crate keeps: the definitions' part, and how many there may be (Resize Observer, 2 and 3).
 use Rattle.std.specs.Prelude.{ℕ, Bool, true, false, ◌||◌, nat_lt, Option, List, [], ◌++◌, length, map, slice_get, option_to_list}
-use Rattle.px_units.specs.declared.BoxKind.{BoxKind}
-use Rattle.page_model.specs.World.{Extent, Observation, ResizeObserver, World}
+use Rattle.page_model.specs.World.{Extent, Observation, ResizeObserver, ResizeObservers}
 use Rattle.page_model.specs.Lookups.{resize_observer_at, change_resize_observer}
-use Rattle.page_model.specs.Observing.{with_resize_observer, is_observed, resize_observations, with_resize_target, without_resize_target, without_resize_targets}
-use Rattle.page_model.specs.Loop.{observers_of}
-use Rattle.page_model.specs.Outcome.{opening_world}
+use Rattle.page_model.specs.ResizeObserving.{is_observed, resize_observations}
+use Rattle.page_model.specs.Gathering.{is_of}
+use Rattle.page_model.specs.Intersections.{places_from}
 use Rattle.resize_observer.specs.Reports.{with_last}
 
--- those that were made, in order, how many serial numbers were given to observations, and how many observers and
--- observations there may be
-pub record ResizeObservers : Type 0 where
-  pub made : List ResizeObserver
-  pub observed : ℕ
+-- the observers with the serial numbers given, and how many observers and observations there may be
+pub record HeldObservers : Type 0 where
+  pub part : ResizeObservers
   pub most_observers : ℕ
   pub most_observations : ℕ
 
--- a world with these resize observers in place of its own
-abbrev pub placed : ResizeObservers → World → World
-placed it world = record world { resize_observers = it.made; observed = it.observed }
+abbrev pub observer_at : HeldObservers → ℕ → ResizeObserver
+observer_at it observer = resize_observer_at it.part observer
 
--- a world with these resize observers; what is said of them here depends on nothing else of it
-abbrev pub alone : ResizeObservers → World
-alone it = placed it opening_world
-
--- the resize observers once such a world is changed
-abbrev pub once : (World → World) → ResizeObservers → ResizeObservers
-once change it = record it { made = (change (alone it)).resize_observers; observed = (change (alone it)).observed }
-
-abbrev pub observer_at : ResizeObservers → ℕ → ResizeObserver
-observer_at it observer = resize_observer_at (alone it) observer
+-- the numbers of a document's observers, in order of making
+abbrev pub observers_of : ResizeObservers → ℕ → List ℕ
+observers_of it document = places_from 0 (is_of document) it.made
 
 -- the observer of a document that stands at this place among those of this document, none past the last
-abbrev pub nth_of : ResizeObservers → ℕ → ℕ → Option ℕ
-nth_of it document place = slice_get (observers_of (alone it) document) place
+abbrev pub nth_of : HeldObservers → ℕ → ℕ → Option ℕ
+nth_of it document place = slice_get (observers_of it.part document) place
 
 -- whether one more observer may be made
-abbrev pub has_room : ResizeObservers → Bool
-has_room it = nat_lt (length it.made) it.most_observers
+abbrev pub has_room : HeldObservers → Bool
+has_room it = nat_lt (length it.part.made) it.most_observers
 
 -- whether an observer may observe a target: one that is there already needs no room
-abbrev pub may_observe : ℕ → ℕ → ResizeObservers → Bool
-may_observe observer n it = is_observed n (observer_at it observer).targets || nat_lt (resize_observations (alone it)) it.most_observations
-
--- a new observer, last; the name that it has in a world isn't kept here
-abbrev pub making : ℕ → Option ℕ → ResizeObservers → ResizeObservers
-making document handler it = once (with_resize_observer [] document handler) it
-
-abbrev pub observing : ℕ → ℕ → BoxKind → ResizeObservers → ResizeObservers
-observing observer n observed it = once (with_resize_target observer n observed) it
-
-abbrev pub unobserving : ℕ → ℕ → ResizeObservers → ResizeObservers
-unobserving observer n it = once (without_resize_target observer n) it
-
-abbrev pub disconnecting : ℕ → ResizeObservers → ResizeObservers
-disconnecting observer it = once (without_resize_targets observer) it
+abbrev pub may_observe : ℕ → ℕ → HeldObservers → Bool
+may_observe observer n it = is_observed n (observer_at it observer).targets || nat_lt (resize_observations it.part) it.most_observations
 
 -- one observer changed
-abbrev pub changing : (ResizeObserver → ResizeObserver) → ℕ → ResizeObservers → ResizeObservers
-changing change observer it = once (change_resize_observer change observer) it
+abbrev pub changing : (ResizeObserver → ResizeObserver) → ℕ → HeldObservers → HeldObservers
+changing change observer it = record it { part = change_resize_observer change observer (it.part) }
 
 -- before observations are gathered
 abbrev pub ungathered : ResizeObserver → ResizeObserver

@@ -2,7 +2,7 @@
 
 ghost use Rattle.std.specs.Prelude.{◌≡◌, ◌≤◌, ◌==◌, length, map, vec_len, vec_capacity};
 ghost use Rattle.std.specs.List.{list_any};
-ghost use Rattle.page_model.specs.Observing.{without_observed};
+ghost use Rattle.page_model.specs.ResizeObserving.{without_observed};
 ghost use Rattle.resize_observer.specs.Observations.{seen_size, seen_observation, seen_observations};
 ghost use Rattle.resize_observer.specs.Reports.{with_last};
 

@@ -1,7 +1,7 @@
 //! One observer with its three lists.
 
 ghost use Rattle.std.specs.Prelude.{◌≡◌, ◌<◌, [], ◌∷◌, ◌++◌, length, OnOk, OnErr};
-ghost use Rattle.page_model.specs.Observing.{is_observed, without_observed};
+ghost use Rattle.page_model.specs.ResizeObserving.{is_observed, without_observed};
 ghost use Rattle.resize_observer.specs.Observations.{seen_size, seen_observation, seen_observations};
 ghost use Rattle.resize_observer.specs.Observers.{ungathered, gathered_at, list_for, reported_at, inactive};
 

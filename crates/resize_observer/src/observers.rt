@@ -1,10 +1,12 @@
 //! The observers of a page.
 
-ghost use Rattle.std.specs.Prelude.{◌≡◌, ◌<◌, ◌-◌, ◌^◌, false, [], length, option_map, IfOk, OnOk, OnErr, IfSome, slice_get, ◌==◌};
+ghost use Rattle.std.specs.Prelude.{◌≡◌, ◌<◌, ◌-◌, ◌^◌, false, [], length, not, option_map, IfOk, OnOk, OnErr, IfSome, slice_get, ◌==◌};
+ghost use Rattle.page_model.specs.Gathering.{is_of};
 ghost use Rattle.page_model.specs.Intersections.{places_from};
+ghost use Rattle.page_model.specs.ResizeObserving.{with_resize_observer, with_resize_target, without_resize_target, without_resize_targets};
 ghost use Rattle.resize_observer.specs.Observations.{seen_size, seen_observations};
 ghost use Rattle.resize_observer.specs.Serials.{HasSerials};
-ghost use Rattle.resize_observer.specs.Observers.{observer_at, nth_of, has_room, may_observe, making, observing, unobserving, disconnecting, changing, ungathered, gathered_at, list_for, reported_at, inactive};
+ghost use Rattle.resize_observer.specs.Observers.{observer_at, nth_of, has_room, may_observe, changing, ungathered, gathered_at, list_for, reported_at, inactive};
 
 use crate::observer::Observer;
 use crate::{Observation, ObserverId};
@@ -41,13 +43,13 @@ pub struct Observers {
 
 impl Model for Observers {
     ghost use Rattle.std.specs.Prelude.{◌≡◌, ◌≤◌, length, sum_by};
-    ghost use Rattle.resize_observer.specs.Observers.{ResizeObservers};
+    ghost use Rattle.resize_observer.specs.Observers.{HeldObservers};
 
-    ghost Value = { ResizeObservers };
+    ghost Value = { HeldObservers };
 
     ghost use Rattle.resize_observer.specs.Held.{IsHeld};
 
-    ghost view = { λ o. record { made = o.made.items; observed = o.observed; most_observers = o.most_observers; most_observations = o.most_observations } };
+    ghost view = { λ o. record { part = record { given = o.observed; made = o.made.items }; most_observers = o.most_observers; most_observations = o.most_observations } };
 
     ghost invariant = { λ o. IsHeld o.made.items o.observed o.held o.most_observers o.most_observations };
 }
@@ -56,7 +58,7 @@ impl Observers {
     /// No observers, which take no memory yet. At most `most_observers` can be made, and at most `most_observations`
     /// targets observed, each once for an observer of it.
     pub fn new(alloc: Global, most_observers: u32, most_observations: u32) -> Observers
-        ensures { result ≡ record { made = []; observed = 0; most_observers = most_observers; most_observations = most_observations } }
+        ensures { result ≡ record { part = record { given = 0; made = [] }; most_observers = most_observers; most_observations = most_observations } }
     {
         Observers {
             made: Vec::new(alloc),
@@ -67,13 +69,27 @@ impl Observers {
         }
     }
 
+    /// Whether as many were made as may be, so that `make` answers `Limit`.
+    pub fn is_full(&self) -> bool
+        ensures { result ≡ not (has_room self.now) }
+    {
+        self.made.len() >= self.most_observers as usize
+    }
+
+    /// How many were made.
+    pub fn count(&self) -> u32
+        ensures { result ≡ length self.now.part.made }
+    {
+        self.made.len() as u32
+    }
+
     /// Makes an observer of a document, with the number of its handler if it has one; last in the document's order
     /// (Resize Observer, 2.1: the constructor).
     ///
     /// `Limit` exactly where `most_observers` were made; else `Memory` where there is none.
     pub fn make(&mut self, document: u32, handler: Option<u32>) -> Result<ObserverId, ObserveFault>
-        ensures observer { IfOk result (λ observer. observer.0 ≡ length self.old.made) }
-        ensures made { OnOk result (self.new ≡ making document handler self.old) }
+        ensures observer { IfOk result (λ observer. observer.0 ≡ length self.old.part.made) }
+        ensures made { OnOk result (self.new ≡ record self.old { part = with_resize_observer document handler (self.old.part) }) }
         ensures same { OnErr result (self.new ≡ self.old) }
         ensures full { has_room self.old ≡ false → result ≡ Err ObserveFault.Limit }
         ensures limit { result ≡ Err ObserveFault.Limit → has_room self.old ≡ false }
@@ -101,13 +117,13 @@ impl Observers {
         target: NodeId,
         observed: BoxKind,
     ) -> Result<(), ObserveFault>
-        requires observer { observer.0 < length self.old.made }
-        requires serials { self.old.observed < 2 ^ 64 - 1 }
-        ensures observed { OnOk result (self.new ≡ observing observer.0 target.0 observed self.old) }
+        requires observer { observer.0 < length self.old.part.made }
+        requires serials { self.old.part.given < 2 ^ 64 - 1 }
+        ensures observed { OnOk result (self.new ≡ record self.old { part = with_resize_target observer.0 target.0 observed (self.old.part) }) }
         ensures same { OnErr result (self.new ≡ self.old) }
         ensures full { may_observe observer.0 target.0 self.old ≡ false → result ≡ Err ObserveFault.Limit }
         ensures limit { result ≡ Err ObserveFault.Limit → may_observe observer.0 target.0 self.old ≡ false }
-        ensures count { length self.new.made ≡ length self.old.made }
+        ensures count { length self.new.part.made ≡ length self.old.part.made }
     {
         if !self.may_observe(observer, target) {
             return Err(ObserveFault::Limit);
@@ -132,9 +148,9 @@ impl Observers {
         Ok(())
     }
 
-    // Whether a target is there or there is room for one more.
-    fn may_observe(&self, observer: ObserverId, target: NodeId) -> bool
-        requires { observer.0 < length self.now.made }
+    /// Whether a target is there or there is room for one more, so that `observe` doesn't answer `Limit`.
+    pub fn may_observe(&self, observer: ObserverId, target: NodeId) -> bool
+        requires { observer.0 < length self.now.part.made }
         ensures { result ≡ may_observe observer.0 target.0 self.now }
     {
         self.made[observer.0 as usize].observes(target)
@@ -144,9 +160,9 @@ impl Observers {
     /// Takes the observation of a target out of the targets alone; nothing where it isn't there (Resize Observer, 2.1:
     /// `unobserve`).
     pub fn unobserve(&mut self, observer: ObserverId, target: NodeId)
-        requires { observer.0 < length self.old.made }
-        ensures unobserved { self.new ≡ unobserving observer.0 target.0 self.old }
-        ensures count { length self.new.made ≡ length self.old.made }
+        requires { observer.0 < length self.old.part.made }
+        ensures unobserved { self.new ≡ record self.old { part = without_resize_target observer.0 target.0 (self.old.part) } }
+        ensures count { length self.new.part.made ≡ length self.old.part.made }
     {
         let it = &mut self.made[observer.0 as usize];
         let before = it.count();
@@ -157,9 +173,9 @@ impl Observers {
 
     /// Clears the targets and the active list (Resize Observer, 2.1: `disconnect`).
     pub fn disconnect(&mut self, observer: ObserverId)
-        requires { observer.0 < length self.old.made }
-        ensures disconnected { self.new ≡ disconnecting observer.0 self.old }
-        ensures count { length self.new.made ≡ length self.old.made }
+        requires { observer.0 < length self.old.part.made }
+        ensures disconnected { self.new ≡ record self.old { part = without_resize_targets observer.0 (self.old.part) } }
+        ensures count { length self.new.part.made ≡ length self.old.part.made }
     {
         let it = &mut self.made[observer.0 as usize];
         let before = it.count();
@@ -169,9 +185,9 @@ impl Observers {
 
     /// Clears the active and the skipped list (Resize Observer, 3.4: gather active observations at depth).
     pub fn begin_gather(&mut self, observer: ObserverId)
-        requires { observer.0 < length self.old.made }
+        requires { observer.0 < length self.old.part.made }
         ensures begun { self.new ≡ changing ungathered observer.0 self.old }
-        ensures count { length self.new.made ≡ length self.old.made }
+        ensures count { length self.new.part.made ≡ length self.old.part.made }
     {
         self.made[observer.0 as usize].begin_gather();
     }
@@ -181,11 +197,11 @@ impl Observers {
     ///
     /// This list is shorter than the targets, so that there is room for it.
     pub fn gathered(&mut self, observer: ObserverId, place: usize, active: bool)
-        requires observer { observer.0 < length self.old.made }
+        requires observer { observer.0 < length self.old.part.made }
         requires place { place < length (observer_at self.old observer.0).targets }
         requires room { length (list_for active (observer_at self.old observer.0)) < length (observer_at self.old observer.0).targets }
         ensures gathered { self.new ≡ changing (gathered_at place active) observer.0 self.old }
-        ensures count { length self.new.made ≡ length self.old.made }
+        ensures count { length self.new.part.made ≡ length self.old.part.made }
     {
         self.made[observer.0 as usize].gathered(place, active);
     }
@@ -193,55 +209,55 @@ impl Observers {
     /// The observation of this serial number among the targets, if it is there, gets this last reported size (Resize
     /// Observer, 3.4: broadcast active observations). One that was made anew for the same target is another.
     pub fn report(&mut self, observer: ObserverId, number: u64, last: Size)
-        requires { observer.0 < length self.old.made }
+        requires { observer.0 < length self.old.part.made }
         ensures reported { self.new ≡ changing (reported_at number (seen_size last)) observer.0 self.old }
-        ensures count { length self.new.made ≡ length self.old.made }
+        ensures count { length self.new.part.made ≡ length self.old.part.made }
     {
         self.made[observer.0 as usize].report(number, last);
     }
 
     /// Empties the active list.
     pub fn clear_active(&mut self, observer: ObserverId)
-        requires { observer.0 < length self.old.made }
+        requires { observer.0 < length self.old.part.made }
         ensures cleared { self.new ≡ changing inactive observer.0 self.old }
-        ensures count { length self.new.made ≡ length self.old.made }
+        ensures count { length self.new.part.made ≡ length self.old.part.made }
     {
         self.made[observer.0 as usize].clear_active();
     }
 
     /// The observations in order of the calls of `observe`.
     pub fn targets(&self, observer: ObserverId) -> &[Observation]
-        requires { observer.0 < length self.now.made }
+        requires { observer.0 < length self.now.part.made }
         ensures value { seen_observations result.now ≡ (observer_at self.now observer.0).targets }
         ensures count { length result.now ≡ length (observer_at self.now observer.0).targets }
-        ensures serials { HasSerials self.now.observed self.now.made }
+        ensures serials { HasSerials self.now.part.given self.now.part.made }
     {
         self.made[observer.0 as usize].targets()
     }
 
     /// The active targets.
     pub fn active(&self, observer: ObserverId) -> &[Observation]
-        requires { observer.0 < length self.now.made }
+        requires { observer.0 < length self.now.part.made }
         ensures value { seen_observations result.now ≡ (observer_at self.now observer.0).active }
         ensures count { length result.now ≡ length (observer_at self.now observer.0).active }
-        ensures serials { HasSerials self.now.observed self.now.made }
+        ensures serials { HasSerials self.now.part.given self.now.part.made }
     {
         self.made[observer.0 as usize].active()
     }
 
     /// The skipped targets.
     pub fn skipped(&self, observer: ObserverId) -> &[Observation]
-        requires { observer.0 < length self.now.made }
+        requires { observer.0 < length self.now.part.made }
         ensures value { seen_observations result.now ≡ (observer_at self.now observer.0).skipped }
         ensures count { length result.now ≡ length (observer_at self.now observer.0).skipped }
-        ensures serials { HasSerials self.now.observed self.now.made }
+        ensures serials { HasSerials self.now.part.given self.now.part.made }
     {
         self.made[observer.0 as usize].skipped()
     }
 
     /// The document whose observer this is.
     pub fn document(&self, observer: ObserverId) -> u32
-        requires { observer.0 < length self.now.made }
+        requires { observer.0 < length self.now.part.made }
         ensures { result ≡ (observer_at self.now observer.0).document }
     {
         self.made[observer.0 as usize].document()
@@ -249,7 +265,7 @@ impl Observers {
 
     /// The number of the observer's handler, none where it has none.
     pub fn handler(&self, observer: ObserverId) -> Option<u32>
-        requires { observer.0 < length self.now.made }
+        requires { observer.0 < length self.now.part.made }
         ensures { result ≡ (observer_at self.now observer.0).handler }
     {
         self.made[observer.0 as usize].handler()
@@ -258,7 +274,7 @@ impl Observers {
     /// The document's observer at this place in order of making, counted from 0. None exactly past the last.
     pub fn of_document(&self, document: u32, place: usize) -> Option<ObserverId>
         ensures value { option_map (λ observer. observer.0) result ≡ nth_of self.now document place }
-        ensures made { IfSome result (λ observer. observer.0 < length self.now.made) }
+        ensures made { IfSome result (λ observer. observer.0 < length self.now.part.made) }
     {
         let number = nth_of_document(self.made.as_slice(), document, place)?;
         Some(ObserverId(number as u32))
@@ -267,7 +283,7 @@ impl Observers {
 
 // Where the observer of a document that stands at this place among those of this document is found.
 fn nth_of_document(made: &[Observer], document: u32, place: usize) -> Option<usize>
-    ensures value { result ≡ slice_get (places_from 0 (λ it. it.document == document) made.now) place }
+    ensures value { result ≡ slice_get (places_from 0 (is_of document) made.now) place }
     ensures made { IfSome result (λ number. number < length made.now) }
 {
     let mut left = place;

@@ -1,7 +1,7 @@
 use Rattle.std.proofs.Common.{◌∙◌, ap, ◌==◌, List}
 use Rattle.std.specs.List.{list_any}
 use Rattle.page_model.specs.World.{ResizeObserver}
-use Rattle.page_model.specs.Observing.{is_observed}
+use Rattle.page_model.specs.ResizeObserving.{is_observed}
 use Rattle.resize_observer.specs.declared.observation.Observation.{Observation}
 use Rattle.resize_observer.proofs.Seen.{observed}
 use Rattle.resize_observer.proofs.observer.Observer.observes.Goals as goal

@@ -1,6 +1,6 @@
 use Rattle.std.proofs.Common.{◌≤◌, arith, length, subst, sym}
 use Rattle.page_model.specs.World.{ResizeObserver}
-use Rattle.page_model.specs.Observing.{without_observed}
+use Rattle.page_model.specs.ResizeObserving.{without_observed}
 use Rattle.resize_observer.proofs.Places.{once_changed, within}
 use Rattle.resize_observer.proofs.Numbers.{unobserved-keeps}
 use Rattle.resize_observer.proofs.Counts.{held-changed, counted, without-fewer}
