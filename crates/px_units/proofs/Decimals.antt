@@ -2,7 +2,7 @@
 use Rattle.std.proofs.Common.{◌≡◌, ℕ, zero, suc, ◌+◌, ◌-◌, ◌*◌, ◌/◌, ◌%◌, ◌<◌, ◌≤◌, Bool, true, false, cond, ◌&&◌, ◌||◌, ◌==◌, ltb, ◌⊎◌, inl, inr, List, [], ◌∷◌, ◌++◌, length, take, set, refl, ap, sym, ◌∙◌, arith, subst, append_assoc, append-nil}
 use Rattle.std.specs.Prelude.{bytes_eq}
 use Rattle.std.proofs.lemmas.Slice.Eq.{bytes_eq-Decides}
-use Rattle.std.proofs.lemmas.Bool.{ltb-true, ltb-false}
+use Rattle.std.proofs.lemmas.Bool.{ltb-true, ltb-false, and_parts}
 use Rattle.std.proofs.lemmas.List.{take_more_set}
 use Rattle.std.proofs.lemmas.Grind.{common_steps}
 use Rattle.px_units.specs.Texts.{rest_text}
@@ -25,10 +25,6 @@ unfoldable passes_below : (ℕ → Bool) → ℕ → Bool
 passes_below test zero = true
 passes_below test (suc n) = test n && passes_below test n
 
-both : (a b : Bool) → (a && b) ≡ true → (a ≡ true) × (b ≡ true)
-both true b h = (refl, h)
-both false b h = cc
-
 nat_lt_or : (k n : ℕ) → k < suc n → (k < n) ⊎ (k ≡ n)
 nat_lt_or k n h = elim (ltb k n) as (λ v. ltb k n ≡ v → (k < n) ⊎ (k ≡ n)) [ true ↦ λ e. inl (ltb-true k n e) | false ↦ λ e. inr (let l : n ≤ k = ltb-false k n e in omega arith) ] refl
 
@@ -39,7 +35,7 @@ passes : (test : ℕ → Bool) (n k : ℕ) → passes_below test n ≡ true → 
 unfolding passes_below
 passes test zero k all h = absurd (omega arith)
 passes test (suc n) k all h =
-    let parts : (test n ≡ true) × (passes_below test n ≡ true) = both (test n) (passes_below test n) all in
+    let parts : (test n ≡ true) × (passes_below test n ≡ true) = and_parts (test n) (passes_below test n) all in
     elim (nat_lt_or k n h) [ inl less ↦ passes test n k parts.1 less | inr same ↦ subst (λ (m : ℕ). test m ≡ true) (sym same) parts.0 ]
 
 same_rest : ℕ → Bool

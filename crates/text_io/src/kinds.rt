@@ -1,5 +1,6 @@
 ghost use Rattle.std.specs.Prelude.{◌≡◌};
 ghost use Rattle.text_io.specs.Kinds.{limit_word, throw_word, event_word};
+ghost use Rattle.text_io.specs.Limits.{limit_number};
 
 /// What a run has a limit of. The first four are met while the script is read, the others by a command.
 #[derive(Clone, Copy, Debug, PartialEq, Eq, Hash)]
@@ -63,6 +64,31 @@ impl LimitKind {
             LimitKind::FrameCallbacks => "frame-callbacks",
             LimitKind::Tasks => "tasks",
             LimitKind::Queries => "queries",
+        }
+    }
+
+    /// The most that a run may hold, in bytes for `Script` and `Line`, in things of the kind for the others. This project's own choice.
+    pub fn number(&self) -> u64
+        ensures { result ≡ limit_number self.now }
+    {
+        match self {
+            LimitKind::Script => 16_777_216,
+            LimitKind::Line => 4_096,
+            LimitKind::Handlers => 4_096,
+            LimitKind::Nesting => 16,
+            LimitKind::Commands => 1_000_000,
+            LimitKind::Nodes => 20_000,
+            LimitKind::Depth => 256,
+            LimitKind::Documents => 64,
+            LimitKind::ResizeObservers => 4_096,
+            LimitKind::IntersectionObservers => 4_096,
+            LimitKind::ResizeObservations => 50_000,
+            LimitKind::IntersectionObservations => 50_000,
+            LimitKind::Listeners => 4_096,
+            LimitKind::Timers => 4_096,
+            LimitKind::FrameCallbacks => 4_096,
+            LimitKind::Tasks => 4_096,
+            LimitKind::Queries => 4_096,
         }
     }
 }

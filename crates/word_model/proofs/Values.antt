@@ -1,10 +1,10 @@
 -- The number that digits write.
-use Rattle.std.proofs.Common.{◌≡◌, ℕ, zero, suc, ◌+◌, ◌-◌, ◌*◌, ◌^◌, ◌<◌, ◌≤◌, Bool, true, false, cond, nat_le, List, [], ◌∷◌, ◌&&◌, length, drop, get_or, Some, None, refl, sym, ◌∙◌, arith, subst, add-one, drop-cons}
+use Rattle.std.proofs.Common.{◌≡◌, ℕ, zero, suc, ◌+◌, ◌-◌, ◌*◌, ◌^◌, ◌<◌, ◌≤◌, true, false, cond, nat_le, List, [], ◌∷◌, length, drop, get_or, Some, None, refl, sym, ◌∙◌, arith, subst, add-one, drop-cons}
 use Rattle.std.proofs.lemmas.List.{drop_all}
 use Rattle.std.specs.Prelude.{fold, take_while}
 use Rattle.std.proofs.lemmas.List.Sums.{take_while-cons}
 use Rattle.std.specs.List.{list_all}
-use Rattle.std.proofs.lemmas.Bool.{leb-true}
+use Rattle.std.proofs.lemmas.Bool.{leb-true, and_parts}
 use Rattle.std.proofs.Math.Nat.{pow-zero, pow-suc}
 use Rattle.std.proofs.lemmas.Grind.{common_steps}
 use Rattle.word_model.specs.Names.{is_digit}
@@ -51,10 +51,6 @@ passed digits i value bound h read over =
     let same : value_from next (drop (i + 1) digits) ≡ digits_value digits = sym (value_step digits i value h) ∙ read in
     sym (above bound (digits_value digits) (subst (λ (n : ℕ). bound < n) same (omega arith)))
 
-both : (a b : Bool) → (a && b) ≡ true → (a ≡ true) × (b ≡ true)
-both true b h = (refl, h)
-both false b h = cc
-
 grown : (bound places : ℕ) → bound ≤ bound * 10 ^ places
 grown bound zero = rw pow-zero (omega arith)
 grown bound (suc places) = let h : bound ≤ bound * 10 ^ places = grown bound places in rw (pow-suc 10 places) (omega arith)
@@ -63,7 +59,7 @@ tens : (bound places : ℕ) → bound * 10 * 10 ^ places ≡ bound * 10 ^ suc pl
 tens bound places = rw (pow-suc 10 places) (omega arith)
 
 digit_adds : (d value bound : ℕ) → is_digit d ≡ true → value < bound → value * 10 + (d - 48) < bound * 10
-digit_adds d value bound h below = let top : d ≤ 57 = leb-true d 57 (both (nat_le 48 d) (nat_le d 57) h).1 in omega arith
+digit_adds d value bound h below = let top : d ≤ 57 = leb-true d 57 (and_parts (nat_le 48 d) (nat_le d 57) h).1 in omega arith
 
 -- so many digits write less than that power of ten
 pub value_small : (digits : List ℕ) (places value bound : ℕ) → list_all is_digit digits ≡ true → length digits ≤ places → value < bound
@@ -71,9 +67,9 @@ pub value_small : (digits : List ℕ) (places value bound : ℕ) → list_all is
 value_small [] places value bound all short h = let g : bound ≤ bound * 10 ^ places = grown bound places in omega arith
 value_small (d ∷ ds) zero value bound all short h = absurd (omega arith)
 value_small (d ∷ ds) (suc places) value bound all short h =
-    let start : value * 10 + (d - 48) < bound * 10 = digit_adds d value bound (both (is_digit d) (list_all is_digit ds) all).0 h in
+    let start : value * 10 + (d - 48) < bound * 10 = digit_adds d value bound (and_parts (is_digit d) (list_all is_digit ds) all).0 h in
     let tail : value_from (value * 10 + (d - 48)) ds < bound * 10 * 10 ^ places =
-    value_small ds places (value * 10 + (d - 48)) (bound * 10) (both (is_digit d) (list_all is_digit ds) all).1 (omega arith) start in
+    value_small ds places (value * 10 + (d - 48)) (bound * 10) (and_parts (is_digit d) (list_all is_digit ds) all).1 (omega arith) start in
     subst (λ (n : ℕ). value_from (value * 10 + (d - 48)) ds < n) (tens bound places) tail
 
 pub nine_digits : (digits : List ℕ) → list_all is_digit digits ≡ true → length digits ≤ 9 → digits_value digits ≤ 999999999
