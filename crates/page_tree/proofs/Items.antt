@@ -2,13 +2,13 @@
 use Rattle.std.proofs.Common.{◌≡◌, ℕ, zero, suc, ◌<◌, ◌≤◌, List, [], ◌∷◌, map, length, Option, Some, None, option_map, slice_get, refl, ap, sym, subst, ◌∙◌}
 use Rattle.std.proofs.lemmas.List.{length-map}
 use Rattle.layout_model.specs.Items.{Item}
-use Rattle.page_model.specs.World.{Element, World}
+use Rattle.page_model.specs.World.{Element}
 use Rattle.page_model.specs.Edits.{change_item}
 use Rattle.element_tree.specs.Forest.{Knot, Forest, parent_of}
 use Rattle.element_tree.specs.Edits.{with_payload, with_nodes, change_at as changed_at}
 use Rattle.element_tree.proofs.Nodes.{length-changed}
 use Rattle.page_tree.specs.Items.{Described, with_item}
-use Rattle.page_tree.specs.Views.{PageElements, element_of, name_in, spread, placed_in, seen_page, IsPage}
+use Rattle.page_tree.specs.Views.{PageElements, element_of, name_in, spread, seen_page, IsPage}
 use Rattle.page_tree.proofs.Changes.{change_shown, change_unseen}
 use Rattle.page_tree.proofs.Outcomes.{rest_same}
 
@@ -43,21 +43,20 @@ module _ (old : PageElements) (forest : Forest Described) (root : Option ℕ) (s
     );
   }
 
-  pub written_done : (world : World) → placed_in (seen_page (with_nodes (changed_at (with_payload now) n) forest) root) world ≡ change_item change n (placed_in old world)
-  written_done world =
-      ap (λ elements. spread elements root world)
+  pub written_done : (seen_page (with_nodes (changed_at (with_payload now) n) forest) root).tree ≡ change_item change n (old.tree)
+  written_done =
+      ap (λ elements. spread elements root)
       (sym (change_shown element_of (with_payload now) (λ (element : Element). record element { item = change (element.item) }) n forest.nodes
       (λ knot at. ap (λ (payload : Described). element_of (with_payload payload knot)) (sym (payload_is knot at)))))
-      ∙ ap (λ page. change_item change n (placed_in page world)) seen
+      ∙ ap (λ page. change_item change n (page.tree)) seen
 
-  pub written_rest : seen_page (with_nodes (changed_at (with_payload now) n) forest) root ≡ record old { elements = map element_of (changed_at (with_payload now) n forest.nodes) }
+  pub written_rest : seen_page (with_nodes (changed_at (with_payload now) n) forest) root ≡ record old { tree = spread (map element_of (changed_at (with_payload now) n forest.nodes)) root }
   written_rest =
       rest_same old forest root seen (changed_at (with_payload now) n) (with_nodes (changed_at (with_payload now) n) forest) root refl
       (change_unseen name_in (with_payload now) n forest.nodes (λ knot at. ap (λ (payload : Described). payload.name) (payload_is knot at)))
-      ∙ ap (λ r. record old { elements = map element_of (changed_at (with_payload now) n forest.nodes); root = r }) (ap (λ (page : PageElements). page.root) seen)
 
-  pub written_count : length (map element_of (changed_at (with_payload now) n forest.nodes)) ≡ length old.elements
+  pub written_count : length (map element_of (changed_at (with_payload now) n forest.nodes)) ≡ length old.tree.elements
   written_count =
       length-map (changed_at (with_payload now) n forest.nodes) element_of
       ∙ length-changed (with_payload now) n forest.nodes
-      ∙ sym (length-map forest.nodes element_of) ∙ ap (λ (page : PageElements). length page.elements) seen
+      ∙ sym (length-map forest.nodes element_of) ∙ ap (λ (page : PageElements). length page.tree.elements) seen

@@ -1,9 +1,9 @@
 -- What a page finds at the number of a node.
 use Rattle.std.proofs.Common.{◌≡◌, ℕ, List, map, Option, Some, None, slice_get, option_map, unwrap_or, refl, ap, ◌∙◌}
 use Rattle.std.proofs.lemmas.Option.{slice_get-map}
-use Rattle.page_model.specs.World.{Element, World}
+use Rattle.page_model.specs.World.{Element}
 use Rattle.page_model.specs.Lookups.{element_at, no_element}
-use Rattle.page_model.specs.Documents.{tree_of}
+use Rattle.page_model.specs.Documents.{nodes_of}
 use Rattle.element_tree.specs.Forest.{Knot, parent_of, children_of, parent_in, children_in}
 use Rattle.block_layout.specs.Trees.{layout_tree as tree_in, node_in}
 use Rattle.page_model.specs.Documents.{node_of}
@@ -43,22 +43,22 @@ found_node (Some knot) = refl
 pub pointwise : {A B : Type 0} {f g : A → B} → ((x : A) → f x ≡ g x) → f ≡ g
 pointwise each = λ i x. each x i
 
-module _ (nodes : List (Knot Described)) (root : Option ℕ) (world : World) where
-  pub element_found : (n : ℕ) → element_at (spread (map element_of nodes) root world) n ≡ found (slice_get nodes n)
+module _ (nodes : List (Knot Described)) (root : Option ℕ) where
+  pub element_found : (n : ℕ) → element_at (spread (map element_of nodes) root) n ≡ found (slice_get nodes n)
   element_found n = ap (λ it. unwrap_or it no_element) (slice_get-map element_of nodes n) ∙ shown_found (slice_get nodes n)
 
-  pub parent_found : (n : ℕ) → (element_at (spread (map element_of nodes) root world) n).parent ≡ parent_of nodes n
+  pub parent_found : (n : ℕ) → (element_at (spread (map element_of nodes) root) n).parent ≡ parent_of nodes n
   parent_found n = ap (λ (it : Element). it.parent) (element_found n) ∙ found_parent (slice_get nodes n)
 
-  pub children_found : (n : ℕ) → (element_at (spread (map element_of nodes) root world) n).children ≡ children_of nodes n
+  pub children_found : (n : ℕ) → (element_at (spread (map element_of nodes) root) n).children ≡ children_of nodes n
   children_found n = ap (λ (it : Element). it.children) (element_found n) ∙ found_children (slice_get nodes n)
 
-  pub document_found : (n : ℕ) → (element_at (spread (map element_of nodes) root world) n).document ≡ 0
+  pub document_found : (n : ℕ) → (element_at (spread (map element_of nodes) root) n).document ≡ 0
   document_found n = ap (λ (it : Element). it.document) (element_found n) ∙ found_document (slice_get nodes n)
 
-  pub framed_found : (n : ℕ) → (element_at (spread (map element_of nodes) root world) n).framed ≡ None
+  pub framed_found : (n : ℕ) → (element_at (spread (map element_of nodes) root) n).framed ≡ None
   framed_found n = ap (λ (it : Element). it.framed) (element_found n) ∙ found_framed (slice_get nodes n)
 
-  pub tree_found : tree_of (spread (map element_of nodes) root world) ≡ tree_in style_in kind_in nodes
+  pub tree_found : nodes_of (spread (map element_of nodes) root) ≡ tree_in style_in kind_in nodes
   unfolding tree_in
   tree_found = pointwise (λ n. ap node_of (element_found n) ∙ found_node (slice_get nodes n))

@@ -27,12 +27,12 @@ module _ (forest : Forest Described) (root : Option ℕ) (is : IsPage forest roo
       subst (λ f. IsPage f root) (sym same)
       (record { most_nodes = is.most_nodes; counted = is.counted; most_depth = is.most_depth; rooted = is.rooted })
 
-  pub IsPage-made : (old middle : PageElements) → seen_page forest root ≡ middle → middle ≡ record old { ready = middle.ready } → room limits.Nodes (length old.elements) ≡ Did tt
+  pub IsPage-made : (old middle : PageElements) → seen_page forest root ≡ middle → middle ≡ record old { ready = middle.ready } → room limits.Nodes (length old.tree.elements) ≡ Did tt
       → (payload : Described) → later ≡ record forest { nodes = forest.nodes ++ lone payload ∷ []; ready = later.ready } → IsPage later root
   IsPage-made old middle seen same roomy payload added =
-      let count : length forest.nodes ≡ length old.elements
-      = sym (length-map forest.nodes element_of) ∙ ap (λ (page : PageElements). length page.elements) (seen ∙ same) in
-      let below : length old.elements < 20000 = below_limit (length old.elements) roomy in
+      let count : length forest.nodes ≡ length old.tree.elements
+      = sym (length-map forest.nodes element_of) ∙ ap (λ (page : PageElements). length page.tree.elements) (seen ∙ same) in
+      let below : length old.tree.elements < 20000 = below_limit (length old.tree.elements) roomy in
       let long = length-append forest.nodes (lone payload ∷ []) in
       subst (λ f. IsPage f root) (sym added)
       (record {

@@ -4,7 +4,7 @@ use Rattle.layout_model.specs.Nodes.{Node, path_above, path_up, path_of, depth_o
 use Rattle.element_tree.specs.Forest.{Knot, IsForest, parent_of, children_of, depth, depth_up, above, is_ancestor, is_above, height, height_down, greatest}
 use Rattle.element_tree.proofs.Depths.{depth_one, depth_positive}
 use Rattle.element_tree.proofs.Levels.{option_cases, depth_is, is_ancestor_at, low_enough}
-use Rattle.page_model.specs.World.{World}
+use Rattle.page_model.specs.World.{Tree}
 use Rattle.page_model.specs.Lookups.{element_at}
 use Rattle.page_model.specs.Documents.{levels_down, levels_of}
 
@@ -58,14 +58,14 @@ fold_greatest : (f g : ℕ → ℕ) → ((n : ℕ) → f n ≡ g n) → (xs : Li
 fold_greatest f g same [] a = omega arith
 fold_greatest f g same (x ∷ xs) a = fold_greatest f g same xs (max a (f x)) ∙ omega (arith, same x)
 
-module _ {P : Type 0} (nodes : List (Knot P)) (world : World) (same : (n : ℕ) → (element_at world n).children ≡ children_of nodes n) where
-  levels_at : (deep n : ℕ) → levels_down deep world n ≡ height_down deep (children_of nodes) n
+module _ {P : Type 0} (nodes : List (Knot P)) (tree : Tree) (same : (n : ℕ) → (element_at tree n).children ≡ children_of nodes n) where
+  levels_at : (deep n : ℕ) → levels_down deep tree n ≡ height_down deep (children_of nodes) n
   unfolding levels_down height_down
   levels_at zero n = refl
   levels_at (suc deep) n =
-      ap (λ xs. suc (fold max 0 (map (levels_down deep world) xs))) (same n)
-      ∙ ap suc (fold_greatest (levels_down deep world) (height_down deep (children_of nodes)) (levels_at deep) (children_of nodes n) 0 ∙ omega arith)
+      ap (λ xs. suc (fold max 0 (map (levels_down deep tree) xs))) (same n)
+      ∙ ap suc (fold_greatest (levels_down deep tree) (height_down deep (children_of nodes)) (levels_at deep) (children_of nodes n) 0 ∙ omega arith)
 
-  pub levels_same : (n : ℕ) → levels_of world n ≡ height nodes n
+  pub levels_same : (n : ℕ) → levels_of tree n ≡ height nodes n
   unfolding levels_of height
   levels_same n = levels_at 65536 n

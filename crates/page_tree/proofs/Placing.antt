@@ -3,10 +3,10 @@ use Rattle.std.proofs.Common.{◌≡◌, ℕ, ◌+◌, map, Option, Some, None, 
 use Rattle.std.proofs.lemmas.Bool.Decides.{nat_tests}
 use Rattle.text_io.specs.declared.kinds.ThrowKind.TheVariants.{HierarchyRequestError, NotFoundError}
 use Rattle.text_io.specs.declared.kinds.LimitKind.TheVariants as limits
-use Rattle.page_model.specs.World.{World}
+use Rattle.page_model.specs.World.{Tree}
 use Rattle.page_model.specs.Lookups.{element_at}
-use Rattle.page_model.specs.Documents.{Container, InElement, InDocument, container_by, is_number, tree_of, is_inclusive_ancestor, element_depth, levels_of, sibling_meant, next_after, inserted}
-use Rattle.page_model.specs.Steps.{Step, Effect, Threw, Met, ◌>>◌, throw_if, met_unless, becomes}
+use Rattle.page_model.specs.Documents.{Container, InElement, InDocument, container_by, is_number, nodes_of, is_inclusive_ancestor, element_depth, levels_of, sibling_meant, next_after, inserted}
+use Rattle.page_model.specs.Steps.{Step, Did, Threw, Met, ◌>>◌, throw_if, met_unless}
 use Rattle.page_model.specs.Commands.{placing, would_hold_itself, is_container_of, is_no_child, is_full, container_depth}
 use Rattle.element_tree.specs.declared.fault.TreeFault.{TreeFault}
 use Rattle.element_tree.specs.declared.fault.TreeFault.TheVariants.{Hierarchy, NotAChild, DepthLimit}
@@ -26,15 +26,15 @@ use Rattle.page_tree.proofs.Standing.{no_root}
 use Rattle.page_tree.proofs.Places.{page, container_found, inserted_page, inserted_top}
 
 -- what comes of the four questions, in their order
-abbrev pub judged : Bool → Bool → Bool → Bool → World → Step Effect
+abbrev pub judged : Bool → Bool → Bool → Bool → Tree → Step Tree
 judged true missing full fits later = Threw HierarchyRequestError
 judged false true full fits later = Threw NotFoundError
 judged false false true fits later = Threw HierarchyRequestError
-judged false false false true later = becomes later
-judged false false false false later = Met DeepLimit
+judged false false false true later = Did later
+judged false false false false later = Met limits.Depth
 
-tried : (inside missing full fits : Bool) (later : World)
-    → (throw_if inside HierarchyRequestError >> (throw_if missing NotFoundError >> (throw_if full HierarchyRequestError >> (met_unless fits DeepLimit >> becomes later))))
+tried : (inside missing full fits : Bool) (later : Tree)
+    → (throw_if inside HierarchyRequestError >> (throw_if missing NotFoundError >> (throw_if full HierarchyRequestError >> (met_unless fits limits.Depth >> Did later))))
     ≡ judged inside missing full fits later
 unfolding ◌>>◌
 tried true missing full fits later = refl
@@ -43,63 +43,63 @@ tried false false true fits later = refl
 tried false false false true later = refl
 tried false false false false later = refl
 
-pub placing_judged : (world : World) (container : Container) (n : ℕ) (sibling : Option ℕ) → placing world container n sibling
-    ≡ judged (would_hold_itself world container n) (is_no_child world container sibling) (is_full world container) (nat_le (container_depth world container + levels_of world n) 256) (inserted world container n sibling)
+pub placing_judged : (tree : Tree) (container : Container) (n : ℕ) (sibling : Option ℕ) → placing container n sibling tree
+    ≡ judged (would_hold_itself tree container n) (is_no_child tree container sibling) (is_full tree container) (nat_le (container_depth tree container + levels_of tree n) 256) (inserted tree container n sibling)
 unfolding placing
-placing_judged world container n sibling = tried _ _ _ _ _
+placing_judged tree container n sibling = tried _ _ _ _ _
 
 -- the tree's refusals
-append_done : (inside deep : Bool) (later : World) → cond inside (Some Hierarchy) (cond deep (Some limits.Depth) None) ≡ None → judged inside false false (not deep) later ≡ becomes later
+append_done : (inside deep : Bool) (later : Tree) → cond inside (Some Hierarchy) (cond deep (Some DepthLimit) None) ≡ None → judged inside false false (not deep) later ≡ Did later
 append_done true deep later e = cc
 append_done false true later e = cc
 append_done false false later e = refl
 
-append_refused : (inside deep : Bool) (later : World) (fault : TreeFault) → cond inside (Some Hierarchy) (cond deep (Some limits.Depth) None) ≡ Some fault → judged inside false false (not deep) later ≡ refusal (refusal_of fault)
+append_refused : (inside deep : Bool) (later : Tree) (fault : TreeFault) → cond inside (Some Hierarchy) (cond deep (Some DepthLimit) None) ≡ Some fault → judged inside false false (not deep) later ≡ refusal (refusal_of fault)
 append_refused true deep later fault e = let same : Hierarchy ≡ fault = cc in ap (λ it. refusal (refusal_of it)) same
-append_refused false true later fault e = let same : limits.Depth ≡ fault = cc in ap (λ it. refusal (refusal_of it)) same
+append_refused false true later fault e = let same : DepthLimit ≡ fault = cc in ap (λ it. refusal (refusal_of it)) same
 append_refused false false later fault e = cc
 
-insert_done : (inside missing deep : Bool) (later : World) → cond inside (Some Hierarchy) (cond missing (Some NotAChild) (cond deep (Some limits.Depth) None)) ≡ None
-    → (judged inside missing false (not deep) later ≡ becomes later) × (missing ≡ false)
+insert_done : (inside missing deep : Bool) (later : Tree) → cond inside (Some Hierarchy) (cond missing (Some NotAChild) (cond deep (Some DepthLimit) None)) ≡ None
+    → (judged inside missing false (not deep) later ≡ Did later) × (missing ≡ false)
 insert_done true missing deep later e = cc
 insert_done false true deep later e = cc
 insert_done false false true later e = cc
 insert_done false false false later e = (refl, refl)
 
-insert_refused : (inside missing deep : Bool) (later : World) (fault : TreeFault) → cond inside (Some Hierarchy) (cond missing (Some NotAChild) (cond deep (Some limits.Depth) None)) ≡ Some fault
+insert_refused : (inside missing deep : Bool) (later : Tree) (fault : TreeFault) → cond inside (Some Hierarchy) (cond missing (Some NotAChild) (cond deep (Some DepthLimit) None)) ≡ Some fault
     → judged inside missing false (not deep) later ≡ refusal (refusal_of fault)
 insert_refused true missing deep later fault e = let same : Hierarchy ≡ fault = cc in ap (λ it. refusal (refusal_of it)) same
 insert_refused false true deep later fault e = let same : NotAChild ≡ fault = cc in ap (λ it. refusal (refusal_of it)) same
-insert_refused false false true later fault e = let same : limits.Depth ≡ fault = cc in ap (λ it. refusal (refusal_of it)) same
+insert_refused false false true later fault e = let same : DepthLimit ≡ fault = cc in ap (λ it. refusal (refusal_of it)) same
 insert_refused false false false later fault e = cc
 
 at_most : (a b : ℕ) → nat_le a b ≡ not (nat_lt b a)
 at_most a b = grind (arith, nat_tests)
 
-child_of : (world : World) (p : ℕ) (parent : Option ℕ) (is_root : Bool) → is_container_of world (InElement p) (container_by parent is_root 0) ≡ names parent p
-child_of world p (Some q) is_root = refl
-child_of world p None true = refl
-child_of world p None false = refl
+child_of : (p : ℕ) (parent : Option ℕ) (is_root : Bool) → is_container_of (InElement p) (container_by parent is_root 0) ≡ names parent p
+child_of p (Some q) is_root = refl
+child_of p None true = refl
+child_of p None false = refl
 
-root_of_top : (world : World) (parent : Option ℕ) (is_root : Bool) → ((q : ℕ) → parent ≡ Some q → is_root ≡ false) → is_container_of world (InDocument 0) (container_by parent is_root 0) ≡ is_root
-root_of_top world (Some q) is_root none = sym (none q refl)
-root_of_top world None true none = refl
-root_of_top world None false none = refl
+root_of_top : (parent : Option ℕ) (is_root : Bool) → ((q : ℕ) → parent ≡ Some q → is_root ≡ false) → is_container_of (InDocument 0) (container_by parent is_root 0) ≡ is_root
+root_of_top (Some q) is_root none = sym (none q refl)
+root_of_top None true none = refl
+root_of_top None false none = refl
 
-module _ (forest : Forest Described) (root : Option ℕ) (is : IsPage forest root) (trees : IsForest forest.most_depth forest.nodes) (world : World) where
-  abbrev now : World
-  now = page forest.nodes root world
+module _ (forest : Forest Described) (root : Option ℕ) (is : IsPage forest root) (trees : IsForest forest.most_depth forest.nodes) where
+  abbrev now : Tree
+  now = page forest.nodes root
 
   inside_same : (n p : ℕ) → would_hold_itself now (InElement p) n ≡ is_ancestor forest.nodes n p
   unfolding is_inclusive_ancestor
-  inside_same n p = ancestor_same trees (tree_of now) (parent_found forest.nodes root world) n p
+  inside_same n p = ancestor_same trees (nodes_of now) (parent_found forest.nodes root) n p
 
-  pub depth_page : (n : ℕ) → element_depth (spread (map element_of forest.nodes) root world) n ≡ depth forest.nodes n
+  pub depth_page : (n : ℕ) → element_depth (spread (map element_of forest.nodes) root) n ≡ depth forest.nodes n
   unfolding element_depth
-  depth_page n = depth_same trees (tree_of now) (parent_found forest.nodes root world) n
+  depth_page n = depth_same trees (nodes_of now) (parent_found forest.nodes root) n
 
   levels_page : (n : ℕ) → levels_of now n ≡ height forest.nodes n
-  levels_page n = levels_same forest.nodes now (children_found forest.nodes root world) n
+  levels_page n = levels_same forest.nodes now (children_found forest.nodes root) n
 
   fits_same : (p n : ℕ) → nat_le (element_depth now p + levels_of now n) 256 ≡ not (too_deep forest p n)
   fits_same p n =
@@ -110,13 +110,13 @@ module _ (forest : Forest Described) (root : Option ℕ) (is : IsPage forest roo
 
   missing_same : (p sibling : ℕ) → is_no_child now (InElement p) (Some sibling) ≡ not (names (parent_of forest.nodes sibling) p)
   missing_same p sibling =
-      ap (λ held. not (is_container_of now (InElement p) held)) (container_found forest.nodes root world sibling)
-      ∙ ap not (child_of now p (parent_of forest.nodes sibling) (is_number root sibling))
+      ap (λ held. not (is_container_of (InElement p) held)) (container_found forest.nodes root sibling)
+      ∙ ap not (child_of p (parent_of forest.nodes sibling) (is_number root sibling))
 
   next_meant : (p n sibling : ℕ) → parent_of forest.nodes sibling ≡ Some p → (same : Bool) → nat_eq sibling n ≡ same
       → cond same (next_after n (element_at now p).children) (Some sibling) ≡ cond same (next_of n (siblings_of forest.nodes n)) (Some sibling)
   next_meant p n sibling held true is_same =
-      ap (next_after n) (children_found forest.nodes root world p)
+      ap (next_after n) (children_found forest.nodes root p)
       ∙ next_same n (children_of forest.nodes p)
       ∙ ap (λ parent. next_of n (children_under forest.nodes parent)) (sym held ∙ ap (parent_of forest.nodes) (eqb-true sibling n is_same))
   next_meant p n sibling held false is_same = refl
@@ -126,22 +126,22 @@ module _ (forest : Forest Described) (root : Option ℕ) (is : IsPage forest roo
       next_meant p n sibling held (nat_eq sibling n) refl
       ∙ (let turned : nat_eq sibling n ≡ nat_eq n sibling = grind (arith, nat_tests) in ap (λ same. cond same (next_of n (siblings_of forest.nodes n)) (Some sibling)) turned)
 
-  judged_append : (p n : ℕ) → placing now (InElement p) n None ≡ judged (is_ancestor forest.nodes n p) false false (not (too_deep forest p n)) (inserted now (InElement p) n None)
+  judged_append : (p n : ℕ) → placing (InElement p) n None now ≡ judged (is_ancestor forest.nodes n p) false false (not (too_deep forest p n)) (inserted now (InElement p) n None)
   judged_append p n =
       placing_judged now (InElement p) n None
       ∙ ap (λ inside. judged inside false false (nat_le (element_depth now p + levels_of now n) 256) (inserted now (InElement p) n None)) (inside_same n p)
       ∙ ap (λ fits. judged (is_ancestor forest.nodes n p) false false fits (inserted now (InElement p) n None)) (fits_same p n)
 
-  judged_insert : (p n sibling : ℕ) → placing now (InElement p) n (Some sibling)
+  judged_insert : (p n sibling : ℕ) → placing (InElement p) n (Some sibling) now
       ≡ judged (is_ancestor forest.nodes n p) (not (names (parent_of forest.nodes sibling) p)) false (not (too_deep forest p n)) (inserted now (InElement p) n (Some sibling))
   judged_insert p n sibling =
-      let later : World = inserted now (InElement p) n (Some sibling) in
+      let later : Tree = inserted now (InElement p) n (Some sibling) in
       placing_judged now (InElement p) n (Some sibling)
       ∙ ap (λ inside. judged inside (is_no_child now (InElement p) (Some sibling)) false (nat_le (element_depth now p + levels_of now n) 256) later) (inside_same n p)
       ∙ ap (λ missing. judged (is_ancestor forest.nodes n p) missing false (nat_le (element_depth now p + levels_of now n) 256) later) (missing_same p sibling)
       ∙ ap (λ fits. judged (is_ancestor forest.nodes n p) (not (names (parent_of forest.nodes sibling) p)) false fits later) (fits_same p n)
 
-  pub in_refused : (p n : ℕ) (sibling : Option ℕ) (fault : TreeFault) → put_fault forest p n sibling ≡ Some fault → placing (spread (map element_of forest.nodes) root world) (InElement p) n sibling ≡ refusal (refusal_of fault)
+  pub in_refused : (p n : ℕ) (sibling : Option ℕ) (fault : TreeFault) → put_fault forest p n sibling ≡ Some fault → placing (InElement p) n sibling (spread (map element_of forest.nodes) root) ≡ refusal (refusal_of fault)
   in_refused p n None fault e = judged_append p n ∙ append_refused (is_ancestor forest.nodes n p) (too_deep forest p n) _ fault e
   in_refused p n (Some sibling) fault e =
       judged_insert p n sibling ∙ insert_refused (is_ancestor forest.nodes n p) (not (names (parent_of forest.nodes sibling) p)) (too_deep forest p n) _ fault e
@@ -151,40 +151,40 @@ module _ (forest : Forest Described) (root : Option ℕ) (is : IsPage forest roo
   not_missing false e = cc
 
   pub in_done : (p n : ℕ) (sibling : Option ℕ) → put_fault forest p n sibling ≡ None
-      → placing (spread (map element_of forest.nodes) root world) (InElement p) n sibling ≡ becomes (spread (map element_of (put_in p n (mark_for n sibling forest.nodes) forest.nodes)) (root_without n root) world)
+      → placing (InElement p) n sibling (spread (map element_of forest.nodes) root) ≡ Did (spread (map element_of (put_in p n (mark_for n sibling forest.nodes) forest.nodes)) (root_without n root))
   in_done p n None e =
       judged_append p n ∙ append_done (is_ancestor forest.nodes n p) (too_deep forest p n) _ e
-      ∙ ap becomes (inserted_page forest.nodes trees root is.rooted world p n None None refl)
+      ∙ ap Did (inserted_page forest.nodes trees root is.rooted p n None None refl)
   in_done p n (Some sibling) e =
       let all = insert_done (is_ancestor forest.nodes n p) (not (names (parent_of forest.nodes sibling) p)) (too_deep forest p n) (inserted now (InElement p) n (Some sibling)) e in
       judged_insert p n sibling ∙ all.0
-      ∙ ap becomes
-      (inserted_page forest.nodes trees root is.rooted world p n (Some sibling) (mark_of n sibling forest.nodes)
+      ∙ ap Did
+      (inserted_page forest.nodes trees root is.rooted p n (Some sibling) (mark_of n sibling forest.nodes)
       (meant_same p n sibling (names_some (parent_of forest.nodes sibling) p (not_missing _ all.1))))
 
   absent_same : (sibling : Option ℕ) → is_no_child now (InDocument 0) sibling ≡ is_absent root sibling
   absent_same None = refl
   absent_same (Some sibling) =
-      ap (λ held. not (is_container_of now (InDocument 0) held)) (container_found forest.nodes root world sibling)
-      ∙ ap not (root_of_top now (parent_of forest.nodes sibling) (is_number root sibling) (no_root forest.nodes is.rooted sibling))
+      ap (λ held. not (is_container_of (InDocument 0) held)) (container_found forest.nodes root sibling)
+      ∙ ap not (root_of_top (parent_of forest.nodes sibling) (is_number root sibling) (no_root forest.nodes is.rooted sibling))
 
-  judged_top : (n : ℕ) (sibling : Option ℕ) → placing now (InDocument 0) n sibling
+  judged_top : (n : ℕ) (sibling : Option ℕ) → placing (InDocument 0) n sibling now
       ≡ judged false (is_absent root sibling) (is_some root) (nat_le (0 + levels_of now n) 256) (inserted now (InDocument 0) n sibling)
   judged_top n sibling =
       placing_judged now (InDocument 0) n sibling
       ∙ ap (λ missing. judged false missing (is_some root) (nat_le (0 + levels_of now n) 256) (inserted now (InDocument 0) n sibling)) (absent_same sibling)
 
   top_as : (n : ℕ) (sibling : Option ℕ) (missing full : Bool) → is_absent root sibling ≡ missing → is_some root ≡ full
-      → placing now (InDocument 0) n sibling ≡ judged false missing full (nat_le (0 + levels_of now n) 256) (inserted now (InDocument 0) n sibling)
+      → placing (InDocument 0) n sibling now ≡ judged false missing full (nat_le (0 + levels_of now n) 256) (inserted now (InDocument 0) n sibling)
   top_as n sibling missing full e f =
       let fits : Bool = nat_le (0 + levels_of now n) 256 in
-      let later : World = inserted now (InDocument 0) n sibling in
+      let later : Tree = inserted now (InDocument 0) n sibling in
       judged_top n sibling ∙ ap (λ it. judged false it (is_some root) fits later) e ∙ ap (λ it. judged false missing it fits later) f
 
-  pub top_missing : (n : ℕ) (sibling : Option ℕ) → is_absent root sibling ≡ true → placing (spread (map element_of forest.nodes) root world) (InDocument 0) n sibling ≡ Threw NotFoundError
+  pub top_missing : (n : ℕ) (sibling : Option ℕ) → is_absent root sibling ≡ true → placing (InDocument 0) n sibling (spread (map element_of forest.nodes) root) ≡ Threw NotFoundError
   top_missing n sibling e = top_as n sibling true (is_some root) e refl
 
-  pub top_full : (n : ℕ) (sibling : Option ℕ) → is_absent root sibling ≡ false → is_some root ≡ true → placing (spread (map element_of forest.nodes) root world) (InDocument 0) n sibling ≡ Threw HierarchyRequestError
+  pub top_full : (n : ℕ) (sibling : Option ℕ) → is_absent root sibling ≡ false → is_some root ≡ true → placing (InDocument 0) n sibling (spread (map element_of forest.nodes) root) ≡ Threw HierarchyRequestError
   top_full n sibling e full = top_as n sibling false true e full
 
   low : (n : ℕ) → nat_le (0 + levels_of now n) 256 ≡ true
@@ -196,8 +196,8 @@ module _ (forest : Forest Described) (root : Option ℕ) (is : IsPage forest roo
       grind (arith, nat_tests)
 
   pub top_done : (n : ℕ) (sibling : Option ℕ) → is_absent root sibling ≡ false → is_some root ≡ false
-      → placing (spread (map element_of forest.nodes) root world) (InDocument 0) n sibling ≡ becomes (spread (map element_of (taken_away n forest.nodes)) (Some n) world)
+      → placing (InDocument 0) n sibling (spread (map element_of forest.nodes) root) ≡ Did (spread (map element_of (taken_away n forest.nodes)) (Some n))
   top_done n sibling e free =
       top_as n sibling false false e free
       ∙ ap (λ fits. judged false false false fits (inserted now (InDocument 0) n sibling)) (low n)
-      ∙ ap becomes (inserted_top forest.nodes trees root is.rooted world n sibling)
+      ∙ ap Did (inserted_top forest.nodes trees root is.rooted n sibling)

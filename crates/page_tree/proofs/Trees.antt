@@ -3,8 +3,7 @@ use Rattle.std.proofs.Common.{◌≡◌, ◌≢◌, ℕ, zero, suc, ◌<◌, ◌
 use Rattle.std.specs.Prelude.{Contains, AllPairs}
 use Rattle.std.proofs.lemmas.Bool.Decides.{nat_tests}
 use Rattle.layout_model.specs.Nodes.{IsLinked, IsShallow, IsDistinct}
-use Rattle.page_model.specs.World.{World}
-use Rattle.page_model.specs.Documents.{tree_of}
+use Rattle.page_model.specs.Documents.{nodes_of}
 use Rattle.element_tree.specs.Forest.{Knot, IsForest, IsOnce, has, children_of}
 use Rattle.element_tree.proofs.Levels.{kid_parent, low_enough}
 use Rattle.page_tree.specs.Items.{Described}
@@ -32,17 +31,17 @@ apart (x ∷ xs) once zero (suc j) d before inside = λ same. differs (subst (λ
     differs h = let no = once.0 in cc
 apart (x ∷ xs) once (suc i) (suc j) d before inside = apart xs once.1 i j d (omega arith) (omega arith)
 
-module _ {most : ℕ} (nodes : List (Knot Described)) (forest : IsForest most nodes) (root : Option ℕ) (world : World) where
-  linked : IsLinked (tree_of (spread (map element_of nodes) root world))
+module _ {most : ℕ} (nodes : List (Knot Described)) (forest : IsForest most nodes) (root : Option ℕ) where
+  linked : IsLinked (nodes_of (spread (map element_of nodes) root))
   linked p c at =
-      parent_found nodes root world c
-      ∙ kid_parent forest p c (listed (children_of nodes p) c (subst (λ xs. Contains xs c) (children_found nodes root world p) at))
+      parent_found nodes root c
+      ∙ kid_parent forest p c (listed (children_of nodes p) c (subst (λ xs. Contains xs c) (children_found nodes root p) at))
 
-  shallow : IsShallow (tree_of (spread (map element_of nodes) root world))
-  shallow n = subst (λ depth. depth ≤ 65536) (sym (depth_same forest (tree_of (spread (map element_of nodes) root world)) (parent_found nodes root world) n)) (low_enough forest n)
+  shallow : IsShallow (nodes_of (spread (map element_of nodes) root))
+  shallow n = subst (λ depth. depth ≤ 65536) (sym (depth_same forest (nodes_of (spread (map element_of nodes) root)) (parent_found nodes root) n)) (low_enough forest n)
 
-  distinct : IsDistinct (tree_of (spread (map element_of nodes) root world))
-  distinct p = subst (AllPairs (λ a b. a ≢ b)) (sym (children_found nodes root world p)) (apart (children_of nodes p) (forest.once p))
+  distinct : IsDistinct (nodes_of (spread (map element_of nodes) root))
+  distinct p = subst (AllPairs (λ a b. a ≢ b)) (sym (children_found nodes root p)) (apart (children_of nodes p) (forest.once p))
 
-  pub trees_of_page : AreTrees (tree_of (spread (map element_of nodes) root world))
+  pub trees_of_page : AreTrees (nodes_of (spread (map element_of nodes) root))
   trees_of_page = record { linked = linked; shallow = shallow; distinct = distinct }

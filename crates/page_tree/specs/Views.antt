@@ -1,33 +1,33 @@
--- What the tree of the page is seen as: the lists of a world (DOM, 4.2.1 and 4.5) in which `top` is the only document.
--- No element is a frame with a document yet, and each stands in or belongs to `top`.
+-- What the tree of the page is seen as: the definitions' elements and documents (DOM, 4.2.1 and 4.5), with what is kept beside
+-- them. `top` is the only document yet, and no element is a frame with a document.
 use Rattle.std.specs.Prelude.{◌≡◌, ◌<◌, ◌≤◌, ℕ, Bool, cond, List, [], ◌∷◌, length, map, Option, Some, None}
 use Rattle.text_io.specs.declared.kinds.LimitKind.TheVariants as limits
 use Rattle.text_io.specs.Limits.{limit_number}
 use Rattle.element_tree.specs.Forest.{Knot, Forest, parent_of}
-use Rattle.page_model.specs.World.{Element, Document, Active, World}
-use Rattle.page_model.specs.Lookups.{no_extent, document_at}
+use Rattle.page_model.specs.World.{Element, Document, Active, Tree}
+use Rattle.page_model.specs.Lookups.{document_at}
 use Rattle.page_model.specs.Documents.{is_number}
 use Rattle.page_tree.specs.Items.{Described}
 
--- the elements by number, the name of each, the root element of `top`, and whether the room for one more is made
+-- elements and documents, the name of each element, and whether the room for one more is made
 pub record PageElements : Type 0 where
-  pub elements : List Element
+  pub tree : Tree
   pub names : List (List ℕ)
-  pub root : Option ℕ
   pub ready : Bool
 
+-- the root element of `top`
+abbrev pub top_root : PageElements → Option ℕ
+top_root page = (document_at page.tree 0).root
+
 -- `top` is Active for good and in no frame
-abbrev pub top_document : Option ℕ → Document → Document
-top_document root document = record document { state = Active; frame = None; root = root }
+abbrev pub top_document : Option ℕ → Document
+top_document root = record { state = Active; frame = None; root = root }
 
--- a world with these elements, and with no document but `top`
-abbrev pub spread : List Element → Option ℕ → World → World
-spread elements root world = record world { elements = elements; documents = top_document root (document_at world 0) ∷ [] }
+-- these elements, and no document but `top`
+abbrev pub spread : List Element → Option ℕ → Tree
+spread elements root = record { elements = elements; documents = top_document root ∷ [] }
 
-abbrev pub placed_in : PageElements → World → World
-placed_in page world = spread page.elements page.root world
-
--- a node of the tree as an element that isn't scrolled
+-- a node of the tree as an element
 abbrev pub element_of : Knot Described → Element
 element_of knot = record {
   item = knot.payload.item;
@@ -35,7 +35,6 @@ element_of knot = record {
   children = knot.children;
   document = 0;
   framed = None;
-  scroll = no_extent;
 }
 
 abbrev pub name_in : Knot Described → List ℕ
@@ -43,9 +42,8 @@ name_in knot = knot.payload.name
 
 abbrev pub seen_page : Forest Described → Option ℕ → PageElements
 seen_page forest root = record {
-  elements = map element_of forest.nodes;
+  tree = spread (map element_of forest.nodes) root;
   names = map name_in forest.nodes;
-  root = root;
   ready = forest.ready;
 }
 

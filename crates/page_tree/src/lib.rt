@@ -1,10 +1,9 @@
 //! The elements of a page: their tree, their styles and kinds, and the commands that change them. Every call is said in
-//! terms of the lists of a world in which `top` is the only document.
+//! terms of the definitions' elements and documents, of which `top` is the only document yet.
 #![tactic(auto)]
 
 mod element;
 mod faults;
-mod laws;
 mod page;
 mod readings;
 #[cfg(test)]
@@ -12,5 +11,4 @@ mod tests;
 
 pub use element::Element;
 pub use faults::{MakeFault, PlaceFault};
-pub use laws::grow_and_load_are_the_commands;
 pub use page::{Axis, Container, PageTree};

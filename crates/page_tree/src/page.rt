@@ -8,19 +8,18 @@ ghost use Rattle.style_values.specs.Ranges.{IsAllowed, IsUnits};
 ghost use Rattle.style_values.specs.Seen.{seen_declaration};
 ghost use Rattle.element_tree.specs.Links.{number};
 ghost use Rattle.element_tree.specs.Edits.{inserted, with_nodes};
-ghost use Rattle.page_model.specs.World.{World, ElementThing};
 ghost use Rattle.page_model.specs.Lookups.{element_at};
-ghost use Rattle.page_model.specs.Names.{with_name};
+ghost use Rattle.page_model.specs.Outcome.{opening_world};
 ghost use Rattle.page_model.specs.Documents.{InElement, InDocument, removed, is_number};
-ghost use Rattle.page_model.specs.Steps.{Did, Met, Threw, becomes, room};
+ghost use Rattle.page_model.specs.Steps.{Did, Met, Threw, room};
 ghost use Rattle.page_model.specs.Edits.{with_element, with_declaration, set_dimension, pixels_of, dimension_of, grown as grown_by};
-ghost use Rattle.page_model.specs.Commands.{placing};
+ghost use Rattle.page_model.specs.Commands.{placing, growing, loading};
 ghost use Rattle.block_layout.specs.Seen.{seen_kind};
 ghost use Rattle.page_tree.specs.Items.{IsKind, IsNatural};
-ghost use Rattle.page_tree.specs.Views.{placed_in, root_without};
-ghost use Rattle.page_tree.specs.Faults.{seen_throw, refusal, IsMakeFault};
+ghost use Rattle.page_tree.specs.Views.{root_without};
+ghost use Rattle.page_tree.specs.Faults.{refusal, IsMakeFault};
 ghost use Rattle.page_tree.specs.Answers.{put_fault, mark_for, refusal_of, unmade_of, is_absent};
-ghost use Rattle.page_tree.specs.Steps.{seen_container, seen_axis, growing, loading, IsContainerIn};
+ghost use Rattle.page_tree.specs.Steps.{seen_container, seen_axis, IsContainerIn};
 
 use crate::element::Element;
 use crate::faults::{MakeFault, PlaceFault};
@@ -82,9 +81,8 @@ impl Model for PageTree {
 impl PageTree {
     /// No element. It takes no memory yet.
     pub fn new(alloc: Global) -> PageTree
-        ensures elements { result.elements ≡ [] }
+        ensures tree { result.tree ≡ opening_world.tree }
         ensures names { result.names ≡ [] }
-        ensures root { result.root ≡ None }
     {
         PageTree {
             tree: Tree::new(alloc, MOST_NODES, MOST_DEPTH),
@@ -97,8 +95,8 @@ impl PageTree {
     /// That `make` doesn't answer `Memory`. `Limit` comes exactly where 20,000 elements were made; else `Memory` where there is
     /// none. Besides the room nothing changes.
     pub fn reserve(&mut self) -> Result<NodeId, MakeFault>
-        ensures node { IfOk result (λ node. node.0 ≡ length self.old.elements) }
-        ensures roomy { OnOk result (room limits.Nodes (length self.old.elements) ≡ Did tt) }
+        ensures node { IfOk result (λ node. node.0 ≡ length self.old.tree.elements) }
+        ensures roomy { OnOk result (room limits.Nodes (length self.old.tree.elements) ≡ Did tt) }
         ensures ready { OnOk result (self.new.ready ≡ true) }
         ensures kept { self.old.ready ≡ true → self.new.ready ≡ true }
         ensures same { self.new ≡ record self.old { ready = self.new.ready } }
@@ -116,17 +114,14 @@ impl PageTree {
     /// `reserve`. Nothing is changed then but that room may have been made.
     pub fn make(&mut self, name: Name, kind: ItemKind) -> Result<NodeId, MakeFault>
         requires { IsKind kind }
-        ensures node { IfOk result (λ node. node.0 ≡ length self.old.elements) }
-        ensures roomy { OnOk result (room limits.Nodes (length self.old.elements) ≡ Did tt) }
-        ensures made { OnOk result ((world : World) →
-            with_name name (ElementThing (length self.old.elements)) (placed_in self.new world)
-            ≡ with_element name (seen_kind kind) 0 None (placed_in self.old world)) }
-        ensures rest { OnOk result (self.new ≡ record self.old {
-          elements = self.new.elements;
+        ensures node { IfOk result (λ node. node.0 ≡ length self.old.tree.elements) }
+        ensures roomy { OnOk result (room limits.Nodes (length self.old.tree.elements) ≡ Did tt) }
+        ensures made { OnOk result (self.new ≡ record self.old {
+          tree = with_element (seen_kind kind) 0 None (self.old.tree);
           names = self.old.names ++ name ∷ [];
           ready = self.new.ready;
         }) }
-        ensures count { OnOk result (length self.new.elements ≡ length self.old.elements + 1) }
+        ensures count { OnOk result (length self.new.tree.elements ≡ length self.old.tree.elements + 1) }
         ensures kept { OnErr result (self.old.ready ≡ true → self.new.ready ≡ true) }
         ensures same { OnErr result (self.new ≡ record self.old { ready = self.new.ready }) }
         ensures refused { IfErr result (IsMakeFault self.old) }
@@ -154,15 +149,13 @@ impl PageTree {
         sibling: Option<NodeId>,
     ) -> Result<(), PlaceFault>
         requires container { IsContainerIn self.old container }
-        requires node { node.0 < length self.old.elements }
-        requires sibling { ForSome sibling (λ s. s.0 < length self.old.elements) }
-        ensures done { OnOk result ((world : World) →
-            placing (placed_in self.old world) (seen_container container) node.0 (option_map number sibling)
-            ≡ becomes (placed_in self.new world)) }
-        ensures rest { OnOk result (self.new ≡ record self.old { elements = self.new.elements; root = self.new.root }) }
-        ensures count { length self.new.elements ≡ length self.old.elements }
-        ensures refused { IfErr result (λ fault. (world : World) →
-            placing (placed_in self.old world) (seen_container container) node.0 (option_map number sibling)
+        requires node { node.0 < length self.old.tree.elements }
+        requires sibling { ForSome sibling (λ s. s.0 < length self.old.tree.elements) }
+        ensures done { OnOk result (placing (seen_container container) node.0 (option_map number sibling) (self.old.tree)
+            ≡ Did (self.new.tree)) }
+        ensures rest { OnOk result (self.new ≡ record self.old { tree = self.new.tree }) }
+        ensures count { length self.new.tree.elements ≡ length self.old.tree.elements }
+        ensures refused { IfErr result (λ fault. placing (seen_container container) node.0 (option_map number sibling) (self.old.tree)
             ≡ refusal fault) }
         ensures same { OnErr result (self.new ≡ self.old) }
     {
@@ -175,10 +168,10 @@ impl PageTree {
     /// Takes an element, with its subtree, out of its parent's children, or as root element out of its document (DOM,
     /// 4.2.3 remove). Nothing where it stands nowhere.
     pub fn remove(&mut self, node: NodeId)
-        requires { node.0 < length self.old.elements }
-        ensures done { (world : World) → placed_in self.new world ≡ removed (placed_in self.old world) node.0 }
-        ensures rest { self.new ≡ record self.old { elements = self.new.elements; root = self.new.root } }
-        ensures count { length self.new.elements ≡ length self.old.elements }
+        requires { node.0 < length self.old.tree.elements }
+        ensures done { self.new.tree ≡ removed (self.old.tree) node.0 }
+        ensures rest { self.new ≡ record self.old { tree = self.new.tree } }
+        ensures count { length self.new.tree.elements ≡ length self.old.tree.elements }
     {
         match self.tree.parent(node) {
             Some(_) => self.tree.remove(node),
@@ -188,12 +181,11 @@ impl PageTree {
 
     /// Sets a property of an element's style (CSSOM, 6.6).
     pub fn set(&mut self, node: NodeId, declaration: Declaration)
-        requires node { node.0 < length self.old.elements }
+        requires node { node.0 < length self.old.tree.elements }
         requires allowed { IsAllowed declaration }
-        ensures done { (world : World) →
-            placed_in self.new world ≡ with_declaration (seen_declaration declaration) node.0 (placed_in self.old world) }
-        ensures rest { self.new ≡ record self.old { elements = self.new.elements } }
-        ensures count { length self.new.elements ≡ length self.old.elements }
+        ensures done { self.new.tree ≡ with_declaration (seen_declaration declaration) node.0 (self.old.tree) }
+        ensures rest { self.new ≡ record self.old { tree = self.new.tree } }
+        ensures count { length self.new.tree.elements ≡ length self.old.tree.elements }
     {
         self.tree.payload_mut(node).apply(declaration);
     }
@@ -202,13 +194,11 @@ impl PageTree {
     ///
     /// TypeError comes exactly where that property isn't in pixels. Nothing is changed then.
     pub fn grow(&mut self, node: NodeId, axis: Axis, by: Px) -> Result<(), ThrowKind>
-        requires { node.0 < length self.old.elements }
-        ensures done { OnOk result ((world : World) →
-            growing (placed_in self.old world) (seen_axis axis) node.0 by.0 ≡ becomes (placed_in self.new world)) }
-        ensures rest { OnOk result (self.new ≡ record self.old { elements = self.new.elements }) }
-        ensures count { length self.new.elements ≡ length self.old.elements }
-        ensures refused { IfErr result (λ kind. (world : World) →
-            growing (placed_in self.old world) (seen_axis axis) node.0 by.0 ≡ Threw kind) }
+        requires { node.0 < length self.old.tree.elements }
+        ensures done { OnOk result (growing (seen_axis axis) node.0 by.0 (self.old.tree) ≡ Did (self.new.tree)) }
+        ensures rest { OnOk result (self.new ≡ record self.old { tree = self.new.tree }) }
+        ensures count { length self.new.tree.elements ≡ length self.old.tree.elements }
+        ensures refused { IfErr result (λ kind. growing (seen_axis axis) node.0 by.0 (self.old.tree) ≡ Threw kind) }
         ensures same { OnErr result (self.new ≡ self.old) }
     {
         let Some(units) = self.pixels(node, axis) else {
@@ -222,15 +212,13 @@ impl PageTree {
     ///
     /// TypeError comes exactly where the element is no image. Nothing is changed then.
     pub fn load(&mut self, node: NodeId, size: Size) -> Result<(), ThrowKind>
-        requires node { node.0 < length self.old.elements }
+        requires node { node.0 < length self.old.tree.elements }
         requires size { IsNatural size }
-        ensures done { OnOk result ((world : World) →
-            loading (placed_in self.old world) node.0 (unsigned_abs size.width) (unsigned_abs size.height)
-            ≡ becomes (placed_in self.new world)) }
-        ensures rest { OnOk result (self.new ≡ record self.old { elements = self.new.elements }) }
-        ensures count { length self.new.elements ≡ length self.old.elements }
-        ensures refused { IfErr result (λ kind. (world : World) →
-            loading (placed_in self.old world) node.0 (unsigned_abs size.width) (unsigned_abs size.height)
+        ensures done { OnOk result (loading node.0 (unsigned_abs size.width) (unsigned_abs size.height) (self.old.tree)
+            ≡ Did (self.new.tree)) }
+        ensures rest { OnOk result (self.new ≡ record self.old { tree = self.new.tree }) }
+        ensures count { length self.new.tree.elements ≡ length self.old.tree.elements }
+        ensures refused { IfErr result (λ kind. loading node.0 (unsigned_abs size.width) (unsigned_abs size.height) (self.old.tree)
             ≡ Threw kind) }
         ensures same { OnErr result (self.new ≡ self.old) }
     {
@@ -248,16 +236,14 @@ impl PageTree {
         node: NodeId,
         sibling: Option<NodeId>,
     ) -> Result<(), PlaceFault>
-        requires parent { parent.0 < length self.old.elements }
-        requires node { node.0 < length self.old.elements }
-        requires sibling { ForSome sibling (λ s. s.0 < length self.old.elements) }
-        ensures done { OnOk result ((world : World) →
-            placing (placed_in self.old world) (InElement parent.0) node.0 (option_map number sibling)
-            ≡ becomes (placed_in self.new world)) }
-        ensures rest { OnOk result (self.new ≡ record self.old { elements = self.new.elements; root = self.new.root }) }
-        ensures count { length self.new.elements ≡ length self.old.elements }
-        ensures refused { IfErr result (λ fault. (world : World) →
-            placing (placed_in self.old world) (InElement parent.0) node.0 (option_map number sibling)
+        requires parent { parent.0 < length self.old.tree.elements }
+        requires node { node.0 < length self.old.tree.elements }
+        requires sibling { ForSome sibling (λ s. s.0 < length self.old.tree.elements) }
+        ensures done { OnOk result (placing (InElement parent.0) node.0 (option_map number sibling) (self.old.tree)
+            ≡ Did (self.new.tree)) }
+        ensures rest { OnOk result (self.new ≡ record self.old { tree = self.new.tree }) }
+        ensures count { length self.new.tree.elements ≡ length self.old.tree.elements }
+        ensures refused { IfErr result (λ fault. placing (InElement parent.0) node.0 (option_map number sibling) (self.old.tree)
             ≡ refusal fault) }
         ensures same { OnErr result (self.new ≡ self.old) }
     {
@@ -272,14 +258,12 @@ impl PageTree {
 
     // Makes an element the root element of `top`.
     fn place_on_top(&mut self, node: NodeId, sibling: Option<NodeId>) -> Result<(), PlaceFault>
-        requires { node.0 < length self.old.elements }
-        ensures done { OnOk result ((world : World) →
-            placing (placed_in self.old world) (InDocument 0) node.0 (option_map number sibling)
-            ≡ becomes (placed_in self.new world)) }
-        ensures rest { OnOk result (self.new ≡ record self.old { elements = self.new.elements; root = self.new.root }) }
-        ensures count { length self.new.elements ≡ length self.old.elements }
-        ensures refused { IfErr result (λ fault. (world : World) →
-            placing (placed_in self.old world) (InDocument 0) node.0 (option_map number sibling)
+        requires { node.0 < length self.old.tree.elements }
+        ensures done { OnOk result (placing (InDocument 0) node.0 (option_map number sibling) (self.old.tree)
+            ≡ Did (self.new.tree)) }
+        ensures rest { OnOk result (self.new ≡ record self.old { tree = self.new.tree }) }
+        ensures count { length self.new.tree.elements ≡ length self.old.tree.elements }
+        ensures refused { IfErr result (λ fault. placing (InDocument 0) node.0 (option_map number sibling) (self.old.tree)
             ≡ refusal fault) }
         ensures same { OnErr result (self.new ≡ self.old) }
     {
@@ -298,9 +282,9 @@ impl PageTree {
 
     // The width or height, where it is in pixels.
     fn pixels(&self, node: NodeId, axis: Axis) -> Option<Px>
-        requires { node.0 < length self.now.elements }
-        ensures value { (world : World) → option_map (λ px. unsigned_abs px.0) result
-            ≡ pixels_of (dimension_of (seen_axis axis) (element_at (placed_in self.now world) node.0).item.style) }
+        requires { node.0 < length self.now.tree.elements }
+        ensures value { option_map (λ px. unsigned_abs px.0) result
+            ≡ pixels_of (dimension_of (seen_axis axis) (element_at (self.now.tree) node.0).item.style) }
         ensures range { IfSome result (λ px. IsUnits px.0) }
     {
         let style = self.tree.payload(node).style();

@@ -1,5 +1,5 @@
 -- One observer changed in its place.
-use Rattle.std.proofs.Common.{◌≡◌, ℕ, zero, suc, ◌<◌, ◌∙◌, ap, refl, sym, subst, get_or, set, length, arith, add-one, ◌+◌, ◌-◌, ◌==◌, Bool, true, cond, drop, drop-cons}
+use Rattle.std.proofs.Common.{◌≡◌, ℕ, zero, suc, ◌<◌, ◌∙◌, ap, refl, sym, subst, get_or, set, length, arith, add-one, ◌+◌, ◌-◌, Bool, true, cond, drop, drop-cons}
 use Rattle.std.proofs.lemmas.Bool.{eq-eqb, cond-true}
 use Rattle.std.proofs.lemmas.Option.{slice_get_read}
 use Rattle.std.specs.Prelude.{List, [], ◌∷◌, ◌++◌, slice_get, unwrap_or}

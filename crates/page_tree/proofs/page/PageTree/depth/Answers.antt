@@ -1,12 +1,10 @@
 use Rattle.std.proofs.Common.{option_map, ap, sym, ◌∙◌}
 use Rattle.element_tree.specs.Links.{number}
 use Rattle.page_model.specs.Documents.{element_depth}
-use Rattle.page_tree.specs.Views.{placed_in}
 use Rattle.page_tree.proofs.Placing.{depth_page}
 use Rattle.page_tree.proofs.page.PageTree.depth.Goals as goal
 
 pub returns : goal.returns
-returns c = λ world.
-    c.depth.ensures.value
-    ∙ sym (depth_page c.self.inside.tree (option_map number c.self.inside.root) c.self.invariant c.depth.ensures.forest world (c.args.node.0))
-    ∙ ap (λ page. element_depth (placed_in page world) (c.args.node.0)) c.self.view_is
+returns c = c.depth.ensures.value
+    ∙ sym (depth_page c.self.inside.tree (option_map number c.self.inside.root) c.self.invariant c.depth.ensures.forest (c.args.node.0))
+    ∙ ap (λ page. element_depth (page.tree) (c.args.node.0)) c.self.view_is

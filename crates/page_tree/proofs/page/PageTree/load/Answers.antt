@@ -2,7 +2,7 @@ use Rattle.std.proofs.Common.{option_map, refl, unsigned_abs}
 use Rattle.element_tree.specs.Links.{number}
 use Rattle.element_tree.specs.Edits.{change_at, with_nodes, with_payload}
 use Rattle.page_tree.specs.Items.{sized_in}
-use Rattle.page_tree.specs.Views.{placed_in, seen_page}
+use Rattle.page_tree.specs.Views.{seen_page}
 use Rattle.page_tree.proofs.Growing.{load_refused, load_done}
 use Rattle.page_tree.proofs.Items.{IsPage-written, written_done, written_rest, written_count}
 use Rattle.page_tree.proofs.page.PageTree.load.Goals as goal
@@ -12,9 +12,8 @@ returns-in_default c = record {
   done = tt;
   rest = tt;
   count = refl;
-  refused = λ world.
-      load_refused (placed_in c.args.self.now world) (c.args.node.0) (unsigned_abs (c.args.size.width)) (unsigned_abs (c.args.size.height))
-      c.kind.result (c.kind.ensures.value world) c.in_default.not-Image;
+  refused = load_refused (c.args.self.now.tree) (c.args.node.0) (unsigned_abs (c.args.size.width)) (unsigned_abs (c.args.size.height))
+      c.kind.result (c.kind.ensures.value) c.in_default.not-Image;
   same = refl;
 }
 
@@ -24,12 +23,11 @@ invariant_of-self c =
     (c.args.node.0) c.payload_mut.result.now c.set_natural_size.new.self c.payload_mut.ensures.value (sized_in c.args.size) c.set_natural_size.ensures
 
 pub returns-clause-done : goal.returns-clause-done
-returns-clause-done c = λ world.
-    load_done (placed_in c.args.self.now world) (c.args.node.0) (unsigned_abs (c.args.size.width)) (unsigned_abs (c.args.size.height))
-    c.kind.result c.in-Image.field-0 (c.kind.ensures.value world) c.in-Image.is
-    (placed_in (seen_page (with_nodes (change_at (with_payload c.set_natural_size.new.self) (c.args.node.0)) c.self.inside.tree) (option_map number c.self.inside.root)) world)
+returns-clause-done c = load_done (c.args.self.now.tree) (c.args.node.0) (unsigned_abs (c.args.size.width)) (unsigned_abs (c.args.size.height))
+    c.kind.result c.in-Image.field-0 (c.kind.ensures.value) c.in-Image.is
+    ((seen_page (with_nodes (change_at (with_payload c.set_natural_size.new.self) (c.args.node.0)) c.self.inside.tree) (option_map number c.self.inside.root)).tree)
     (written_done c.args.self.now c.self.inside.tree (option_map number c.self.inside.root) c.self.view_is c.self.invariant
-    (c.args.node.0) c.payload_mut.result.now c.set_natural_size.new.self c.payload_mut.ensures.value (sized_in c.args.size) c.set_natural_size.ensures world)
+    (c.args.node.0) c.payload_mut.result.now c.set_natural_size.new.self c.payload_mut.ensures.value (sized_in c.args.size) c.set_natural_size.ensures)
 
 pub returns-clause-rest : goal.returns-clause-rest
 returns-clause-rest c =

@@ -5,9 +5,8 @@ use Rattle.page_tree.proofs.Outcomes.{put_refused, IsPage-put, put_done, put_res
 use Rattle.page_tree.proofs.page.PageTree.place_in.Goals as goal
 
 pub returns-in-Err-clause-refused : goal.returns-in-Err-clause-refused
-returns-in-Err-clause-refused c = λ world.
-    put_refused c.args.self.now c.self.inside.tree (option_map number c.self.inside.root) c.self.view_is c.self.invariant c.holds-held.ensures.forest
-    (c.args.node.0) c.requires.node (c.args.parent.0) c.requires.parent (option_map number c.args.sibling) c.in-Err.fault c.in-Err.ensures.answer world
+returns-in-Err-clause-refused c = put_refused c.args.self.now c.self.inside.tree (option_map number c.self.inside.root) c.self.view_is c.self.invariant c.holds-held.ensures.forest
+    (c.args.node.0) c.requires.node (c.args.parent.0) c.requires.parent (option_map number c.args.sibling) c.in-Err.fault c.in-Err.ensures.answer
     ∙ ap refusal (sym c.refused.ensures)
 
 pub invariant_of-self-2 : goal.invariant_of-self-2

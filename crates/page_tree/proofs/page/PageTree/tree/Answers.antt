@@ -1,11 +1,9 @@
 use Rattle.std.proofs.Common.{option_map, ap, sym, ◌∙◌}
 use Rattle.element_tree.specs.Links.{number}
-use Rattle.page_model.specs.Documents.{tree_of}
-use Rattle.page_tree.specs.Views.{placed_in}
+use Rattle.page_model.specs.Documents.{nodes_of}
 use Rattle.page_tree.proofs.Lookups.{tree_found}
 use Rattle.page_tree.proofs.page.PageTree.tree.Goals as goal
 
 pub returns-clause-nodes : goal.returns-clause-nodes
-returns-clause-nodes c = λ world.
-    ap (λ page. tree_of (placed_in page world)) (sym c.self.view_is)
-    ∙ tree_found c.self.inside.tree.nodes (option_map number c.self.inside.root) world
+returns-clause-nodes c = ap (λ page. nodes_of (page.tree)) (sym c.self.view_is)
+    ∙ tree_found c.self.inside.tree.nodes (option_map number c.self.inside.root)
