@@ -270,7 +270,7 @@ does handlers world present (Post document handler) = do
 does handlers world present (Say word) = writes (SayLine word ∷ []) world
 does handlers world present (Read target) = do
   container ← container_meant (world.names) present target
-  writes (reading_of world container ∷ []) world
+  writes (reading_of (world.names) (world.tree) (world.viewports.size) (world.scrolls) container ∷ []) world
 
 -- whether the present entry intersects
 abbrev pub seen_now : Present → Step Bool

@@ -8,7 +8,7 @@ use Rattle.element_tree.specs.Forest.{Knot, parent_of, children_of, parent_in, c
 use Rattle.block_layout.specs.Trees.{layout_tree as tree_in, node_in}
 use Rattle.page_model.specs.Documents.{node_of}
 use Rattle.page_tree.specs.Items.{Described, style_in, kind_in}
-use Rattle.page_tree.specs.Views.{element_of, spread}
+use Rattle.page_tree.specs.Views.{element_of, spread, IsLone}
 
 -- the element that stands for what is found
 abbrev pub found : Option (Knot Described) → Element
@@ -62,3 +62,6 @@ module _ (nodes : List (Knot Described)) (root : Option ℕ) where
   pub tree_found : nodes_of (spread (map element_of nodes) root) ≡ tree_in style_in kind_in nodes
   unfolding tree_in
   tree_found = pointwise (λ n. ap node_of (element_found n) ∙ found_node (slice_get nodes n))
+
+  pub lone_page : IsLone (spread (map element_of nodes) root)
+  lone_page = record { documents = refl; document = document_found; framed = framed_found }

@@ -5,7 +5,7 @@ use Rattle.text_io.specs.declared.kinds.LimitKind.TheVariants as limits
 use Rattle.text_io.specs.Limits.{limit_number}
 use Rattle.element_tree.specs.Forest.{Knot, Forest, parent_of}
 use Rattle.page_model.specs.World.{Element, Document, Active, Tree}
-use Rattle.page_model.specs.Lookups.{document_at}
+use Rattle.page_model.specs.Lookups.{element_at, document_at}
 use Rattle.page_model.specs.Documents.{is_number}
 use Rattle.page_tree.specs.Items.{Described}
 
@@ -46,6 +46,12 @@ seen_page forest root = record {
   names = map name_in forest.nodes;
   ready = forest.ready;
 }
+
+-- `top` is the only document, and each element is one of it and no frame with a document
+pub record IsLone (tree : Tree) : Type 0 where
+  pub documents : tree.documents ≡ top_document ((document_at tree 0).root) ∷ []
+  pub document : (n : ℕ) → (element_at tree n).document ≡ 0
+  pub framed : (n : ℕ) → (element_at tree n).framed ≡ None
 
 -- the root element once a node isn't where it stood
 abbrev pub root_without : ℕ → Option ℕ → Option ℕ

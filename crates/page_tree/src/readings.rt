@@ -9,7 +9,7 @@ ghost use Rattle.page_model.specs.Documents.{nodes_of, element_depth, container_
 ghost use Rattle.block_layout.specs.Seen.{seen_kind};
 ghost use Rattle.block_layout.specs.Trees.{layout_tree as tree_in};
 ghost use Rattle.page_tree.specs.Items.{IsKind, style_in, kind_in};
-ghost use Rattle.page_tree.specs.Views.{top_root, seen_page};
+ghost use Rattle.page_tree.specs.Views.{top_root, seen_page, IsLone};
 ghost use Rattle.page_tree.specs.Trees.{AreTrees};
 
 use crate::element::Element;
@@ -33,6 +33,7 @@ impl PageTree {
         ensures value { result ≡ node_ids (top_root self.now) }
         ensures alone { (n : ℕ) → top_root self.now ≡ Some n → (element_at (self.now.tree) n).parent ≡ None }
         ensures held { (n : ℕ) → top_root self.now ≡ Some n → n < length self.now.tree.elements }
+        ensures lone { IsLone self.now.tree }
     {
         self.root
     }
@@ -85,6 +86,7 @@ impl PageTree {
     pub fn tree(&self) -> &Tree<Element>
         ensures value { seen_page result.now (top_root self.now) ≡ self.now }
         ensures nodes { nodes_of (self.now.tree) ≡ tree_in style_in kind_in result.now.nodes }
+        ensures lone { IsLone self.now.tree }
     {
         &self.tree
     }
