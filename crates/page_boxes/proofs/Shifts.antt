@@ -1,14 +1,14 @@
 -- The offset of a node, by the boxes of it and of its parent.
-use Rattle.std.proofs.Common.{◌≡◌, ◌≤◌, ◌+◌, ℕ, Bool, true, false, Option, Some, None, option_map, unwrap_or, refl, ap, sym, ◌∙◌, arith}
+use Rattle.std.proofs.Common.{◌≡◌, ◌≤◌, ◌+◌, ℕ, Bool, true, false, Option, Some, None, option_map, refl, ap, sym, ◌∙◌, arith}
 use Rattle.std.specs.Prelude.{◌&&◌, not, is_some, sum_by, List}
 use Rattle.px_units.specs.Lengths.{cap}
 use Rattle.layout_model.specs.Styles.{Style}
 use Rattle.layout_model.specs.Items.{Kind, BlockKind, ImageKind, FrameKind}
 use Rattle.layout_model.specs.Nodes.{Node, levels, depth_of}
-use Rattle.layout_model.specs.Boxes.{Inputs, Box, computed, child_inputs, used_side, box_in, if_shown, inputs_if_block, inner_children, counted}
+use Rattle.layout_model.specs.Boxes.{Inputs, Box, child_inputs, box_in, if_shown, inputs_if_block, inner_children, counted}
 use Rattle.layout_model.specs.Clips.{is_block}
 use Rattle.layout_model.specs.Points.{capped}
-use Rattle.layout_model.specs.Reach.{View, inputs_in_view, margin_corner, offset_with}
+use Rattle.layout_model.specs.Reach.{View, inputs_in_view}
 use Rattle.layout_model.specs.Places.{before, offset_of, height_above}
 use Rattle.layout_model.proofs.Offsets.{offset_found, offset_top}
 use Rattle.element_tree.specs.Forest.{Knot, IsForest, parent_of, children_of}

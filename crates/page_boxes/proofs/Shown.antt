@@ -12,9 +12,10 @@ use Rattle.layout_model.specs.Clips.{is_scroll_container}
 use Rattle.layout_model.specs.Points.{plus, moved, moved_back, sum_points}
 use Rattle.layout_model.specs.Reach.{View, in_force, force_if, range_of, range_of_view, offset_in_force, view_in_force}
 use Rattle.layout_model.specs.Places.{offset_of, place_in}
-use Rattle.page_model.specs.World.{World}
-use Rattle.page_model.specs.Documents.{tree_of}
-use Rattle.page_model.specs.PageBoxes.{pair_of, stored_in, view_at, has_box, box_of, size_by, size_of, corner_of, point_of, place_if, place_of}
+use Rattle.page_model.specs.World.{Extent, Scrolls, Tree}
+use Rattle.page_model.specs.Lookups.{element_at}
+use Rattle.page_model.specs.Documents.{nodes_of}
+use Rattle.page_model.specs.PageBoxes.{pair_of, stored_in, scrolled_view, has_box, box_of, size_by, size_of, corner_of, point_of, place_if, place_of}
 use Rattle.page_model.specs.Readings.{point_at}
 use Rattle.block_layout.specs.Seen.{as_size, as_point}
 
@@ -24,20 +25,20 @@ module _ (own : Box) (found : Size) where
   size_by_kind Content content border = content refl
   size_by_kind Border content border = border refl
 
-module _ (world : World) (n : ℕ) where
-  pub size_found : (kind : BoxKind) (own : Box) → Some own ≡ box_of world n → as_size (size_by kind own) ≡ as_size (pair_of (size_of world n kind))
+module _ (tree : Tree) (size : Extent) (n : ℕ) where
+  pub size_found : (kind : BoxKind) (own : Box) → Some own ≡ box_of tree size n → as_size (size_by kind own) ≡ as_size (pair_of (size_of tree size n kind))
   unfolding size_of
   size_found kind own found = ap (λ o. as_size (unwrap_or (option_map (size_by kind) o) (0, 0))) found
 
-  pub size_none : (kind : BoxKind) → None ≡ box_of world n → as_size (0, 0) ≡ as_size (pair_of (size_of world n kind))
+  pub size_none : (kind : BoxKind) → None ≡ box_of tree size n → as_size (0, 0) ≡ as_size (pair_of (size_of tree size n kind))
   unfolding size_of
   size_none kind found = ap (λ o. as_size (unwrap_or (option_map (size_by kind) o) (0, 0))) found
 
-  pub corner_found : (own : Box) → Some own ≡ box_of world n → as_point (content_corner own) ≡ point_at (corner_of world n)
+  pub corner_found : (own : Box) → Some own ≡ box_of tree size n → as_point (content_corner own) ≡ point_at (corner_of tree size n)
   unfolding corner_of
   corner_found own found = ap (λ o. as_point (unwrap_or (option_map content_corner o) (0, 0))) found
 
-  pub corner_none : None ≡ box_of world n → as_point (0, 0) ≡ point_at (corner_of world n)
+  pub corner_none : None ≡ box_of tree size n → as_point (0, 0) ≡ point_at (corner_of tree size n)
   unfolding corner_of
   corner_none found = ap (λ o. as_point (unwrap_or (option_map content_corner o) (0, 0))) found
 
@@ -84,13 +85,14 @@ module _ (at : ℕ → Node) (stored : ℕ → ℕ × ℕ) (view : View) (still 
 pub point_is : (found : Point) (left top : ℤ) → found.left ≡ left → found.top ≡ top → found ≡ point_of (left, top)
 point_is found left top first second = ap (λ l. point_of (l, found.top)) first ∙ ap (λ t. point_of (left, t)) second
 
-pub place_none : (world : World) (n : ℕ) → has_box world n ≡ false → point_of (pos 0, pos 0) ≡ place_of world n
-unfolding place_of
-place_none world n none = sym (ap (place_if world n) none)
+module _ (tree : Tree) (size : Extent) (scrolls : Scrolls) (n : ℕ) where
+  pub place_none : has_box tree size n ≡ false → point_of (pos 0, pos 0) ≡ place_of tree size scrolls n
+  unfolding place_of
+  place_none none = sym (ap (place_if tree size scrolls n) none)
 
-pub place_there : (world : World) (n : ℕ) → has_box world n ≡ true → point_of (place_in (tree_of world) (stored_in world) (view_at world n) n) ≡ place_of world n
-unfolding place_of
-place_there world n there = sym (ap (place_if world n) there)
+  pub place_there : has_box tree size n ≡ true → point_of (place_in (nodes_of tree) (stored_in scrolls) (scrolled_view tree size scrolls ((element_at tree n).document)) n) ≡ place_of tree size scrolls n
+  unfolding place_of
+  place_there there = sym (ap (place_if tree size scrolls n) there)
 
 -- a length that isn't negative
 pub same_length : (length : ℤ) → pos 0 ≤ℤ length → pos (unsigned_abs length) ≡ length

@@ -3,12 +3,12 @@ use Rattle.std.specs.Prelude.{◌≡◌, ℕ, true, Option, Some}
 use Rattle.layout_model.specs.Nodes.{Node}
 use Rattle.layout_model.specs.Boxes.{Inputs, Box, box_in}
 use Rattle.layout_model.specs.Reach.{View, inputs_in_view}
-use Rattle.page_model.specs.World.{World}
+use Rattle.page_model.specs.World.{Extent, Tree}
 use Rattle.page_model.specs.PageBoxes.{has_box, box_of}
 
--- each box of the page
-pub record IsFresh (world : World) (held : ℕ → Option Box) : Type 0 where
-  pub boxes : (n : ℕ) → has_box world n ≡ true → held n ≡ box_of world n
+-- each box of the page, where the viewport of `top` has this size
+pub record IsFresh (tree : Tree) (size : Extent) (held : ℕ → Option Box) : Type 0 where
+  pub boxes : (n : ℕ) → has_box tree size n ≡ true → held n ≡ box_of tree size n
 
 -- each box in a view
 pub record HoldsAll (at : ℕ → Node) (view : View) (held : ℕ → Option Box) : Type 0 where

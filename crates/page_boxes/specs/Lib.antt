@@ -1,3 +1,3 @@
 pub mod Fresh
-pub mod Worlds
+pub mod Pages
 pub mod Ranges

@@ -1,12 +1,10 @@
 //! Laying out a page: its boxes, computed anew.
 
 ghost use Rattle.std.specs.Prelude.{◌≡◌, ◌+◌, ◌≤◌, Some, length, unsigned_abs};
-ghost use Rattle.page_model.specs.World.{World};
 ghost use Rattle.block_layout.specs.Held.{held_in};
 ghost use Rattle.block_layout.specs.Seen.{seen_inputs};
-ghost use Rattle.page_tree.specs.Views.{placed_in};
 ghost use Rattle.page_boxes.specs.Fresh.{IsFresh};
-ghost use Rattle.page_boxes.specs.Worlds.{seen_size, box_number};
+ghost use Rattle.page_boxes.specs.Pages.{seen_size, box_number};
 
 use block_layout::{FreshBoxes, Inputs};
 use page_tree::PageTree;
@@ -32,10 +30,10 @@ pub fn refresh<L: Ledger>(
     viewport: Size,
     steps: &mut Steps<L>,
 )
-    requires { length page.now.elements ≤ length boxes.old }
-    ensures fresh { (world : World) → world.size ≡ seen_size viewport → IsFresh (placed_in page.now world) (held_in boxes.new) }
+    requires { length page.now.tree.elements ≤ length boxes.old }
+    ensures fresh { IsFresh page.now.tree (seen_size viewport) (held_in boxes.new) }
     ensures places { length boxes.new ≡ length boxes.old }
-    ensures ticks { (world : World) → steps.new ≡ steps.old + box_number (placed_in page.now world) }
+    ensures ticks { steps.new ≡ steps.old + box_number page.now.tree }
 {
     let Some(root) = page.root() else {
         return;

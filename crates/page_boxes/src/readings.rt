@@ -1,18 +1,17 @@
 //! What is read of an element's box.
 
-ghost use Rattle.std.specs.Prelude.{◌≡◌, ◌≤◌, pos, ◌+ℤ◌, ◌-ℤ◌};
+ghost use Rattle.std.specs.Prelude.{◌≡◌, ◌≤◌, List, pos, ◌+ℤ◌, ◌-ℤ◌};
 ghost use Rattle.px_units.specs.Rects.{InReach, RectInReach};
 ghost use Rattle.script_model.specs.TraceLines.{ReadLine};
-ghost use Rattle.page_model.specs.World.{World};
+ghost use Rattle.page_model.specs.World.{Extent, Name, Scrolls};
 ghost use Rattle.page_model.specs.PageBoxes.{pair_of, has_box, box_of, size_of, corner_of, place_of, is_scroller};
 ghost use Rattle.page_model.specs.Readings.{point_at, shown_scroll, reading_of};
 ghost use Rattle.block_layout.specs.Seen.{as_size};
 ghost use Rattle.page_tree.specs.Items.{IsNatural};
 ghost use Rattle.page_tree.specs.Steps.{seen_container};
-ghost use Rattle.page_tree.specs.Views.{placed_in};
 ghost use Rattle.page_boxes.specs.Fresh.{IsFresh};
 ghost use Rattle.page_boxes.specs.Ranges.{IsSpan};
-ghost use Rattle.page_boxes.specs.Worlds.{seen_size, IsUnscrolled, text_in};
+ghost use Rattle.page_boxes.specs.Pages.{seen_size, AreUnscrolled, text_in};
 
 use crate::climb::is_boxed;
 use crate::offsets::{Offset, place};
@@ -40,7 +39,7 @@ const NO_SIZE: Size = Size {
 /// Whether an element has a box (CSS 2.2, 9.2.4): it stands in the tree of `top`, neither it nor an ancestor has
 /// `display: none`, and each proper ancestor is a block.
 pub fn has_box(page: &PageTree, node: NodeId) -> bool
-    ensures { (world : World) → result ≡ has_box (placed_in page.now world) node.0 }
+    ensures { (size : Extent) → result ≡ has_box page.now.tree size node.0 }
 {
     if !page.holds(node) {
         return false;
@@ -50,8 +49,8 @@ pub fn has_box(page: &PageTree, node: NodeId) -> bool
 
 // The box of an element, none where it has none.
 fn own_box<B: Boxes>(page: &PageTree, boxes: &B, node: NodeId) -> Option<BoxOf>
-    ensures { (world : World) → IsFresh (placed_in page.now world) (B.held boxes.now) →
-        result ≡ box_of (placed_in page.now world) node.0 }
+    ensures { (size : Extent) → IsFresh page.now.tree size (B.held boxes.now) →
+        result ≡ box_of page.now.tree size node.0 }
 {
     if has_box(page, node) {
         boxes.box_of(node)
@@ -63,8 +62,8 @@ fn own_box<B: Boxes>(page: &PageTree, boxes: &B, node: NodeId) -> Option<BoxOf>
 /// The size of an element's content box or border box (CSS 2.2, 8.1), 0 by 0 without a box. It is so where the boxes of
 /// the page are held as they are now. No memory.
 pub fn size_of<B: Boxes>(page: &PageTree, boxes: &B, node: NodeId, kind: BoxKind) -> Size
-    ensures value { (world : World) → IsFresh (placed_in page.now world) (B.held boxes.now) →
-        result ≡ as_size (pair_of (size_of (placed_in page.now world) node.0 kind)) }
+    ensures value { (size : Extent) → IsFresh page.now.tree size (B.held boxes.now) →
+        result ≡ as_size (pair_of (size_of page.now.tree size node.0 kind)) }
     ensures width { IsSpan result.width }
     ensures height { IsSpan result.height }
 {
@@ -77,8 +76,8 @@ pub fn size_of<B: Boxes>(page: &PageTree, boxes: &B, node: NodeId, kind: BoxKind
 /// The corner of an element's content in its padding box, which is its left and top paddings (Resize Observer, 3.2:
 /// `contentRect`), zeros without a box. It is so where the boxes of the page are held as they are now. No memory.
 pub fn corner_of<B: Boxes>(page: &PageTree, boxes: &B, node: NodeId) -> Point
-    ensures value { (world : World) → IsFresh (placed_in page.now world) (B.held boxes.now) →
-        result ≡ point_at (corner_of (placed_in page.now world) node.0) }
+    ensures value { (size : Extent) → IsFresh page.now.tree size (B.held boxes.now) →
+        result ≡ point_at (corner_of page.now.tree size node.0) }
     ensures left { IsSpan result.left }
     ensures top { IsSpan result.top }
 {
@@ -105,8 +104,8 @@ fn as_point(offset: Offset) -> Point
 ///
 /// It goes up to the root, and at each level over the earlier siblings.
 pub fn place_of<B: Boxes>(page: &PageTree, boxes: &B, node: NodeId) -> Point
-    ensures value { (world : World) → IsFresh (placed_in page.now world) (B.held boxes.now) → IsUnscrolled world →
-        result ≡ place_of (placed_in page.now world) node.0 }
+    ensures value { (size : Extent) (scrolls : Scrolls) → IsFresh page.now.tree size (B.held boxes.now) → AreUnscrolled scrolls →
+        result ≡ place_of page.now.tree size scrolls node.0 }
     ensures left { IsSpan result.left }
     ensures top { IsSpan result.top }
 {
@@ -116,13 +115,13 @@ pub fn place_of<B: Boxes>(page: &PageTree, boxes: &B, node: NodeId) -> Point
     as_point(place(page.tree(), boxes, node))
 }
 
-// The scroll offset in force of an element. None has a stored scroll position, as its tree tells.
+// The scroll offset in force of an element where nothing is scrolled.
 fn scroll_of(page: &PageTree, node: NodeId) -> Point
-    ensures value { (world : World) →
-        result ≡ point_at (shown_scroll (placed_in page.now world) node.0 (is_scroller (placed_in page.now world) node.0)) }
+    ensures value { (size : Extent) (scrolls : Scrolls) → AreUnscrolled scrolls →
+        result ≡ point_at (shown_scroll page.now.tree size scrolls node.0 (is_scroller page.now.tree size node.0)) }
     ensures origin { result ≡ record { left = pos 0; top = pos 0 } }
 {
-    let _elements = page.tree();
+    let _root = page.root();
     ORIGIN
 }
 
@@ -155,15 +154,17 @@ fn rect_at(corner: Point, size: Size) -> Rect
 /// this size of the viewport. No memory.
 pub fn read<B: Boxes>(page: &PageTree, boxes: &B, viewport: Size, container: Container) -> Reading
     requires { IsNatural viewport }
-    ensures value { (world : World) → world.size ≡ seen_size viewport →
-        IsFresh (placed_in page.now world) (B.held boxes.now) → IsUnscrolled world →
-        reading_of (placed_in page.now world) (seen_container container)
-        ≡ ReadLine (text_in (placed_in page.now world) (seen_container container)) result.rect result.scroll }
+    ensures value { (names : List Name) (scrolls : Scrolls) →
+        IsFresh page.now.tree (seen_size viewport) (B.held boxes.now) → AreUnscrolled scrolls →
+        reading_of names page.now.tree (seen_size viewport) scrolls (seen_container container)
+        ≡ ReadLine (text_in names (seen_container container)) result.rect result.scroll }
     ensures edges { RectInReach result.rect }
     ensures width { InReach (result.rect.right -ℤ result.rect.left) }
     ensures height { InReach (result.rect.bottom -ℤ result.rect.top) }
     ensures scroll { result.scroll ≡ record { left = pos 0; top = pos 0 } }
 {
+    // `top` is the only document, as its root element tells.
+    let _root = page.root();
     match container {
         Container::Element(node) => Reading {
             rect: rect_at(

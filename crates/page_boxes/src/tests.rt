@@ -145,7 +145,7 @@ fn renew<L: Ledger>(blank: Blank, boxes: &mut FreshBoxes, page: &PageTree, viewp
     requires name { blank.name ≡ L.name }
     requires parts { blank.parts ≡ L.parts }
     requires one_part { 0 < blank.parts }
-    requires places { length page.now.elements ≤ length boxes.old }
+    requires places { length page.now.tree.elements ≤ length boxes.old }
 {
     let mut steps = Steps::<L>::new(blank);
     refresh(boxes, page, viewport, &mut steps);
