@@ -1,5 +1,4 @@
 mod Pointwise
-mod Watched
 pub mod Plain
 pub mod Delivering
 pub mod PlainTicks

@@ -1,6 +1,6 @@
 -- What is written of a text that is no script, or of a script all of which is built.
 use Rattle.std.proofs.Common.{◌≡◌, refl, ap, sym}
-use Rattle.std.specs.Prelude.{ℕ, List, [], ◌∷◌, Option, None, Ok, Err}
+use Rattle.std.specs.Prelude.{ℕ, List, Option, None, Ok, Err}
 use Rattle.script_model.specs.Syntax.{Item}
 use Rattle.script_model.specs.Reading.{Reading, reading, refusal_line}
 use Rattle.script_model.specs.TraceText.{line_text}

@@ -71,14 +71,14 @@ pub fn the_time_goes_on()
 /// With one observer that calls no handler, the resize loop tells each size that differs from the last reported one, once,
 /// with one round, and these become the last reported sizes.
 pub fn the_resize_loop_tells_changed_sizes_once()
-    ensures { (script : Script) (world : World) (targets : List Observation) → is_active world 0 ≡ true →
+    ensures { (script : Script) (world : World) (targets : List Observation) → is_active world.tree 0 ≡ true →
         resize_loop script 0 (watched (silent_observer targets ∷ []) world)
         ≡ say (told_lines world (told world targets)) (watched (silent_observer (told_targets world targets) ∷ []) world) }
 {}
 
 /// With no observer the resize loop tells nothing.
 pub fn a_resize_loop_without_observers_tells_nothing()
-    ensures { (script : Script) (world : World) → is_active world 0 ≡ true → resize_loop script 0 (watched [] world) ≡ say [] (watched [] world) }
+    ensures { (script : Script) (world : World) → is_active world.tree 0 ≡ true → resize_loop script 0 (watched [] world) ≡ say [] (watched [] world) }
 {}
 
 /// Where nothing but resize observers waits for it, a tick writes its line, the event of a viewport that changed, and what
