@@ -4,7 +4,8 @@ use Rattle.word_model.specs.Names.{is_name}
 use Rattle.px_units.specs.declared.BoxKind.{BoxKind}
 use Rattle.px_units.specs.declared.BoxKind.TheVariants.{Content, Border}
 use Rattle.text_io.specs.declared.kinds.EventKind.{EventKind}
-use Rattle.text_io.specs.declared.kinds.EventKind.TheVariants as kinds
+use Rattle.text_io.specs.declared.kinds.EventKind.TheVariants as event
+use Rattle.text_io.specs.Kinds.{event_word}
 use Rattle.script_model.specs.Keywords.{Keyword, keyword}
 use Rattle.script_model.specs.Syntax.{Operand, Named, Target, Aim, PlainAim, WindowAim, Dimension, WidthDimension, HeightDimension}
 
@@ -32,10 +33,10 @@ just word text = cond (bytes_eq text word) (Some tt) None
 
 abbrev pub events : List (Keyword EventKind)
 events =
-    keyword (codes "resize") kinds.Resize
-    ∷ keyword (codes "scroll") kinds.Scroll
-    ∷ keyword (codes "error") kinds.Error
-    ∷ keyword (codes "change") kinds.Change
+    keyword (event_word event.Resize) event.Resize
+    ∷ keyword (event_word event.Scroll) event.Scroll
+    ∷ keyword (event_word event.Error) event.Error
+    ∷ keyword (event_word event.Change) event.Change
     ∷ []
 
 abbrev pub boxes : List (Keyword BoxKind)

@@ -14,20 +14,13 @@ use Rattle.text_io.specs.Kinds.{limit_word, throw_word, event_word}
 use Rattle.text_io.specs.declared.kinds.EventKind.{EventKind}
 use Rattle.text_io.specs.declared.kinds.EventKind.TheVariants as event
 use Rattle.text_io.specs.declared.kinds.ThrowKind.{ThrowKind}
-use Rattle.text_io.specs.declared.kinds.ThrowKind.TheVariants.{ReferenceError, TypeError, HierarchyRequestError, NotFoundError, SyntaxError, RangeError}
 use Rattle.text_io.specs.declared.kinds.LimitKind.{LimitKind}
-use Rattle.text_io.specs.declared.kinds.LimitKind.TheVariants.{Script, Line, Handlers, Nesting, Commands, Nodes, Depth, Documents, ResizeObservers, IntersectionObservers, ResizeObservations, IntersectionObservations, Listeners, Timers, FrameCallbacks, Tasks, Queries}
-use Rattle.text_io.specs.declared.kinds.ThrowKind.{ThrowKind}
-use Rattle.text_io.specs.declared.kinds.ThrowKind.TheVariants.{HierarchyRequestError, NotFoundError, RangeError, ReferenceError, SyntaxError, TypeError}
-use Rattle.text_io.specs.declared.kinds.LimitKind.{LimitKind}
-use Rattle.text_io.specs.declared.kinds.LimitKind.TheVariants as limits
 use Rattle.script_model.specs.TraceLines.{FiredEvent, FiredResize, FiredScroll, FiredChange, FiredError, Intersection, TraceLine, TickLine, TimerLine, FrameLine, TaskLine, EventLine, ResizeLine, RoundLine, IntersectLine, TakeLine, SayLine, ReadLine, ThrowLine, LimitLine, SyntaxLine}
-use Rattle.script_model.specs.TraceText.{exception_text, limit_text, window_text, bool_text, meets_text, rect_fields, size_fields, point_fields, ratio_text, loop_error, event_fields, intersection_fields, kind_text, fields_of, line_text}
+use Rattle.script_model.specs.TraceText.{window_text, bool_text, meets_text, rect_fields, size_fields, point_fields, ratio_text, loop_error, event_fields, intersection_fields, kind_text, fields_of, line_text}
 use Rattle.trace_text.specs.declared.kinds.LineKind.{LineKind}
 use Rattle.trace_text.specs.declared.kinds.LineKind.TheVariants as kind
 use Rattle.trace_text.specs.Fields.{is_field_byte, before}
 use Rattle.trace_text.specs.Kinds.{kind_word, named, line_kinds, kind_of, event_of}
-use Rattle.trace_text.specs.Seen.{seen_throw, seen_limit}
 use Rattle.trace_text.specs.Ranges.{IsName, RectReaches, SizeReaches, PointReaches, EntryReaches, EventFits, EntryFits, IsLine}
 use Rattle.trace_text.specs.Reading.{◌>>=◌, Read, field_of, behind_field, value_at, both, behind, behind_space, behind_text, name_at, names_at, window_at, u32_at, u64_at, bool_at, meets_at, ratio_at, rect_at, size_at, point_at, throw_at, limit_at, event_by, event_at, Seen, Rects, seen_at, rects_at, entry, line_by, ended, line_of}
 use Rattle.trace_text.proofs.Joined.{line_text_before, before_again}
@@ -284,62 +277,6 @@ entry_fields_are : (p : Seen × Rects) → entry_fields p ≡ intersection_field
 unfolding intersection_fields rect_fields ratio_text
 entry_fields_are p = refl
 
--- ---- exceptions and limits by the kinds of the code
-
-throw_text : (k : ThrowKind) → throw_word k ≡ exception_text k
-throw_text ReferenceError = refl
-throw_text TypeError = refl
-throw_text HierarchyRequestError = refl
-throw_text NotFoundError = refl
-throw_text SyntaxError = refl
-throw_text RangeError = refl
-
-throw_of_exception : (exception : ThrowKind) → (k : ThrowKind) × (seen_throw k ≡ exception)
-throw_of_exception ReferenceError = (ReferenceError, refl)
-throw_of_exception TypeError = (TypeError, refl)
-throw_of_exception HierarchyRequestError = (HierarchyRequestError, refl)
-throw_of_exception NotFoundError = (NotFoundError, refl)
-throw_of_exception SyntaxError = (SyntaxError, refl)
-throw_of_exception RangeError = (RangeError, refl)
-
-limit_text_is : (k : LimitKind) → limit_word k ≡ limit_text k
-limit_text_is Script = refl
-limit_text_is Line = refl
-limit_text_is Handlers = refl
-limit_text_is Nesting = refl
-limit_text_is Commands = refl
-limit_text_is Nodes = refl
-limit_text_is Depth = refl
-limit_text_is Documents = refl
-limit_text_is ResizeObservers = refl
-limit_text_is IntersectionObservers = refl
-limit_text_is ResizeObservations = refl
-limit_text_is IntersectionObservations = refl
-limit_text_is Listeners = refl
-limit_text_is Timers = refl
-limit_text_is FrameCallbacks = refl
-limit_text_is Tasks = refl
-limit_text_is Queries = refl
-
-limit_of_limit : (limit : LimitKind) → (k : LimitKind) × (seen_limit k ≡ limit)
-limit_of_limit limits.Script = (Script, refl)
-limit_of_limit limits.Line = (Line, refl)
-limit_of_limit limits.Handlers = (Handlers, refl)
-limit_of_limit limits.Nesting = (Nesting, refl)
-limit_of_limit limits.Commands = (Commands, refl)
-limit_of_limit limits.Nodes = (Nodes, refl)
-limit_of_limit limits.Depth = (Depth, refl)
-limit_of_limit limits.Documents = (Documents, refl)
-limit_of_limit limits.ResizeObservers = (ResizeObservers, refl)
-limit_of_limit limits.IntersectionObservers = (IntersectionObservers, refl)
-limit_of_limit limits.ResizeObservations = (ResizeObservations, refl)
-limit_of_limit limits.IntersectionObservations = (IntersectionObservations, refl)
-limit_of_limit limits.Listeners = (Listeners, refl)
-limit_of_limit limits.Timers = (Timers, refl)
-limit_of_limit limits.FrameCallbacks = (FrameCallbacks, refl)
-limit_of_limit limits.Tasks = (Tasks, refl)
-limit_of_limit limits.Queries = (Queries, refl)
-
 -- ---- lines
 
 -- fields that are read are those of the line made of them, which is of this kind
@@ -414,11 +351,11 @@ read_line = record { exact = reads; each = λ p h. (refl, refl, record { fits = 
 
 throw_line : IsExact kind.Throw (both u32_at throw_at) threw ThrewFits (λ (p : Threw). ThrowLine p.0 p.1)
 unfolding fields_of
-throw_line = record { exact = throwing; each = λ p h. (ap (λ w. decimal p.0 ∷ w ∷ []) (throw_text p.1), refl, record { fits = h.0; reach = tt }) }
+throw_line = record { exact = throwing; each = λ p h. (refl, refl, record { fits = h.0; reach = tt }) }
 
 limit_line : IsExact kind.Limit (both limit_at (both u32_at u64_at)) limited LimitedFits (λ (p : Limited). LimitLine p.0 p.1.0 p.1.1)
 unfolding fields_of
-limit_line = record { exact = limiting; each = λ p h. (ap (λ w. w ∷ decimal p.1.0 ∷ decimal p.1.1 ∷ []) (limit_text_is p.0), refl, record { fits = h.1; reach = tt }) }
+limit_line = record { exact = limiting; each = λ p h. (refl, refl, record { fits = h.1; reach = tt }) }
 
 syntax_line : IsExact kind.Syntax (both u32_at u32_at) two_numbers (λ p. (p.0 < 2 ^ 32) × (p.1 < 2 ^ 32)) (λ (p : Numbers). SyntaxLine p.0 p.1)
 unfolding fields_of
@@ -445,14 +382,6 @@ line_by_sound kind.Syntax t q h = stands kind.Syntax (both u32_at u32_at) two_nu
 Written : TraceLine → Type 0
 Written l = (k : LineKind) × (kind_word k ≡ kind_text l) × (line_by k (line_end (fields_of l)) ≡ Some (l, 10 ∷ [])) × (list_all is_no_feed (before (fields_of l) []) ≡ true)
 
-throw_written : (row : ℕ) (k : ThrowKind) → row < 2 ^ 32 → Written (ThrowLine row k)
-unfolding Written line_by
-throw_written row k h = (kind.Throw, refl, again kind.Throw (both u32_at throw_at) threw ThrewFits (λ (p : Threw). ThrowLine p.0 p.1) throw_line (row, k) (h, tt), clean kind.Throw (both u32_at throw_at) threw ThrewFits (λ (p : Threw). ThrowLine p.0 p.1) throw_line (row, k) (h, tt))
-
-limit_written : (k : LimitKind) (row most : ℕ) → (row < 2 ^ 32) × (most < 2 ^ 64) → Written (LimitLine k row most)
-unfolding Written line_by
-limit_written k row most h = (kind.Limit, refl, again kind.Limit (both limit_at (both u32_at u64_at)) limited LimitedFits (λ (p : Limited). LimitLine p.0 p.1.0 p.1.1) limit_line (k, (row, most)) (tt, h), clean kind.Limit (both limit_at (both u32_at u64_at)) limited LimitedFits (λ (p : Limited). LimitLine p.0 p.1.0 p.1.1) limit_line (k, (row, most)) (tt, h))
-
 line_written : (l : TraceLine) → IsLine l → Written l
 unfolding Written line_by
 line_written (TickLine time) h = (kind.Tick, refl, again kind.Tick u64_at number (λ n. n < 2 ^ 64) TickLine tick_line time h.fits, clean kind.Tick u64_at number (λ n. n < 2 ^ 64) TickLine tick_line time h.fits)
@@ -466,14 +395,8 @@ line_written (IntersectLine found) h = (kind.Intersect, refl, again kind.Interse
 line_written (TakeLine observer count) h = (kind.Take, refl, again kind.Take (both name_at u64_at) counted (λ p. IsName p.0 × (p.1 < 2 ^ 64)) (λ (p : Counted). TakeLine p.0 p.1) take_line (observer, count) h.fits, clean kind.Take (both name_at u64_at) counted (λ p. IsName p.0 × (p.1 < 2 ^ 64)) (λ (p : Counted). TakeLine p.0 p.1) take_line (observer, count) h.fits)
 line_written (SayLine word) h = (kind.Say, refl, again kind.Say name_at one_name IsName SayLine say_line word h.fits, clean kind.Say name_at one_name IsName SayLine say_line word h.fits)
 line_written (ReadLine target rect scroll) h = (kind.Read, refl, again kind.Read (both name_at (both rect_at point_at)) placed PlacedFits (λ (p : Place). ReadLine p.0 p.1.0 p.1.1) read_line (target, (rect, scroll)) (h.fits, h.reach), clean kind.Read (both name_at (both rect_at point_at)) placed PlacedFits (λ (p : Place). ReadLine p.0 p.1.0 p.1.1) read_line (target, (rect, scroll)) (h.fits, h.reach))
-line_written (ThrowLine row exception) h =
-    let k = throw_of_exception exception in
-    let T : ThrowKind → Type 0 = λ e. Written (ThrowLine row e) in
-    subst T k.1 (throw_written row k.0 h.fits)
-line_written (LimitLine limit row most) h =
-    let k = limit_of_limit limit in
-    let T : LimitKind → Type 0 = λ l. Written (LimitLine l row most) in
-    subst T k.1 (limit_written k.0 row most h.fits)
+line_written (ThrowLine row exception) h = (kind.Throw, refl, again kind.Throw (both u32_at throw_at) threw ThrewFits (λ (p : Threw). ThrowLine p.0 p.1) throw_line (row, exception) (h.fits, tt), clean kind.Throw (both u32_at throw_at) threw ThrewFits (λ (p : Threw). ThrowLine p.0 p.1) throw_line (row, exception) (h.fits, tt))
+line_written (LimitLine limit row most) h = (kind.Limit, refl, again kind.Limit (both limit_at (both u32_at u64_at)) limited LimitedFits (λ (p : Limited). LimitLine p.0 p.1.0 p.1.1) limit_line (limit, (row, most)) (tt, h.fits), clean kind.Limit (both limit_at (both u32_at u64_at)) limited LimitedFits (λ (p : Limited). LimitLine p.0 p.1.0 p.1.1) limit_line (limit, (row, most)) (tt, h.fits))
 line_written (SyntaxLine row column) h = (kind.Syntax, refl, again kind.Syntax (both u32_at u32_at) two_numbers (λ p. (p.0 < 2 ^ 32) × (p.1 < 2 ^ 32)) (λ (p : Numbers). SyntaxLine p.0 p.1) syntax_line (row, column) h.fits, clean kind.Syntax (both u32_at u32_at) two_numbers (λ p. (p.0 < 2 ^ 32) × (p.1 < 2 ^ 32)) (λ (p : Numbers). SyntaxLine p.0 p.1) syntax_line (row, column) h.fits)
 
 kind_named : (k : LineKind) → (kind_of (kind_word k) ≡ Some k) × (list_all is_field_byte (kind_word k) ≡ true)

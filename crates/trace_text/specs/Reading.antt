@@ -16,7 +16,6 @@ use Rattle.trace_text.specs.declared.kinds.LineKind.{LineKind}
 use Rattle.trace_text.specs.declared.kinds.LineKind.TheVariants as kind
 use Rattle.trace_text.specs.Fields.{is_field_byte}
 use Rattle.trace_text.specs.Kinds.{named, kind_of, event_of, throw_of, limit_of}
-use Rattle.trace_text.specs.Seen.{seen_throw, seen_limit}
 
 infixl 10 ◌>>=◌
 abbrev pub ◌>>=◌ : {A B : Type 0} → Option A → (A → Option B) → Option B

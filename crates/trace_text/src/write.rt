@@ -3,9 +3,10 @@
 ghost use Rattle.std.specs.Prelude.{◌≡◌, List, [], ◌∷◌, ◌++◌, OnOk, OnErr, codes};
 ghost use Rattle.word_model.specs.Numbers.{decimal};
 ghost use Rattle.px_units.specs.Texts.{pixel_text};
+ghost use Rattle.text_io.specs.Kinds.{limit_word, throw_word};
 ghost use Rattle.script_model.specs.TraceLines.{ResizeLine, ReadLine};
-ghost use Rattle.script_model.specs.TraceText.{exception_text, limit_text, window_text, bool_text, meets_text, rect_fields, size_fields, point_fields, ratio_text, event_fields, fields_of, line_text};
-ghost use Rattle.trace_text.specs.Seen.{seen_line, seen_event, seen_throw, seen_limit};
+ghost use Rattle.script_model.specs.TraceText.{window_text, bool_text, meets_text, rect_fields, size_fields, point_fields, ratio_text, event_fields, fields_of, line_text};
+ghost use Rattle.trace_text.specs.Seen.{seen_line, seen_event};
 ghost use Rattle.trace_text.specs.Ranges.{HasReach, RectReaches, SizeReaches, PointReaches};
 ghost use Rattle.trace_text.specs.Fields.{with_fields};
 
@@ -177,14 +178,14 @@ fn push_numbers(out: &mut Vec<u8>, first: u64, second: u64) -> Result<(), AllocE
 }
 
 fn push_throw(out: &mut Vec<u8>, number: u32, kind: ThrowKind) -> Result<(), AllocError>
-    ensures { OnOk result (out.new.items ≡ with_fields out.old.items (decimal number ∷ exception_text kind ∷ [])) }
+    ensures { OnOk result (out.new.items ≡ with_fields out.old.items (decimal number ∷ throw_word kind ∷ [])) }
 {
     push_number(out, u128::from(number))?;
     push_field(out, kind.text().as_bytes())
 }
 
 fn push_limit(out: &mut Vec<u8>, kind: LimitKind, number: u32, most: u64) -> Result<(), AllocError>
-    ensures { OnOk result (out.new.items ≡ with_fields out.old.items (limit_text kind ∷ decimal number ∷ decimal most ∷ [])) }
+    ensures { OnOk result (out.new.items ≡ with_fields out.old.items (limit_word kind ∷ decimal number ∷ decimal most ∷ [])) }
 {
     push_field(out, kind.text().as_bytes())?;
     push_numbers(out, u64::from(number), most)
