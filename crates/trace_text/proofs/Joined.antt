@@ -1,5 +1,5 @@
 -- Fields joined to a line's text.
-use Rattle.std.proofs.Common.{◌≡◌, ℕ, ℤ, List, [], ◌∷◌, ◌++◌, refl, ap, sym, ◌∙◌, append_assoc, append-nil}
+use Rattle.std.proofs.Common.{◌≡◌, ℕ, ℤ, List, [], ◌∷◌, ◌++◌, refl, ap, sym, ◌∙◌, append_assoc}
 use Rattle.std.specs.Prelude.{◌-ℤ◌, codes}
 use Rattle.word_model.specs.Numbers.{decimal}
 use Rattle.std.specs.List.{join_with_byte}

@@ -1,6 +1,6 @@
 -- The fields of lines, each read as what it writes.
-use Rattle.std.proofs.Common.{◌≡◌, ◌∙◌, refl, sym, ap, subst, ℕ, ◌-◌, ◌^◌, ◌<◌, Bool, true, false, cond, ◌&&◌, ◌||◌, nat_le, List, [], ◌∷◌, ◌++◌, length, take, drop, Option, Some, None, ℤ, arith}
-use Rattle.std.specs.Prelude.{◌==◌, bytes_eq, codes, ◌+ℤ◌, ◌-ℤ◌, int_le, negsuc, pos}
+use Rattle.std.proofs.Common.{◌≡◌, ◌∙◌, refl, sym, ap, subst, ℕ, ◌-◌, ◌^◌, ◌<◌, Bool, true, false, cond, ◌&&◌, nat_le, List, [], ◌∷◌, ◌++◌, length, take, drop, Some, None, ℤ, arith}
+use Rattle.std.specs.Prelude.{◌==◌, bytes_eq, ◌+ℤ◌, ◌-ℤ◌, int_le, negsuc, pos}
 use Rattle.std.specs.List.{list_all, find}
 use Rattle.std.proofs.lemmas.Bool.{and_parts, eqb-true}
 use Rattle.std.proofs.lemmas.Bool.Decides.{nat_tests}
@@ -15,7 +15,6 @@ use Rattle.px_units.specs.declared.Point.{Point}
 use Rattle.px_units.specs.declared.Size.{Size}
 use Rattle.px_units.specs.Texts.{pixel_text}
 use Rattle.px_units.specs.Rects.{InReach}
-use Rattle.px_units.proofs.Edges.{same_rect}
 use Rattle.text_io.specs.Kinds.{limit_word, throw_word, event_word}
 use Rattle.text_io.specs.declared.kinds.EventKind.{EventKind}
 use Rattle.text_io.specs.declared.kinds.EventKind.TheVariants as event
@@ -24,10 +23,10 @@ use Rattle.text_io.specs.declared.kinds.ThrowKind.TheVariants.{ReferenceError, T
 use Rattle.text_io.specs.declared.kinds.LimitKind.{LimitKind}
 use Rattle.text_io.specs.declared.kinds.LimitKind.TheVariants.{Script, Line, Handlers, Nesting, Commands, Nodes, Depth, Documents, ResizeObservers, IntersectionObservers, ResizeObservations, IntersectionObservations, Listeners, Timers, FrameCallbacks, Tasks, Queries}
 use Rattle.script_model.specs.TraceText.{window_text, bool_text, meets_text, rect_fields, size_fields, point_fields}
-use Rattle.trace_text.specs.Fields.{is_field_byte, before}
+use Rattle.trace_text.specs.Fields.{is_field_byte}
 use Rattle.trace_text.specs.Ranges.{RectReaches, SizeReaches, PointReaches, IsName}
 use Rattle.trace_text.specs.Kinds.{named, event_of, event_kinds, throw_of, throw_kinds, limit_of, limit_kinds}
-use Rattle.trace_text.specs.Reading.{◌>>=◌, Read, value_at, both, name_of, name_at, names_at, window_of, window_at, number_of, number_at, u32_at, u64_at, ratio_of, ratio_at, bool_of, bool_at, meets_of, meets_at, pixels_of, pixels_at, point_at, size_at, in_reach, edge_of, rect_of, rect_at, behind_text, throw_at, limit_at}
+use Rattle.trace_text.specs.Reading.{◌>>=◌, value_at, both, name_of, name_at, names_at, window_of, window_at, number_of, number_at, u32_at, u64_at, ratio_of, ratio_at, bool_of, bool_at, meets_of, meets_at, pixels_of, pixels_at, point_at, size_at, in_reach, edge_of, rect_of, rect_at, behind_text, throw_at, limit_at}
 use Rattle.trace_text.proofs.Exact.{Exact, ExactAt, some_same, parts, chosen, value_exact, both_exact, as_exact}
 use Rattle.trace_text.proofs.Numerals.{number_exact, ratio_exact, RatioFits, ratio_text_of}
 use Rattle.trace_text.proofs.Pixels.{pixels_exact}

@@ -1,8 +1,8 @@
 -- Lengths that are read as the units that they write.
-use Rattle.std.proofs.Common.{◌≡◌, ◌∙◌, refl, sym, ap, subst, ℕ, zero, suc, ◌+◌, ◌*◌, ◌/◌, ◌%◌, ◌^◌, ◌<◌, ◌≤◌, ◌≢◌, ◌⊎◌, inl, inr, Bool, true, false, cond, not, ◌&&◌, ◌||◌, nat_lt, ltb, List, [], ◌∷◌, ◌++◌, length, drop, Option, Some, None, ℤ, pos, negsuc, arith}
-use Rattle.std.specs.Prelude.{take_while, ◌==◌, bytes_eq, neg_ℤ, unsigned_abs, option_map, int_lt}
+use Rattle.std.proofs.Common.{◌≡◌, ◌∙◌, refl, sym, ap, subst, ℕ, zero, suc, ◌+◌, ◌*◌, ◌/◌, ◌%◌, ◌^◌, ◌<◌, ◌≤◌, ◌⊎◌, inl, inr, Bool, true, false, cond, not, ◌&&◌, ◌||◌, nat_lt, ltb, List, [], ◌∷◌, ◌++◌, length, drop, Option, Some, None, ℤ, pos, negsuc, arith}
+use Rattle.std.specs.Prelude.{take_while, ◌==◌, bytes_eq, option_map}
 use Rattle.std.specs.List.{list_all}
-use Rattle.std.proofs.lemmas.Bool.{and_parts, eqb-true, eq-eqb, ne_eqb, ltb-true, ltb-false, lt-ltb, le-ltb}
+use Rattle.std.proofs.lemmas.Bool.{and_parts, eqb-true, ne_eqb, ltb-true, ltb-false, lt-ltb, le-ltb}
 use Rattle.std.proofs.lemmas.List.Folds.{list_all-append}
 use Rattle.std.proofs.lemmas.List.Sums.{take_while-cons}
 use Rattle.std.proofs.lemmas.Slice.Eq.{bytes_eq-Decides}
@@ -12,10 +12,11 @@ use Rattle.word_model.specs.Numbers.{decimal, at_most, leading_digits, behind_di
 use Rattle.word_model.proofs.Values.{not_above}
 use Rattle.px_units.specs.Texts.{sign_text, rest_text, pixel_text}
 use Rattle.px_units.specs.Rects.{InReach}
+use Rattle.word_model.proofs.RoundTrip.{decimal_digits, decimal_length}
 use Rattle.trace_text.specs.Fields.{is_field_byte}
 use Rattle.trace_text.specs.Reading.{◌>>=◌, number_of, are_decimals, sixty_fourths, decimals_of, rest_of, magnitude_of, negative, pixels_of}
 use Rattle.trace_text.proofs.Exact.{Exact, some_same, parts, chosen}
-use Rattle.trace_text.proofs.Numerals.{number_exact, decimal_digits, decimal_length, digits_field, at_most_some, leading_first, behind_first, digits_first}
+use Rattle.trace_text.proofs.Numerals.{number_exact, digits_field, at_most_some, leading_first, behind_first, digits_first}
 
 -- ---- each of the 64 rests of a pixel, computed
 

@@ -1,5 +1,5 @@
 -- Whole lines, each read as what it writes.
-use Rattle.std.proofs.Common.{◌≡◌, ◌≢◌, ◌∙◌, refl, sym, ap, subst, ℕ, ◌^◌, ◌<◌, Bool, true, false, cond, not, ◌&&◌, List, [], ◌∷◌, ◌++◌, Option, Some, None, append_assoc, arith}
+use Rattle.std.proofs.Common.{◌≡◌, ◌≢◌, ◌∙◌, refl, sym, ap, subst, ℕ, ◌^◌, ◌<◌, Bool, true, not, ◌&&◌, List, [], ◌∷◌, ◌++◌, Some, append_assoc, arith}
 use Rattle.std.specs.Prelude.{bytes_eq, codes, ◌==◌}
 use Rattle.std.specs.List.{list_all, All}
 use Rattle.std.proofs.lemmas.Bool.{and_parts, eqb-true, eq-eqb}
@@ -23,7 +23,7 @@ use Rattle.trace_text.specs.Fields.{is_field_byte, before}
 use Rattle.trace_text.specs.Kinds.{kind_word, named, line_kinds, kind_of, event_of}
 use Rattle.trace_text.specs.Ranges.{IsName, RectReaches, SizeReaches, PointReaches, EntryReaches, EventFits, EntryFits, IsLine}
 use Rattle.trace_text.specs.Reading.{◌>>=◌, Read, field_of, behind_field, value_at, both, behind, behind_space, behind_text, name_at, names_at, window_at, u32_at, u64_at, bool_at, meets_at, ratio_at, rect_at, size_at, point_at, throw_at, limit_at, event_by, event_at, Seen, Rects, seen_at, rects_at, entry, line_by, ended, line_of}
-use Rattle.trace_text.proofs.Joined.{line_text_before, before_again}
+use Rattle.trace_text.proofs.Joined.{line_text_before}
 use Rattle.trace_text.proofs.Exact.{ExactAt, line_end, is_no_feed, some_same, parts, chosen, field_first, field_of_first, behind_field_first, both_exact, behind_exact, made, built, built_again, built_whole, first_clean, field_clean}
 use Rattle.trace_text.proofs.Numerals.{RatioFits, ratio_text_of}
 use Rattle.trace_text.proofs.Parts.{name_field, names_one, names_two, windows, u32s, u64s, ratios, bools, meetings, events, throws, limits, points, sizes, rects, Always, named_sound, text_sound, text_complete}

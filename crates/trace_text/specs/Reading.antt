@@ -1,8 +1,8 @@
 -- How the code reads a line. That this is the inverse of the text of a line is proved in proofs/, and the contract of
 -- `read_line` names the latter alone.
-use Rattle.std.specs.Prelude.{ℕ, ◌+◌, ◌-◌, ◌*◌, ◌/◌, ◌%◌, ◌^◌, Bool, true, false, cond, not, ◌&&◌, ◌==◌, nat_lt, nat_le, List, [], ◌∷◌, ◌++◌, length, drop, ℤ, pos, neg_ℤ, ◌+ℤ◌, int_le, negsuc, Option, Some, None, option_map, take, take_while, bytes_eq, codes}
+use Rattle.std.specs.Prelude.{ℕ, ◌+◌, ◌-◌, ◌*◌, ◌/◌, ◌%◌, ◌^◌, Bool, true, false, cond, not, ◌&&◌, ◌==◌, nat_lt, List, [], ◌∷◌, length, drop, ℤ, pos, neg_ℤ, ◌+ℤ◌, int_le, negsuc, Option, Some, None, option_map, take, take_while, bytes_eq, codes}
 use Rattle.word_model.specs.Names.{is_name}
-use Rattle.word_model.specs.Numbers.{begins_with, digits_value, is_whole, at_most, leading_digits, behind_digits}
+use Rattle.word_model.specs.Numbers.{digits_value, is_whole, at_most, leading_digits, behind_digits}
 use Rattle.px_units.specs.declared.Rect.{Rect}
 use Rattle.px_units.specs.declared.Point.{Point}
 use Rattle.px_units.specs.declared.Size.{Size}

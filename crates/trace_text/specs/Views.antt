@@ -1,5 +1,5 @@
 -- How what the readers of the code answer is seen.
-use Rattle.std.specs.Prelude.{◌≡◌, ℕ, List, Option, Some, None, option_map}
+use Rattle.std.specs.Prelude.{ℕ, List, Option, Some, None}
 use Rattle.std.specs.Borrow.{Bor}
 use Rattle.trace_text.specs.Reading.{Read}
 

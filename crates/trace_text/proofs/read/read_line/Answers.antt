@@ -1,5 +1,4 @@
-use Rattle.std.proofs.Common.{◌∙◌, sym, ap}
-use Rattle.std.specs.Prelude.{option_map}
+use Rattle.std.proofs.Common.{sym, ap}
 use Rattle.trace_text.specs.Seen.{seen_line}
 use Rattle.trace_text.specs.Reading.{line_of}
 use Rattle.trace_text.proofs.Whole.{read_sound, read_complete}

@@ -1,5 +1,4 @@
 use Rattle.std.proofs.lemmas.Result.{on_ok_weaker}
-use Rattle.script_model.specs.TraceLines.{Intersection}
 use Rattle.trace_text.proofs.Joined.{intersection_pushed}
 use Rattle.trace_text.proofs.write.push_fields.Goals as goal
 
