@@ -1,42 +1,13 @@
 -- A number's digits in front of a text are read as this number.
-use Rattle.std.proofs.Common.{◌≡◌, ℕ, zero, suc, ◌+◌, ◌-◌, ◌*◌, ◌/◌, ◌%◌, ◌^◌, ◌<◌, ◌≤◌, true, false, cond, ◌&&◌, nat_le, ltb, List, [], ◌∷◌, ◌++◌, length, refl, ap, sym, ◌∙◌, arith, subst, append_assoc, ◌⊎◌, inl, inr}
+use Rattle.std.proofs.Common.{◌≡◌, ℕ, zero, suc, ◌+◌, ◌-◌, ◌*◌, ◌/◌, ◌%◌, ◌^◌, ◌<◌, ◌≤◌, true, false, cond, ◌&&◌, nat_le, List, [], ◌∷◌, ◌++◌, length, refl, ap, sym, ◌∙◌, arith, subst, append_assoc, inl, inr}
 use Rattle.std.specs.Prelude.{Result, Ok, Err}
-use Rattle.std.proofs.lemmas.Bool.{ltb-true, ltb-false, lt-ltb, le-ltb, le-leb}
-use Rattle.std.proofs.Math.Nat.{pow-suc}
+use Rattle.std.proofs.lemmas.Bool.{le-leb}
 use Rattle.script_model.specs.Readers.{◌>>=◌}
 use Rattle.word_model.specs.Names.{is_digit}
 use Rattle.word_model.specs.Numbers.{decimal_on, decimal}
+use Rattle.word_model.proofs.Decimals.{last_on, more_on}
+use Rattle.word_model.proofs.RoundTrip.{split_ten, tenth, by_digits}
 use Rattle.script_model.specs.Media.{with_digit, is_digit_under, digit_at, digits_at, whole_at}
-
-pub split_ten : (n : ℕ) → (n < 10) ⊎ (10 ≤ n)
-split_ten n = elim (ltb n 10) as (λ v. ltb n 10 ≡ v → (n < 10) ⊎ (10 ≤ n)) [ true ↦ λ e. inl (ltb-true n 10 e) | false ↦ λ e. inr (ltb-false n 10 e) ] refl
-
-pub last_on : (places n : ℕ) (behind : List ℕ) → n < 10 → decimal_on (suc places) n behind ≡ (48 + n) ∷ behind
-unfolding decimal_on
-last_on places n behind h = ap (λ b. cond b ((48 + n) ∷ behind) (decimal_on places (n / 10) ((48 + n % 10) ∷ behind))) (lt-ltb n 10 h)
-
-pub more_on : (places n : ℕ) (behind : List ℕ) → 10 ≤ n → decimal_on (suc places) n behind ≡ decimal_on places (n / 10) ((48 + n % 10) ∷ behind)
-unfolding decimal_on
-more_on places n behind h = ap (λ b. cond b ((48 + n) ∷ behind) (decimal_on places (n / 10) ((48 + n % 10) ∷ behind))) (le-ltb n 10 h)
-
-pub tenth : (n k : ℕ) → n < 10 ^ suc k → n / 10 < 10 ^ k
-tenth n k g = let f : n < 10 ^ k * 10 = rw (pow-suc 10 k) at g in omega arith
-
--- what holds of digits in front of a text, by one digit after the other
-pub by_digits : (P : ℕ → List ℕ → List ℕ → Type 0)
-    → ((n : ℕ) (behind : List ℕ) → n < 10 → P n behind ((48 + n) ∷ behind))
-    → ((n : ℕ) (behind text : List ℕ) → 10 ≤ n → P (n / 10) ((48 + n % 10) ∷ behind) text → P n behind text)
-    → (places n : ℕ) (behind : List ℕ) → n < 10 ^ suc places → P n behind (decimal_on (suc places) n behind)
-by_digits P one more zero n behind h =
-    let small : n < 10 = omega arith in
-    subst (λ (t : List ℕ). P n behind t) (sym (last_on zero n behind small)) (one n behind small)
-by_digits P one more (suc places) n behind h =
-    elim (split_ten n) [
-      | inl small ↦ subst (λ (t : List ℕ). P n behind t) (sym (last_on (suc places) n behind small)) (one n behind small)
-      | inr large ↦ subst (λ (t : List ℕ). P n behind t) (sym (more_on (suc places) n behind large))
-          (more n behind (decimal_on (suc places) (n / 10) ((48 + n % 10) ∷ behind)) large
-          (by_digits P one more places (n / 10) ((48 + n % 10) ∷ behind) (tenth n (suc places) h)))
-    ]
 
 pub apart : (places n : ℕ) (behind : List ℕ) → decimal_on places n behind ≡ decimal_on places n [] ++ behind
 unfolding decimal_on
@@ -81,11 +52,11 @@ Read most n behind text =
     (k left : ℕ) → n < 10 ^ suc k → suc k + left ≤ 7 → n ≤ most
     → (places : ℕ) × (left ≤ places) × (digits_at 7 most 0 text ≡ digits_at places most n behind)
 
-one_read : (most n : ℕ) (behind : List ℕ) → n < 10 → Read most n behind ((48 + n) ∷ behind)
+one_read : (most n : ℕ) (behind : List ℕ) → n < 10 → Read most n behind ((48 + n % 10) ∷ behind)
 unfolding Read
 one_read most n behind small k left h fits within =
-    let same : 0 * 10 + (48 + n - 48) ≡ n = omega arith in
-    (6, omega arith, digit_on 6 most 0 (48 + n) behind (omega arith) (omega arith) (omega arith) ∙ ap (λ v. digits_at 6 most v behind) same)
+    let same : 0 * 10 + (48 + n % 10 - 48) ≡ n = omega arith in
+    (6, omega arith, digit_on 6 most 0 (48 + n % 10) behind (omega arith) (omega arith) (omega arith) ∙ ap (λ v. digits_at 6 most v behind) same)
 
 step_read : (most n left places : ℕ) (behind text : List ℕ) → n ≤ most → suc left ≤ places
     → digits_at 7 most 0 text ≡ digits_at places most (n / 10) ((48 + n % 10) ∷ behind)
@@ -117,7 +88,7 @@ FirstDigit text = (b : ℕ) × (bs : List ℕ) × (text ≡ b ∷ bs) × (48 ≤
 pub first_digit : (places n : ℕ) (behind : List ℕ) → n < 10 ^ suc places → FirstDigit (decimal_on (suc places) n behind)
 first_digit places n behind h =
     by_digits (λ m rest text. FirstDigit text)
-    (λ m rest small. (48 + m, rest, refl, omega arith, omega arith))
+    (λ m rest small. (48 + m % 10, rest, refl, omega arith, omega arith))
     (λ m rest text large so_far. so_far)
     places n behind h
 

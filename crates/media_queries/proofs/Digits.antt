@@ -2,6 +2,7 @@
 use Rattle.std.proofs.Common.{◌≡◌, ℕ, suc, ◌+◌, ◌-◌, ◌<◌, ◌≤◌, Bool, true, false, cond, List, [], ◌∷◌, length, refl, sym, ◌∙◌, ap, arith}
 use Rattle.std.specs.Prelude.{Result, Ok, Err}
 use Rattle.script_model.specs.Media.{with_digit, is_digit_under, digit_at, digits_at}
+use Rattle.media_queries.proofs.Turns.{one_less}
 
 -- what a reader of one more digit makes of the digits behind it
 then_digits : ℕ → ℕ → ℕ → List ℕ → Result (ℕ × List ℕ) ℕ → ℕ × List ℕ
@@ -18,9 +19,6 @@ digits_are : (places most value : ℕ) (text : List ℕ) → digits_at (suc plac
 unfolding then_digits digits_at digit_at
 digits_are places most value [] = refl
 digits_are places most value (b ∷ bs) = by_test (is_digit_under most value b) places most value b bs (length (b ∷ bs))
-
-one_less : (places i : ℕ) → i < places → places - i ≡ suc (places - (i + 1))
-one_less places i within = omega arith
 
 digits_step : (places i most value : ℕ) (text : List ℕ) (read : Result (ℕ × List ℕ) ℕ) (whole : ℕ × List ℕ) → i < places
     → digits_at (places - i) most value text ≡ whole → read ≡ digit_at most value text → then_digits (places - (i + 1)) most value text read ≡ whole

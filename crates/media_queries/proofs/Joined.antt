@@ -5,6 +5,7 @@ use Rattle.std.proofs.lemmas.List.{append-nil}
 use Rattle.script_model.specs.Readers.{◌>>=◌}
 use Rattle.script_model.specs.Queries.{Feature}
 use Rattle.script_model.specs.Media.{Read, query_ends, joined_at, more_at, others_at}
+use Rattle.media_queries.proofs.Turns.{one_less, from_first}
 
 -- the same behind these features
 abbrev pub behind : List Feature → Read (List Feature) → Read (List Feature)
@@ -26,18 +27,12 @@ more_is fuel joint text ends read e r =
     ap (λ c. cond c (Ok ([], text)) (joined_at joint text >>= λ feature. more_at fuel joint feature.1 >>= λ others. Ok (feature.0 ∷ others.0, others.1))) (sym e)
     ∙ ap (λ (x : Read Feature). cond ends (Ok ([], text)) (x >>= λ feature. more_at fuel joint feature.1 >>= λ others. Ok (feature.0 ∷ others.0, others.1))) (sym r)
 
-one_less : (turns i : ℕ) → i < turns → turns - i ≡ suc (turns - (i + 1))
-one_less turns i within = omega arith
-
 more_step : (turns i : ℕ) (joint text : List ℕ) (ends : Bool) (read : Read Feature) (features : List Feature) (whole : Read (List Feature)) → i < turns
     → behind features (more_at (turns - i) joint text) ≡ whole → ends ≡ query_ends text → read ≡ joined_at joint text
     → behind features (cond ends (Ok ([], text)) (read >>= λ feature. more_at (turns - (i + 1)) joint feature.1 >>= λ others. Ok (feature.0 ∷ others.0, others.1))) ≡ whole
 more_step turns i joint text ends read features whole within so e r =
     ap (behind features) (sym (more_is (turns - (i + 1)) joint text ends read e r))
     ∙ ap (λ n. behind features (more_at n joint text)) (sym (one_less turns i within)) ∙ so
-
-from_first : (n : ℕ) → n + 1 - 0 ≡ suc n
-from_first n = omega arith
 
 pub more_first : (joint text : List ℕ) → behind [] (more_at (length text + 1 - 0) joint text) ≡ others_at joint text
 unfolding others_at

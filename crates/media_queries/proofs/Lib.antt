@@ -1,3 +1,4 @@
+pub mod Turns
 pub mod Appends
 pub mod Copies
 pub mod Digits

@@ -6,6 +6,7 @@ use Rattle.script_model.specs.Readers.{◌>>=◌, is_empty}
 use Rattle.script_model.specs.Queries.{MediaQuery}
 use Rattle.script_model.specs.Media.{Read, byte_at, skip, query_at, more_queries_at, queries_at}
 use Rattle.media_queries.specs.Seen.{next_of}
+use Rattle.media_queries.proofs.Turns.{one_less, from_first}
 
 -- the same behind these queries
 abbrev pub listed : List MediaQuery → Result (List MediaQuery) ℕ → Result (List MediaQuery) ℕ
@@ -30,18 +31,12 @@ queries_are fuel text ends read e r =
     ∙ ap (λ c. cond c (Ok []) (next_of text >>= λ query. more_queries_at fuel query.1 >>= λ others. Ok (query.0 ∷ others))) (sym e)
     ∙ ap (λ (x : Read MediaQuery). cond ends (Ok []) (x >>= λ query. more_queries_at fuel query.1 >>= λ others. Ok (query.0 ∷ others))) (sym r)
 
-one_less : (turns i : ℕ) → i < turns → turns - i ≡ suc (turns - (i + 1))
-one_less turns i within = omega arith
-
 list_step : (turns i : ℕ) (text : List ℕ) (ends : Bool) (read : Read MediaQuery) (queries : List MediaQuery) (whole : Result (List MediaQuery) ℕ) → i < turns
     → listed queries (more_queries_at (turns - i) text) ≡ whole → ends ≡ is_empty text → read ≡ next_of text
     → listed queries (cond ends (Ok []) (read >>= λ query. more_queries_at (turns - (i + 1)) query.1 >>= λ others. Ok (query.0 ∷ others))) ≡ whole
 list_step turns i text ends read queries whole within so e r =
     ap (listed queries) (sym (queries_are (turns - (i + 1)) text ends read e r))
     ∙ ap (λ n. listed queries (more_queries_at n text)) (sym (one_less turns i within)) ∙ so
-
-from_first : (n : ℕ) → n + 1 - 0 ≡ suc n
-from_first n = omega arith
 
 pub list_first : (text rest : List ℕ) (first : MediaQuery) → query_at text ≡ Ok (first, rest)
     → listed (first ∷ []) (more_queries_at (length text + 1 - 0) rest) ≡ queries_at text

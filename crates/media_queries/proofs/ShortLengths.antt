@@ -1,13 +1,15 @@
 -- How many bytes readers take at the least; no text that is read as a length is shorter than the printed one.
-use Rattle.std.proofs.Common.{◌≡◌, ℕ, zero, suc, ◌+◌, ◌-◌, ◌*◌, ◌/◌, ◌%◌, ◌<◌, ◌≤◌, ◌≢◌, Bool, true, false, cond, ◌&&◌, ◌==◌, nat_le, List, [], ◌∷◌, ◌++◌, length, refl, ap, sym, ◌∙◌, arith, subst, append-nil, length-append, ◌⊎◌, inl, inr}
+use Rattle.std.proofs.Common.{◌≡◌, ℕ, zero, suc, ◌+◌, ◌-◌, ◌*◌, ◌/◌, ◌%◌, ◌<◌, ◌≤◌, ◌≢◌, Bool, true, false, cond, ◌==◌, nat_le, List, [], ◌∷◌, ◌++◌, length, refl, ap, sym, ◌∙◌, arith, subst, append-nil, length-append, ◌⊎◌, inl, inr}
 use Rattle.std.specs.Prelude.{Ok, Err, codes}
-use Rattle.std.proofs.lemmas.Bool.{leb-true, eqb-true, eqb-false}
+use Rattle.std.proofs.lemmas.Bool.{leb-true, eqb-true, eqb-false, and_parts}
 use Rattle.word_model.specs.Names.{is_digit}
 use Rattle.word_model.specs.Numbers.{begins_with, decimal_on, decimal}
+use Rattle.word_model.proofs.Decimals.{last_on, more_on}
+use Rattle.word_model.proofs.RoundTrip.{split_ten}
 use Rattle.script_model.specs.Readers.{◌>>=◌}
 use Rattle.script_model.specs.Media.{Read, byte_at, word_at, is_blank, skip, gap_at, colon_at, says, with_digit, is_digit_under, digit_at, digits_at, whole_at, hundredths_at, fraction_at, length_at}
 use Rattle.media_queries.specs.LengthText.{tenths_of, hundredths_of, last_digit, tenths_text, hundredths_text, length_text}
-use Rattle.media_queries.proofs.DigitTexts.{split_ten, last_on, more_on, apart}
+use Rattle.media_queries.proofs.DigitTexts.{apart}
 use Rattle.media_queries.proofs.LengthAgain.{length_text_is, length_again}
 use Rattle.media_queries.proofs.Readings.{OnValue, then_on, either_on, weaker_on}
 
@@ -108,10 +110,6 @@ one_more_digit places value d small =
           omega (arith, many places (value * 10 + d) high)
     ]
 
-both : (a b : Bool) → (a && b) ≡ true → (a ≡ true) × (b ≡ true)
-both true b h = (refl, h)
-both false b h = cc
-
 -- a number that a digit gives under a cap
 record Digit (most value b : ℕ) : Type 0 where
   small : b - 48 < 10
@@ -119,8 +117,8 @@ record Digit (most value b : ℕ) : Type 0 where
 
 digit_facts : (most value b : ℕ) → is_digit_under most value b ≡ true → Digit most value b
 digit_facts most value b e =
-    let parts : (is_digit b ≡ true) × (nat_le (with_digit value b) most ≡ true) = both (is_digit b) (nat_le (with_digit value b) most) e in
-    let range : (nat_le 48 b ≡ true) × (nat_le b 57 ≡ true) = both (nat_le 48 b) (nat_le b 57) parts.0 in
+    let parts : (is_digit b ≡ true) × (nat_le (with_digit value b) most ≡ true) = and_parts (is_digit b) (nat_le (with_digit value b) most) e in
+    let range : (nat_le 48 b ≡ true) × (nat_le b 57 ≡ true) = and_parts (nat_le 48 b) (nat_le b 57) parts.0 in
     let low : 48 ≤ b = leb-true 48 b range.0 in
     let high : b ≤ 57 = leb-true b 57 range.1 in
     record { small = omega arith; under = leb-true (with_digit value b) most parts.1 }

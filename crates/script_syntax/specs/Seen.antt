@@ -1,11 +1,7 @@
 -- What the types of scripts stand for in the definitions. Lengths are seen by what they are without a sign;
 -- specs/Allowed.antt says which are never negative.
 use Rattle.std.specs.Prelude.{ℕ, ◌+◌, Bool, true, false, List, [], ◌∷◌, option_map, unsigned_abs}
-use Rattle.text_io.specs.declared.kinds.EventKind.{EventKind}
-use Rattle.text_io.specs.declared.kinds.EventKind.TheVariants as event
 use Rattle.style_values.specs.Seen.{seen_declaration}
-use Rattle.text_io.specs.declared.kinds.EventKind.{EventKind}
-use Rattle.text_io.specs.declared.kinds.EventKind.TheVariants as events
 use Rattle.script_model.specs.Syntax as model
 use Rattle.script_syntax.specs.declared.operands.Operand.{Operand}
 use Rattle.script_syntax.specs.declared.operands.Operand.TheVariants as operand
@@ -34,12 +30,6 @@ aim_of (aim.Window document) = model.WindowAim document
 abbrev pub dimension_of : Axis → model.Dimension
 dimension_of axis.Width = model.WidthDimension
 dimension_of axis.Height = model.HeightDimension
-
-abbrev pub event_of : EventKind → EventKind
-event_of event.Resize = events.Resize
-event_of event.Scroll = events.Scroll
-event_of event.Error = events.Error
-event_of event.Change = events.Change
 
 abbrev pub making_of : IoMaking → model.ObserverMaking
 making_of making = record {
@@ -85,8 +75,8 @@ action_of (what.IoObserve observer node) = model.ObserveIntersection observer (o
 action_of (what.IoUnobserve observer node) = model.UnobserveIntersection observer (operand_of node)
 action_of (what.IoDisconnect observer) = model.DisconnectIntersection observer
 action_of (what.IoTake observer) = model.TakeIntersections observer
-action_of (what.Listen aim event handler) = model.Listen (aim_of aim) (event_of event) handler
-action_of (what.Unlisten aim event handler) = model.Unlisten (aim_of aim) (event_of event) handler
+action_of (what.Listen aim event handler) = model.Listen (aim_of aim) event handler
+action_of (what.Unlisten aim event handler) = model.Unlisten (aim_of aim) event handler
 action_of (what.Media name document query) = model.MakeQueryList name document query
 action_of (what.Scroll node to) = model.ScrollTo (operand_of node) to.left to.top
 action_of (what.ScrollBy node by) = model.ScrollBy (operand_of node) by.left by.top

@@ -12,12 +12,6 @@ use std::alloc::{AllocError, Global};
 use std::marker::Model;
 use text_io::{LimitKind, Name};
 
-/// The most blocks inside one another, the handler around them not counted.
-const MOST_BLOCKS: usize = 16;
-
-/// The most handlers.
-const MOST_HANDLERS: usize = 4096;
-
 /// What the lines so far make. A contract sees it as the definition's state. Where no memory is left nothing is said of
 /// it.
 #[derive(Drop)]
@@ -155,7 +149,7 @@ impl Builder {
         requires { OpeningAllowed opening }
         ensures { Answers (λ opened. self.new) result (model.open_block line (opening_of opening) self.old) }
     {
-        if self.blocks() >= MOST_BLOCKS {
+        if self.blocks() as u64 >= LimitKind::Nesting.number() {
             return Err(ParseFault::ScriptLimit {
                 kind: LimitKind::Nesting,
                 line,
@@ -175,7 +169,7 @@ impl Builder {
     fn open_handler(&mut self, line: u32, name: Name) -> Result<(), ParseFault>
         ensures { Answers (λ opened. self.new) result (model.open_handler line name self.old) }
     {
-        if self.names.len() >= MOST_HANDLERS {
+        if self.names.len() as u64 >= LimitKind::Handlers.number() {
             return Err(ParseFault::ScriptLimit {
                 kind: LimitKind::Handlers,
                 line,

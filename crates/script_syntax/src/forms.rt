@@ -8,7 +8,7 @@ ghost use Rattle.style_values.specs.Ranges.{IsAllowed};
 ghost use Rattle.style_values.specs.Seen.{seen_declaration};
 ghost use Rattle.script_syntax.specs.Allowed.{IsUnits, IsSignedUnits, IsTime};
 ghost use Rattle.script_syntax.specs.Lines.{Gives};
-ghost use Rattle.script_syntax.specs.Seen.{operand_of, aim_of, event_of, dimension_of};
+ghost use Rattle.script_syntax.specs.Seen.{operand_of, aim_of, dimension_of};
 
 use crate::faults::LineFault;
 use crate::operands::{Aim, Axis, Operand};
@@ -181,7 +181,7 @@ impl Words<'_> {
     /// `resize`, `scroll`, `error` or `change`
     #[tactic(auto, unfolding(script_model::specs::Forms::part_as))]
     pub fn event(&mut self) -> Result<EventKind, LineFault>
-        ensures { Gives (λ event. (event_of event, self.new)) result (part_as EventForm self.old) }
+        ensures { Gives (λ event. (event, self.new)) result (part_as EventForm self.old) }
     {
         let word = self.next()?;
         match tables::event(word.text) {

@@ -4,7 +4,7 @@ ghost use Rattle.std.specs.Prelude.{◌≡◌, map, option_map};
 ghost use Rattle.script_model.specs.Keywords.{keyword, lookup};
 ghost use Rattle.script_model.specs.Words.{events, boxes, dimensions};
 ghost use Rattle.script_model.specs.Commands.{tests, heads};
-ghost use Rattle.script_syntax.specs.Seen.{event_of, dimension_of};
+ghost use Rattle.script_syntax.specs.Seen.{dimension_of};
 ghost use Rattle.script_syntax.specs.Heads.{head_of, shape_of};
 
 use crate::heads::{Head, Shape, Verb};
@@ -86,7 +86,7 @@ fn find<T: Copy>(mut table: &[(&[u8], T)], word: &[u8]) -> Option<T>
 
 /// The event that this word names.
 pub fn event(word: &[u8]) -> Option<EventKind>
-    ensures { option_map event_of result ≡ lookup events word.now }
+    ensures { result ≡ lookup events word.now }
 {
     find(&EVENTS, word)
 }

@@ -1,0 +1,8 @@
+-- The turns that a loop has left.
+use Rattle.std.proofs.Common.{◌≡◌, ℕ, suc, ◌+◌, ◌-◌, ◌<◌, arith}
+
+pub one_less : (turns i : ℕ) → i < turns → turns - i ≡ suc (turns - (i + 1))
+one_less turns i within = omega arith
+
+pub from_first : (turns : ℕ) → turns + 1 - 0 ≡ suc turns
+from_first turns = omega arith

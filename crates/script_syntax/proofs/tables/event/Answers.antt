@@ -1,8 +1,0 @@
-use Rattle.std.proofs.Common.{ap, ◌∙◌}
-use Rattle.std.specs.Prelude.{option_map}
-use Rattle.script_syntax.specs.Seen.{event_of}
-use Rattle.script_syntax.proofs.Lookups.{mapped}
-use Rattle.script_syntax.proofs.tables.event.Goals as goal
-
-pub returns : goal.returns
-returns c = ap (option_map event_of) c.find.ensures ∙ mapped event_of _ c.args.word.now
