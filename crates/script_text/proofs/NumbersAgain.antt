@@ -6,8 +6,9 @@ use Rattle.word_model.specs.Numbers.{begins_with, unsigned, decimal, digits_valu
 use Rattle.word_model.proofs.Digits.{unsigned_is}
 use Rattle.word_model.proofs.Forms.{form_of_is, has_form_is, length_of_is, percent_of_is, ten_thousandths_of_is}
 use Rattle.media_queries.specs.LengthText.{tenths_of, hundredths_of, last_digit, tenths_text, hundredths_text, length_text}
+use Rattle.word_model.proofs.RoundTrip.{digit_is, decimal_value, decimal_digits, decimal_length}
 use Rattle.script_text.specs.NumberText.{places_text, percent_text, with_minus, signed_text, number_text}
-use Rattle.script_text.proofs.Decimals.{AreDigits, digit_is, decimal_value, decimal_digits, decimal_short, decimal_some}
+use Rattle.script_text.proofs.Decimals.{AreDigits, decimal_short}
 use Rattle.script_text.proofs.FormParts.{IsUnit, pointed, HasParts, has_parts, form_is, scaled_value, form_read}
 use Rattle.script_text.proofs.Places.{Written, written, pointed_unit, no_value}
 use Rattle.script_text.proofs.WordBytes.{IsWord, IsNumeral, numeral, minus_word}
@@ -53,7 +54,7 @@ percent_again hundredths within =
     record {
       read = percent_of_is (percent_text hundredths)
           ∙ form_read 1000000 7 2 hundredths (decimal w.whole) w.fraction (codes "%") (percent_text hundredths) (percent_parts hundredths w small)
-          (decimal_some w.whole small) (decimal_short w.whole 6 small (omega arith)) w.short
+          (decimal_length w.whole small) (decimal_short w.whole 6 small (omega arith)) w.short
           (ap (λ n. n * 10 ^ 2 + digits_value w.fraction * 10 ^ (2 - length w.fraction)) (decimal_value w.whole small) ∙ value) within;
       numeral = numeral w.whole w.fraction (codes "%") (percent_text hundredths) (percent_spelled hundredths w) small w.all refl refl;
     }
@@ -89,7 +90,7 @@ ten_thousandths_again number within =
     let text : List ℕ = decimal w.whole ++ pointed w.fraction [] in
     let parts = has_parts (decimal w.whole) w.fraction [] (decimal_digits w.whole small) w.all no_unit in
     let form : has_form 9 4 [] text ≡ true =
-    form_is 9 4 (decimal w.whole) w.fraction [] text parts (decimal_some w.whole small) (decimal_short w.whole 8 small (omega arith)) w.short in
+    form_is 9 4 (decimal w.whole) w.fraction [] text parts (decimal_length w.whole small) (decimal_short w.whole 8 small (omega arith)) w.short in
     record {
       read = ap ten_thousandths_of w.text_is ∙ ten_thousandths_of_is text
           ∙ ap (λ t. cond t (Some (scaled 4 text)) None) form
@@ -109,7 +110,7 @@ length_reads whole hundredths units fraction text is all short few value within 
     record {
       read = ap length_of is ∙ length_of_is spelled
           ∙ ap (option_map (λ h. h * 64 / 100)) (form_read 100000000 7 2 hundredths (decimal whole) fraction (codes "px") spelled parts
-          (decimal_some whole small) (decimal_short whole 6 small (omega arith)) short
+          (decimal_length whole small) (decimal_short whole 6 small (omega arith)) short
           (ap (λ n. n * 10 ^ 2 + digits_value fraction * 10 ^ (2 - length fraction)) (decimal_value whole small) ∙ value) within)
           ∙ ap (λ n. Some n) same;
       numeral = numeral whole fraction (codes "px") text is small all refl refl;
@@ -137,7 +138,7 @@ unfolding hundredths_text
 hundredths_text_is number = refl
 
 pub digit_all : (n : ℕ) (ds : List ℕ) → AreDigits ds → AreDigits (last_digit n ∷ ds)
-digit_all n ds all = and_from _ _ (digit_is (n % 10) (omega arith)) all
+digit_all n ds all = and_from _ _ (digit_is n) all
 
 whole_again : (units : ℕ) → units ≤ 64000000 → units % 64 ≡ 0 → Reads length_of units (decimal (units / 64) ++ codes "px")
 whole_again units within none =

@@ -9,9 +9,10 @@ use Rattle.word_model.proofs.Digits.{unsigned_is}
 use Rattle.word_model.proofs.Forms.{length_of_is, percent_of_is, ten_thousandths_of_is}
 use Rattle.word_model.proofs.Values.{value_from, value_from_zero, value_small, nine_digits}
 use Rattle.media_queries.specs.LengthText.{tenths_of, hundredths_of, last_digit, tenths_text, hundredths_text, length_text}
+use Rattle.word_model.proofs.RoundTrip.{decimal_value, decimal_digits}
 use Rattle.script_text.specs.NumberText.{places_text, percent_text, with_minus, signed_text, number_text}
 use Rattle.script_text.specs.ByteOrder.{is_not_after}
-use Rattle.script_text.proofs.Decimals.{AreDigits, decimal_value, decimal_digits}
+use Rattle.script_text.proofs.Decimals.{AreDigits}
 use Rattle.script_text.proofs.FormParts.{pointed}
 use Rattle.script_text.proofs.Places.{Written, written, no_value}
 use Rattle.script_text.proofs.NumbersAgain.{percent_spelled, one_value, two_value, digit_all, length_text_is, tenths_text_is, hundredths_text_is, signed_by_is}

@@ -6,6 +6,7 @@ use Rattle.std.proofs.lemmas.Bool.{and_parts, eqb-true}
 use Rattle.word_model.specs.Numbers.{decimal, length_of, signed_of, whole_of}
 use Rattle.word_model.proofs.RoundTrip.{reads_back}
 use Rattle.layout_model.specs.Styles.{Declaration}
+use Rattle.text_io.specs.Kinds.{event_word}
 use Rattle.script_model.specs.Readers.{◌>>=◌, or_fault}
 use Rattle.script_model.specs.Keywords.{lookup}
 use Rattle.script_model.specs.Lexing.{Word, Row}
@@ -15,7 +16,7 @@ use Rattle.script_model.specs.Properties.{ValueReader, property_of}
 use Rattle.script_model.specs.Forms.{Taken, next_in, next_of, word_as, none_in, none_left, declaration_as, words_before, words_from, margin_as, numbers_of, numbers_as, Form, NameForm, NodeForm, AimForm, HandlerForm, RootForm, LengthForm, SignedForm, WholeForm, EventForm, BoxForm, DimensionForm, DeclarationForm, JustForm, MarginForm, NumbersForm, QueryForm, Meant, part_as, From, made}
 use Rattle.media_queries.specs.LengthText.{length_text}
 use Rattle.script_text.specs.NumberText.{signed_text, number_text}
-use Rattle.script_text.specs.WordText.{operand_text, aim_text, dash_or, event_text, box_text, dimension_text}
+use Rattle.script_text.specs.WordText.{operand_text, aim_text, dash_or, box_text, dimension_text}
 use Rattle.script_text.specs.Parts.{Part, PartOf, part_words, all_words}
 use Rattle.script_text.specs.DeclarationText.{property_text, value_text}
 use Rattle.script_text.specs.WellFormed.{IsMargin, is_margin_word, IsDeclaration, AreNumbers, IsMeant, AreMeant}
@@ -187,7 +188,7 @@ part_again RootForm root h column rest follows = word_read (or_dash node_of) roo
 part_again LengthForm units h column rest follows = word_read length_of units column (length_text units) rest (length_again units h).read
 part_again SignedForm units h column rest follows = word_read signed_of units column (signed_text units) rest (signed_again units h).read
 part_again WholeForm number h column rest follows = word_read whole_of number column (decimal number) rest (reads_back number h)
-part_again EventForm event h column rest follows = word_read (lookup events) event column (event_text event) rest (event_again event).read
+part_again EventForm event h column rest follows = word_read (lookup events) event column (event_word event) rest (event_again event).read
 part_again BoxForm box h column rest follows = word_read (lookup boxes) box column (box_text box) rest (box_again box).read
 part_again DimensionForm dimension h column rest follows = word_read (lookup dimensions) dimension column (dimension_text dimension) rest (dimension_again dimension).read
 part_again DeclarationForm declaration h column rest follows = declaration_read declaration h column rest

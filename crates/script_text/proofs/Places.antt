@@ -7,8 +7,9 @@ use Rattle.word_model.specs.Names.{is_digit}
 use Rattle.word_model.specs.Numbers.{decimal, digits_value}
 use Rattle.word_model.proofs.Values.{value_from, value_from_zero}
 use Rattle.media_queries.specs.LengthText.{last_digit}
+use Rattle.word_model.proofs.RoundTrip.{digit_is}
 use Rattle.script_text.specs.NumberText.{all_places, places_text}
-use Rattle.script_text.proofs.Decimals.{AreDigits, digit_is}
+use Rattle.script_text.proofs.Decimals.{AreDigits}
 use Rattle.script_text.proofs.FormParts.{pointed}
 
 value_on : (digits : List ℕ) (value digit : ℕ) → value_from value (digits ++ (digit ∷ [])) ≡ value_from value digits * 10 + (digit - 48)
@@ -60,7 +61,7 @@ all_placed (suc places) number behind =
     record {
       whole = before.whole;
       fraction = fraction;
-      all = list_all-append is_digit before.fraction (digit ∷ []) ∙ and_from _ _ before.all (and_from _ _ (digit_is (number % 10) (omega arith)) refl);
+      all = list_all-append is_digit before.fraction (digit ∷ []) ∙ and_from _ _ before.all (and_from _ _ (digit_is number) refl);
       long = length-append before.fraction (digit ∷ []) ∙ omega (arith, before.long);
       text_is = places_suc places number behind ∙ before.text_is ∙ ap (λ (t : List ℕ). decimal before.whole ++ (46 ∷ t)) (sym (append_assoc before.fraction (digit ∷ []) behind));
       value_is = ap (λ v. before.whole * 10 ^ suc places + v) value ∙ value_next before.whole places (digits_value before.fraction) number before.value_is;

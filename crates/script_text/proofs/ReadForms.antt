@@ -7,6 +7,7 @@ use Rattle.std.proofs.lemmas.Bool.{and_from, and_parts}
 use Rattle.std.proofs.lemmas.Bool.Decides.{nat_tests}
 use Rattle.word_model.specs.Numbers.{begins_with, decimal, length_of, signed_of, whole_of, number_of}
 use Rattle.layout_model.specs.Styles.{Declaration}
+use Rattle.text_io.specs.Kinds.{event_word}
 use Rattle.script_model.specs.Readers.{◌>>=◌, or_fault, with_fault, is_empty}
 use Rattle.script_model.specs.Keywords.{lookup}
 use Rattle.script_model.specs.Lexing.{Word, Row}
@@ -20,7 +21,7 @@ use Rattle.media_queries.specs.LengthText.{length_text}
 use Rattle.media_queries.specs.QueryText.{list_text}
 use Rattle.media_queries.proofs.Readings.{OnValue, then_on, weaker_on}
 use Rattle.script_text.specs.NumberText.{signed_text, number_text}
-use Rattle.script_text.specs.WordText.{operand_text, aim_text, dash_or, event_text, box_text, dimension_text}
+use Rattle.script_text.specs.WordText.{operand_text, aim_text, dash_or, box_text, dimension_text}
 use Rattle.script_text.specs.DeclarationText.{property_text, value_text}
 use Rattle.script_text.specs.Parts.{Part, PartOf, part_words, all_words}
 use Rattle.script_text.specs.WellFormed.{IsName, IsOperand, IfSome, IsNumber, AreNumbers, is_margin_word, IsQueryList, IsMeant, AreMeant}
@@ -223,7 +224,7 @@ part_read LengthForm column last r row = word_part LengthForm length_of length_t
 part_read SignedForm column last r row = word_part SignedForm signed_of signed_text signed_fits (λ value. refl) column last r row
 part_read WholeForm column last r row = word_part WholeForm whole_of decimal whole_fits (λ value. refl) column last r row
 part_read EventForm column last r row =
-    word_part EventForm (lookup events) event_text (keyword_fits event_text events (refl also refl also refl also refl also tt)) (λ value. refl) column last r row
+    word_part EventForm (lookup events) event_word (keyword_fits event_word events (refl also refl also refl also refl also tt)) (λ value. refl) column last r row
 part_read BoxForm column last r row = word_part BoxForm (lookup boxes) box_text (keyword_fits box_text boxes (refl also refl also tt)) (λ value. refl) column last r row
 part_read DimensionForm column last r row =
     word_part DimensionForm (lookup dimensions) dimension_text (keyword_fits dimension_text dimensions (refl also refl also tt)) (λ value. refl) column last r row

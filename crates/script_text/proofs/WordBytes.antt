@@ -8,7 +8,8 @@ use Rattle.word_model.specs.Names.{is_digit, is_letter, is_name_byte, is_name}
 use Rattle.word_model.specs.Numbers.{begins_with, decimal}
 use Rattle.media_queries.proofs.DigitTexts.{first_digit, decimal_is}
 use Rattle.script_model.specs.Lines.{is_word_byte, is_line_byte}
-use Rattle.script_text.proofs.Decimals.{AreDigits, decimal_digits}
+use Rattle.word_model.proofs.RoundTrip.{decimal_digits}
+use Rattle.script_text.proofs.Decimals.{AreDigits}
 use Rattle.script_text.proofs.FormParts.{pointed}
 
 abbrev pub AreWordBytes : List ℕ → Type 0

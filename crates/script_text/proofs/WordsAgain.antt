@@ -5,13 +5,14 @@ use Rattle.std.specs.List.{list_all}
 use Rattle.word_model.specs.Names.{is_name}
 use Rattle.px_units.specs.declared.BoxKind.{BoxKind}
 use Rattle.px_units.specs.declared.BoxKind.TheVariants.{Content, Border}
+use Rattle.text_io.specs.Kinds.{event_word}
 use Rattle.text_io.specs.declared.kinds.EventKind.{EventKind}
-use Rattle.text_io.specs.declared.kinds.EventKind.TheVariants as events
+use Rattle.text_io.specs.declared.kinds.EventKind.TheVariants as event
 use Rattle.script_model.specs.Syntax.{Operand, Named, Target, Aim, PlainAim, WindowAim, Dimension, WidthDimension, HeightDimension}
 use Rattle.script_model.specs.Keywords.{lookup}
 use Rattle.script_model.specs.Lines.{is_word_byte}
 use Rattle.script_model.specs.Words.{name_of, node_of, aim_of, or_dash, events, boxes, dimensions}
-use Rattle.script_text.specs.WordText.{operand_text, aim_text, dash_or, event_text, box_text, dimension_text}
+use Rattle.script_text.specs.WordText.{operand_text, aim_text, dash_or, box_text, dimension_text}
 use Rattle.script_text.specs.WellFormed.{IsName, IsOperand, IsAim, IfSome}
 use Rattle.script_text.proofs.WordBytes.{IsWord, letter_first, name_first, name_word}
 
@@ -87,12 +88,12 @@ root_again None h = record { read = refl; word = dash_word }
 root_again (Some (Named name)) h = record { read = some_again node_of (Named name) name (node_named name h) (no_dash_name name h); word = name_word name h }
 root_again (Some Target) h = record { read = some_again node_of Target (codes "$target") (node_again Target tt).read refl; word = target_word }
 
-pub event_again : (event : EventKind) → IsReadAs (lookup events) event (event_text event)
+pub event_again : (kind : EventKind) → IsReadAs (lookup events) kind (event_word kind)
 unfolding lookup
-event_again events.Resize = record { read = refl; word = fixed 114 (codes "esize") refl refl }
-event_again events.Scroll = record { read = refl; word = fixed 115 (codes "croll") refl refl }
-event_again events.Error = record { read = refl; word = fixed 101 (codes "rror") refl refl }
-event_again events.Change = record { read = refl; word = fixed 99 (codes "hange") refl refl }
+event_again event.Resize = record { read = refl; word = fixed 114 (codes "esize") refl refl }
+event_again event.Scroll = record { read = refl; word = fixed 115 (codes "croll") refl refl }
+event_again event.Error = record { read = refl; word = fixed 101 (codes "rror") refl refl }
+event_again event.Change = record { read = refl; word = fixed 99 (codes "hange") refl refl }
 
 pub box_again : (box : BoxKind) → IsReadAs (lookup boxes) box (box_text box)
 unfolding lookup

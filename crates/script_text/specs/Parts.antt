@@ -2,12 +2,13 @@
 -- words of a margin are printed as they were read.
 use Rattle.std.specs.Prelude.{ℕ, List, [], ◌∷◌, ◌++◌, map}
 use Rattle.word_model.specs.Numbers.{decimal}
+use Rattle.text_io.specs.Kinds.{event_word}
 use Rattle.script_model.specs.MarginText.{parts_of}
 use Rattle.script_model.specs.Forms.{Form, NameForm, NodeForm, AimForm, HandlerForm, RootForm, LengthForm, SignedForm, WholeForm, EventForm, BoxForm, DimensionForm, DeclarationForm, JustForm, MarginForm, NumbersForm, QueryForm, Meant}
 use Rattle.media_queries.specs.LengthText.{length_text}
 use Rattle.media_queries.specs.QueryText.{list_text}
 use Rattle.script_text.specs.NumberText.{signed_text, number_text}
-use Rattle.script_text.specs.WordText.{operand_text, aim_text, dash_or, event_text, box_text, dimension_text}
+use Rattle.script_text.specs.WordText.{operand_text, aim_text, dash_or, box_text, dimension_text}
 use Rattle.script_text.specs.DeclarationText.{property_text, value_text}
 
 -- a part of a line: its form, and what it stands for
@@ -24,7 +25,7 @@ part_words RootForm root = dash_or operand_text root ∷ []
 part_words LengthForm units = length_text units ∷ []
 part_words SignedForm units = signed_text units ∷ []
 part_words WholeForm number = decimal number ∷ []
-part_words EventForm event = event_text event ∷ []
+part_words EventForm event = event_word event ∷ []
 part_words BoxForm box = box_text box ∷ []
 part_words DimensionForm dimension = dimension_text dimension ∷ []
 part_words DeclarationForm declaration = property_text declaration ∷ value_text declaration ∷ []

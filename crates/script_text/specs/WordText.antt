@@ -2,8 +2,6 @@
 use Rattle.std.specs.Prelude.{ℕ, List, ◌∷◌, Option, Some, None, codes}
 use Rattle.px_units.specs.declared.BoxKind.{BoxKind}
 use Rattle.px_units.specs.declared.BoxKind.TheVariants.{Content, Border}
-use Rattle.text_io.specs.declared.kinds.EventKind.{EventKind}
-use Rattle.text_io.specs.declared.kinds.EventKind.TheVariants as events
 use Rattle.script_model.specs.Syntax.{Operand, Named, Target, Aim, PlainAim, WindowAim, Dimension, WidthDimension, HeightDimension}
 
 abbrev pub operand_text : Operand → List ℕ
@@ -19,12 +17,6 @@ aim_text (WindowAim document) = 64 ∷ document
 abbrev pub dash_or : {A : Type 0} → (A → List ℕ) → Option A → List ℕ
 dash_or text None = codes "-"
 dash_or text (Some value) = text value
-
-abbrev pub event_text : EventKind → List ℕ
-event_text events.Resize = codes "resize"
-event_text events.Scroll = codes "scroll"
-event_text events.Error = codes "error"
-event_text events.Change = codes "change"
 
 abbrev pub box_text : BoxKind → List ℕ
 box_text Content = codes "content"
