@@ -1,12 +1,12 @@
 -- Inclusive ancestors in what layout sees of a forest.
-use Rattle.std.proofs.Common.{◌≡◌, ◌≤◌, ◌<◌, ℕ, zero, suc, ◌+◌, List, Option, Some, None, Bool, true, false, nat_eq, ◌||◌, refl, ap, sym, subst, ◌∙◌, ◌⊎◌, inl, inr, arith, eqb-true}
+use Rattle.std.proofs.Common.{◌≡◌, ◌≤◌, ℕ, zero, suc, List, Some, None, Bool, true, false, nat_eq, ◌||◌, refl, ap, sym, ◌∙◌, ◌⊎◌, inl, inr, arith, eqb-true}
 use Rattle.std.proofs.lemmas.Bool.{or_cases, false≢true}
 use Rattle.std.proofs.lemmas.Bool.Decides.{nat_tests}
 use Rattle.layout_model.specs.Styles.{Style}
 use Rattle.layout_model.specs.Items.{Kind}
 use Rattle.layout_model.specs.Nodes.{Node, path_above, path_up, path_of, is_among, is_in_path}
 use Rattle.layout_model.proofs.Paths.{path_child, path_top}
-use Rattle.element_tree.specs.Forest.{Knot, IsForest, has, parent_of, children_of, depth, is_above}
+use Rattle.element_tree.specs.Forest.{Knot, IsForest, has, parent_of, children_of, depth}
 use Rattle.element_tree.proofs.Depths.{depth_positive}
 use Rattle.element_tree.proofs.Facts.{listed_child}
 use Rattle.element_tree.proofs.Levels.{kid_parent, option_cases}

@@ -1,16 +1,15 @@
 -- How far boxes reach: one level of it, and what the sum of heights above a child does to it.
-use Rattle.std.proofs.Common.{◌≡◌, ◌≤◌, ◌<◌, ℕ, zero, suc, ◌+◌, List, [], ◌∷◌, length, Option, Some, None, Bool, true, false, cond, max, refl, ap, sym, subst, ◌∙◌, arith}
-use Rattle.std.specs.Prelude.{Contains, option_and_then, ⊤}
+use Rattle.std.proofs.Common.{◌≡◌, ◌<◌, ℕ, zero, suc, ◌+◌, List, [], ◌∷◌, Bool, true, false, refl, ap, sym, ◌∙◌, arith}
+use Rattle.std.specs.Prelude.{Contains, ⊤}
 use Rattle.px_units.specs.Lengths.{cap}
-use Rattle.layout_model.specs.Items.{Item, Kind, BlockKind, ImageKind, FrameKind}
+use Rattle.layout_model.specs.Items.{Item}
 use Rattle.layout_model.specs.Nodes.{Node, levels, depth_of, IsLinked, IsShallow}
-use Rattle.layout_model.specs.Boxes.{Inputs, Box, kids_of, inner_children, counted, shown_height, margin_height, border_size, inner_corner, used_side, computed, child_inputs, box_at, box_in, inputs_in, if_shown, inputs_if_block, total}
+use Rattle.layout_model.specs.Boxes.{Inputs, kids_of, counted, border_size, child_inputs, box_in}
 use Rattle.layout_model.specs.Clips.{clips}
-use Rattle.layout_model.specs.Points.{plus, capped, larger}
-use Rattle.layout_model.specs.Reach.{View, view_inputs, inputs_in_view, offset_at, offset_with, far_kids, far_if_shown, far_inside, far_down, open_kids}
-use Rattle.layout_model.proofs.Inputs.{inputs_child, inputs_top}
+use Rattle.layout_model.specs.Points.{plus, larger}
+use Rattle.layout_model.specs.Reach.{offset_at, far_kids, far_if_shown, far_inside, far_down, open_kids}
 use Rattle.layout_model.proofs.Paths.{depth_least}
-use Rattle.layout_model.proofs.Trees.{depth_kid, contains_next, box_of_children}
+use Rattle.layout_model.proofs.Trees.{depth_kid, contains_next}
 use Rattle.block_layout.specs.Far.{far_in}
 
 pub pair_same : (a b c d : ℕ) → a ≡ b → c ≡ d → ◌≡◌ {A = ℕ × ℕ} (a, c) (b, d)

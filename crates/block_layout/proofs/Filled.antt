@@ -1,5 +1,5 @@
 -- What a walk that fills places has come to: heights and steps summed, and the boxes that are held.
-use Rattle.std.proofs.Common.{◌≡◌, ◌≢◌, ◌≤◌, ◌<◌, ℕ, zero, suc, ◌+◌, List, [], ◌∷◌, length, Option, Some, None, option_map, Bool, true, false, nat_eq, ◌||◌, refl, ap, sym, subst, ◌∙◌, inl, inr, arith, eqb-true}
+use Rattle.std.proofs.Common.{◌≡◌, ◌≢◌, ◌≤◌, ◌<◌, ℕ, ◌+◌, List, [], ◌∷◌, Option, Some, None, option_map, Bool, true, false, nat_eq, ◌||◌, refl, ap, sym, subst, ◌∙◌, inl, inr, arith, eqb-true}
 use Rattle.std.proofs.lemmas.Bool.{false≢true}
 use Rattle.std.proofs.lemmas.Bool.Decides.{nat_tests}
 use Rattle.std.proofs.lemmas.List.Sums.{sum_by-cons}
@@ -7,8 +7,8 @@ use Rattle.std.specs.Prelude.{sum_by}
 use Rattle.px_units.specs.Lengths.{cap}
 use Rattle.layout_model.specs.Styles.{Style}
 use Rattle.layout_model.specs.Items.{Item, Kind, BlockKind, ImageKind, FrameKind}
-use Rattle.layout_model.specs.Nodes.{Node, is_in_path, depth_of, IsLinked, IsShallow}
-use Rattle.layout_model.specs.Boxes.{Inputs, Box, inner_children, kids_of, counted, shown_height, total, computed, child_inputs, inputs_if_block, if_shown, box_at, box_in}
+use Rattle.layout_model.specs.Nodes.{Node, is_in_path, IsLinked, IsShallow}
+use Rattle.layout_model.specs.Boxes.{Inputs, Box, inner_children, counted, shown_height, total, computed, child_inputs, inputs_if_block, if_shown, box_at, box_in}
 use Rattle.layout_model.proofs.Trees.{box_of_children}
 use Rattle.element_tree.specs.Forest.{Knot, IsForest, has, children_of}
 use Rattle.block_layout.specs.Counts.{if_displayed, box_count}

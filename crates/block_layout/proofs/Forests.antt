@@ -1,15 +1,14 @@
 -- What layout sees of a forest is linked, has at most as many levels as are looked at, and counts depths and ancestors as
 -- the forest does.
-use Rattle.std.proofs.Common.{◌≡◌, ◌≤◌, ◌<◌, ℕ, zero, suc, ◌+◌, List, [], ◌∷◌, length, get_or, Option, Some, None, Bool, true, false, nat_eq, ◌||◌, refl, ap, sym, subst, ◌∙◌, arith, inl, inr}
+use Rattle.std.proofs.Common.{◌≡◌, ◌<◌, ℕ, zero, suc, List, [], ◌∷◌, length, get_or, Option, Some, None, true, refl, ap, sym, subst, ◌∙◌, arith}
 use Rattle.std.proofs.lemmas.Bool.Decides.{nat_tests}
-use Rattle.std.specs.Prelude.{Contains, ◌==◌}
+use Rattle.std.specs.Prelude.{Contains}
 use Rattle.layout_model.specs.Styles.{Style}
 use Rattle.layout_model.specs.Items.{Kind}
-use Rattle.layout_model.specs.Nodes.{Node, path_above, path_up, path_of, depth_of, is_among, is_in_path, IsLinked, IsShallow}
-use Rattle.element_tree.specs.Forest.{Knot, IsForest, has, parent_of, children_of, depth, depth_up, above, is_ancestor, is_above}
-use Rattle.element_tree.proofs.Depths.{depth_at, depth_one, depth_positive}
-use Rattle.element_tree.proofs.Facts.{has_place}
-use Rattle.element_tree.proofs.Levels.{depth_is, kid_parent, low_enough, option_cases, is_ancestor_at}
+use Rattle.layout_model.specs.Nodes.{path_above, path_up, path_of, depth_of, IsLinked, IsShallow}
+use Rattle.element_tree.specs.Forest.{Knot, IsForest, has, parent_of, children_of, depth, depth_up, above}
+use Rattle.element_tree.proofs.Depths.{depth_at, depth_one}
+use Rattle.element_tree.proofs.Levels.{depth_is, kid_parent, low_enough}
 use Rattle.block_layout.specs.Trees.{layout_tree}
 use Rattle.block_layout.proofs.Nodes.{parent_is, children_is}
 

@@ -1,7 +1,7 @@
 -- A walk over the children of a node that may have boxes: `next` is the child to come, `after` the sibling behind it.
 use Rattle.std.proofs.Common.{◌≡◌, ◌≤◌, ◌<◌, ℕ, ◌+◌, List, [], ◌∷◌, length, Option, Some, None, option_map, Bool, true, false, refl, ap, sym, ◌∙◌, arith}
 use Rattle.std.proofs.lemmas.List.Sums.{sum_by-cons}
-use Rattle.std.specs.Prelude.{sum_by, min}
+use Rattle.std.specs.Prelude.{sum_by}
 use Rattle.px_units.specs.Lengths.{cap}
 use Rattle.layout_model.specs.Styles.{Style}
 use Rattle.layout_model.specs.Items.{Kind, BlockKind, ImageKind, FrameKind}

@@ -1,26 +1,24 @@
 -- A walk that measures how far the children of a node reach, over boxes that are held.
-use Rattle.std.proofs.Common.{◌≡◌, ◌≤◌, ℕ, ◌+◌, List, [], ◌∷◌, Option, Some, None, Bool, true, false, nat_eq, cond, refl, ap, sym, subst, ◌∙◌, arith}
+use Rattle.std.proofs.Common.{◌≡◌, ◌≤◌, ℕ, ◌+◌, List, ◌∷◌, Option, Some, None, Bool, true, false, nat_eq, cond, refl, ap, sym, ◌∙◌, arith}
 use Rattle.std.proofs.lemmas.Bool.Decides.{nat_tests}
 use Rattle.std.specs.Prelude.{option_and_then, unwrap_or}
 use Rattle.px_units.specs.Lengths.{cap}
 use Rattle.layout_model.specs.Styles.{Style}
 use Rattle.layout_model.specs.Items.{Item, Kind, BlockKind, ImageKind, FrameKind}
 use Rattle.layout_model.specs.Nodes.{Node, levels, IsLinked, IsShallow}
-use Rattle.layout_model.specs.Boxes.{Inputs, Box, kids_of, inner_children, counted, shown_height, margin_height, border_size, inner_corner, total, computed, child_inputs, box_at, box_in, inputs_in, if_shown, inputs_if_block}
-use Rattle.layout_model.specs.Clips.{clips}
+use Rattle.layout_model.specs.Boxes.{Inputs, Box, kids_of, inner_children, counted, shown_height, margin_height, inner_corner, total, computed, child_inputs, box_at, box_in, inputs_in, if_shown, inputs_if_block}
 use Rattle.layout_model.specs.Points.{plus, capped, larger}
-use Rattle.layout_model.specs.Reach.{View, view_inputs, view_size, inputs_in_view, offset_at, margin_corner, reach_of_view, far_root, far_kids, far_if_shown, far_down, open_kids}
+use Rattle.layout_model.specs.Reach.{View, view_inputs, view_size, inputs_in_view, offset_at, margin_corner, reach_of_view, far_root, far_kids, far_if_shown, far_down}
 use Rattle.layout_model.proofs.Inputs.{inputs_child, inputs_top}
 use Rattle.layout_model.proofs.Trees.{box_of_children}
 use Rattle.element_tree.specs.Forest.{Knot, IsForest, has, children_of}
 use Rattle.element_tree.proofs.Levels.{kid_parent}
-use Rattle.block_layout.specs.Far.{far_in}
 use Rattle.block_layout.specs.Held.{HoldsBoxes}
 use Rattle.block_layout.specs.Trees.{layout_tree}
 use Rattle.block_layout.proofs.Ancestors.{in_self, under_child}
-use Rattle.block_layout.proofs.Far.{pair_same, larger_turn, larger_nothing, nothing_larger, kids_capped, far_cons, far_none, far_kid, far_kid_capped, far_of}
+use Rattle.block_layout.proofs.Far.{pair_same, larger_turn, larger_nothing, nothing_larger, kids_capped, far_cons, far_kid, far_kid_capped}
 use Rattle.block_layout.proofs.Forests.{linked, shallow}
-use Rattle.block_layout.proofs.Nodes.{parent_is, children_is}
+use Rattle.block_layout.proofs.Nodes.{parent_is}
 
 none_handed : (hidden : Bool) (kind : Kind) (item : Item) → None ≡ if_shown hidden (inputs_if_block kind item None)
 none_handed true kind item = refl

@@ -2,7 +2,6 @@
 use Rattle.std.specs.Prelude.{◌≡◌, ◌≤◌, ℕ, Option, Some, None, option_map}
 use Rattle.layout_model.specs.Nodes.{Node, depth_of}
 use Rattle.layout_model.specs.Boxes.{Inputs, Box, box_in, margin_height, if_shown, inputs_if_block}
-use Rattle.block_layout.specs.Counts.{box_count}
 
 -- from this depth on each element has the inputs that its parent hands down, none where it has no box
 abbrev pub GoesDown : (ℕ → Node) → ℕ → (ℕ → Option Inputs) → Type 0

@@ -78,11 +78,11 @@ printed text fraction tail whole number units is within none read same =
           ∙ ap (λ n. Ok (n, tail)) same;
     }
 
-tenths_text_is : (tenths : ℕ) → tenths_text tenths ≡ decimal (tenths / 10) ++ (46 ∷ last_digit tenths ∷ codes "px")
+pub tenths_text_is : (tenths : ℕ) → tenths_text tenths ≡ decimal (tenths / 10) ++ (46 ∷ last_digit tenths ∷ codes "px")
 unfolding tenths_text
 tenths_text_is tenths = refl
 
-hundredths_text_is : (number : ℕ) → hundredths_text number ≡ decimal (number / 100) ++ (46 ∷ last_digit (number / 10) ∷ last_digit number ∷ codes "px")
+pub hundredths_text_is : (number : ℕ) → hundredths_text number ≡ decimal (number / 100) ++ (46 ∷ last_digit (number / 10) ∷ last_digit number ∷ codes "px")
 unfolding hundredths_text
 hundredths_text_is number = refl
 

@@ -2,7 +2,7 @@
 use Rattle.std.specs.Prelude.{option_map, unsigned_abs}
 use Rattle.style_values.specs.Seen.{seen_declaration}
 use Rattle.script_model.specs.Forms.{NameForm, NodeForm, AimForm, HandlerForm, RootForm, LengthForm, SignedForm, WholeForm, EventForm, BoxForm, DimensionForm, DeclarationForm}
-use Rattle.script_syntax.specs.Seen.{operand_of, aim_of, dimension_of, event_of}
+use Rattle.script_syntax.specs.Seen.{operand_of, aim_of, dimension_of}
 use Rattle.script_text.specs.Parts.{Part, PartOf}
 use Rattle.script_print.specs.declared.operands.Entry.{Entry}
 use Rattle.script_print.specs.declared.operands.Entry.TheVariants as entry
@@ -17,7 +17,7 @@ part_of (entry.Root operand) = PartOf RootForm (option_map operand_of operand)
 part_of (entry.Length units) = PartOf LengthForm (unsigned_abs units)
 part_of (entry.Signed units) = PartOf SignedForm units
 part_of (entry.Whole number) = PartOf WholeForm number
-part_of (entry.Event event) = PartOf EventForm (event_of event)
+part_of (entry.Event event) = PartOf EventForm event
 part_of (entry.Observed box) = PartOf BoxForm box
 part_of (entry.Dimension axis) = PartOf DimensionForm (dimension_of axis)
 part_of (entry.Declared declaration) = PartOf DeclarationForm (seen_declaration declaration)

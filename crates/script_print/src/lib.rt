@@ -19,15 +19,13 @@ mod tests;
 use script_syntax::Script;
 use script_text::laws::{printed_script_reads_back, what_is_read_is_well_formed};
 use std::alloc::{AllocError, Global};
-
-/// The most bytes of a script.
-const LARGEST: usize = 16_777_216;
+use text_io::LimitKind;
 
 /// Appends the line feed of the last line, where the text then isn't longer than a script may be.
 fn end_last_line(text: &mut Vec<u8>) -> Result<(), AllocError>
     ensures { OnOk result (text.new.items ≡ ended text.old.items) }
 {
-    if text.len() < LARGEST {
+    if (text.len() as u64) < LimitKind::Script.number() {
         text.push(b'\n')?;
     }
     Ok(())

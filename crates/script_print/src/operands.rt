@@ -5,10 +5,10 @@ ghost use Rattle.media_queries.specs.QueryText.{list_text};
 ghost use Rattle.script_print.specs.OperandParts.{part_of};
 ghost use Rattle.script_print.specs.Spaced.{spaced};
 ghost use Rattle.script_model.specs.MarginText.{parts_of};
-ghost use Rattle.script_syntax.specs.Seen.{operand_of, aim_of, dimension_of, event_of};
+ghost use Rattle.script_syntax.specs.Seen.{operand_of, aim_of, dimension_of};
 ghost use Rattle.script_text.specs.NumberText.{signed_text, number_text};
 ghost use Rattle.script_text.specs.Parts.{all_words};
-ghost use Rattle.script_text.specs.WordText.{operand_text, aim_text, event_text, box_text, dimension_text, dash_or};
+ghost use Rattle.script_text.specs.WordText.{operand_text, aim_text, box_text, dimension_text, dash_or};
 ghost use Rattle.script_text.specs.ScriptText.{line_text};
 ghost use Rattle.word_model.specs.Numbers.{decimal};
 ghost use Rattle.media_queries.specs.LengthText.{length_text};
@@ -157,17 +157,6 @@ fn dimension_text(axis: Axis) -> &'static [u8]
     }
 }
 
-fn event_text(event: EventKind) -> &'static [u8]
-    ensures { result.now ≡ event_text (event_of event) }
-{
-    match event {
-        EventKind::Resize => b"resize",
-        EventKind::Scroll => b"scroll",
-        EventKind::Error => b"error",
-        EventKind::Change => b"change",
-    }
-}
-
 /// Appends the words of an operand.
 fn push_entry(into: &mut Vec<u8>, entry: Entry) -> Result<(), AllocError>
     ensures { OnOk result (into.new.items ≡ into.old.items ++ spaced (all_words (part_of entry ∷ []))) }
@@ -181,7 +170,7 @@ fn push_entry(into: &mut Vec<u8>, entry: Entry) -> Result<(), AllocError>
         Entry::Length(units) => push_spaced_length(into, units.unsigned_abs()),
         Entry::Signed(units) => push_spaced_signed(into, units),
         Entry::Whole(number) => push_spaced_whole(into, number),
-        Entry::Event(event) => push_word(into, event_text(event)),
+        Entry::Event(event) => push_word(into, event.text().as_bytes()),
         Entry::Observed(observed) => push_word(into, box_text(observed)),
         Entry::Dimension(axis) => push_word(into, dimension_text(axis)),
         Entry::Declared(declaration) => push_declaration(into, declaration),

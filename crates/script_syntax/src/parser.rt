@@ -2,6 +2,8 @@
 
 ghost use Rattle.std.specs.Prelude.{◌≡◌, ◌≤◌, map, length, count_by, ◌==◌, IfOk};
 ghost use Rattle.std.specs.List.{All};
+ghost use Rattle.text_io.specs.declared.kinds.LimitKind.TheVariants as limits;
+ghost use Rattle.text_io.specs.Limits.{limit_number};
 ghost use Rattle.script_lexer.specs.Texts.{text_seen, line_seen, ending_seen, LineFits};
 ghost use Rattle.script_model.specs.Lexing.{lexed};
 ghost use Rattle.script_model.specs.Reading as model;
@@ -20,9 +22,6 @@ use script_lexer::{LexFault, Line, Text};
 use std::alloc::Global;
 use text_io::LimitKind;
 
-/// The most bytes of a script.
-const MOST_BYTES: usize = 16_777_216;
-
 /// The script that a text is, which a lexer read with lines of at most 4,096 bytes.
 ///
 /// # Errors
@@ -35,7 +34,7 @@ pub fn parse(alloc: Global, text: &Text) -> Result<Script, ParseFault>
     ensures { Parses result (reading text.now.bytes) }
 {
     let bytes = text.bytes();
-    if bytes.len() > MOST_BYTES {
+    if bytes.len() as u64 > LimitKind::Script.number() {
         return Err(ParseFault::ScriptLimit {
             kind: LimitKind::Script,
             line: last_line(bytes),
@@ -52,10 +51,11 @@ pub fn parse(alloc: Global, text: &Text) -> Result<Script, ParseFault>
 /// The line of the first byte that a text has too many.
 #[tactic(auto, unfolding(script_model::specs::Reading::last_line))]
 fn last_line(bytes: &[u8]) -> u32
-    requires { 16777216 ≤ length bytes.now }
-    ensures { result ≡ model.last_line 16777216 bytes.now }
+    requires { limit_number limits.Script ≤ length bytes.now }
+    ensures { result ≡ model.last_line (limit_number limits.Script) bytes.now }
 {
-    let feeds = feeds(&bytes[..MOST_BYTES]);
+    let most = LimitKind::Script.number() as usize;
+    let feeds = feeds(&bytes[..most]);
     1 + feeds as u32
 }
 

@@ -1,9 +1,8 @@
 -- How many decimal digits a number has.
-use Rattle.std.proofs.Common.{◌≡◌, ℕ, zero, suc, ◌+◌, ◌-◌, ◌*◌, ◌/◌, ◌%◌, ◌^◌, ◌<◌, ◌≤◌, true, nat_le, List, [], length, refl, ap, ◌∙◌, arith}
+use Rattle.std.proofs.Common.{◌≡◌, ℕ, zero, suc, ◌+◌, ◌/◌, ◌^◌, ◌<◌, ◌≤◌, true, List, [], length, ap, arith}
 use Rattle.std.specs.List.{list_all}
-use Rattle.std.proofs.lemmas.Bool.{le-leb, and_from}
 use Rattle.word_model.specs.Names.{is_digit}
-use Rattle.word_model.specs.Numbers.{decimal_on, decimal, digits_value}
+use Rattle.word_model.specs.Numbers.{decimal_on, decimal}
 use Rattle.word_model.proofs.RoundTrip.{tenth, by_digits, decimal_is}
 
 abbrev pub AreDigits : List ℕ → Type 0

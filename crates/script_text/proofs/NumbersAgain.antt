@@ -7,6 +7,7 @@ use Rattle.word_model.proofs.Digits.{unsigned_is}
 use Rattle.word_model.proofs.Forms.{form_of_is, has_form_is, length_of_is, percent_of_is, ten_thousandths_of_is}
 use Rattle.media_queries.specs.LengthText.{tenths_of, hundredths_of, last_digit, tenths_text, hundredths_text, length_text}
 use Rattle.word_model.proofs.RoundTrip.{digit_is, decimal_value, decimal_digits, decimal_length}
+use Rattle.media_queries.proofs.LengthAgain.{length_text_is, tenths_text_is, hundredths_text_is}
 use Rattle.script_text.specs.NumberText.{places_text, percent_text, with_minus, signed_text, number_text}
 use Rattle.script_text.proofs.Decimals.{AreDigits, decimal_short}
 use Rattle.script_text.proofs.FormParts.{IsUnit, pointed, HasParts, has_parts, form_is, scaled_value, form_read}
@@ -123,19 +124,6 @@ one_value d = omega arith
 pub two_value : (d e : ℕ) → digits_value (d ∷ e ∷ []) ≡ (d - 48) * 10 + (e - 48)
 unfolding digits_value
 two_value d e = omega arith
-
-pub length_text_is : (units : ℕ) → length_text units
-    ≡ cond (units % 64 == 0) (decimal (units / 64) ++ codes "px") (cond (tenths_of units * 64 / 10 == units) (tenths_text (tenths_of units)) (hundredths_text (hundredths_of units)))
-unfolding length_text
-length_text_is units = refl
-
-pub tenths_text_is : (tenths : ℕ) → tenths_text tenths ≡ decimal (tenths / 10) ++ (46 ∷ last_digit tenths ∷ codes "px")
-unfolding tenths_text
-tenths_text_is tenths = refl
-
-pub hundredths_text_is : (number : ℕ) → hundredths_text number ≡ decimal (number / 100) ++ (46 ∷ last_digit (number / 10) ∷ last_digit number ∷ codes "px")
-unfolding hundredths_text
-hundredths_text_is number = refl
 
 pub digit_all : (n : ℕ) (ds : List ℕ) → AreDigits ds → AreDigits (last_digit n ∷ ds)
 digit_all n ds all = and_from _ _ (digit_is n) all

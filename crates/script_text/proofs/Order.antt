@@ -15,7 +15,8 @@ use Rattle.script_text.specs.ByteOrder.{is_not_after}
 use Rattle.script_text.proofs.Decimals.{AreDigits}
 use Rattle.script_text.proofs.FormParts.{pointed}
 use Rattle.script_text.proofs.Places.{Written, written, no_value}
-use Rattle.script_text.proofs.NumbersAgain.{percent_spelled, one_value, two_value, digit_all, length_text_is, tenths_text_is, hundredths_text_is, signed_by_is}
+use Rattle.media_queries.proofs.LengthAgain.{length_text_is, tenths_text_is, hundredths_text_is}
+use Rattle.script_text.proofs.NumbersAgain.{percent_spelled, one_value, two_value, digit_all, signed_by_is}
 use Rattle.script_text.proofs.Shortness.{Shorter, some_units, length_shorter, ten_thousandths_shorter, tenths_long, hundredths_long, plus_is, minus_zero, minus_suc, some_same, FormRead, pointed_long, pointed_some, form_found, form_read, in_bound, last_or, digits_short, fraction_small, places_short}
 
 same_text : (text : List ℕ) → is_not_after text text ≡ true

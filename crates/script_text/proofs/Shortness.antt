@@ -17,7 +17,8 @@ use Rattle.script_text.specs.NumberText.{all_places, places_text, percent_text, 
 use Rattle.script_text.proofs.Decimals.{AreDigits, decimal_short}
 use Rattle.script_text.proofs.FormParts.{pointed}
 use Rattle.script_text.proofs.Places.{zero_text, suc_text, places_zero, places_suc}
-use Rattle.script_text.proofs.NumbersAgain.{length_text_is, tenths_text_is, hundredths_text_is, percent_text_is, signed_by_is}
+use Rattle.media_queries.proofs.LengthAgain.{length_text_is, tenths_text_is, hundredths_text_is}
+use Rattle.script_text.proofs.NumbersAgain.{percent_text_is, signed_by_is}
 
 -- What a text that is read has.
 

@@ -1,8 +1,8 @@
-use Rattle.std.proofs.Common.{◌≡◌, ◌+◌, ◌≢◌, ℕ, suc, true, false, length, Option, option_map, refl, ap, sym, ◌∙◌, arith}
+use Rattle.std.proofs.Common.{◌≡◌, ◌+◌, suc, length, option_map, refl, ap, sym, ◌∙◌, arith}
 use Rattle.std.proofs.lemmas.Bool.{false≢true}
 use Rattle.px_units.specs.Lengths.{cap}
-use Rattle.layout_model.specs.Boxes.{Inputs, computed, if_shown, inputs_if_block}
-use Rattle.layout_model.specs.Nodes.{depth_of, is_in_path}
+use Rattle.layout_model.specs.Boxes.{if_shown, inputs_if_block}
+use Rattle.layout_model.specs.Nodes.{is_in_path}
 use Rattle.element_tree.proofs.Facts.{child_in_range}
 use Rattle.element_tree.proofs.Levels.{kid_depth, kid_parent, low_enough}
 use Rattle.element_tree.specs.Forest.{children_of}
@@ -12,9 +12,9 @@ use Rattle.block_layout.specs.Held.{held_in}
 use Rattle.block_layout.specs.Seen.{seen_inputs}
 use Rattle.block_layout.specs.Trees.{layout_tree}
 use Rattle.block_layout.proofs.Ancestors.{in_self, beside_child}
-use Rattle.block_layout.proofs.Filled.{filled_begin, filled_on, box_filled, steps_filled, held_begin, held_on, held_done}
+use Rattle.block_layout.proofs.Filled.{filled_on, box_filled, steps_filled, held_on, held_done}
 use Rattle.block_layout.proofs.Forests.{linked, shallow, depth_same}
-use Rattle.block_layout.proofs.Kids.{rest, rest_first, among_first, rest_none, here_of, met_in}
+use Rattle.block_layout.proofs.Kids.{rest, rest_none, here_of, met_in}
 use Rattle.block_layout.proofs.Nodes.{parent_is, children_is}
 use Rattle.block_layout.proofs.held.+fill_below.Goals as goal
 

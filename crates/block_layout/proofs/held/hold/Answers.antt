@@ -1,8 +1,8 @@
-use Rattle.std.proofs.Common.{◌≡◌, Option, Some, option_map, ap, sym, ◌∙◌}
+use Rattle.std.proofs.Common.{Some, option_map, ap, sym, ◌∙◌}
 use Rattle.std.specs.Prelude.{unsigned_abs}
 use mir.Syntax.{w64}
 use mir.Val.{to_z}
-use Rattle.layout_model.specs.Boxes.{Box, Inputs, computed, margin_height}
+use Rattle.layout_model.specs.Boxes.{computed, margin_height}
 use Rattle.block_layout.specs.Filling.{height_of}
 use Rattle.block_layout.specs.Seen.{seen_inputs}
 use Rattle.block_layout.specs.Trees.{layout_tree}

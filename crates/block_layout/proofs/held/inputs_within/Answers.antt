@@ -1,8 +1,7 @@
-use Rattle.std.proofs.Common.{◌≡◌, false, Option, Some, None, option_map, inl, inr, ap, sym, ◌∙◌}
-use Rattle.layout_model.specs.Boxes.{Inputs, child_inputs, inputs_if_block}
+use Rattle.std.proofs.Common.{◌≡◌, false, Some, option_map, inl, inr, ap, sym, ◌∙◌}
 use Rattle.layout_model.specs.Clips.{is_block}
 use Rattle.block_layout.specs.Seen.{seen_inputs, seen_kind}
-use Rattle.block_layout.proofs.Nodes.{item_is, handed_block, handed_leaf}
+use Rattle.block_layout.proofs.Nodes.{handed_block, handed_leaf}
 use Rattle.block_layout.proofs.held.inputs_within.Goals as goal
 
 pub returns-in-Some-clause-value : goal.returns-in-Some-clause-value

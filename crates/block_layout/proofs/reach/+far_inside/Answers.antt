@@ -1,17 +1,16 @@
-use Rattle.std.proofs.Common.{◌≡◌, ◌≤◌, ◌+◌, ◌*◌, suc, length, Some, None, true, false, Bool, cond, ap, sym, refl, ◌∙◌, arith}
+use Rattle.std.proofs.Common.{◌≡◌, ◌+◌, suc, length, ap, sym, ◌∙◌, arith}
 use Rattle.px_units.specs.Lengths.{cap}
 use Rattle.layout_model.specs.Boxes.{Inputs, kids_of, box_in, border_size, child_inputs, margin_height}
 use Rattle.layout_model.specs.Points.{larger, plus}
 use Rattle.layout_model.specs.Reach.{open_kids}
 use Rattle.element_tree.proofs.Facts.{child_in_range}
 use Rattle.element_tree.proofs.Levels.{kid_depth, low_enough}
-use Rattle.element_tree.specs.Forest.{depth}
 use Rattle.block_layout.specs.Around.{seen_extent}
 use Rattle.block_layout.specs.Far.{far_in}
 use Rattle.block_layout.specs.Trees.{layout_tree}
-use Rattle.block_layout.proofs.Far.{nothing_larger, larger_nothing, far_none, far_of}
+use Rattle.block_layout.proofs.Far.{larger_nothing, far_none, far_of}
 use Rattle.block_layout.proofs.Forests.{linked, shallow}
-use Rattle.block_layout.proofs.Kids.{rest, rest_first, among_first, rest_none, open_kid, open_child, open_met}
+use Rattle.block_layout.proofs.Kids.{rest, rest_none, open_kid, open_child, open_met}
 use Rattle.block_layout.proofs.Reaching.{far_among, far_hidden, far_shown, kid_inputs, kid_holds, kid_box, kid_offset, some_same, shown_some, hidden_none}
 use Rattle.block_layout.proofs.reach.+far_inside.Goals as goal
 use Rattle.block_layout.proofs.reach.+far_inside.Goals.{in-Some-shown_box, in_default-shown_box}

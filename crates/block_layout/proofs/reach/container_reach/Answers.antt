@@ -1,5 +1,5 @@
-use Rattle.std.proofs.Common.{◌≡◌, Some, None, ap, sym, ◌∙◌}
-use Rattle.layout_model.specs.Boxes.{box_in, kids_of, padding_size, padding_corner}
+use Rattle.std.proofs.Common.{◌≡◌, ap, sym, ◌∙◌}
+use Rattle.layout_model.specs.Boxes.{box_in, padding_size, padding_corner}
 use Rattle.layout_model.specs.Points.{larger, minus, capped}
 use Rattle.layout_model.proofs.Attained.{reach_is}
 use Rattle.block_layout.specs.Around.{seen_extent}

@@ -1,7 +1,7 @@
-use Rattle.std.proofs.Common.{◌≡◌, ◌++◌, List, Option, Some, None, true, nat_eq, cond, length, take, drop, option_map, ap, sym, ◌∙◌, arith}
+use Rattle.std.proofs.Common.{◌≡◌, ◌++◌, Some, None, true, nat_eq, cond, length, take, drop, ap, sym, ◌∙◌, arith}
 use Rattle.std.proofs.lemmas.Bool.Decides.{nat_tests}
 use Rattle.std.proofs.lemmas.Grind.{common_steps}
-use Rattle.layout_model.specs.Boxes.{Box, Inputs, box_of_node, inputs_in, if_shown}
+use Rattle.layout_model.specs.Boxes.{Inputs, box_of_node, inputs_in, if_shown}
 use Rattle.layout_model.proofs.Inputs.{inputs_child, inputs_top}
 use Rattle.block_layout.specs.Held.{held_in}
 use Rattle.block_layout.specs.Seen.{seen_inputs}
