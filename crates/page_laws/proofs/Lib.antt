@@ -1,10 +1,7 @@
-mod Successors
-mod Commands
-mod Readings
-mod Depths
+mod Lists
+mod Steps
 mod Ranges
-mod Kept
+mod Trees
+mod Made
+mod Parts
 mod InRange
-mod Keeping
-mod Later
-mod Quiet

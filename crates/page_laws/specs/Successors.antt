@@ -1,6 +1,6 @@
 -- What no command takes back.
-use Rattle.std.specs.Prelude.{◌≡◌, ℕ, Bool, true, false, IsTrue, List, Option, Some, None, slice_get, ⊤}
-use Rattle.page_model.specs.World.{DocumentState, Fresh, Active, Dead, Document, Thing, World}
+use Rattle.std.specs.Prelude.{◌≡◌, ◌≤◌, ℕ, length, Bool, true, false, IsTrue, List, Option, Some, None, slice_get, ⊤}
+use Rattle.page_model.specs.World.{DocumentState, Fresh, Active, Dead, Document, Tree, Thing, World}
 use Rattle.page_model.specs.Names.{named_thing}
 use Rattle.page_model.specs.Steps.{Step, Did, Threw, Met}
 
@@ -19,14 +19,15 @@ is_come_to wanted None = false
 is_come_to wanted (Some document) = has_come_to wanted (document.state)
 
 -- whether there is such a document and it has come to a state
-abbrev pub came_to : DocumentState → World → ℕ → Bool
-came_to wanted world document = is_come_to wanted (slice_get world.documents document)
+abbrev pub came_to : DocumentState → Tree → ℕ → Bool
+came_to wanted tree document = is_come_to wanted (slice_get tree.documents document)
 
--- a world after another one of the same command: documents don't go back, so a Dead one stays Dead, names go on to name
--- the same things, and neither the clock nor the count of commands moves
+-- a world after another one of the same command: no element is taken out, documents don't go back, so a Dead one stays Dead,
+-- names go on to name the same things, and neither the clock nor the count of commands moves
 pub record IsSuccessor (before after : World) : Type 0 where
-  pub states : (wanted : DocumentState) (document : ℕ) → IsTrue (came_to wanted before document) → IsTrue (came_to wanted after document)
-  pub names : (text : List ℕ) (thing : Thing) → named_thing before text ≡ Some thing → named_thing after text ≡ Some thing
+  pub elements : length before.tree.elements ≤ length after.tree.elements
+  pub states : (wanted : DocumentState) (document : ℕ) → IsTrue (came_to wanted before.tree document) → IsTrue (came_to wanted after.tree document)
+  pub names : (text : List ℕ) (thing : Thing) → named_thing before.names text ≡ Some thing → named_thing after.names text ≡ Some thing
   pub clock : after.clock ≡ before.clock
   pub begun : after.begun ≡ before.begun
 

@@ -1,14 +1,6 @@
-// The page and its runs: definitions and their laws.
+//! Laws over the definitions of a page and its runs.
 #![tactic(auto)]
 
 mod pages;
-mod runs;
 
-pub use pages::{
-    children_are_one_level_deeper, commands_are_counted, commands_take_nothing_back,
-    listed_documents_are_active, no_box_has_no_size, numbers_stay_in_range,
-    readings_change_nothing,
-};
-pub use runs::{
-    runs_take_nothing_back, the_clock_stands_in_a_tick, ticks_of_a_quiet_page_say_nothing_more,
-};
+pub use pages::numbers_stay_in_range;

@@ -1,6 +1,6 @@
 -- What operands come to is in range.
-use Rattle.page_model.proofs.InRange.{does-in}
-use Rattle.page_model.proofs.pages.numbers_stay_in_range.Goals as goal
+use Rattle.page_laws.proofs.InRange.{does-in}
+use Rattle.page_laws.proofs.pages.numbers_stay_in_range.Goals as goal
 
 pub returns : goal.returns
 returns c = does-in

@@ -1,0 +1,3 @@
+pub mod Successors
+pub mod Later
+pub mod Quiet
