@@ -1,0 +1,30 @@
+-- What is true of elements and documents: which numbers there are, and how documents and their frames belong together.
+use Rattle.std.specs.Prelude.{◌≡◌, ℕ, ◌<◌, true, length, Some, None}
+use Rattle.page_model.specs.World.{Tree}
+use Rattle.page_model.specs.Lookups.{element_at, document_at}
+use Rattle.page_model.specs.Documents.{first_of_list, is_active, stands_in_active}
+use Rattle.page_documents.specs.Paths.{path_to}
+
+-- the documents of elements and of frames, the root elements of documents and their frames are ones that there are
+pub record AreKnown (tree : Tree) : Type 0 where
+  pub owners : (n : ℕ) → n < length tree.elements → (element_at tree n).document < length tree.documents
+  pub framed : (n document : ℕ) → (element_at tree n).framed ≡ Some document → document < length tree.documents
+  pub roots : (document n : ℕ) → (document_at tree document).root ≡ Some n → n < length tree.elements
+  pub frames : (document n : ℕ) → (document_at tree document).frame ≡ Some n → n < length tree.elements
+
+-- a root element has no parent and belongs to one document
+pub record IsRootOf (tree : Tree) (document n : ℕ) : Type 0 where
+  pub known : n < length tree.elements
+  pub top : (element_at tree n).parent ≡ None
+  pub owned : (element_at tree n).document ≡ document
+
+-- how documents and their frames belong together
+pub record AreFramed (tree : Tree) : Type 0 where
+  -- a frame's document has that frame, and the frame of a document has that document
+  pub framed : (n document : ℕ) → (element_at tree n).framed ≡ Some document → (document_at tree document).frame ≡ Some n
+  pub frames : (document n : ℕ) → (document_at tree document).frame ≡ Some n → (element_at tree n).framed ≡ Some document
+  pub roots : (document n : ℕ) → (document_at tree document).root ≡ Some n → IsRootOf tree document n
+  -- an element belongs to the document of its parent, and so to that in whose tree it stands
+  pub owned : (n parent : ℕ) → (element_at tree n).parent ≡ Some parent → (element_at tree n).document ≡ (element_at tree parent).document
+  pub shown : (document n : ℕ) → is_active tree document ≡ true → (document_at tree document).frame ≡ Some n → stands_in_active tree n ≡ true
+  pub leads : (document : ℕ) → is_active tree document ≡ true → first_of_list (path_to tree document) ≡ Some 0

@@ -1,0 +1,24 @@
+-- Walks over the frames of a tree, level by level.
+use Rattle.std.specs.Prelude.{ℕ, Bool, false, cond, List, [], ◌∷◌, filter_map, replicate}
+use Rattle.page_model.specs.World.{Tree}
+use Rattle.page_model.specs.Lookups.{element_at}
+use Rattle.page_model.specs.Documents.{order_down}
+
+-- the documents of the frames among an element and its descendants, of so many levels that are looked at
+unfoldable pub frames_down : ℕ → Tree → ℕ → List ℕ
+frames_down high tree n = filter_map (λ each. (element_at tree each).framed) (order_down high tree n)
+
+-- what is come to once these are taken in turn
+abbrev pub taken : {S : Type 0} → (ℕ → S → S) → List ℕ → S → S
+taken with [] found = found
+taken with (document ∷ documents) found = taken with documents (with document found)
+
+-- no document is marked
+abbrev pub no_marks : List Bool
+no_marks = replicate 64 false
+
+-- the entries at marked places changed
+abbrev pub marked_in : {A : Type 0} → (A → A) → List Bool → List A → List A
+marked_in change [] xs = xs
+marked_in change (mark ∷ marks) [] = []
+marked_in change (mark ∷ marks) (x ∷ xs) = cond mark (change x) x ∷ marked_in change marks xs

@@ -1,0 +1,261 @@
+//! The documents of a page.
+
+ghost use Rattle.std.specs.Prelude.{◌≡◌, ◌≢◌, ℕ, ◌<◌, ◌≤◌, ◌+◌, ◌++◌, ◌∷◌, [], length, option_map, Some, None, IfOk, OnOk, OnErr, Ok, Err, IsSome, true, false, nat_lt};
+ghost use Rattle.std.specs.Option.{ForSome};
+ghost use Rattle.smallvec.specs.SmallVec.{small_vec_len};
+ghost use Rattle.element_tree.specs.Links.{number};
+ghost use Rattle.page_model.specs.World.{Active};
+ghost use Rattle.page_model.specs.Lookups.{change_at, change_each, entry_or, no_document};
+ghost use Rattle.page_model.specs.Edits.{new_document};
+ghost use Rattle.page_model.specs.Documents.{is_active_state, documents_inside, active_documents, adopted, is_active, tree_document};
+ghost use Rattle.page_documents.specs.States.{seen_state, is_in, put_in};
+ghost use Rattle.page_documents.specs.Seen.{seen_tree};
+ghost use Rattle.page_documents.specs.Held.{has_room, changing, ending, opening};
+ghost use Rattle.page_documents.specs.Walks.{marked_in};
+ghost use Rattle.page_documents.specs.Paths.{way_down, path_to};
+ghost use Rattle.page_documents.specs.Frames.{AreKnown};
+ghost use Rattle.page_documents.specs.Adoption.{adopted_in};
+
+use crate::adoption::{adopt, stands_in_active, tree_document};
+use crate::entry::{DocumentState, Entry};
+use crate::fault::DocumentFault;
+use crate::finding::{LEVELS, find_from, find_in};
+use crate::found::{Listed, Marks};
+use crate::owned::Owned;
+use element_tree::{NodeId, Tree};
+use smallvec::SmallVec;
+use std::alloc::{AllocError, Global};
+use std::marker::Model;
+
+/// The documents of a page by number, from 0 in order of making: `top` is number 0, and each other one belongs to a frame.
+/// A clause sees them as the definitions of a world do.
+///
+/// A document that is handed in is below `count`. In a tree that is handed in, each frame's document is below `count` too, and
+/// each document's frame and root element are nodes of it.
+#[derive(Drop)]
+pub struct Documents {
+    held: Vec<Entry>,
+    most: u32,
+}
+
+impl Model for Documents {
+    ghost use Rattle.page_documents.specs.Held.{HeldDocuments, IsHeld};
+
+    ghost Value = { HeldDocuments };
+
+    ghost view = { λ d. record { held = d.held.items; most = d.most } };
+
+    ghost invariant = { λ d. IsHeld d.held.items d.most };
+}
+
+impl Documents {
+    /// The document `top` alone, which is Active. At most `most` documents are held, from 1 to 64.
+    ///
+    /// # Errors
+    ///
+    /// Where there is no memory.
+    pub fn new(alloc: Global, most: u32) -> Result<Documents, AllocError>
+        requires least { 1 ≤ most }
+        requires bounded { most ≤ 64 }
+        ensures { IfOk result (λ documents. documents ≡ record { held = record { state = Active; frame = None; root = None } ∷ []; most = most }) }
+    {
+        let mut held = Vec::new(alloc);
+        held.push(Entry::top())?;
+        Ok(Documents { held, most })
+    }
+
+    /// Makes a Fresh document for a frame, and gives its number, which is `count` before (HTML, 7.3: content navigables).
+    ///
+    /// # Errors
+    ///
+    /// `Limit` exactly where `most` documents are held; else `Memory` where there is none. Nothing is changed then.
+    pub fn make(&mut self, frame: NodeId) -> Result<u32, DocumentFault>
+        ensures number { IfOk result (λ document. document ≡ length self.old.held) }
+        ensures made { OnOk result (self.new ≡ record self.old { held = self.old.held ++ new_document frame.0 ∷ [] }) }
+        ensures same { OnErr result (self.new ≡ self.old) }
+        ensures full { has_room self.old ≡ false → result ≡ Err DocumentFault.Limit }
+        ensures limit { result ≡ Err DocumentFault.Limit → has_room self.old ≡ false }
+    {
+        let number = self.count();
+        if number >= self.most {
+            return Err(DocumentFault::Limit);
+        }
+        let Ok(()) = self.held.push(Entry::framed_by(frame)) else {
+            return Err(DocumentFault::Memory);
+        };
+        Ok(number)
+    }
+
+    /// How many documents are held.
+    pub fn count(&self) -> u32
+        ensures { result ≡ length self.now.held }
+    {
+        self.held.len() as u32
+    }
+
+    /// The state of a document.
+    pub fn state(&self, document: u32) -> DocumentState
+        requires { document < length self.now.held }
+        ensures { seen_state result ≡ (entry_or no_document self.now.held document).state }
+    {
+        self.held[document as usize].state()
+    }
+
+    /// The frame of a document. None exactly for `top`.
+    pub fn frame_of(&self, document: u32) -> Option<NodeId>
+        requires { document < length self.now.held }
+        ensures value { option_map number result ≡ (entry_or no_document self.now.held document).frame }
+        ensures top { document ≡ 0 → result ≡ None }
+        ensures framed { document ≢ 0 → IsSome result }
+    {
+        self.held[document as usize].frame()
+    }
+
+    /// The root element of a document, none where it has none (DOM, 4.5: document element).
+    pub fn root_of(&self, document: u32) -> Option<NodeId>
+        requires { document < length self.now.held }
+        ensures { option_map number result ≡ (entry_or no_document self.now.held document).root }
+    {
+        self.held[document as usize].root()
+    }
+
+    /// Makes an element the root element of a document, or leaves it with none.
+    pub fn set_root(&mut self, document: u32, root: Option<NodeId>)
+        requires { document < length self.old.held }
+        ensures { self.new ≡ changing (λ it. record it { root = option_map number root }) document self.old }
+    {
+        self.held[document as usize].set_root(root);
+    }
+
+    /// The document in whose tree an element stands, none where it stands in no document's tree (DOM, 4.2.1: in a document tree).
+    pub fn tree_document<P: Owned>(&self, tree: &Tree<P>, node: NodeId) -> Option<u32>
+        requires node { node.0 < length tree.now.nodes }
+        requires known { AreKnown (seen_tree P.carried tree.now self.now.held) }
+        ensures value { result ≡ tree_document (seen_tree P.carried tree.now self.now.held) node.0 }
+        ensures held { ForSome result (λ document. document < length self.now.held) }
+    {
+        tree_document(self.held.as_slice(), tree, node)
+    }
+
+    /// The subtree of an element is taken out of the tree of a document: where that is Active, the Active documents in frames of
+    /// the subtree become Dead for good, with those inside. It may be called before or after the element is taken out.
+    pub fn left<P: Owned>(&mut self, tree: &Tree<P>, node: NodeId, document: u32)
+        requires node { node.0 < length tree.now.nodes }
+        requires document { document < length self.old.held }
+        requires known { AreKnown (seen_tree P.carried tree.now self.old.held) }
+        ensures { self.new ≡ ending (is_active (seen_tree P.carried tree.now self.old.held) document) (seen_tree P.carried tree.now self.old.held) node.0 self.old }
+    {
+        if self.held[document as usize].is_in(DocumentState::Active) {
+            self.change_inside(tree, node, DocumentState::Active, DocumentState::Dead);
+        }
+    }
+
+    /// The subtree of an element was inserted under a document or under an element of this node document: it is adopted (DOM,
+    /// 4.5), and where it stands in the tree of an Active document, the Fresh documents in frames of it become Active, with those
+    /// inside. Documents of frames in it keep their own elements.
+    pub fn entered<P: Owned>(&mut self, tree: &mut Tree<P>, node: NodeId, document: u32)
+        requires node { node.0 < length tree.old.nodes }
+        requires document { document < length self.old.held }
+        requires known { AreKnown (seen_tree P.carried tree.old self.old.held) }
+        ensures adopted { tree.new ≡ adopted_in P.carried P.adopted document node.0 tree.old }
+        ensures seen { seen_tree P.carried tree.new self.old.held ≡ adopted (seen_tree P.carried tree.old self.old.held) document node.0 }
+        ensures shown { self.new ≡ opening (seen_tree P.carried tree.new self.old.held) node.0 self.old }
+    {
+        adopt(tree, node, document);
+        if stands_in_active(self.held.as_slice(), tree, node) {
+            self.change_inside(tree, node, DocumentState::Fresh, DocumentState::Active);
+        }
+    }
+
+    /// The Active documents by preorder of the frame tree, the frames of one document in tree order.
+    ///
+    /// # Errors
+    ///
+    /// Where there is no memory.
+    pub fn active<P: Owned>(&self, tree: &Tree<P>) -> Result<Vec<u32>, AllocError>
+        requires { AreKnown (seen_tree P.carried tree.now self.now.held) }
+        ensures { IfOk result (λ found. found.items ≡ active_documents (seen_tree P.carried tree.now self.now.held)) }
+    {
+        let mut found = Listed::new(*self.held.allocator());
+        find_from(
+            self.held.as_slice(),
+            tree,
+            DocumentState::Active,
+            Some(0),
+            LEVELS,
+            &mut found,
+        )?;
+        Ok(found.into_documents())
+    }
+
+    /// The documents from `top` to this one, each the one that holds the frame of the next. It takes no memory.
+    pub fn path<P: Owned>(&self, tree: &Tree<P>, document: u32) -> SmallVec<u32, 64>
+        requires document { document < length self.now.held }
+        requires known { AreKnown (seen_tree P.carried tree.now self.now.held) }
+        ensures { result.items ≡ path_to (seen_tree P.carried tree.now self.now.held) document }
+    {
+        let mut path = SmallVec::new(*self.held.allocator());
+        self.climb(tree, document, self.count(), &mut path);
+        path
+    }
+
+    // Appends the last documents of the way down to a document, at most so many.
+    fn climb<P: Owned>(
+        &self,
+        tree: &Tree<P>,
+        document: u32,
+        high: u32,
+        path: &mut SmallVec<u32, 64>,
+    )
+        requires document { document < length self.now.held }
+        requires known { AreKnown (seen_tree P.carried tree.now self.now.held) }
+        requires room { small_vec_len path.old + high ≤ path.old.capacity }
+        ensures path { path.new.items ≡ path.old.items ++ way_down high (seen_tree P.carried tree.now self.now.held) document }
+        ensures length { small_vec_len path.new ≤ small_vec_len path.old + high }
+        ensures capacity { path.new.capacity ≡ path.old.capacity }
+    {
+        if high == 0 {
+            return;
+        }
+        if let Some(frame) = self.frame_of(document) {
+            self.climb(tree, tree.payload(frame).document(), high - 1, path);
+        }
+        path.push_reserved(document);
+    }
+
+    // The documents in a state that frames in the subtree of an element lead to come into another state.
+    fn change_inside<P: Owned>(
+        &mut self,
+        tree: &Tree<P>,
+        node: NodeId,
+        from: DocumentState,
+        to: DocumentState,
+    )
+        requires node { node.0 < length tree.now.nodes }
+        requires known { AreKnown (seen_tree P.carried tree.now self.old.held) }
+        ensures { self.new ≡ record self.old { held = change_each (put_in to) (documents_inside (is_in from) (seen_tree P.carried tree.now self.old.held) node.0) self.old.held } }
+    {
+        let mut found = Marks::new();
+        let Ok(()) = find_in(
+            self.held.as_slice(),
+            tree,
+            from,
+            node,
+            LEVELS,
+            LEVELS,
+            &mut found,
+        );
+        self.set_states(&found, to);
+    }
+
+    fn set_states(&mut self, found: &Marks, state: DocumentState)
+        requires { length found.now ≡ 64 }
+        ensures { self.new ≡ record self.old { held = marked_in (put_in state) found.now self.old.held } }
+    {
+        for document in 0..self.held.len() {
+            if found.has(document) {
+                self.held[document].set_state(state);
+            }
+        }
+    }
+}

@@ -1,0 +1,81 @@
+//! Walks over the documents that frames lead to.
+
+ghost use Rattle.std.specs.Prelude.{◌≡◌, ◌<◌, ◌≤◌, length, OnOk, option_to_list};
+ghost use Rattle.std.specs.Option.{ForSome};
+ghost use Rattle.page_model.specs.Documents.{led_to};
+ghost use Rattle.page_documents.specs.States.{is_in};
+ghost use Rattle.page_documents.specs.Seen.{seen_tree};
+ghost use Rattle.page_documents.specs.Walks.{frames_down, taken};
+ghost use Rattle.page_documents.specs.Frames.{AreKnown};
+
+use crate::entry::{DocumentState, Entry};
+use crate::found::Finder;
+use crate::owned::Owned;
+use element_tree::{NodeId, Tree};
+
+/// As many levels of a tree, and of frames in frames, are looked at: more than there can be.
+pub(crate) const LEVELS: u32 = 65536;
+
+// Hands over, in tree order, the documents in a state that the frames among an element and its descendants lead to, each
+// followed by those inside. At most `high` levels of the tree and `deep` levels of frames are looked at.
+#[cycle(finding)]
+pub(crate) fn find_in<P: Owned, F: Finder>(
+    entries: &[Entry],
+    tree: &Tree<P>,
+    state: DocumentState,
+    node: NodeId,
+    high: u32,
+    deep: u32,
+    finder: &mut F,
+) -> Result<(), F::Fault>
+    requires node { node.0 < length tree.now.nodes }
+    requires few { length entries.now ≤ 64 }
+    requires known { AreKnown (seen_tree P.carried tree.now entries.now) }
+    ensures { OnOk result (finder.new ≡ taken F.with (led_to deep (is_in state) (seen_tree P.carried tree.now entries.now) (frames_down high (seen_tree P.carried tree.now entries.now) node.0)) finder.old) }
+{
+    if high == 0 {
+        return Ok(());
+    }
+    find_from(
+        entries,
+        tree,
+        state,
+        tree.payload(node).framed(),
+        deep,
+        finder,
+    )?;
+    let mut next = tree.first_child(node);
+    while let Some(child) = next {
+        find_in(entries, tree, state, child, high - 1, deep, finder)?;
+        next = tree.next_sibling(child);
+    }
+    Ok(())
+}
+
+// Hands over a document, if there is one and it is in this state, and then those that frames in its tree lead to.
+#[cycle(finding)]
+pub(crate) fn find_from<P: Owned, F: Finder>(
+    entries: &[Entry],
+    tree: &Tree<P>,
+    state: DocumentState,
+    document: Option<u32>,
+    deep: u32,
+    finder: &mut F,
+) -> Result<(), F::Fault>
+    requires document { ForSome document (λ number. number < length entries.now) }
+    requires few { length entries.now ≤ 64 }
+    requires known { AreKnown (seen_tree P.carried tree.now entries.now) }
+    ensures { OnOk result (finder.new ≡ taken F.with (led_to deep (is_in state) (seen_tree P.carried tree.now entries.now) (option_to_list document)) finder.old) }
+{
+    let Some(number) = document else {
+        return Ok(());
+    };
+    if deep == 0 || !entries[number as usize].is_in(state) {
+        return Ok(());
+    }
+    finder.take(number)?;
+    match entries[number as usize].root() {
+        Some(root) => find_in(entries, tree, state, root, LEVELS, deep - 1, finder),
+        None => Ok(()),
+    }
+}

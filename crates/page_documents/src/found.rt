@@ -1,0 +1,106 @@
+//! What a walk over documents hands its finds to.
+
+ghost use Rattle.std.specs.Prelude.{◌≡◌, ℕ, ◌<◌, ◌++◌, ◌∷◌, [], OnOk, true, slice_set, get_or};
+ghost use Rattle.page_documents.specs.Walks.{no_marks};
+
+use std::alloc::{AllocError, Global};
+use std::convert::Infallible;
+use std::marker::Model;
+
+/// More documents than these are never held.
+pub(crate) const MOST_DOCUMENTS: usize = 64;
+
+// Takes the documents that a walk comes to, in its order.
+pub(crate) trait Finder {
+    type Fault: Drop;
+
+    ghost with: { ℕ → Self → Self };
+
+    fn take(&mut self, document: u32) -> Result<(), Self::Fault>
+        requires { document < 64 }
+        ensures { OnOk result (self.new ≡ with document self.old) };
+}
+
+// Documents in the order in which they are come to.
+#[derive(Drop)]
+pub(crate) struct Listed {
+    documents: Vec<u32>,
+}
+
+impl Model for Listed {
+    ghost use Rattle.std.specs.Prelude.{ℕ, List};
+
+    ghost Value = { List ℕ };
+
+    ghost view = { λ l. l.documents.items };
+}
+
+impl Listed {
+    pub(crate) fn new(alloc: Global) -> Listed
+        ensures { result ≡ [] }
+    {
+        Listed {
+            documents: Vec::new(alloc),
+        }
+    }
+
+    pub(crate) fn into_documents(self) -> Vec<u32>
+        ensures { result.items ≡ self }
+    {
+        let Listed { documents } = self;
+        documents
+    }
+}
+
+impl Finder for Listed {
+    type Fault = AllocError;
+
+    ghost with = { λ document found. found ++ document ∷ [] };
+
+    fn take(&mut self, document: u32) -> Result<(), AllocError> {
+        self.documents.push(document)?;
+        Ok(())
+    }
+}
+
+// The documents that are come to, in whatever order. It takes no memory.
+#[derive(Drop)]
+pub(crate) struct Marks {
+    marks: [bool; MOST_DOCUMENTS],
+}
+
+impl Model for Marks {
+    ghost use Rattle.std.specs.Prelude.{Bool, List};
+
+    ghost Value = { List Bool };
+
+    ghost view = { λ m. m.marks };
+}
+
+impl Marks {
+    pub(crate) fn new() -> Marks
+        ensures { result ≡ no_marks }
+    {
+        Marks {
+            marks: [false; MOST_DOCUMENTS],
+        }
+    }
+
+    pub(crate) fn has(&self, document: usize) -> bool
+        requires { document < 64 }
+        ensures { result ≡ get_or self.now document true }
+    {
+        self.marks[document]
+    }
+}
+
+impl Finder for Marks {
+    type Fault = Infallible;
+
+    ghost with = { λ document marks. slice_set marks document true };
+
+    fn take(&mut self, document: u32) -> Result<(), Infallible> {
+        self.marks[document as usize] = true;
+        Ok(())
+    }
+}

@@ -1,0 +1,16 @@
+//! The documents of a page: the life of a document in a frame, and the tree that frames make of documents (HTML, 4.8.5 and
+//! 7.3; DOM, 4.2.3 and 4.5).
+#![tactic(auto)]
+
+mod adoption;
+mod documents;
+mod entry;
+mod fault;
+mod finding;
+mod found;
+mod owned;
+
+pub use documents::Documents;
+pub use entry::DocumentState;
+pub use fault::DocumentFault;
+pub use owned::Owned;
