@@ -1,0 +1,4 @@
+pub mod Leading
+pub mod Parts
+pub mod Leaving
+pub mod Seen

@@ -1,0 +1,4 @@
+pub mod Ranges
+pub mod Scenes
+pub mod Chains
+pub mod Visible

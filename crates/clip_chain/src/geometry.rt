@@ -1,0 +1,39 @@
+//! Where containers, clips and boxes come from.
+
+ghost use Rattle.std.specs.Prelude.{◌≡◌, ◌<◌, IfSome};
+ghost use Rattle.clip_chain.specs.Ranges.{IsClip, IsBounds};
+
+use crate::Spot;
+use px_units::Rect;
+
+/// Containers, clips and boxes as they are now. Rectangles are in units of 1/64 CSS pixel and in the coordinates of the top
+/// document's viewport.
+pub trait Geometry {
+    ghost use Rattle.std.specs.Prelude.{ℕ};
+    ghost use Rattle.clip_chain.specs.declared.spot.Spot.{Spot as SpotOf};
+    ghost use Rattle.clip_chain.specs.Scenes.{Scene};
+
+    /// All of them, by spot.
+    ghost scene: { Self → Scene };
+
+    /// How far outwards a chain can lead from a spot: less from its container.
+    ghost rank: { Self → SpotOf → ℕ };
+
+    /// What a spot stands in: an element in its parent, a root element in its document's viewport, the viewport of a nested
+    /// document in the frame element. None for the viewport of the top document and for an element without a box. Chains end.
+    fn container(&self, of: Spot) -> Option<Spot>
+        ensures container { result ≡ (scene self.now).container of }
+        ensures end { IfSome result (λ next. rank self.now next < rank self.now of) };
+
+    /// What a spot clips its content to: the padding box of an element that clips, the viewport of a document. None for an
+    /// element that doesn't clip or has no box. Each edge lies between -2^48 and 2^48, the width between -2^42 and 2^42.
+    fn clip(&self, of: Spot) -> Option<Rect>
+        ensures clip { result ≡ (scene self.now).clip of }
+        ensures range { IfSome result IsClip };
+
+    /// The border box of an element, zeros without a box; the viewport of a document. Each edge lies between -2^48 and 2^48,
+    /// width and height from 0 to 2^40.
+    fn bounds(&self, of: Spot) -> Rect
+        ensures bounds { result ≡ (scene self.now).bounds of }
+        ensures range { IsBounds result };
+}
