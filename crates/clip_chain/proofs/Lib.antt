@@ -2,3 +2,4 @@ pub mod Leading
 pub mod Parts
 pub mod Leaving
 pub mod Seen
+pub mod Worlds

@@ -2,3 +2,5 @@ pub mod Ranges
 pub mod Scenes
 pub mod Chains
 pub mod Visible
+pub mod Worlds
+pub mod Sample

@@ -18,8 +18,8 @@ returns-in_err-common g c =
     let above = above_outwards scene c.args.root c.loop-next.spot c.in-Some.next e.0 e.1 c.loop-next.invariant.above in
     let is : scene.clip c.in-Some.next ≡ Some c.in-Some-clip.clip = sym c.clip.ensures.clip ∙ c.in-Some-clip.is in
     λ between h.
-        c.from_residual.ensures
-        ∙ leaves_nothing scene c.args.root c.args.target c.loop-next.spot c.in-Some.next c.args.first c.loop-next.common c.in-Some-clip.clip c.loop-next.invariant.so_far e.0 e.1 above is (sym c.meet.ensures ∙ c.in_err-common.was) between h
+    c.from_residual.ensures
+    ∙ leaves_nothing scene c.args.root c.args.target c.loop-next.spot c.in-Some.next c.args.first c.loop-next.common c.in-Some-clip.clip c.loop-next.invariant.so_far e.0 e.1 above is (sym c.meet.ensures ∙ c.in_err-common.was) between h
 
 pub loop-next-preserved-in_ok-common : goal.loop-next-preserved-in_ok-common
 loop-next-preserved-in_ok-common g c =
@@ -47,6 +47,7 @@ pub returns : goal.returns
 returns g c =
     let scene = g.G.Geometry.scene c.args.geometry.now in
     let at_root : scene.container c.loop-next.spot ≡ Some c.args.root = (elim (c.container_below.ensures.none c.in_default.is) [
-      inl e ↦ absurd (none_above scene c.args.root c.loop-next.spot e c.loop-next.invariant.above) | inr e ↦ e
+      | inl e ↦ absurd (none_above scene c.args.root c.loop-next.spot e c.loop-next.invariant.above)
+      | inr e ↦ e
     ]) in
     leaves_last scene c.args.root c.args.target c.loop-next.spot c.args.first c.loop-next.common c.loop-next.invariant.so_far at_root c.loop-next.invariant.points

@@ -17,7 +17,7 @@ returns-in_err-unclipped-clause-points g c =
     let scene = g.G.Geometry.scene c.args.geometry.now in
     let miss = ap (λ (r : Rect). meeting r c.args.limits) (sym c.bounds.ensures.bounds) ∙ sym c.meet.ensures ∙ c.in_err-unclipped.was in
     λ between h.
-        part_is_seen scene c.args.target between c.args.limits c.from_residual.result (c.from_residual.ensures ∙ none_seen scene c.args.target between c.args.limits miss)
+    part_is_seen scene c.args.target between c.args.limits c.from_residual.result (c.from_residual.ensures ∙ none_seen scene c.args.target between c.args.limits miss)
 
 pub clipped_below-requires-clause-points : goal.clipped_below-requires-clause-points
 clipped_below-requires-clause-points g c = (meets c.bounds.result c.args.limits c.in_ok-unclipped.unclipped (sym c.meet.ensures ∙ c.in_ok-unclipped.was)).1
@@ -33,8 +33,8 @@ returns-clause-points g c =
     let scene = g.G.Geometry.scene c.args.geometry.now in
     let meet = ap (λ (r : Rect). meeting r c.args.limits) (sym c.bounds.ensures.bounds) ∙ sym c.meet.ensures ∙ c.in_ok-unclipped.was in
     λ between h.
-        part_is_seen scene c.args.target between c.args.limits c.clipped_below.result
-        (c.clipped_below.ensures between h ∙ seen_beyond scene c.args.target between c.args.limits c.in_ok-unclipped.unclipped meet)
+    part_is_seen scene c.args.target between c.args.limits c.clipped_below.result
+    (c.clipped_below.ensures between h ∙ seen_beyond scene c.args.target between c.args.limits c.in_ok-unclipped.unclipped meet)
 
 pub returns-clause-range : goal.returns-clause-range
 returns-clause-range g c =

@@ -1,0 +1,86 @@
+-- A page to try chains on, told spot by spot. Its elements from 9 on have no box.
+use Rattle.std.specs.Prelude.{ℕ, cond, ◌==◌, pos, Option, Some, None}
+use Rattle.px_units.specs.declared.Rect.{Rect}
+use Rattle.page_model.specs.Chains.{zero_rect}
+use Rattle.clip_chain.specs.declared.spot.Spot.{Spot}
+use Rattle.clip_chain.specs.declared.spot.Spot.TheVariants.{Node, View}
+use Rattle.clip_chain.specs.Scenes.{Scene}
+
+abbrev pub sides : ℕ → ℕ → ℕ → ℕ → Rect
+sides left top right bottom = record { left = pos left; top = pos top; right = pos right; bottom = pos bottom }
+
+abbrev pub element : ℕ → Spot
+element number = Node (record { 0 = number })
+
+abbrev pub sample_container : Spot → Option Spot
+sample_container (View document) = cond (document == 1) (Some (element 2)) None
+sample_container (Node node) =
+    cond
+    (node.0 == 0)
+    (Some (View 0))
+    (cond
+    (node.0 == 1)
+    (Some (element 0))
+    (cond
+    (node.0 == 2)
+    (Some (element 1))
+    (cond
+    (node.0 == 3)
+    (Some (View 1))
+    (cond
+    (node.0 == 4)
+    (Some (element 3))
+    (cond
+    (node.0 == 5)
+    (Some (element 4))
+    (cond (node.0 == 6) (Some (element 5)) (cond (node.0 == 7) (Some (element 1)) (cond (node.0 == 8) (Some (element 1)) None))))))))
+
+abbrev pub sample_clip : Spot → Option Rect
+sample_clip (View document) =
+    cond (document == 0) (Some (sides 0 0 800 600)) (cond (document == 1) (Some (sides 100 200 400 500)) None)
+sample_clip (Node node) =
+    cond
+    (node.0 == 1)
+    (Some (sides 10 20 410 320))
+    (cond (node.0 == 4) (Some (sides 120 160 380 460)) (cond (node.0 == 6) (Some (sides 131 181 140 190)) None))
+
+abbrev pub sample_bounds : Spot → Rect
+sample_bounds (View document) = cond (document == 0) (sides 0 0 800 600) (cond (document == 1) (sides 100 200 400 500) zero_rect)
+sample_bounds (Node node) =
+    cond
+    (node.0 == 0)
+    (sides 0 0 800 2000)
+    (cond
+    (node.0 == 1)
+    (sides 5 15 415 325)
+    (cond
+    (node.0 == 2)
+    (sides 100 200 400 500)
+    (cond
+    (node.0 == 3)
+    (sides 100 150 400 900)
+    (cond
+    (node.0 == 4)
+    (sides 115 155 385 465)
+    (cond
+    (node.0 == 5)
+    (sides 150 300 900 310)
+    (cond
+    (node.0 == 6)
+    (sides 130 180 600 340)
+    (cond (node.0 == 7) (sides 410 50 500 100) (cond (node.0 == 8) (sides 411 50 500 100) zero_rect))))))))
+
+abbrev pub sample : Scene
+sample = record { container = sample_container; clip = sample_clip; bounds = sample_bounds }
+
+-- how far each stands within the top document
+abbrev pub sample_rank : Spot → ℕ
+sample_rank (View document) = cond (document == 1) 4 0
+sample_rank (Node node) =
+    cond
+    (node.0 == 0)
+    1
+    (cond
+    (node.0 == 1)
+    2
+    (cond (node.0 == 3) 5 (cond (node.0 == 4) 6 (cond (node.0 == 5) 7 (cond (node.0 == 6) 8 3)))))

@@ -1,0 +1,41 @@
+//! That chains and parts are those of a page: each law is the clause of a function that does nothing.
+
+ghost use Rattle.std.specs.Prelude.{◌≡◌, ◌↔◌, ◌+◌, ◌≤◌, ℕ, List, [], ◌∷◌, ◌++◌, length, filter_map, Some};
+ghost use Rattle.std.specs.List.{slice_index_or, Contains};
+ghost use Rattle.px_units.specs.declared.Rect.{Rect};
+ghost use Rattle.page_model.specs.World.{World, Root};
+ghost use Rattle.page_model.specs.Chains.{most_containers, border_rect, clips_between, common_part, root_bounds as root_bounds_in};
+ghost use Rattle.clip_chain.specs.declared.spot.Spot.{Spot as SpotOf};
+ghost use Rattle.clip_chain.specs.Scenes.{Scene, root_bounds};
+ghost use Rattle.clip_chain.specs.Chains.{Leads};
+ghost use Rattle.clip_chain.specs.Visible.{part_between};
+ghost use Rattle.clip_chain.specs.Worlds.{scene_of, element_spot, spot_of_root};
+
+/// On a chain each spot after the first is the container of the one before, the last one is the root, and the root stands
+/// nowhere before.
+pub fn a_chain_goes_from_container_to_container()
+    ensures { (scene : Scene) (from root : SpotOf) (between : List SpotOf) →
+        Leads scene from between root
+        ↔ (((k : ℕ) (default : SpotOf) → k ≤ length between → scene.container (slice_index_or (from ∷ between) k default) ≡ Some (slice_index_or (between ++ root ∷ []) k default))
+        × (¬ Contains between root)) }
+{}
+
+/// There is at most one chain from a spot to a root.
+pub fn a_chain_is_the_only_one()
+    ensures { (scene : Scene) (from root : SpotOf) (some others : List SpotOf) →
+        Leads scene from some root → Leads scene from others root → some ≡ others }
+{}
+
+/// In any world, the chain from a target to a root has the clips between that the world's definition names, so that what is
+/// seen of the target is the common part which its finding cuts to. The root rectangle before a margin moves it is the
+/// world's too. A chain is no longer than that definition looks.
+pub fn chains_are_those_of_any_world()
+    ensures clips { (world : World) (root : Root) (target : ℕ) (between : List SpotOf) →
+        Leads (scene_of world) (element_spot target) between (spot_of_root root) → length between ≤ most_containers →
+        filter_map (scene_of world).clip between ≡ clips_between world root target }
+    ensures part { (world : World) (root : Root) (target : ℕ) (between : List SpotOf) (limits : Rect) →
+        Leads (scene_of world) (element_spot target) between (spot_of_root root) → length between ≤ most_containers →
+        part_between (scene_of world) (element_spot target) between limits
+        ≡ common_part (border_rect world target) (limits ∷ clips_between world root target) }
+    ensures root { (world : World) (root : Root) → root_bounds (scene_of world) (spot_of_root root) ≡ root_bounds_in world root }
+{}
