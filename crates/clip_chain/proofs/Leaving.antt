@@ -1,5 +1,5 @@
 -- What the clips of a chain leave of a rectangle, from spot to spot outwards.
-use Rattle.std.proofs.Common.{◌≡◌, ◌∙◌, List, [], ◌∷◌, Option, Some, None, true, ap, sym, refl}
+use Rattle.std.proofs.Common.{◌≡◌, ◌∙◌, List, [], ◌∷◌, Some, None, true, ap, sym}
 use Rattle.std.specs.Prelude.{filter_map}
 use Rattle.std.specs.List.{cons_option}
 use Rattle.px_units.specs.declared.Rect.{Rect}
@@ -8,7 +8,7 @@ use Rattle.page_model.specs.Chains.{common_part}
 use Rattle.clip_chain.specs.declared.spot.Spot.{Spot}
 use Rattle.clip_chain.specs.Scenes.{Scene}
 use Rattle.clip_chain.specs.Chains.{Leads, IsAbove}
-use Rattle.clip_chain.proofs.Leading.{one_chain, none_above, some_none}
+use Rattle.clip_chain.proofs.Leading.{one_chain}
 use Rattle.clip_chain.proofs.Parts.{meets, misses, none_left, all_left, one_more}
 
 abbrev pub clips_of : Scene → List Spot → List Rect

@@ -1,15 +1,13 @@
 -- The common part of a rectangle and others: its points, where it lies, and that it comes rectangle by rectangle.
-use Rattle.std.proofs.Common.{◌≡◌, ◌↔◌, ◌∙◌, ℤ, Bool, true, false, cond, ◌&&◌, List, [], ◌∷◌, Option, Some, None, ap, refl, sym, subst, arith}
+use Rattle.std.proofs.Common.{◌≡◌, ◌↔◌, ◌∙◌, ℤ, Bool, true, false, cond, ◌&&◌, List, [], ◌∷◌, Some, None, ap, refl, sym, subst, arith}
 use Rattle.std.specs.Prelude.{int_le, ◌≤ℤ◌, ◌-ℤ◌, pos, fold, IfSome}
 use Rattle.std.specs.Int.{int_min, int_max}
-use Rattle.std.specs.List.{All}
 use Rattle.std.proofs.lemmas.Int.{ints}
-use Rattle.std.proofs.lemmas.List.Elements.{All-head, All-tail, All-cons}
 use Rattle.px_units.specs.declared.Rect.{Rect}
 use Rattle.px_units.specs.Rects.{has_points, overlap, meeting, Holds, HeldBy}
 use Rattle.px_units.proofs.Meeting.{in_both, common_points}
 use Rattle.page_model.specs.Chains.{common_part}
-use Rattle.clip_chain.specs.Ranges.{IsEdge, HasEdges, IsSide, IsBounds}
+use Rattle.clip_chain.specs.Ranges.{IsEdge, IsSide, IsBounds}
 
 -- what is there only where a test is met
 

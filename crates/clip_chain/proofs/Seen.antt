@@ -1,10 +1,10 @@
 -- The points of a common part are those that are seen.
-use Rattle.std.proofs.Common.{◌≡◌, ◌↔◌, ℕ, ◌<◌, ℤ, List, [], ◌∷◌, Option, Some, None, ap, refl, sym, subst, arith, length}
+use Rattle.std.proofs.Common.{◌≡◌, ◌↔◌, ℤ, List, [], ◌∷◌, Option, Some, None, ap, sym, subst, arith}
 use Rattle.std.specs.Prelude.{filter_map, IfSome}
 use Rattle.std.specs.List.{All, cons_option}
 use Rattle.std.proofs.lemmas.List.Elements.{All-head, All-tail, All-cons}
 use Rattle.px_units.specs.declared.Rect.{Rect}
-use Rattle.px_units.specs.Rects.{overlap, meeting, has_points, Holds, HeldBy}
+use Rattle.px_units.specs.Rects.{overlap, meeting, Holds, HeldBy}
 use Rattle.page_model.specs.Chains.{common_part}
 use Rattle.clip_chain.specs.declared.spot.Spot.{Spot}
 use Rattle.clip_chain.specs.Ranges.{IsBounds}

@@ -1,5 +1,5 @@
 -- Chains in a world.
-use Rattle.std.proofs.Common.{◌≡◌, ◌∙◌, ℕ, zero, suc, ◌+◌, ◌≤◌, Bool, true, false, cond, List, [], ◌∷◌, length, Option, Some, None, ap, sym, refl, subst, arith}
+use Rattle.std.proofs.Common.{◌≡◌, ◌∙◌, ℕ, zero, suc, ◌≤◌, Bool, true, false, cond, List, [], ◌∷◌, length, Option, Some, None, ap, sym, refl, subst, arith}
 use Rattle.std.specs.Prelude.{not, filter_map, take_while, option_map, ◌==◌}
 use Rattle.std.specs.List.{cons_option}
 use Rattle.std.proofs.lemmas.List.Sums.{take_while-cons}
@@ -7,11 +7,9 @@ use Rattle.std.proofs.lemmas.Bool.{eqb-true}
 use Rattle.px_units.specs.declared.Rect.{Rect}
 use Rattle.page_model.specs.World.{World, Root, ImplicitRoot, DocumentRoot, ElementRoot}
 use Rattle.page_model.specs.Documents.{Container, InElement, InDocument}
-use Rattle.page_model.specs.PageBoxes.{has_box}
-use Rattle.page_model.specs.Chains.{containers_by, containers_from, containers_of, container_beyond, most_containers, is_root, clip_of, clips_between, border_rect, zero_rect, common_part}
+use Rattle.page_model.specs.Chains.{containers_by, containers_from, container_beyond, most_containers, is_root, clip_of, clips_between, border_rect, zero_rect, common_part}
 use Rattle.clip_chain.specs.declared.spot.Spot.{Spot}
 use Rattle.clip_chain.specs.declared.spot.Spot.TheVariants.{Node, View}
-use Rattle.clip_chain.specs.Scenes.{Scene}
 use Rattle.clip_chain.specs.Chains.{Leads}
 use Rattle.clip_chain.specs.Visible.{part_between}
 use Rattle.clip_chain.specs.Worlds.{element_spot, spot_of, container_at, spot_of_root, has_box_at, scene_of}

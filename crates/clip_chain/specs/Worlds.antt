@@ -1,5 +1,5 @@
 -- The spots of a page: what the definitions of a world tell of them (Intersection Observer, 3.2.7).
-use Rattle.std.specs.Prelude.{ℕ, Bool, true, cond, Option, None, option_map}
+use Rattle.std.specs.Prelude.{ℕ, Bool, true, cond, None, option_map}
 use Rattle.px_units.specs.declared.Rect.{Rect}
 use Rattle.page_model.specs.World.{World, Root, ImplicitRoot, DocumentRoot, ElementRoot}
 use Rattle.page_model.specs.Documents.{Container, InElement, InDocument}

@@ -1,4 +1,4 @@
-use Rattle.std.proofs.Common.{rules, ◌≡◌, ◌∙◌, inl, inr, sym, Some, None}
+use Rattle.std.proofs.Common.{◌≡◌, ◌∙◌, inl, inr, sym, Some}
 use Rattle.clip_chain.proofs.Leading.{above_outwards, none_above}
 use Rattle.clip_chain.proofs.Parts.{meets}
 use Rattle.clip_chain.proofs.Leaving.{leaves_first, leaves_clipped, leaves_open, leaves_last, leaves_nothing}

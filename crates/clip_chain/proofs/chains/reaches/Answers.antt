@@ -1,5 +1,4 @@
 use Rattle.std.proofs.Common.{rules, ◌≡◌, ◌∙◌, Some, sym}
-use Rattle.clip_chain.specs.Chains.{IsAbove}
 use Rattle.clip_chain.proofs.Leading.{above_outwards, above_inwards, none_above}
 use Rattle.clip_chain.proofs.chains.reaches.Goals as goal
 

@@ -1,4 +1,4 @@
-use Rattle.std.proofs.Common.{◌≡◌, ◌∙◌, ap, sym, subst, Some, None}
+use Rattle.std.proofs.Common.{◌∙◌, ap, sym, subst}
 use Rattle.px_units.specs.declared.Rect.{Rect}
 use Rattle.px_units.specs.Rects.{meeting}
 use Rattle.clip_chain.specs.Ranges.{IsBounds}
