@@ -5,3 +5,7 @@ mod Trees
 mod Made
 mod Parts
 mod InRange
+mod Successors
+mod Commands
+mod Readings
+mod Depths

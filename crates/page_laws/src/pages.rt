@@ -1,16 +1,59 @@
 //! Laws of single commands and of the readings of a page.
 
-ghost use Rattle.std.specs.Prelude.{length};
-ghost use Rattle.script_model.specs.Syntax.{Action};
-ghost use Rattle.page_model.specs.World.{World};
+ghost use Rattle.std.specs.Prelude.{◌≡◌, ℕ, suc, ◌+◌, ◌<◌, IsTrue, length, Option, false};
+ghost use Rattle.std.specs.List.{AllByRecursion};
+ghost use Rattle.px_units.specs.declared.BoxKind.{BoxKind};
+ghost use Rattle.script_model.specs.Syntax.{Action, Operand, Read};
+ghost use Rattle.page_model.specs.World.{Extent, Tree, World};
+ghost use Rattle.page_model.specs.Lookups.{no_extent};
+ghost use Rattle.page_model.specs.Documents.{InElement, active_documents, element_depth, is_active};
+ghost use Rattle.page_model.specs.PageBoxes.{has_box, size_of};
 ghost use Rattle.page_model.specs.Operands.{Handlers, Present};
-ghost use Rattle.page_model.specs.Commands.{does};
+ghost use Rattle.page_model.specs.Commands.{begun_in, does, placing};
 ghost use Rattle.page_model.specs.Ranges.{IsInRange, IsPresentIn};
-ghost use Rattle.page_laws.specs.Successors.{OnDid};
+ghost use Rattle.page_laws.specs.Successors.{IsSuccessor, OnDid};
 
-/// Every number in a world stays the number of something, so no lookup comes to a default.
+/// No command takes an element out, or takes back what an earlier one did to the states of documents or to names: a Dead
+/// document stays Dead, and a name goes on to name the same thing. Nor does it move the clock or the count of commands. (A command that throws or
+/// meets a limit comes to no world at all, so the world is then as it was.)
+pub fn commands_take_nothing_back()
+    ensures { (handlers : Handlers) (world : World) (present : Present) (action : Action) →
+        OnDid (does handlers world present action) (λ effect. IsSuccessor world (effect.world)) }
+{}
+
+/// Every number in a world stays the number of something, so no lookup comes to a default; and nothing is stored past what
+/// there is, so that what is made later begins unscrolled.
 pub fn numbers_stay_in_range()
     ensures { (handlers : Handlers) (world : World) → IsInRange (length handlers) world →
         (present : Present) (action : Action) → IsPresentIn world present →
         OnDid (does handlers world present action) (λ effect. IsInRange (length handlers) (effect.world)) }
+{}
+
+/// A reading changes nothing.
+pub fn readings_change_nothing()
+    ensures { (handlers : Handlers) (world : World) (present : Present) (operand : Operand) →
+        OnDid (does handlers world present (Read operand)) (λ effect. effect.world ≡ world) }
+{}
+
+/// A command that begins raises the count by one and changes nothing else, and it begins only where fewer than 1,000,000
+/// were begun.
+pub fn commands_are_counted()
+    ensures { (world : World) →
+        OnDid (begun_in world) (λ after. (after ≡ record world { begun = suc world.begun }) × (world.begun < 1000000)) }
+{}
+
+/// Only Active documents are listed as Active.
+pub fn listed_documents_are_active()
+    ensures { (tree : Tree) → AllByRecursion (λ document. IsTrue (is_active tree document)) (active_documents tree) }
+{}
+
+/// An element without a box has the size 0 by 0.
+pub fn no_box_has_no_size()
+    ensures { (tree : Tree) (size : Extent) (n : ℕ) (kind : BoxKind) → has_box tree size n ≡ false → size_of tree size n kind ≡ no_extent }
+{}
+
+/// An element that is put into another one, last or before a sibling, stands one level deeper than that one.
+pub fn children_are_one_level_deeper()
+    ensures { (tree : Tree) (parent n : ℕ) (sibling : Option ℕ) → n < length tree.elements →
+        OnDid (placing (InElement parent) n sibling tree) (λ after. element_depth after n ≡ element_depth tree parent + 1) }
 {}
