@@ -1,7 +1,7 @@
 -- Adoption of a subtree, one element and one child at a time.
-use Rattle.std.proofs.Common.{◌≡◌, ◌<◌, ℕ, zero, suc, true, List, [], ◌∷◌, ◌++◌, map, flat_map, length, Option, Some, option_map, slice_get, refl, ap, sym, subst, ◌∙◌, ◌⊎◌, inl, inr}
+use Rattle.std.proofs.Common.{◌≡◌, ◌<◌, ℕ, zero, suc, true, List, [], ◌∷◌, ◌++◌, map, flat_map, length, Option, Some, option_map, slice_get, refl, ap, sym, subst, ◌∙◌}
 use Rattle.page_model.specs.World.{Element, Document, Tree}
-use Rattle.page_model.specs.Lookups.{element_at, entry_or, no_element, change_at, change_each}
+use Rattle.page_model.specs.Lookups.{element_at, change_at, change_each}
 use Rattle.page_model.specs.Documents.{order_down, inclusive_descendants, adopted}
 use Rattle.element_tree.specs.declared.node.NodeId.{NodeId}
 use Rattle.element_tree.specs.Forest.{Knot, Forest, IsForest, has, children_of, siblings_of, first_of, next_of, rest_from}
@@ -10,7 +10,6 @@ use Rattle.element_tree.proofs.Walks.{walk_whole, walk_among, walk_step, walk_on
 use Rattle.element_tree.specs.Edits.{with_nodes, with_payload, change_at as changed_at}
 use Rattle.page_documents.specs.Seen.{Carried, element_of, seen_tree}
 use Rattle.page_documents.specs.Adoption.{adopting, adopted_in}
-use Rattle.page_documents.specs.Frames.{AreKnown}
 use Rattle.page_documents.proofs.Seen.{children_seen}
 
 pub change_append : {A : Type 0} (f : A → A) (xs ys : List ℕ) (held : List A) → change_each f (xs ++ ys) held ≡ change_each f ys (change_each f xs held)
@@ -168,54 +167,6 @@ module _ {P : Type 0} (carried : P → Carried) (give : ℕ → P → P) (law : 
       ∙ ap (λ elements. let tree : Tree = record { elements = elements; documents = documents } in tree) (seen_each (order_down 65536 (seen_tree carried forest []) n) forest.nodes)
       ∙ ap (λ places. let tree : Tree = record { elements = change_each owned places (map (element_of carried) forest.nodes); documents = documents } in tree)
       (order_same (seen_tree carried forest []) (seen_tree carried forest documents) (λ m. children_seen carried forest [] m ∙ sym (children_seen carried forest documents m)) 65536 n)
-
--- an element and what adoption makes of it
-pub record IsAdopted (document : ℕ) (before after : Element) : Type 0 where
-  pub framed : after.framed ≡ before.framed
-  pub owner : (after.document ≡ document) ⊎ (after.document ≡ before.document)
-
-module _ (document : ℕ) where
-  abbrev given : Element → Element
-  given element = record element { document = document }
-
-  kept_at : (place m : ℕ) (elements : List Element) → IsAdopted document (entry_or no_element elements m) (entry_or no_element (change_at given place elements) m)
-  kept_at place m [] = record { framed = refl; owner = inr refl }
-  kept_at zero zero (x ∷ xs) = record { framed = refl; owner = inl refl }
-  kept_at zero (suc m) (x ∷ xs) = record { framed = refl; owner = inr refl }
-  kept_at (suc place) zero (x ∷ xs) = record { framed = refl; owner = inr refl }
-  kept_at (suc place) (suc m) (x ∷ xs) = kept_at place m xs
-
-  then_kept : (one two three : Element) → IsAdopted document one two → IsAdopted document two three → IsAdopted document one three
-  then_kept one two three first next = record {
-    framed = next.framed ∙ first.framed;
-    owner = elim next.owner [
-      | inl here ↦ inl here
-      | inr there ↦ elim first.owner [
-        | inl here ↦ inl (there ∙ here)
-        | inr before ↦ inr (there ∙ before)
-      ]
-    ];
-  }
-
-  kept_each : (places : List ℕ) (m : ℕ) (elements : List Element) → IsAdopted document (entry_or no_element elements m) (entry_or no_element (change_each given places elements) m)
-  kept_each [] m elements = record { framed = refl; owner = inr refl }
-  kept_each (place ∷ places) m elements =
-      then_kept (entry_or no_element elements m) (entry_or no_element (change_at given place elements) m) (entry_or no_element (change_each given places (change_at given place elements)) m)
-      (kept_at place m elements) (kept_each places m (change_at given place elements))
-
-  pub known_adopted : (tree : Tree) (n : ℕ) → document < length tree.documents → AreKnown tree → AreKnown (adopted tree document n)
-  unfolding adopted
-  known_adopted tree n there known =
-      let count = changes_length given (inclusive_descendants tree n) tree.elements in
-      record {
-        owners = λ m inside. elim ((kept_each (inclusive_descendants tree n) m tree.elements).owner) [
-          | inl here ↦ subst (λ k. k < length tree.documents) (sym here) there
-          | inr before ↦ subst (λ k. k < length tree.documents) (sym before) (known.owners m (subst (λ k. m < k) count inside))
-        ];
-        framed = λ m d is. known.framed m d (sym ((kept_each (inclusive_descendants tree n) m tree.elements).framed) ∙ is);
-        roots = λ d m is. subst (λ k. m < k) (sym count) (known.roots d m is);
-        frames = λ d m is. subst (λ k. m < k) (sym count) (known.frames d m is);
-      }
 
 pub adopted_count : {P : Type 0} (carried : P → Carried) (give : ℕ → P → P) (document n m : ℕ) (forest after : Forest P) → after ≡ adopted_in carried give document n forest → m < length forest.nodes → m < length after.nodes
 adopted_count carried give document n m forest after becomes inside =

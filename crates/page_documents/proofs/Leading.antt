@@ -1,11 +1,11 @@
 -- Documents that frames lead to, one frame and one child at a time.
-use Rattle.std.proofs.Common.{◌≡◌, ℕ, zero, suc, Bool, true, false, cond, List, [], ◌∷◌, ◌++◌, filter, filter_map, flat_map, Option, Some, None, option_to_list, Result, Ok, Err, OnOk, refl, ap, sym, ◌∙◌}
+use Rattle.std.proofs.Common.{◌≡◌, ℕ, zero, suc, Bool, true, false, cond, List, [], ◌∷◌, ◌++◌, filter, filter_map, flat_map, Option, Some, None, option_to_list, option_map, slice_get, unwrap_or, Result, Ok, Err, OnOk, refl, ap, sym, ◌∙◌}
 use Rattle.std.proofs.lemmas.Grind.{flat_map-append}
 use Rattle.std.proofs.lemmas.List.Elements.{filter_map-append}
-use Rattle.page_model.specs.World.{DocumentState, Tree}
-use Rattle.page_model.specs.Lookups.{element_at, document_at}
+use Rattle.page_model.specs.World.{DocumentState, Element, Tree}
+use Rattle.page_model.specs.Lookups.{element_at, document_at, no_element}
 use Rattle.page_model.specs.Documents.{order_down, inclusive_descendants, led_to, frames_in, frames_below}
-use Rattle.page_documents.specs.Walks.{frames_down, taken}
+use Rattle.page_documents.specs.Walks.{held_in, frames_down, taken}
 
 pub then_ok : {T E A B : Type 0} (outcome : Result T E) → (A → B) → OnOk outcome A → OnOk outcome B
 then_ok (Ok x) more is = more is
@@ -46,6 +46,28 @@ unfolding frames_down order_down
 frames_more high tree n =
     own_first ((element_at tree n).framed) (flat_map (order_down high tree) (element_at tree n).children) tree n refl
     ∙ ap (λ xs. option_to_list (element_at tree n).framed ++ xs) (frames_flat high tree (element_at tree n).children)
+
+-- a root element that isn't among the elements leads nowhere
+module _ (tree : Tree) where
+  held_here : (n : ℕ) (found : Option Element) (root : ℕ) → option_map (λ (element : Element). n) found ≡ Some root → n ≡ root
+  held_here n None root is = cc
+  held_here n (Some element) root is = cc
+
+  pub root_there : (o : Option ℕ) (root : ℕ) → held_in tree o ≡ Some root → o ≡ Some root
+  root_there None root is = cc
+  root_there (Some n) root is = ap Some (held_here n (slice_get tree.elements n) root is)
+
+  unheld : (n : ℕ) (found : Option Element) → option_map (λ (element : Element). n) found ≡ None → found ≡ None
+  unheld n None is = refl
+  unheld n (Some element) is = cc
+
+  pub root_nowhere : (o : Option ℕ) → held_in tree o ≡ None → frames_below tree o ≡ []
+  root_nowhere None is = refl
+  root_nowhere (Some n) is =
+      let none : slice_get tree.elements n ≡ None = unheld n (slice_get tree.elements n) is in
+      let bare : element_at tree n ≡ no_element = ap (λ o. unwrap_or o no_element) none in
+      frames_whole tree n ∙ frames_more 65535 tree n
+      ∙ ap (λ (it : Element). option_to_list it.framed ++ flat_map (frames_down 65535 tree) it.children) bare
 
 module _ (test : DocumentState → Bool) (tree : Tree) where
   pub led_nowhere : (documents : List ℕ) → led_to 0 test tree documents ≡ []
@@ -136,10 +158,10 @@ module _ (test : DocumentState → Bool) (tree : Tree) where
         ∙ ap (λ ys. taken with ys s) (led_one less document meets))
 
     pub bare_taken : (o : Option ℕ) (document less : ℕ) (s after : S) → o ≡ Some document → deep ≡ suc less → test ((document_at tree document).state) ≡ true → after ≡ with document s
-        → (document_at tree document).root ≡ None
+        → frames_below tree (document_at tree document).root ≡ []
         → after ≡ taken with (led_to deep test tree (option_to_list o)) s
     bare_taken o document less s after is more meets took bare =
-        sym (ap (λ o. taken with (led_to less test tree (frames_below tree o)) after) bare ∙ ap (λ ys. taken with ys after) (led_none less))
+        sym (ap (λ xs. taken with (led_to less test tree xs) after) bare ∙ ap (λ ys. taken with ys after) (led_none less))
         ∙ one_taken o document less s after is more meets took
 
     pub full_taken : (o : Option ℕ) (document less root : ℕ) (s after end : S) → o ≡ Some document → deep ≡ suc less → test ((document_at tree document).state) ≡ true → after ≡ with document s

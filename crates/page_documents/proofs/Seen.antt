@@ -5,7 +5,6 @@ use Rattle.std.proofs.lemmas.Option.{slice_get-map, slice_get-get_or}
 use Rattle.page_model.specs.World.{Element, Document}
 use Rattle.page_model.specs.Lookups.{element_at, entry_or, no_element, no_document}
 use Rattle.element_tree.specs.Forest.{Knot, Forest, parent_of, children_of, parent_in, children_in}
-use Rattle.page_documents.specs.Frames.{AreKnown}
 use Rattle.page_documents.specs.Seen.{Carried, element_of, seen_tree}
 
 module _ {P : Type 0} (carried : P → Carried) where
@@ -47,11 +46,6 @@ module _ {P : Type 0} (carried : P → Carried) where
     pub owner_seen : (payload : P) → option_map (λ (knot : Knot P). knot.payload) (slice_get forest.nodes n) ≡ Some payload
         → (element_at (seen_tree carried forest documents) n).document ≡ (carried payload).document
     owner_seen payload is = ap (λ (it : Element). it.document) element_seen ∙ found_owner (slice_get forest.nodes n) payload is
-
-    pub owner_known : (payload : P) → option_map (λ (knot : Knot P). knot.payload) (slice_get forest.nodes n) ≡ Some payload → n < length forest.nodes
-        → AreKnown (seen_tree carried forest documents) → (number : ℕ) → number ≡ (carried payload).document → number < length documents
-    owner_known payload there inside known number is =
-        subst (λ k. k < length documents) (owner_seen payload there ∙ sym is) (known.owners n (subst (λ k. n < k) (sym (length-map forest.nodes (element_of carried))) inside))
 
     pub framed_seen : (payload : P) → option_map (λ (knot : Knot P). knot.payload) (slice_get forest.nodes n) ≡ Some payload
         → (element_at (seen_tree carried forest documents) n).framed ≡ (carried payload).framed

@@ -5,13 +5,6 @@ use Rattle.page_model.specs.Lookups.{element_at, document_at}
 use Rattle.page_model.specs.Documents.{first_of_list, is_active, stands_in_active}
 use Rattle.page_documents.specs.Paths.{path_to}
 
--- the documents of elements and of frames, the root elements of documents and their frames are ones that there are
-pub record AreKnown (tree : Tree) : Type 0 where
-  pub owners : (n : ℕ) → n < length tree.elements → (element_at tree n).document < length tree.documents
-  pub framed : (n document : ℕ) → (element_at tree n).framed ≡ Some document → document < length tree.documents
-  pub roots : (document n : ℕ) → (document_at tree document).root ≡ Some n → n < length tree.elements
-  pub frames : (document n : ℕ) → (document_at tree document).frame ≡ Some n → n < length tree.elements
-
 -- a root element has no parent and belongs to one document
 pub record IsRootOf (tree : Tree) (document n : ℕ) : Type 0 where
   pub known : n < length tree.elements

@@ -1,8 +1,16 @@
 -- Walks over the frames of a tree, level by level.
-use Rattle.std.specs.Prelude.{ℕ, Bool, false, cond, List, [], ◌∷◌, filter_map, replicate}
-use Rattle.page_model.specs.World.{Tree}
-use Rattle.page_model.specs.Lookups.{element_at}
+use Rattle.std.specs.Prelude.{ℕ, Bool, false, cond, List, [], ◌∷◌, filter_map, replicate, Option, Some, None, option_map, slice_get}
+use Rattle.page_model.specs.World.{Element, Tree}
+use Rattle.page_model.specs.Lookups.{element_at, document_at}
 use Rattle.page_model.specs.Documents.{order_down}
+
+abbrev pub held_in : Tree → Option ℕ → Option ℕ
+held_in tree None = None
+held_in tree (Some n) = option_map (λ (element : Element). n) (slice_get tree.elements n)
+
+-- the root element of a document, if there is one among the elements
+abbrev pub root_held : Tree → ℕ → Option ℕ
+root_held tree document = held_in tree (document_at tree document).root
 
 -- the documents of the frames among an element and its descendants, of so many levels that are looked at
 unfoldable pub frames_down : ℕ → Tree → ℕ → List ℕ

@@ -1,17 +1,15 @@
 //! Adoption of a subtree, and whether an element is shown.
 
 ghost use Rattle.std.specs.Prelude.{◌≡◌, ◌<◌, List, [], length};
-ghost use Rattle.std.specs.Option.{ForSome};
 ghost use Rattle.element_tree.specs.Edits.{with_nodes};
 ghost use Rattle.page_model.specs.World.{Document};
 ghost use Rattle.page_model.specs.Lookups.{change_each};
 ghost use Rattle.page_model.specs.Documents.{order_down, root_of, adopted, is_root_element, tree_document, stands_in_active};
 ghost use Rattle.page_documents.specs.Seen.{seen_tree};
 ghost use Rattle.page_documents.specs.Adoption.{adopting, adopted_in};
-ghost use Rattle.page_documents.specs.Frames.{AreKnown};
 
 use crate::entry::{DocumentState, Entry};
-use crate::finding::LEVELS;
+use crate::finding::{LEVELS, is_in};
 use crate::owned::Owned;
 use element_tree::{NodeId, Tree};
 
@@ -20,8 +18,6 @@ pub(crate) fn adopt<P: Owned>(tree: &mut Tree<P>, node: NodeId, document: u32)
     requires { node.0 < length tree.old.nodes }
     ensures adopted { tree.new ≡ adopted_in P.carried P.adopted document node.0 tree.old }
     ensures seen { (documents : List Document) → seen_tree P.carried tree.new documents ≡ adopted (seen_tree P.carried tree.old documents) document node.0 }
-    ensures known { (documents : List Document) → document < length documents → AreKnown (seen_tree P.carried tree.old documents) →
-        AreKnown (seen_tree P.carried tree.new documents) }
     ensures count { node.0 < length tree.new.nodes }
 {
     adopt_down(tree, node, LEVELS, document);
@@ -58,11 +54,13 @@ fn top_of<P: Owned>(tree: &Tree<P>, node: NodeId) -> NodeId
 
 // Whether an element is the root element of its document.
 fn is_root_element<P: Owned>(entries: &[Entry], tree: &Tree<P>, node: NodeId) -> bool
-    requires node { node.0 < length tree.now.nodes }
-    requires known { AreKnown (seen_tree P.carried tree.now entries.now) }
+    requires { node.0 < length tree.now.nodes }
     ensures { result ≡ is_root_element (seen_tree P.carried tree.now entries.now) node.0 }
 {
-    match entries[tree.payload(node).document() as usize].root() {
+    let Some(entry) = entries.get(tree.payload(node).document() as usize) else {
+        return false;
+    };
+    match entry.root() {
         Some(root) => root.0 == node.0,
         None => false,
     }
@@ -74,10 +72,8 @@ pub(crate) fn tree_document<P: Owned>(
     tree: &Tree<P>,
     node: NodeId,
 ) -> Option<u32>
-    requires node { node.0 < length tree.now.nodes }
-    requires known { AreKnown (seen_tree P.carried tree.now entries.now) }
-    ensures value { result ≡ tree_document (seen_tree P.carried tree.now entries.now) node.0 }
-    ensures held { ForSome result (λ number. number < length entries.now) }
+    requires { node.0 < length tree.now.nodes }
+    ensures { result ≡ tree_document (seen_tree P.carried tree.now entries.now) node.0 }
 {
     if !is_root_element(entries, tree, top_of(tree, node)) {
         return None;
@@ -87,12 +83,11 @@ pub(crate) fn tree_document<P: Owned>(
 
 // Whether an element stands in the tree of an Active document.
 pub(crate) fn stands_in_active<P: Owned>(entries: &[Entry], tree: &Tree<P>, node: NodeId) -> bool
-    requires node { node.0 < length tree.now.nodes }
-    requires known { AreKnown (seen_tree P.carried tree.now entries.now) }
+    requires { node.0 < length tree.now.nodes }
     ensures { result ≡ stands_in_active (seen_tree P.carried tree.now entries.now) node.0 }
 {
     match tree_document(entries, tree, node) {
-        Some(document) => entries[document as usize].is_in(DocumentState::Active),
+        Some(document) => is_in(entries, document, DocumentState::Active),
         None => false,
     }
 }

@@ -1,10 +1,9 @@
 //! The documents of a page.
 
 ghost use Rattle.std.specs.Prelude.{◌≡◌, ◌≢◌, ℕ, ◌<◌, ◌≤◌, ◌+◌, ◌++◌, ◌∷◌, [], length, option_map, Some, None, IfOk, OnOk, OnErr, Ok, Err, IsSome, true, false, nat_lt};
-ghost use Rattle.std.specs.Option.{ForSome};
 ghost use Rattle.smallvec.specs.SmallVec.{small_vec_len};
 ghost use Rattle.element_tree.specs.Links.{number};
-ghost use Rattle.page_model.specs.World.{Active};
+ghost use Rattle.page_model.specs.World.{Active, Dead};
 ghost use Rattle.page_model.specs.Lookups.{change_at, change_each, entry_or, no_document};
 ghost use Rattle.page_model.specs.Edits.{new_document};
 ghost use Rattle.page_model.specs.Documents.{is_active_state, documents_inside, active_documents, adopted, is_active, tree_document};
@@ -12,14 +11,13 @@ ghost use Rattle.page_documents.specs.States.{seen_state, is_in, put_in};
 ghost use Rattle.page_documents.specs.Seen.{seen_tree};
 ghost use Rattle.page_documents.specs.Held.{has_room, changing, ending, opening};
 ghost use Rattle.page_documents.specs.Walks.{marked_in};
-ghost use Rattle.page_documents.specs.Paths.{way_down, path_to};
-ghost use Rattle.page_documents.specs.Frames.{AreKnown};
+ghost use Rattle.page_documents.specs.Paths.{holder_of, way_down, path_to};
 ghost use Rattle.page_documents.specs.Adoption.{adopted_in};
 
 use crate::adoption::{adopt, stands_in_active, tree_document};
 use crate::entry::{DocumentState, Entry};
 use crate::fault::DocumentFault;
-use crate::finding::{LEVELS, find_from, find_in};
+use crate::finding::{LEVELS, find_from, find_in, is_in};
 use crate::found::{Listed, Marks};
 use crate::owned::Owned;
 use element_tree::{NodeId, Tree};
@@ -30,8 +28,7 @@ use std::marker::Model;
 /// The documents of a page by number, from 0 in order of making: `top` is number 0, and each other one belongs to a frame.
 /// A clause sees them as the definitions of a world do.
 ///
-/// A document that is handed in is below `count`. In a tree that is handed in, each frame's document is below `count` too, and
-/// each document's frame and root element are nodes of it.
+/// A frame's document, a frame or a root element that isn't there counts as none.
 #[derive(Drop)]
 pub struct Documents {
     held: Vec<Entry>,
@@ -129,10 +126,8 @@ impl Documents {
 
     /// The document in whose tree an element stands, none where it stands in no document's tree (DOM, 4.2.1: in a document tree).
     pub fn tree_document<P: Owned>(&self, tree: &Tree<P>, node: NodeId) -> Option<u32>
-        requires node { node.0 < length tree.now.nodes }
-        requires known { AreKnown (seen_tree P.carried tree.now self.now.held) }
-        ensures value { result ≡ tree_document (seen_tree P.carried tree.now self.now.held) node.0 }
-        ensures held { ForSome result (λ document. document < length self.now.held) }
+        requires { node.0 < length tree.now.nodes }
+        ensures { result ≡ tree_document (seen_tree P.carried tree.now self.now.held) node.0 }
     {
         tree_document(self.held.as_slice(), tree, node)
     }
@@ -140,12 +135,10 @@ impl Documents {
     /// The subtree of an element is taken out of the tree of a document: where that is Active, the Active documents in frames of
     /// the subtree become Dead for good, with those inside. It may be called before or after the element is taken out.
     pub fn left<P: Owned>(&mut self, tree: &Tree<P>, node: NodeId, document: u32)
-        requires node { node.0 < length tree.now.nodes }
-        requires document { document < length self.old.held }
-        requires known { AreKnown (seen_tree P.carried tree.now self.old.held) }
+        requires { node.0 < length tree.now.nodes }
         ensures { self.new ≡ ending (is_active (seen_tree P.carried tree.now self.old.held) document) (seen_tree P.carried tree.now self.old.held) node.0 self.old }
     {
-        if self.held[document as usize].is_in(DocumentState::Active) {
+        if is_in(self.held.as_slice(), document, DocumentState::Active) {
             self.change_inside(tree, node, DocumentState::Active, DocumentState::Dead);
         }
     }
@@ -154,9 +147,7 @@ impl Documents {
     /// 4.5), and where it stands in the tree of an Active document, the Fresh documents in frames of it become Active, with those
     /// inside. Documents of frames in it keep their own elements.
     pub fn entered<P: Owned>(&mut self, tree: &mut Tree<P>, node: NodeId, document: u32)
-        requires node { node.0 < length tree.old.nodes }
-        requires document { document < length self.old.held }
-        requires known { AreKnown (seen_tree P.carried tree.old self.old.held) }
+        requires { node.0 < length tree.old.nodes }
         ensures adopted { tree.new ≡ adopted_in P.carried P.adopted document node.0 tree.old }
         ensures seen { seen_tree P.carried tree.new self.old.held ≡ adopted (seen_tree P.carried tree.old self.old.held) document node.0 }
         ensures shown { self.new ≡ opening (seen_tree P.carried tree.new self.old.held) node.0 self.old }
@@ -173,7 +164,6 @@ impl Documents {
     ///
     /// Where there is no memory.
     pub fn active<P: Owned>(&self, tree: &Tree<P>) -> Result<Vec<u32>, AllocError>
-        requires { AreKnown (seen_tree P.carried tree.now self.now.held) }
         ensures { IfOk result (λ found. found.items ≡ active_documents (seen_tree P.carried tree.now self.now.held)) }
     {
         let mut found = Listed::new(*self.held.allocator());
@@ -190,8 +180,7 @@ impl Documents {
 
     /// The documents from `top` to this one, each the one that holds the frame of the next. It takes no memory.
     pub fn path<P: Owned>(&self, tree: &Tree<P>, document: u32) -> SmallVec<u32, 64>
-        requires document { document < length self.now.held }
-        requires known { AreKnown (seen_tree P.carried tree.now self.now.held) }
+        requires { document < length self.now.held }
         ensures { result.items ≡ path_to (seen_tree P.carried tree.now self.now.held) document }
     {
         let mut path = SmallVec::new(*self.held.allocator());
@@ -207,9 +196,7 @@ impl Documents {
         high: u32,
         path: &mut SmallVec<u32, 64>,
     )
-        requires document { document < length self.now.held }
-        requires known { AreKnown (seen_tree P.carried tree.now self.now.held) }
-        requires room { small_vec_len path.old + high ≤ path.old.capacity }
+        requires { small_vec_len path.old + high ≤ path.old.capacity }
         ensures path { path.new.items ≡ path.old.items ++ way_down high (seen_tree P.carried tree.now self.now.held) document }
         ensures length { small_vec_len path.new ≤ small_vec_len path.old + high }
         ensures capacity { path.new.capacity ≡ path.old.capacity }
@@ -217,10 +204,22 @@ impl Documents {
         if high == 0 {
             return;
         }
-        if let Some(frame) = self.frame_of(document) {
-            self.climb(tree, tree.payload(frame).document(), high - 1, path);
+        if let Some(holder) = self.holder_of(tree, document) {
+            self.climb(tree, holder, high - 1, path);
         }
         path.push_reserved(document);
+    }
+
+    // The document that holds the frame of a document, if there is one.
+    fn holder_of<P: Owned>(&self, tree: &Tree<P>, document: u32) -> Option<u32>
+        ensures { result ≡ holder_of (seen_tree P.carried tree.now self.now.held) document }
+    {
+        let frame = self.held.get(document as usize)?.frame()?;
+        if tree.holds(frame) {
+            Some(tree.payload(frame).document())
+        } else {
+            None
+        }
     }
 
     // The documents in a state that frames in the subtree of an element lead to come into another state.
@@ -232,7 +231,7 @@ impl Documents {
         to: DocumentState,
     )
         requires node { node.0 < length tree.now.nodes }
-        requires known { AreKnown (seen_tree P.carried tree.now self.old.held) }
+        requires sought { is_in from Dead ≡ false }
         ensures { self.new ≡ record self.old { held = change_each (put_in to) (documents_inside (is_in from) (seen_tree P.carried tree.now self.old.held) node.0) self.old.held } }
     {
         let mut found = Marks::new();

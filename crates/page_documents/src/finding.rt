@@ -1,12 +1,13 @@
 //! Walks over the documents that frames lead to.
 
-ghost use Rattle.std.specs.Prelude.{◌≡◌, ◌<◌, ◌≤◌, length, OnOk, option_to_list};
-ghost use Rattle.std.specs.Option.{ForSome};
+ghost use Rattle.std.specs.Prelude.{◌≡◌, ◌<◌, ◌≤◌, true, false, length, OnOk, IfSome, option_map, option_to_list};
+ghost use Rattle.page_model.specs.World.{Dead};
+ghost use Rattle.element_tree.specs.Links.{number};
+ghost use Rattle.page_model.specs.Lookups.{entry_or, no_document};
 ghost use Rattle.page_model.specs.Documents.{led_to};
 ghost use Rattle.page_documents.specs.States.{is_in};
 ghost use Rattle.page_documents.specs.Seen.{seen_tree};
-ghost use Rattle.page_documents.specs.Walks.{frames_down, taken};
-ghost use Rattle.page_documents.specs.Frames.{AreKnown};
+ghost use Rattle.page_documents.specs.Walks.{root_held, frames_down, taken};
 
 use crate::entry::{DocumentState, Entry};
 use crate::found::Finder;
@@ -29,8 +30,8 @@ pub(crate) fn find_in<P: Owned, F: Finder>(
     finder: &mut F,
 ) -> Result<(), F::Fault>
     requires node { node.0 < length tree.now.nodes }
+    requires sought { is_in state Dead ≡ false }
     requires few { length entries.now ≤ 64 }
-    requires known { AreKnown (seen_tree P.carried tree.now entries.now) }
     ensures { OnOk result (finder.new ≡ taken F.with (led_to deep (is_in state) (seen_tree P.carried tree.now entries.now) (frames_down high (seen_tree P.carried tree.now entries.now) node.0)) finder.old) }
 {
     if high == 0 {
@@ -62,20 +63,40 @@ pub(crate) fn find_from<P: Owned, F: Finder>(
     deep: u32,
     finder: &mut F,
 ) -> Result<(), F::Fault>
-    requires document { ForSome document (λ number. number < length entries.now) }
+    requires sought { is_in state Dead ≡ false }
     requires few { length entries.now ≤ 64 }
-    requires known { AreKnown (seen_tree P.carried tree.now entries.now) }
     ensures { OnOk result (finder.new ≡ taken F.with (led_to deep (is_in state) (seen_tree P.carried tree.now entries.now) (option_to_list document)) finder.old) }
 {
     let Some(number) = document else {
         return Ok(());
     };
-    if deep == 0 || !entries[number as usize].is_in(state) {
+    if deep == 0 || !is_in(entries, number, state) {
         return Ok(());
     }
     finder.take(number)?;
-    match entries[number as usize].root() {
+    match root_in(entries, tree, number) {
         Some(root) => find_in(entries, tree, state, root, LEVELS, deep - 1, finder),
         None => Ok(()),
     }
+}
+
+// Whether a document is in this state, which isn't Dead.
+pub(crate) fn is_in(entries: &[Entry], document: u32, state: DocumentState) -> bool
+    requires { is_in state Dead ≡ false }
+    ensures value { result ≡ is_in state (entry_or no_document entries.now document).state }
+    ensures held { result ≡ true → document < length entries.now }
+{
+    match entries.get(document as usize) {
+        Some(entry) => entry.is_in(state),
+        None => false,
+    }
+}
+
+// The root element of a document, if there is one in the tree.
+fn root_in<P: Owned>(entries: &[Entry], tree: &Tree<P>, document: u32) -> Option<NodeId>
+    ensures value { option_map number result ≡ root_held (seen_tree P.carried tree.now entries.now) document }
+    ensures held { IfSome result (λ root. root.0 < length tree.now.nodes) }
+{
+    let root = entries.get(document as usize)?.root()?;
+    if tree.holds(root) { Some(root) } else { None }
 }

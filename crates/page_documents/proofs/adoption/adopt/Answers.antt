@@ -1,8 +1,6 @@
-use Rattle.std.proofs.Common.{List, sym, subst, ◌∙◌}
-use Rattle.page_model.specs.World.{Document, Tree}
-use Rattle.page_documents.specs.Seen.{seen_tree}
-use Rattle.page_documents.specs.Frames.{AreKnown}
-use Rattle.page_documents.proofs.Adopting.{adopted_whole, adopted_count, seen_adopted, known_adopted}
+use Rattle.std.proofs.Common.{List, ◌∙◌}
+use Rattle.page_model.specs.World.{Document}
+use Rattle.page_documents.proofs.Adopting.{adopted_whole, adopted_count, seen_adopted}
 use Rattle.page_documents.proofs.adoption.adopt.Goals as goal
 
 pub returns : goal.returns
@@ -12,6 +10,5 @@ returns g c =
     record {
       adopted = adopted;
       seen = seen;
-      known = λ documents there known. subst (λ (tree : Tree). AreKnown tree) (sym (seen documents)) (known_adopted c.args.document (seen_tree (g.P.Owned.carried) c.args.tree.now documents) (c.args.node.0) there known);
       count = adopted_count (g.P.Owned.carried) (g.P.Owned.adopted) c.args.document (c.args.node.0) (c.args.node.0) c.args.tree.now c.adopt_down.new.tree adopted c.requires;
     }

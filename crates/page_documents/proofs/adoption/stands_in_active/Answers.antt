@@ -1,19 +1,16 @@
 use Rattle.std.proofs.Common.{sym, ◌∙◌, ap}
-use Rattle.page_model.specs.World.{Document}
-use Rattle.page_model.specs.Documents.{is_active_there, is_active_state}
+use Rattle.page_model.specs.Documents.{is_active_there}
 use Rattle.page_documents.specs.Seen.{seen_tree}
-use Rattle.page_documents.proofs.Seen.{entry_here}
 use Rattle.page_documents.proofs.Roots.{active_there}
 use Rattle.page_documents.proofs.adoption.stands_in_active.Goals as goal
 
 pub returns-in-Some : goal.returns-in-Some
 returns-in-Some g c =
-    c.is_in.ensures
-    ∙ sym (ap (λ (it : Document). is_active_state (it.state)) (entry_here c.args.entries.now c.in-Some.document c.index-entries-document.result (c.tree_document.ensures.held _ c.in-Some.is) c.index-entries-document.is))
+    c.is_in.ensures.value
     ∙ ap (is_active_there (seen_tree (g.P.Owned.carried) c.args.tree.now c.args.entries.now)) (sym c.in-Some.is)
-    ∙ active_there (seen_tree (g.P.Owned.carried) c.args.tree.now c.args.entries.now) (c.args.node.0) c.tree_document.result c.tree_document.ensures.value
+    ∙ active_there (seen_tree (g.P.Owned.carried) c.args.tree.now c.args.entries.now) (c.args.node.0) c.tree_document.result c.tree_document.ensures
 
 pub returns-in-None : goal.returns-in-None
 returns-in-None g c =
     ap (is_active_there (seen_tree (g.P.Owned.carried) c.args.tree.now c.args.entries.now)) (sym c.in-None.is)
-    ∙ active_there (seen_tree (g.P.Owned.carried) c.args.tree.now c.args.entries.now) (c.args.node.0) c.tree_document.result c.tree_document.ensures.value
+    ∙ active_there (seen_tree (g.P.Owned.carried) c.args.tree.now c.args.entries.now) (c.args.node.0) c.tree_document.result c.tree_document.ensures

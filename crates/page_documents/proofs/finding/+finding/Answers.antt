@@ -4,11 +4,10 @@ use Rattle.element_tree.specs.Forest.{children_of, rest_from}
 use Rattle.element_tree.specs.Links.{number}
 use Rattle.element_tree.proofs.Facts.{child_in_range}
 use Rattle.element_tree.proofs.Walks.{walk_whole, walk_among, walk_child, walk_step, walk_on}
-use Rattle.page_model.specs.World.{Document}
 use Rattle.page_documents.specs.States.{is_in}
 use Rattle.page_documents.specs.Seen.{seen_tree}
-use Rattle.page_documents.proofs.Seen.{children_seen, framed_seen, entry_here, node_known}
-use Rattle.page_documents.proofs.Leading.{then_ok, walk_begins, walk_goes_on, none_taken, late_taken, other_taken, bare_taken, full_taken, low_taken}
+use Rattle.page_documents.proofs.Seen.{children_seen, framed_seen}
+use Rattle.page_documents.proofs.Leading.{then_ok, walk_begins, walk_goes_on, none_taken, late_taken, other_taken, bare_taken, full_taken, low_taken, root_there, root_nowhere}
 use Rattle.page_documents.proofs.finding.+finding.Goals.{find_from-then-deep-eq0-via-then-deep-eq0, find_from-then-deep-eq0-via-else-deep-eq0+then-not-is_in}
 use Rattle.page_documents.proofs.finding.+finding.Goals as goal
 
@@ -22,45 +21,24 @@ find_from-returns-then-deep-eq0 g t c = elim c.then-deep-eq0.branch [
       late_taken (is_in c.args.state) (seen_tree (g.P.Owned.carried) c.args.tree.now c.args.entries.now) (g.F.Finder.with) c.args.deep 0 _ c.args.finder.now (omega (arith, w.if-deep-eq0.true))
   | find_from-then-deep-eq0-via-else-deep-eq0+then-not-is_in w ↦
       other_taken (is_in c.args.state) (seen_tree (g.P.Owned.carried) c.args.tree.now c.args.entries.now) (g.F.Finder.with) c.args.deep 0 c.args.document c.in-Some.number c.args.finder.now c.in-Some.is
-      (ap (λ (it : Document). is_in c.args.state (it.state)) (entry_here c.args.entries.now c.in-Some.number w.index-entries-number.result (c.requires.document _ c.in-Some.is) w.index-entries-number.is)
-      ∙ sym w.is_in.ensures ∙ w.if-not-is_in.true)
+      (sym w.is_in.ensures.value ∙ w.if-not-is_in.true)
 ]
 
-pub find_from-find_in-requires : goal.find_from-find_in-requires
-find_from-find_in-requires g t c κs within =
-    let here = entry_here c.args.entries.now c.in-Some.number c.index-entries-number-2.result (c.requires.document _ c.in-Some.is) c.index-entries-number-2.is in
-    let root = c.requires.known.roots c.in-Some.number (c.in-Some-root.root.0)
-    (ap (λ (it : Document). it.root) here ∙ sym c.root.ensures ∙ ap (λ (o : Option NodeId). option_map number o) c.in-Some-root.is) in
-    (omega arith, (within.0, (within.1.0, (within.1.1, (node_known (g.P.Owned.carried) c.args.tree.now.nodes (c.in-Some-root.root.0) root, (c.requires.few, c.requires.known))))))
-
-pub find_from-returns-in-Some-root : goal.find_from-returns-in-Some-root
-find_from-returns-in-Some-root g t c =
-    let here = entry_here c.args.entries.now c.in-Some.number c.index-entries-number.result (c.requires.document _ c.in-Some.is) c.index-entries-number.is in
-    let root = entry_here c.args.entries.now c.in-Some.number c.index-entries-number-2.result (c.requires.document _ c.in-Some.is) c.index-entries-number-2.is in
-    then_ok c.find_in.result (full_taken (is_in c.args.state) (seen_tree (g.P.Owned.carried) c.args.tree.now c.args.entries.now) (g.F.Finder.with) c.args.deep 0 c.args.document c.in-Some.number (c.args.deep - 1) (c.in-Some-root.root.0) c.args.finder.now c.take.new.self c.find_in.new.finder
-    c.in-Some.is (omega arith)
-    (ap (λ (it : Document). is_in c.args.state (it.state)) here ∙ sym c.is_in.ensures ∙ c.if-not-is_in.false)
-    c.in_ok-take.ensures
-    (ap (λ (it : Document). it.root) root ∙ sym c.root.ensures ∙ ap (λ (o : Option NodeId). option_map number o) c.in-Some-root.is)) c.find_in.ensures
+pub find_from-returns-in-Some-root_in : goal.find_from-returns-in-Some-root_in
+find_from-returns-in-Some-root_in g t c =
+    let root = sym (ap (λ (o : Option NodeId). option_map number o) c.in-Some-root_in.is) ∙ c.root_in.ensures.value in
+    then_ok c.find_in.result (full_taken (is_in c.args.state) (seen_tree (g.P.Owned.carried) c.args.tree.now c.args.entries.now) (g.F.Finder.with) c.args.deep 0 c.args.document c.in-Some.number (c.args.deep - 1) (c.in-Some-root_in.root.0) c.args.finder.now c.take.new.self c.find_in.new.finder
+    c.in-Some.is (omega arith) (sym c.is_in.ensures.value ∙ c.if-not-is_in.false) c.in_ok-take.ensures (root_there (seen_tree (g.P.Owned.carried) c.args.tree.now c.args.entries.now) _ _ (sym root))) c.find_in.ensures
 
 pub find_from-returns-in-None : goal.find_from-returns-in-None
 find_from-returns-in-None g t c =
-    let here = entry_here c.args.entries.now c.in-Some.number c.index-entries-number.result (c.requires.document _ c.in-Some.is) c.index-entries-number.is in
-    let root = entry_here c.args.entries.now c.in-Some.number c.index-entries-number-2.result (c.requires.document _ c.in-Some.is) c.index-entries-number-2.is in
+    let root = sym (ap (λ (o : Option NodeId). option_map number o) c.in-None.is) ∙ c.root_in.ensures.value in
     bare_taken (is_in c.args.state) (seen_tree (g.P.Owned.carried) c.args.tree.now c.args.entries.now) (g.F.Finder.with) c.args.deep 0 c.args.document c.in-Some.number (c.args.deep - 1) c.args.finder.now c.take.new.self
-    c.in-Some.is (omega arith)
-    (ap (λ (it : Document). is_in c.args.state (it.state)) here ∙ sym c.is_in.ensures ∙ c.if-not-is_in.false)
-    c.in_ok-take.ensures
-    (ap (λ (it : Document). it.root) root ∙ sym c.root.ensures ∙ ap (λ (o : Option NodeId). option_map number o) c.in-None.is)
+    c.in-Some.is (omega arith) (sym c.is_in.ensures.value ∙ c.if-not-is_in.false) c.in_ok-take.ensures (root_nowhere (seen_tree (g.P.Owned.carried) c.args.tree.now c.args.entries.now) _ (sym root))
 
 pub find_in-returns-then-high-eq0 : goal.find_in-returns-then-high-eq0
 find_in-returns-then-high-eq0 g t c =
     low_taken (is_in c.args.state) (seen_tree (g.P.Owned.carried) c.args.tree.now c.args.entries.now) (g.F.Finder.with) c.args.deep c.args.high (c.args.node.0) c.args.finder.now (omega arith)
-
-pub find_in-find_from-requires : goal.find_in-find_from-requires
-find_in-find_from-requires g t c κs within =
-    let framed = framed_seen (g.P.Owned.carried) c.args.tree.now c.args.entries.now (c.args.node.0) c.payload.result.now c.payload.ensures.value in
-    (omega arith, (within.0, (within.1.0, (within.1.1, (λ x is. c.requires.known.framed (c.args.node.0) x (framed ∙ sym c.framed.ensures ∙ is), (c.requires.few, c.requires.known))))))
 
 pub find_in-loop-next-init : goal.find_in-loop-next-init
 find_in-loop-next-init g t c =
@@ -78,7 +56,7 @@ pub find_in-find_in-requires : goal.find_in-find_in-requires
 find_in-find_in-requires g t c κs within =
     let forest = c.first_child-next.ensures.forest in
     let child = walk_child forest (c.args.node.0) c.loop-next.next c.in-Some.child c.in-Some.is c.loop-next.invariant.among in
-    (omega arith, (within.0, (within.1.0, (within.1.1, (child_in_range forest (c.args.node.0) (c.in-Some.child.0) child, (c.requires.few, c.requires.known))))))
+    (omega arith, (within.0, (within.1.0, (within.1.1, (child_in_range forest (c.args.node.0) (c.in-Some.child.0) child, (c.requires.sought, c.requires.few))))))
 
 pub find_in-loop-next-smaller : goal.find_in-loop-next-smaller
 find_in-loop-next-smaller g t c =

@@ -1,16 +1,10 @@
-use Rattle.std.proofs.Common.{◌∙◌, ap, sym, subst, List}
+use Rattle.std.proofs.Common.{◌∙◌, ap, sym, List}
 use Rattle.page_model.specs.World.{Document}
 use Rattle.page_model.specs.Documents.{stands_in_active}
 use Rattle.page_documents.specs.Seen.{seen_tree}
 use Rattle.page_documents.specs.Held.{HeldDocuments}
-use Rattle.page_documents.specs.Frames.{AreKnown}
 use Rattle.page_documents.proofs.Inside.{shown_there, not_shown}
 use Rattle.page_documents.proofs.documents.Documents.entered.Goals as goal
-
-pub stands_in_active-requires-clause-known : goal.stands_in_active-requires-clause-known
-stands_in_active-requires-clause-known g c =
-    let held = c.as_slice.ensures.value ∙ ap (λ (it : HeldDocuments). it.held) c.self.view_is in
-    subst (λ (documents : List Document). AreKnown (seen_tree (g.P.Owned.carried) c.adopt.new.tree documents)) (sym held) (c.adopt.ensures.known c.args.self.now.held c.requires.document c.requires.known)
 
 pub returns-then-stands_in_active-clause-shown : goal.returns-then-stands_in_active-clause-shown
 returns-then-stands_in_active-clause-shown g c =
