@@ -9,3 +9,7 @@ mod Successors
 mod Commands
 mod Readings
 mod Depths
+mod Changes
+mod Keeping
+mod WholeRuns
+mod Later

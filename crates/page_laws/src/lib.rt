@@ -2,9 +2,11 @@
 #![tactic(auto)]
 
 mod pages;
+mod runs;
 
 pub use pages::{
     children_are_one_level_deeper, commands_are_counted, commands_take_nothing_back,
     listed_documents_are_active, no_box_has_no_size, numbers_stay_in_range,
     readings_change_nothing,
 };
+pub use runs::{runs_take_nothing_back, the_clock_stands_in_a_tick};

@@ -1,0 +1,394 @@
+-- What every command and every change of a tick keeps is kept by callbacks, ticks and whole runs.
+use Rattle.std.proofs.Common.{◌≡◌, refl}
+use Rattle.std.specs.Prelude.{ℕ, zero, suc, ◌&&◌, ◌==◌, not, map, Bool, true, false, nat_lt, List, [], ◌∷◌, length, Option, Some, None}
+use Rattle.std.specs.List.{AllByRecursion}
+use Rattle.text_io.specs.declared.kinds.EventKind.{EventKind}
+use Rattle.text_io.specs.declared.kinds.EventKind.TheVariants as events
+use Rattle.script_model.specs.Syntax.{Action, Command, Simple, Each, When, Block, NoMore, Then}
+use Rattle.script_model.specs.TraceLines.{FiredEvent, FiredResize, FiredScroll, FiredChange, FiredError, EventLine, TimerLine, FrameLine, TaskLine, TickLine}
+use Rattle.page_model.specs.World.{World, Entry, EventTarget, ElementTarget, DocumentTarget, WindowTarget, QueryTarget, Observation, Task, Notify, Posted, Timer, FrameCallback}
+use Rattle.page_model.specs.Lookups.{resize_observer_at, intersection_observer_at, query_list_at}
+use Rattle.page_model.specs.Documents.{is_active, active_documents}
+use Rattle.page_model.specs.Names.{document_text, query_list_text}
+use Rattle.page_model.specs.PageBoxes.{viewport_of}
+use Rattle.page_model.specs.Viewports.{differs_from, noted_size, with_noted}
+use Rattle.page_model.specs.Scrolls.{pending_of, without_pending}
+use Rattle.page_model.specs.QueryLists.{with_state}
+use Rattle.page_model.specs.Listeners.{listeners_of, listener_stands}
+use Rattle.page_model.specs.FrameCallbacks.{frame_callbacks_of, frame_callback_stands, frame_callback_taken}
+use Rattle.page_model.specs.Timers.{due_timers, timer_stands, timer_taken}
+use Rattle.page_model.specs.Tasks.{has_tasks, without_notifying}
+use Rattle.page_model.specs.IntersectionObserving.{without_queue}
+use Rattle.page_model.specs.Gathering.{sight_of, size_entry, has_active, has_skipped, with_reported, due_at}
+use Rattle.page_model.specs.Steps.{Step, Did, Threw, Met}
+use Rattle.page_model.specs.Operands.{Present, NoEntry, ResizeEntry, IntersectionEntry}
+use Rattle.page_model.specs.Commands.{does, holds, begun_in, matches_now}
+use Rattle.page_model.specs.Runs.{Flow, Next, Thrown, Limited, Said, Turn, silent, say, follow, ◌followed_by◌, caught, only_if, lifted, for_each, repeat, by_place, at_place, most_steps}
+use Rattle.page_model.specs.Callbacks.{Script, handler_names, handler_text, Entries, SizeEntries, CutEntries, NoEntries, answered, once_begun, said_by, run_command, run_block, run_handler, while_active, call, notify_listener, invoke, bubble, fire, presents, handler_block, entry_lines, document_of_target}
+use Rattle.page_model.specs.Intersections.{is_same_bool, watchers, take_queue, notify_watcher, notify_watchers, notify}
+use Rattle.page_model.specs.Loop.{Broadcast, gather, deliver_some, broadcast, round, round_ended, report_skipped, resize_loop}
+use Rattle.page_model.specs.Ticks.{line_while_active, scrolled_text, event_target_of, intersection_steps, run_timers, run_timer, resize_steps, scroll_steps, evaluated, evaluate, media_steps, frame_steps, run_frame_callback, update_rendering, run_task, run_first, run_tasks, tick}
+use Rattle.page_laws.specs.Successors.{OnDid}
+use Rattle.page_laws.proofs.Steps.{both, did, on_did-all}
+use Rattle.page_laws.proofs.Changes.{IsNext, active-in, timer-next, frame-next, noted-next, pending-next, matched-next, tasks-next, unnotified-next, queue-next, emptied-next, reported-next, gather-next, update-next}
+
+-- folds of steps -----------------------------------------------------------------------------------------------------------
+
+module _ {S : Type 0} (P : S → Type 0) where
+  follow-keeps : (flow : Flow) (rest : S → Said S) (said : Said S) → ((s : S) → P s → P (rest s).state) → P said.state → P (follow flow rest said).state
+  unfolding follow
+  follow-keeps Next rest said each here = each (said.state) here
+  follow-keeps Thrown rest said each here = here
+  follow-keeps Limited rest said each here = here
+
+  pub then-keeps : (said : Said S) (rest : S → Said S) → P said.state → ((s : S) → P s → P (rest s).state) → P (said followed_by rest).state
+  unfolding ◌followed_by◌
+  then-keeps said rest here each = follow-keeps (said.flow) rest said each here
+
+  -- a step under a test, which holds where the step is run
+  pub where-keeps : (step : S → Said S) (s : S) (test : Bool) → (test ≡ true → P (step s).state) → P s → P (only_if step s test).state
+  where-keeps step s true there here = there refl
+  where-keeps step s false there here = here
+
+  pub only_if-keeps : (step : S → Said S) (s : S) (test : Bool) → ((s : S) → P s → P (step s).state) → P s → P (only_if step s test).state
+  only_if-keeps step s test each here = where-keeps step s test (λ is. each s here) here
+
+  pub all_of-keeps : {A : Type 0} (In : A → Type 0) (step : A → S → Said S) (items : List A) → AllByRecursion In items → ((item : A) (s : S) → In item → P s → P (step item s).state) → (s : S) → P s → P (for_each step items s).state
+  unfolding for_each
+  all_of-keeps In step [] all each s here = here
+  all_of-keeps In step (item ∷ others) all each s here =
+      then-keeps (step item s) (for_each step others) (each item s (all.0) here) (all_of-keeps In step others (all.1) each)
+
+  pub for_each-keeps : {A : Type 0} (step : A → S → Said S) (items : List A) → ((item : A) (s : S) → P s → P (step item s).state) → (s : S) → P s → P (for_each step items s).state
+  unfolding for_each
+  for_each-keeps step [] each s here = here
+  for_each-keeps step (item ∷ others) each s here = then-keeps (step item s) (for_each step others) (each item s here) (for_each-keeps step others each)
+
+  pub repeat-keeps : (goes_on : S → Bool) (step : S → Said S) (most : ℕ) → ((s : S) → P s → goes_on s ≡ true → P (step s).state) → (s : S) → P s → P (repeat goes_on step most s).state
+  unfolding repeat
+  repeat-keeps goes_on step zero each s here = here
+  repeat-keeps goes_on step (suc most) each s here =
+      where-keeps (λ now. step now followed_by repeat goes_on step most) s (goes_on s)
+      (λ is. then-keeps (step s) (repeat goes_on step most) (each s here is) (repeat-keeps goes_on step most each))
+      here
+
+pub by_place-keeps : {S : Type 0} (P : S → Type 0) (count : S → ℕ) (goes_on : S → Bool) (step : ℕ → S → Said S) → ((place : ℕ) (s : S) → P s → P (step place s).state) → (s : S) → P s → P (by_place count goes_on step s).state
+unfolding by_place
+by_place-keeps {S = S} P count goes_on step each s here =
+    repeat-keeps (λ (turn : Turn S). P (turn.state))
+    (λ turn. goes_on (turn.state) && nat_lt (turn.place) (count (turn.state)))
+    (λ turn. lifted (at_place (suc turn.place)) (step (turn.place) (turn.state)))
+    most_steps
+    (λ turn held is. each (turn.place) (turn.state) held)
+    (at_place 0 s)
+    here
+
+-- what is kept -------------------------------------------------------------------------------------------------------------
+
+-- `P k` of a world in a callback that was handed entries when there were k elements, `In k` of each of these entries
+pub record IsKept (script : Script) (P : ℕ → World → Type 0) (In : ℕ → Present → Type 0) : Type 0 where
+  pub next : (k : ℕ) (before now : World) → IsNext before now → P k before → P k now
+  pub begun : (k : ℕ) (world : World) → P k world → P k (record world { begun = suc world.begun })
+  pub does : (k : ℕ) (world : World) (present : Present) (action : Action) → In k present → P k world → OnDid (does (handler_names script) world present action) (λ effect. P k (effect.world))
+  pub none : (k : ℕ) → In k NoEntry
+  pub entered : (k : ℕ) (world : World) → P k world → P (length world.tree.elements) world
+  pub left : (k : ℕ) (before now : World) → P k before → P (length before.tree.elements) now → P k now
+  pub due : (k : ℕ) (world : World) (document observer : ℕ) → P k world → AllByRecursion (λ (each : Observation). In (length world.tree.elements) (ResizeEntry (each.target))) (due_at document observer (world.resize_observers))
+  pub queued : (k : ℕ) (world : World) (observer : ℕ) → P k world → AllByRecursion (λ (each : Entry). In (length world.tree.elements) (IntersectionEntry (each.target) (each.finding.meets))) (intersection_observer_at (world.intersection_observers) observer).queue
+
+module _ (script : Script) (P : ℕ → World → Type 0) (In : ℕ → Present → Type 0) (kept : IsKept script P In) where
+  -- within a callback
+
+  module _ (k : ℕ) where
+    pub answered-keeps : {A : Type 0} (line : ℕ) (world : World) (next : A → Said World) (step : Step A) → P k world → OnDid step (λ value. P k (next value).state) → P k (answered line world next step).state
+    unfolding answered OnDid
+    answered-keeps line world next (Did value) here there = there
+    answered-keeps line world next (Threw exception) here there = here
+    answered-keeps line world next (Met limit) here there = here
+
+    pub once_begun-keeps : (line : ℕ) (world : World) (run : World → Said World) → P k world → ((now : World) → P k now → P k (run now).state) → P k (once_begun line world run).state
+    unfolding once_begun begun_in
+    once_begun-keeps line world run here each = answered-keeps line world run (begun_in world) here (both _ _ _ (did _ _ (each _ (kept.begun k world here))))
+
+    module _ (entries : List Present) (are : AllByRecursion (In k) entries) where
+      mutual
+        unfolding run_command
+
+        pub command-keeps : (command : Command) (present : Present) (world : World) → In k present → P k world → P k (run_command script entries command present world).state
+        command-keeps (Simple line action) present world is here =
+            once_begun-keeps line world _ here λ begun held. answered-keeps line begun said_by _ held (kept.does k begun present action is held)
+        command-keeps (Each line block end_line) present world is here =
+            once_begun-keeps line world _ here λ begun held.
+            all_of-keeps (P k) (In k) (run_block script entries block) entries are (λ each now in_range. block-keeps block each now in_range) begun held
+        command-keeps (When line condition block end_line) present world is here =
+            once_begun-keeps line world _ here λ begun held.
+            answered-keeps line begun _ (holds begun present condition) held
+            (on_did-all (holds begun present condition) _ (λ answer. only_if-keeps (P k) (run_block script entries block present) begun answer (λ now. block-keeps block present now is) held))
+
+        pub block-keeps : (block : Block) (present : Present) (world : World) → In k present → P k world → P k (run_block script entries block present world).state
+        block-keeps NoMore present world is here = here
+        block-keeps (Then command others) present world is here =
+            then-keeps (P k) (run_command script entries command present world) (run_block script entries others present)
+            (command-keeps command present world is here) (λ now. block-keeps others present now is)
+
+    pub caught-keeps : (said : Said World) → P k said.state → P k (caught said).state
+    unfolding caught
+    caught-keeps said here = here
+
+    handler-keeps : (handed : Entries) → AllByRecursion (In k) (presents handed) → (handler : Option ℕ) (world : World) → P k world → P k (run_handler script handed handler world).state
+    handler-keeps handed are None world here = here
+    handler-keeps handed are (Some handler) world here =
+        caught-keeps (run_block script (presents handed) (handler_block script handler) NoEntry world)
+        (block-keeps (presents handed) are (handler_block script handler) NoEntry world (kept.none k) here)
+
+    pub called-keeps : (document : ℕ) (handler : Option ℕ) (handed : Entries) (world : World) → AllByRecursion (In k) (presents handed) → P k world → P k (call script document handler handed world).state
+    unfolding call
+    called-keeps document handler handed world are here =
+        only_if-keeps (P k) (λ now. say (entry_lines (now.names) handed) now followed_by run_handler script handed handler) world (is_active (world.tree) document)
+        (λ now held. then-keeps (P k) (say (entry_lines (now.names) handed) now) (run_handler script handed handler) held (handler-keeps handed are handler))
+        here
+
+  -- around callbacks
+
+  module _ (k : ℕ) where
+    -- a callback with entries of the world that it is called in, or of one with as many elements
+    entries-keep : (document : ℕ) (handler : Option ℕ) (handed : Entries) (world : World) → AllByRecursion (In (length world.tree.elements)) (presents handed) → P k world → P k (call script document handler handed world).state
+    entries-keep document handler handed world are here =
+        kept.left k world _ here (called-keeps (length world.tree.elements) document handler handed world are (kept.entered k world here))
+
+    call-keeps : (document : ℕ) (handler : Option ℕ) (world : World) → P k world → P k (call script document handler NoEntries world).state
+    call-keeps document handler world here = called-keeps k document handler NoEntries world tt here
+
+    invoke-keeps : (target : EventTarget) (event : EventKind) (world : World) → P k world → P k (invoke script target event world).state
+    unfolding invoke
+    invoke-keeps target event world here =
+        for_each-keeps (P k) (notify_listener script) (listeners_of target event (world.listeners))
+        (λ listener now held.
+        only_if-keeps (P k) (call script (document_of_target now (listener.target)) (Some (listener.handler)) NoEntries) now (listener_stands listener (now.listeners))
+        (call-keeps (document_of_target now (listener.target)) (Some (listener.handler)))
+        held)
+        world
+        here
+
+    bubble-keeps : (target : EventTarget) (event : EventKind) (world : World) → P k world → P k (bubble script target event world).state
+    bubble-keeps (DocumentTarget document) events.Scroll world here = invoke-keeps (WindowTarget document) events.Scroll world here
+    bubble-keeps (DocumentTarget document) events.Resize world here = here
+    bubble-keeps (DocumentTarget document) events.Error world here = here
+    bubble-keeps (DocumentTarget document) events.Change world here = here
+    bubble-keeps (ElementTarget element) event world here = here
+    bubble-keeps (WindowTarget document) event world here = here
+    bubble-keeps (QueryTarget query) event world here = here
+
+    fire-keeps : (event : FiredEvent) (target : EventTarget) (name : EventKind) (world : World) → P k world → P k (fire script event target name world).state
+    unfolding fire
+    fire-keeps event target name world here =
+        then-keeps (P k) (say (EventLine event ∷ []) world followed_by invoke script target name) (bubble script target name)
+        (then-keeps (P k) (say (EventLine event ∷ []) world) (invoke script target name) here (invoke-keeps target name))
+        (bubble-keeps target name)
+
+    -- a step where a document is Active, which is then one that there is
+    active-keeps : (document : ℕ) (run : World → Said World) → ((now : World) → is_active (now.tree) document ≡ true → P k now → P k (run now).state) → (world : World) → P k world → P k (while_active document run world).state
+    active-keeps document run each world here = where-keeps (P k) run world (is_active (world.tree) document) (λ is. each world is here) here
+
+    -- intersections
+
+    queue-keeps : (entries : List Entry) (observer : ℕ) (world : World) → AllByRecursion (λ (each : Entry). In (length world.tree.elements) (IntersectionEntry (each.target) (each.finding.meets))) entries → P k world → P k (take_queue script entries observer world).state
+    queue-keeps [] observer world are here = here
+    queue-keeps (entry ∷ entries) observer world are here =
+        let it = intersection_observer_at (world.intersection_observers) observer in
+        entries-keep (it.document) (it.handler) (CutEntries observer (entry ∷ entries)) (record world { intersection_observers = without_queue observer (world.intersection_observers) })
+        (all-cut (length world.tree.elements) (entry ∷ entries) are)
+        (kept.next k world _ (queue-next world observer) here)
+      where
+        all-cut : (count : ℕ) (these : List Entry) → AllByRecursion (λ (each : Entry). In count (IntersectionEntry (each.target) (each.finding.meets))) these → AllByRecursion (In count) (presents (CutEntries observer these))
+        all-cut count [] all = tt
+        all-cut count (x ∷ xs) all = (all.0, all-cut count xs (all.1))
+
+    notify-keeps : (document : ℕ) (world : World) → P k world → P k (notify script document world).state
+    unfolding notify
+    notify-keeps document world here =
+        only_if-keeps (P k) (notify_watchers script document) world (is_active (world.tree) document)
+        (λ now held. for_each-keeps (P k) (notify_watcher script) (watchers (now.tree) document (now.intersection_observers))
+        (λ observer each there. queue-keeps (intersection_observer_at (each.intersection_observers) observer).queue observer each (kept.queued k each observer there) there)
+        (record now { notifying = without_notifying document (now.notifying) })
+        (kept.next k now _ (unnotified-next now document) held))
+        here
+
+    -- the resize loop
+
+    some-keeps : (document observer : ℕ) (so_far : Broadcast) (delivered : List Observation) → AllByRecursion (λ (each : Observation). In (length so_far.world.tree.elements) (ResizeEntry (each.target))) delivered → P k (so_far.world) → P k (deliver_some script document observer so_far delivered).state.world
+    some-keeps document observer so_far [] are held = held
+    some-keeps document observer so_far (first ∷ others) are held =
+        let world = so_far.world in
+        let delivered : List Observation = first ∷ others in
+        let now = record world { resize_observers = with_reported (sight_of world) observer delivered (world.resize_observers) } in
+        let handler = (resize_observer_at (world.resize_observers) observer).handler in
+        let handed = SizeEntries observer (map (size_entry (sight_of world)) delivered) in
+        kept.next k _ _ (emptied-next (call script document handler handed now).state document observer)
+        (entries-keep document handler handed now (all-sized (length world.tree.elements) delivered are) (kept.next k world now (reported-next world (sight_of world) observer delivered) held))
+      where
+        all-sized : (count : ℕ) (these : List Observation) → AllByRecursion (λ (each : Observation). In count (ResizeEntry (each.target))) these → AllByRecursion (In count) (presents (SizeEntries observer (map (size_entry (sight_of (so_far.world))) these)))
+        all-sized count [] all = tt
+        all-sized count (x ∷ xs) all = (all.0, all-sized count xs (all.1))
+
+    broadcast-keeps : (document : ℕ) (world : World) → P k world → P k (broadcast script document world).state.world
+    unfolding broadcast
+    broadcast-keeps document world here =
+        by_place-keeps (λ (so_far : Broadcast). P k (so_far.world))
+        (λ so_far. length (so_far.world.resize_observers.made))
+        (λ so_far. is_active (so_far.world.tree) document)
+        (λ observer so_far. deliver_some script document observer so_far (due_at document observer (so_far.world.resize_observers)))
+        (λ observer so_far held. some-keeps document observer so_far (due_at document observer (so_far.world.resize_observers)) (kept.due k (so_far.world) document observer held) held)
+        (record { world = world; shallowest = None })
+        here
+
+    round-keeps : (document : ℕ) (world : World) → P k world → P k (round script document world).state
+    round-keeps document world here =
+        then-keeps (λ (so_far : Broadcast). P k (so_far.world)) (broadcast script document world) _
+        (broadcast-keeps document world here)
+        (λ so_far held. only_if-keeps (λ (it : Broadcast). P k (it.world)) (round_ended document) so_far (is_active (so_far.world.tree) document)
+        (λ it there. kept.next k (it.world) _ (gather-next document _ (it.world)) there)
+        held)
+
+    error-keeps : (document : ℕ) (world : World) → P k world → P k (report_skipped script document world).state
+    error-keeps document world here =
+        only_if-keeps (P k) (fire script (FiredError (document_text (world.names) document)) (WindowTarget document) events.Error) world
+        (is_active (world.tree) document && has_skipped document (world.resize_observers))
+        (fire-keeps (FiredError (document_text (world.names) document)) (WindowTarget document) events.Error)
+        here
+
+    loop-keeps : (document : ℕ) (world : World) → P k world → P k (resize_loop script document world).state
+    unfolding resize_loop
+    loop-keeps document world here =
+        let goes_on = λ (now : World). is_active (now.tree) document && has_active document (now.resize_observers) in
+        let first = gather document 0 world in
+        then-keeps (P k) (repeat goes_on (round script document) most_steps first) (report_skipped script document)
+        (repeat-keeps (P k) goes_on (round script document) most_steps (λ now held is. round-keeps document now held) first (kept.next k world first (gather-next document 0 world) here))
+        (error-keeps document)
+
+    -- the other parts of a tick
+
+    timer-keeps : (timer : Timer) (world : World) → P k world → P k (run_timer script timer world).state
+    timer-keeps timer world here =
+        let without = record world { timers = timer_taken (timer.serial) (world.timers) } in
+        then-keeps (P k)
+        (say (line_while_active (world.tree) (timer.document) (TimerLine (document_text (world.names) (timer.document)) (timer.key))) without)
+        (call script (timer.document) (Some (timer.handler)) NoEntries)
+        (kept.next k world without (timer-next world (timer.serial)) here)
+        (call-keeps (timer.document) (Some (timer.handler)))
+
+    timers-keep : (world : World) → P k world → P k (run_timers script world).state
+    unfolding run_timers
+    timers-keep world here =
+        for_each-keeps (P k) (λ timer now. only_if (run_timer script timer) now (timer_stands timer (now.timers))) (due_timers (world.clock) (world.timers))
+        (λ timer now held. only_if-keeps (P k) (run_timer script timer) now (timer_stands timer (now.timers)) (timer-keeps timer) held)
+        world
+        here
+
+    size-keeps : (document : ℕ) (world : World) → is_active (world.tree) document ≡ true → P k world → P k (resize_steps script document world).state
+    unfolding resize_steps
+    size-keeps document world is here =
+        let size = viewport_of (world.tree) (world.viewports.size) document in
+        let now = record world { viewports = with_noted document size (world.viewports) } in
+        only_if-keeps (P k) (fire script (FiredResize (document_text (world.names) document)) (WindowTarget document) events.Resize) now
+        (differs_from size (noted_size document (world.viewports)))
+        (fire-keeps (FiredResize (document_text (world.names) document)) (WindowTarget document) events.Resize)
+        (kept.next k world now (noted-next world document size (active-in (world.tree) document is)) here)
+
+    scroll-keeps : (document : ℕ) (world : World) → P k world → P k (scroll_steps script document world).state
+    unfolding scroll_steps
+    scroll-keeps document world here =
+        for_each-keeps (P k)
+        (λ target. while_active document (λ now. fire script (FiredScroll (scrolled_text (now.names) target)) (event_target_of target) events.Scroll now))
+        (pending_of document (world.scrolls))
+        (λ target now held. active-keeps document (λ each. fire script (FiredScroll (scrolled_text (each.names) target)) (event_target_of target) events.Scroll each)
+        (λ each is there. fire-keeps (FiredScroll (scrolled_text (each.names) target)) (event_target_of target) events.Scroll each there) now held)
+        (record world { scrolls = without_pending document (world.scrolls) })
+        (kept.next k world _ (pending-next world document) here)
+
+    evaluated-keeps : (query : ℕ) (matched : Bool) (world : World) → P k world → P k (evaluated script query matched world).state
+    evaluated-keeps query matched world here =
+        let now = record world { queries = with_state matched query (world.queries) } in
+        only_if-keeps (P k) (fire script (FiredChange (query_list_text (world.names) query) matched) (QueryTarget query) events.Change) now
+        (not (is_same_bool matched (query_list_at (world.queries) query).matched))
+        (fire-keeps (FiredChange (query_list_text (world.names) query) matched) (QueryTarget query) events.Change)
+        (kept.next k world now (matched-next world matched query) here)
+
+    media-keeps : (document : ℕ) (world : World) → P k world → P k (media_steps script document world).state
+    unfolding media_steps
+    media-keeps document world here =
+        by_place-keeps (P k) (λ now. length (now.queries)) (λ now. is_active (now.tree) document) (evaluate script document)
+        (λ query now held.
+        let it = query_list_at (now.queries) query in
+        only_if-keeps (P k) (λ each. evaluated script query (matches_now each document (it.query)) each) now
+        (it.document == document)
+        (λ each there. evaluated-keeps query (matches_now each document (it.query)) each there)
+        held)
+        world
+        here
+
+    callback-keeps : (callback : FrameCallback) (world : World) → P k world → P k (run_frame_callback script callback world).state
+    callback-keeps callback world here =
+        let without = record world { frame_callbacks = frame_callback_taken (callback.serial) (world.frame_callbacks) } in
+        then-keeps (P k)
+        (say (FrameLine (document_text (world.names) (callback.document)) (callback.key) ∷ []) without)
+        (call script (callback.document) (Some (callback.handler)) NoEntries)
+        (kept.next k world without (frame-next world (callback.serial)) here)
+        (call-keeps (callback.document) (Some (callback.handler)))
+
+    frames-keep : (document : ℕ) (world : World) → P k world → P k (frame_steps script document world).state
+    unfolding frame_steps
+    frames-keep document world here =
+        for_each-keeps (P k) (λ callback now. only_if (run_frame_callback script callback) now (is_active (now.tree) document && frame_callback_stands callback (now.frame_callbacks)))
+        (frame_callbacks_of document (world.frame_callbacks))
+        (λ callback now held. only_if-keeps (P k) (run_frame_callback script callback) now (is_active (now.tree) document && frame_callback_stands callback (now.frame_callbacks)) (callback-keeps callback) held)
+        world
+        here
+
+    documents-keep : (part : ℕ → World → Said World) (documents : List ℕ) → ((document : ℕ) (world : World) → is_active (world.tree) document ≡ true → P k world → P k (part document world).state) → (world : World) → P k world → P k (for_each (λ document. while_active document (part document)) documents world).state
+    documents-keep part documents each world here =
+        for_each-keeps (P k) (λ document. while_active document (part document)) documents (λ document now held. active-keeps document (part document) (each document) now held) world here
+
+    update-keeps : (world : World) → P k world → P k (update_rendering script world).state
+    unfolding update_rendering for_each
+    update-keeps world here =
+        let documents = active_documents (world.tree) in
+        let over : (ℕ → World → Said World) → World → Said World = λ part. for_each (λ document. while_active document (part document)) documents in
+        then-keeps (P k) (over (resize_steps script) world) _ (documents-keep (resize_steps script) documents size-keeps world here) (λ a ha.
+        then-keeps (P k) (over (scroll_steps script) a) _ (documents-keep (scroll_steps script) documents (λ document now is. scroll-keeps document now) a ha) (λ b hb.
+        then-keeps (P k) (over (media_steps script) b) _ (documents-keep (media_steps script) documents (λ document now is. media-keeps document now) b hb) (λ c hc.
+        then-keeps (P k) (over (frame_steps script) c) _ (documents-keep (frame_steps script) documents (λ document now is. frames-keep document now) c hc) (λ d hd.
+        then-keeps (P k) (over (resize_loop script) d) _ (documents-keep (resize_loop script) documents (λ document now is. loop-keeps document now) d hd) (λ e he.
+        then-keeps (P k) (over intersection_steps e) (λ f. silent f)
+        (documents-keep intersection_steps documents (λ document now is held. kept.next k now _ (update-next document now (active-in (now.tree) document is)) held) e he) (λ f hf. hf))))))
+
+    -- tasks and ticks
+
+    task-keeps : (task : Task) (world : World) → P k world → P k (run_task script task world).state
+    task-keeps (Notify document) world here = notify-keeps document world here
+    task-keeps (Posted document handler) world here =
+        then-keeps (P k)
+        (say (line_while_active (world.tree) document (TaskLine (document_text (world.names) document) (handler_text script handler))) world)
+        (call script document (Some handler) NoEntries)
+        here
+        (call-keeps document (Some handler))
+
+    first-keeps : (tasks : List Task) (world : World) → world.tasks ≡ tasks → P k world → P k (run_first script tasks world).state
+    first-keeps [] world are here = here
+    first-keeps (task ∷ others) world are here =
+        task-keeps task (record world { tasks = others }) (kept.next k world (record world { tasks = others }) (tasks-next world task others are) here)
+
+    tasks-keep : (world : World) → P k world → P k (run_tasks script world).state
+    unfolding run_tasks
+    tasks-keep world here =
+        repeat-keeps (P k) (λ now. has_tasks (now.tasks)) (λ now. run_first script (now.tasks) now) most_steps (λ now held is. first-keeps (now.tasks) now refl held) world here
+
+    pub tick-keeps : (world : World) → P k world → P k (tick script world).state
+    unfolding tick
+    tick-keeps world here =
+        let begins = say (TickLine (world.clock) ∷ []) world in
+        then-keeps (P k) (begins followed_by run_timers script followed_by update_rendering script) (run_tasks script)
+        (then-keeps (P k) (begins followed_by run_timers script) (update_rendering script)
+        (then-keeps (P k) begins (run_timers script) here timers-keep)
+        update-keeps)
+        tasks-keep

@@ -1,0 +1,28 @@
+//! Laws of callbacks, ticks and whole runs.
+
+ghost use Rattle.std.specs.Prelude.{◌≡◌, ℕ, suc, ◌<◌, ◌≤◌, List, [], ◌∷◌, Option};
+ghost use Rattle.text_io.specs.declared.kinds.ThrowKind.TheVariants.{RangeError};
+ghost use Rattle.script_model.specs.Syntax.{Command, Item};
+ghost use Rattle.script_model.specs.TraceLines.{ThrowLine, TickLine};
+ghost use Rattle.page_model.specs.World.{World};
+ghost use Rattle.page_model.specs.Operands.{Present};
+ghost use Rattle.page_laws.specs.Later.{IsLater};
+ghost use Rattle.page_model.specs.Runs.{Thrown};
+ghost use Rattle.page_model.specs.Callbacks.{Script, Entries, run_command, call};
+ghost use Rattle.page_model.specs.Ticks.{tick};
+ghost use Rattle.page_model.specs.Outcome.{run_tick, run_items};
+
+/// Nothing in a run takes back what was before: not a command with its block, not a callback, not a tick, and not the
+/// items of a script. A throw and a limit leave a later world too.
+pub fn runs_take_nothing_back()
+    ensures commands { (script : Script) (entries : List Present) (command : Command) (present : Present) (world : World) → IsLater world (run_command script entries command present world).state }
+    ensures callbacks { (script : Script) (document : ℕ) (handler : Option ℕ) (handed : Entries) (world : World) → IsLater world (call script document handler handed world).state }
+    ensures ticks { (script : Script) (line time : ℕ) (world : World) → IsLater world (run_tick script line time world).state }
+    ensures scripts { (items : List Item) (world : World) → IsLater world (run_items items world).state }
+{}
+
+/// The clock stands at a tick's time until the tick has ended, and a time before it is refused.
+pub fn the_clock_stands_in_a_tick()
+    ensures stands { (script : Script) (world : World) → (tick script world).state.clock ≡ world.clock }
+    ensures refused { (script : Script) (line time : ℕ) (world : World) → world.begun < 1000000 → time < world.clock → run_tick script line time world ≡ record { lines = ThrowLine line RangeError ∷ []; flow = Thrown; state = record world { begun = suc world.begun } } }
+{}
