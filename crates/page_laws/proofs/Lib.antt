@@ -13,3 +13,5 @@ mod Changes
 mod Keeping
 mod WholeRuns
 mod Later
+mod RunsInRange
+mod Targets

@@ -8,7 +8,7 @@ ghost use Rattle.page_model.specs.World.{Extent, Tree, World};
 ghost use Rattle.page_model.specs.Lookups.{no_extent};
 ghost use Rattle.page_model.specs.Documents.{InElement, active_documents, element_depth, is_active};
 ghost use Rattle.page_model.specs.PageBoxes.{has_box, size_of};
-ghost use Rattle.page_model.specs.Operands.{Handlers, Present};
+ghost use Rattle.page_model.specs.Operands.{Handlers, Present, present_target};
 ghost use Rattle.page_model.specs.Commands.{begun_in, does, placing};
 ghost use Rattle.page_model.specs.Ranges.{IsInRange, IsPresentIn};
 ghost use Rattle.page_laws.specs.Successors.{IsSuccessor, OnDid};
@@ -56,4 +56,10 @@ pub fn no_box_has_no_size()
 pub fn children_are_one_level_deeper()
     ensures { (tree : Tree) (parent n : ℕ) (sibling : Option ℕ) → n < length tree.elements →
         OnDid (placing (InElement parent) n sibling tree) (λ after. element_depth after n ≡ element_depth tree parent + 1) }
+{}
+
+/// Of the present entry a command reads the target alone: with two entries of one target, or with none, it does the same.
+pub fn commands_read_the_target_alone()
+    ensures { (handlers : Handlers) (world : World) (present other : Present) (action : Action) → present_target present ≡ present_target other →
+        does handlers world present action ≡ does handlers world other action }
 {}
