@@ -15,3 +15,4 @@ mod WholeRuns
 mod Later
 mod RunsInRange
 mod Targets
+mod Quiet

@@ -9,4 +9,7 @@ pub use pages::{
     commands_take_nothing_back, listed_documents_are_active, no_box_has_no_size,
     numbers_stay_in_range, readings_change_nothing,
 };
-pub use runs::{runs_stay_in_range, runs_take_nothing_back, the_clock_stands_in_a_tick};
+pub use runs::{
+    runs_stay_in_range, runs_take_nothing_back, the_clock_stands_in_a_tick,
+    ticks_of_a_quiet_page_say_nothing_more,
+};

@@ -10,6 +10,7 @@ ghost use Rattle.page_model.specs.World.{World};
 ghost use Rattle.page_model.specs.Operands.{Present};
 ghost use Rattle.page_model.specs.Ranges.{IsInRange, IsPresentIn};
 ghost use Rattle.page_laws.specs.Later.{IsLater};
+ghost use Rattle.page_laws.specs.Quiet.{IsQuiet};
 ghost use Rattle.page_model.specs.Runs.{Thrown};
 ghost use Rattle.page_model.specs.Callbacks.{Script, Entries, presents, run_command, call};
 ghost use Rattle.page_model.specs.Ticks.{tick};
@@ -40,4 +41,10 @@ pub fn runs_stay_in_range()
     ensures ticks { (script : Script) (world : World) → IsInRange (length script) world → IsInRange (length script) (tick script world).state }
     ensures items { (script : Script) (item : Item) (world : World) → IsInRange (length script) world → IsInRange (length script) (run_item script item world).state }
     ensures scripts { (items : List Item) → IsInRange (length (handlers_in items)) (run_items items opening_world).state }
+{}
+
+/// In a quiet page a tick writes its own line and nothing else, and leaves the page quiet.
+pub fn ticks_of_a_quiet_page_say_nothing_more()
+    ensures line { (script : Script) (world : World) → IsQuiet world → (tick script world).lines ≡ TickLine (world.clock) ∷ [] }
+    ensures quiet { (script : Script) (world : World) → IsQuiet world → IsQuiet (tick script world).state }
 {}

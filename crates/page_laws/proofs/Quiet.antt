@@ -1,0 +1,311 @@
+-- In a quiet page no part of a tick says anything, and the page stays quiet.
+use Rattle.std.proofs.Common.{◌≡◌, refl, sym, ap, ◌∙◌, subst, eq-eqb}
+use Rattle.std.specs.Prelude.{ℕ, zero, suc, ◌&&◌, ◌==◌, Bool, true, false, not, cond, nat_lt, nat_le, List, [], ◌∷◌, ◌++◌, map, filter, length, Option, Some, None, slice_get, unwrap_or}
+use Rattle.std.specs.List.{list_any}
+use Rattle.text_io.specs.declared.kinds.EventKind.TheVariants as events
+use Rattle.script_model.specs.TraceLines.{TraceLine, TickLine, FiredResize, FiredScroll, FiredError}
+use Rattle.page_model.specs.World.{World, Document, Extent, ScrollTarget, Timer, FrameCallback, ResizeObserver, IntersectionObserver, WindowTarget}
+use Rattle.page_model.specs.Lookups.{change_at, change_each, put_at, entry_or, document_at, no_document, same_extent}
+use Rattle.page_model.specs.Documents.{is_active, is_active_state, active_documents}
+use Rattle.page_model.specs.Names.{document_text}
+use Rattle.page_model.specs.PageBoxes.{viewport_of, view_of, framed_size, extent_of}
+use Rattle.page_model.specs.Viewports.{differs_from, noted_size, with_noted}
+use Rattle.page_model.specs.Scrolls.{pending_of, without_pending}
+use Rattle.page_model.specs.FrameCallbacks.{frame_callbacks_of, frame_callback_stands}
+use Rattle.page_model.specs.Timers.{by_due_time, due_timers, timer_stands}
+use Rattle.page_model.specs.Tasks.{has_tasks, is_notifying}
+use Rattle.page_model.specs.Findings.{finding}
+use Rattle.page_model.specs.Gathering.{sight_of, is_of, gathered_if, is_filled, has_active, has_skipped}
+use Rattle.page_model.specs.Runs.{Flow, Next, Thrown, Limited, Said, Turn, silent, say, follow, ◌followed_by◌, only_if, lifted, for_each, repeat, by_place, at_place, most_steps}
+use Rattle.page_model.specs.Callbacks.{Script, while_active, fire}
+use Rattle.page_model.specs.Intersections.{places_from, is_rooted_in, settled_observer, settling, watchers, has_queued, update_intersections, with_notify_task}
+use Rattle.page_model.specs.Loop.{gather, round, report_skipped, resize_loop}
+use Rattle.page_model.specs.Ticks.{run_timer, run_timers, resize_steps, event_target_of, scrolled_text, scroll_steps, evaluate, media_steps, run_frame_callback, frame_steps, intersection_steps, update_rendering, run_first, run_tasks, tick}
+use Rattle.page_laws.specs.Quiet.{IsQuiet}
+
+-- nothing is said, and the page is quiet
+record IsHushed (said : Said World) : Type 0 where
+  lines : said.lines ≡ []
+  flow : said.flow ≡ Next
+  quiet : IsQuiet (said.state)
+
+stays : (world : World) → IsQuiet world → IsHushed (silent world)
+stays world quiet = record { lines = refl; flow = refl; quiet = quiet }
+
+thrown-is-no-next : Thrown ≡ Next → ⊥
+thrown-is-no-next is = cc
+
+limited-is-no-next : Limited ≡ Next → ⊥
+limited-is-no-next is = cc
+
+follow-hushed : (flow : Flow) (rest : World → Said World) (said : Said World) → flow ≡ Next → said.lines ≡ [] → IsHushed (rest (said.state)) → IsHushed (follow flow rest said)
+unfolding follow
+follow-hushed Next rest said is lines more = record {
+  lines = subst (λ first. first ++ (rest (said.state)).lines ≡ []) (sym lines) (more.lines);
+  flow = more.flow;
+  quiet = more.quiet;
+}
+follow-hushed Thrown rest said is lines more = absurd (thrown-is-no-next is)
+follow-hushed Limited rest said is lines more = absurd (limited-is-no-next is)
+
+after-hushed : (rest : World → Said World) (said : Said World) → ((world : World) → IsQuiet world → IsHushed (rest world)) → IsHushed said → IsHushed (said followed_by rest)
+unfolding ◌followed_by◌
+after-hushed rest said each here = follow-hushed (said.flow) rest said (here.flow) (here.lines) (each (said.state) (here.quiet))
+
+for_each-hushed : {A : Type 0} (step : A → World → Said World) (items : List A) → ((item : A) (world : World) → IsQuiet world → IsHushed (step item world)) → (world : World) → IsQuiet world → IsHushed (for_each step items world)
+unfolding for_each
+for_each-hushed step [] each world quiet = stays world quiet
+for_each-hushed step (item ∷ others) each world quiet =
+    after-hushed (for_each step others) (step item world) (for_each-hushed step others each) (each item world quiet)
+
+for_each-none : {A : Type 0} (step : A → World → Said World) (items : List A) (world : World) → items ≡ [] → IsQuiet world → IsHushed (for_each step items world)
+unfolding for_each
+for_each-none step items world none quiet = subst (λ these. IsHushed (for_each step these world)) (sym none) (stays world quiet)
+
+only_if-hushed : (step : World → Said World) (world : World) (test : Bool) → (test ≡ true → IsHushed (step world)) → IsQuiet world → IsHushed (only_if step world test)
+only_if-hushed step world true each quiet = each refl
+only_if-hushed step world false each quiet = stays world quiet
+
+only_if-not : (step : World → Said World) (world : World) (test : Bool) → test ≡ false → IsQuiet world → IsHushed (only_if step world test)
+only_if-not step world test fails quiet = subst (λ b. IsHushed (only_if step world b)) (sym fails) (stays world quiet)
+
+repeat-not : {S : Type 0} (goes_on : S → Bool) (step : S → Said S) (most : ℕ) (state : S) → goes_on state ≡ false → repeat goes_on step most state ≡ silent state
+unfolding repeat
+repeat-not goes_on step zero state fails = refl
+repeat-not goes_on step (suc most) state fails = ap (only_if (λ now. step now followed_by repeat goes_on step most) state) fails
+
+and-false : (a b : Bool) → b ≡ false → (a && b) ≡ false
+and-false true b fails = fails
+and-false false b fails = refl
+
+-- documents: the only one is the top document
+
+at-top : (world : World) (quiet : IsQuiet world) → document_at (world.tree) 0 ≡ quiet.top
+at-top world quiet = ap (λ documents. unwrap_or (slice_get documents 0) no_document) (quiet.alone)
+
+others-inactive : (world : World) → IsQuiet world → (n : ℕ) → is_active (world.tree) (suc n) ≡ false
+others-inactive world quiet n = ap (λ documents. is_active_state (unwrap_or (slice_get documents (suc n)) no_document).state) (quiet.alone)
+
+own-viewport : (world : World) → IsQuiet world → viewport_of (world.tree) (world.viewports.size) 0 ≡ world.viewports.size
+unfolding viewport_of
+own-viewport world quiet =
+    ap (λ frame. extent_of (unwrap_or (framed_size (world.tree) (world.viewports.size) (view_of (world.tree) (world.viewports.size)) frame) (0, 0))) (ap (λ (it : Document). it.frame) (at-top world quiet) ∙ quiet.frame)
+
+active-hushed : (document : ℕ) (part : ℕ → World → Said World) → ((world : World) → IsQuiet world → IsHushed (part 0 world)) → (world : World) → IsQuiet world → IsHushed (while_active document (part document) world)
+active-hushed zero part each world quiet = only_if-hushed (part 0) world (is_active (world.tree) 0) (λ is. each world quiet) quiet
+active-hushed (suc n) part each world quiet = only_if-not (part (suc n)) world (is_active (world.tree) (suc n)) (others-inactive world quiet n) quiet
+
+same-number : (n : ℕ) → (n == n) ≡ true
+same-number n = eq-eqb n n refl
+
+same-size : (size : Extent) → same_extent size size ≡ true
+same-size size = subst (λ b. cond b (size.down == size.down) false ≡ true) (sym (same-number (size.across))) (same-number (size.down))
+
+-- the size noted and the list of pending events taken
+
+put-first : (value : Option Extent) (noted : List (Option Extent)) → entry_or None (put_at None 0 value noted) 0 ≡ value
+put-first value [] = refl
+put-first value (x ∷ xs) = refl
+
+noted-quiet : (world : World) (size : Extent) → size ≡ world.viewports.size → IsQuiet world → IsQuiet (record world { viewports = with_noted 0 size (world.viewports) })
+noted-quiet world size is quiet = record {
+  top = quiet.top;
+  alone = quiet.alone;
+  frame = quiet.frame;
+  pending = quiet.pending;
+  noted = ap (differs_from (world.viewports.size)) (put-first (Some size) (world.viewports.noted)) ∙ subst (λ it. differs_from (world.viewports.size) (Some it) ≡ false) (sym is) (ap not (same-size (world.viewports.size)));
+  resize_observers = quiet.resize_observers;
+  intersection_observers = quiet.intersection_observers;
+  queries = quiet.queries;
+  frame_callbacks = quiet.frame_callbacks;
+  timers = quiet.timers;
+  tasks = quiet.tasks;
+}
+
+none-pending : (lists : List (List ScrollTarget)) → entry_or [] (change_at (λ (pending : List ScrollTarget). []) 0 lists) 0 ≡ []
+none-pending [] = refl
+none-pending (x ∷ xs) = refl
+
+taken-quiet : (world : World) → IsQuiet world → IsQuiet (record world { scrolls = without_pending 0 (world.scrolls) })
+taken-quiet world quiet = record {
+  top = quiet.top;
+  alone = quiet.alone;
+  frame = quiet.frame;
+  pending = none-pending (world.scrolls.pending);
+  noted = quiet.noted;
+  resize_observers = quiet.resize_observers;
+  intersection_observers = quiet.intersection_observers;
+  queries = quiet.queries;
+  frame_callbacks = quiet.frame_callbacks;
+  timers = quiet.timers;
+  tasks = quiet.tasks;
+}
+
+-- the parts of a tick
+
+timers-hushed : (script : Script) (world : World) → IsQuiet world → IsHushed (run_timers script world)
+unfolding run_timers
+timers-hushed script world quiet =
+    for_each-none (λ timer now. only_if (run_timer script timer) now (timer_stands timer (now.timers))) (due_timers (world.clock) (world.timers)) world
+    (ap (λ held. by_due_time (filter (λ (timer : Timer). nat_le timer.due world.clock) held)) (quiet.timers))
+    quiet
+
+resize-hushed : (script : Script) (world : World) → IsQuiet world → IsHushed (resize_steps script 0 world)
+unfolding resize_steps
+resize-hushed script world quiet =
+    let size = viewport_of (world.tree) (world.viewports.size) 0 in
+    only_if-not (fire script (FiredResize (document_text (world.names) 0)) (WindowTarget 0) events.Resize)
+    (record world { viewports = with_noted 0 size (world.viewports) })
+    (differs_from size (noted_size 0 (world.viewports)))
+    (ap (λ (it : Extent). differs_from it (noted_size 0 (world.viewports))) (own-viewport world quiet) ∙ quiet.noted)
+    (noted-quiet world size (own-viewport world quiet) quiet)
+
+scroll-hushed : (script : Script) (world : World) → IsQuiet world → IsHushed (scroll_steps script 0 world)
+unfolding scroll_steps
+scroll-hushed script world quiet =
+    for_each-none (λ target. while_active 0 (λ now. fire script (FiredScroll (scrolled_text (now.names) target)) (event_target_of target) events.Scroll now))
+    (pending_of 0 (world.scrolls))
+    (record world { scrolls = without_pending 0 (world.scrolls) })
+    (quiet.pending)
+    (taken-quiet world quiet)
+
+media-hushed : (script : Script) (world : World) → IsQuiet world → IsHushed (media_steps script 0 world)
+unfolding media_steps by_place
+media-hushed script world quiet =
+    subst (λ said. IsHushed (lifted (λ (turn : Turn World). turn.state) said))
+    (sym (repeat-not
+    (λ (turn : Turn World). is_active (turn.state.tree) 0 && nat_lt (turn.place) (length (turn.state.queries)))
+    (λ turn. lifted (at_place (suc turn.place)) (evaluate script 0 (turn.place) (turn.state)))
+    most_steps
+    (at_place 0 world)
+    (and-false (is_active (world.tree) 0) (nat_lt 0 (length world.queries)) (ap (λ queries. nat_lt 0 (length queries)) (quiet.queries)))))
+    (stays world quiet)
+
+frames-hushed : (script : Script) (world : World) → IsQuiet world → IsHushed (frame_steps script 0 world)
+unfolding frame_steps
+frames-hushed script world quiet =
+    for_each-none (λ callback now. only_if (run_frame_callback script callback) now (is_active (now.tree) 0 && frame_callback_stands callback (now.frame_callbacks)))
+    (frame_callbacks_of 0 (world.frame_callbacks))
+    world
+    (ap (λ held. filter (λ (callback : FrameCallback). callback.document == 0) held) (quiet.frame_callbacks))
+    quiet
+
+gathered-quiet : (world : World) → IsQuiet world → IsQuiet (gather 0 0 world)
+unfolding gather
+gathered-quiet world quiet = record {
+  top = quiet.top;
+  alone = quiet.alone;
+  frame = quiet.frame;
+  pending = quiet.pending;
+  noted = quiet.noted;
+  resize_observers = ap (map (λ (observer : ResizeObserver). gathered_if (is_of 0 observer) (sight_of world) 0 observer)) (quiet.resize_observers);
+  intersection_observers = quiet.intersection_observers;
+  queries = quiet.queries;
+  frame_callbacks = quiet.frame_callbacks;
+  timers = quiet.timers;
+  tasks = quiet.tasks;
+}
+
+none-active : (world : World) → IsQuiet world → has_active 0 (world.resize_observers) ≡ false
+none-active world quiet = ap (λ these. list_any (λ (observer : ResizeObserver). is_of 0 observer && is_filled (observer.active)) these) (quiet.resize_observers)
+
+none-skipped : (world : World) → IsQuiet world → has_skipped 0 (world.resize_observers) ≡ false
+none-skipped world quiet = ap (λ these. list_any (λ (observer : ResizeObserver). is_of 0 observer && is_filled (observer.skipped)) these) (quiet.resize_observers)
+
+error-hushed : (script : Script) (world : World) → IsQuiet world → IsHushed (report_skipped script 0 world)
+error-hushed script world quiet =
+    only_if-not (fire script (FiredError (document_text (world.names) 0)) (WindowTarget 0) events.Error) world (is_active (world.tree) 0 && has_skipped 0 (world.resize_observers))
+    (and-false (is_active (world.tree) 0) (has_skipped 0 (world.resize_observers)) (none-skipped world quiet))
+    quiet
+
+loop-hushed : (script : Script) (world : World) → IsQuiet world → IsHushed (resize_loop script 0 world)
+unfolding resize_loop
+loop-hushed script world quiet =
+    after-hushed (report_skipped script 0)
+    (repeat (λ now. is_active (now.tree) 0 && has_active 0 (now.resize_observers)) (round script 0) most_steps (gather 0 0 world))
+    (error-hushed script)
+    (subst IsHushed
+    (sym (repeat-not (λ now. is_active (now.tree) 0 && has_active 0 (now.resize_observers)) (round script 0) most_steps (gather 0 0 world)
+    (and-false (is_active (gather 0 0 world).tree 0) ((has_active 0 (gather 0 0 world).resize_observers)) (none-active (gather 0 0 world) (gathered-quiet world quiet)))))
+    (stays (gather 0 0 world) (gathered-quiet world quiet)))
+
+updated-quiet : (world : World) → IsQuiet world → IsQuiet (update_intersections 0 world)
+unfolding update_intersections
+updated-quiet world quiet =
+    let watching = places_from 0 (λ (observer : IntersectionObserver). is_rooted_in (world.tree) 0 (observer.root)) in
+    let now = record world { intersection_observers = settling (world.clock) (finding world) (watchers (world.tree) 0 (world.intersection_observers)) (world.intersection_observers) } in
+    let still : IsQuiet now = record {
+      top = quiet.top;
+      alone = quiet.alone;
+      frame = quiet.frame;
+      pending = quiet.pending;
+      noted = quiet.noted;
+      resize_observers = quiet.resize_observers;
+      intersection_observers = ap (λ these. change_each (settled_observer (world.clock) (finding world)) (watching these) these) (quiet.intersection_observers);
+      queries = quiet.queries;
+      frame_callbacks = quiet.frame_callbacks;
+      timers = quiet.timers;
+      tasks = quiet.tasks;
+    } in
+    subst (λ test. IsQuiet (cond test (with_notify_task 0 (is_notifying 0 (world.notifying)) now) now))
+    (sym (ap (λ these. list_any (has_queued (world.intersection_observers) (now.intersection_observers)) (watching these)) (quiet.intersection_observers)))
+    still
+
+update-hushed : (script : Script) (world : World) → IsQuiet world → IsHushed (update_rendering script world)
+unfolding update_rendering for_each
+update-hushed script world quiet =
+    let documents = active_documents (world.tree) in
+    let over : (ℕ → World → Said World) → World → Said World = λ part. for_each (λ document. while_active document (part document)) documents in
+    after-hushed _ (over (resize_steps script) world) (λ a qa.
+    after-hushed _ (over (scroll_steps script) a) (λ b qb.
+    after-hushed _ (over (media_steps script) b) (λ c qc.
+    after-hushed _ (over (frame_steps script) c) (λ d qd.
+    after-hushed _ (over (resize_loop script) d) (λ e qe.
+    after-hushed (λ f. silent f) (over intersection_steps e) stays
+    (documents-hushed intersection_steps documents (λ now quiet. stays (update_intersections 0 now) (updated-quiet now quiet)) e qe))
+    (documents-hushed (resize_loop script) documents (loop-hushed script) d qd))
+    (documents-hushed (frame_steps script) documents (frames-hushed script) c qc))
+    (documents-hushed (media_steps script) documents (media-hushed script) b qb))
+    (documents-hushed (scroll_steps script) documents (scroll-hushed script) a qa))
+    (documents-hushed (resize_steps script) documents (resize-hushed script) world quiet)
+  where
+    documents-hushed : (part : ℕ → World → Said World) (documents : List ℕ) → ((now : World) → IsQuiet now → IsHushed (part 0 now)) → (now : World) → IsQuiet now → IsHushed (for_each (λ document. while_active document (part document)) documents now)
+    documents-hushed part documents each now here =
+        for_each-hushed (λ document. while_active document (part document)) documents (λ document it quiet. active-hushed document part each it quiet) now here
+
+tasks-hushed : (script : Script) (world : World) → IsQuiet world → IsHushed (run_tasks script world)
+unfolding run_tasks
+tasks-hushed script world quiet =
+    subst IsHushed
+    (sym (repeat-not (λ now. has_tasks (now.tasks)) (λ now. run_first script (now.tasks) now) most_steps world (ap has_tasks (quiet.tasks))))
+    (stays world quiet)
+
+-- a line said first
+pub record IsHushedBut (line : TraceLine) (said : Said World) : Type 0 where
+  pub lines : said.lines ≡ line ∷ []
+  pub flow : said.flow ≡ Next
+  pub quiet : IsQuiet (said.state)
+
+follow-but : (line : TraceLine) (flow : Flow) (rest : World → Said World) (said : Said World) → flow ≡ Next → said.lines ≡ line ∷ [] → IsHushed (rest (said.state)) → IsHushedBut line (follow flow rest said)
+unfolding follow
+follow-but line Next rest said is lines more = record {
+  lines = subst (λ first. first ++ (rest (said.state)).lines ≡ line ∷ []) (sym lines) (ap (λ others. line ∷ others) (more.lines));
+  flow = more.flow;
+  quiet = more.quiet;
+}
+follow-but line Thrown rest said is lines more = absurd (thrown-is-no-next is)
+follow-but line Limited rest said is lines more = absurd (limited-is-no-next is)
+
+after-but : (line : TraceLine) (rest : World → Said World) (said : Said World) → ((world : World) → IsQuiet world → IsHushed (rest world)) → IsHushedBut line said → IsHushedBut line (said followed_by rest)
+unfolding ◌followed_by◌
+after-but line rest said each here = follow-but line (said.flow) rest said (here.flow) (here.lines) (each (said.state) (here.quiet))
+
+pub tick-hushed : (script : Script) (world : World) → IsQuiet world → IsHushedBut (TickLine (world.clock)) (tick script world)
+unfolding tick
+tick-hushed script world quiet =
+    let line = TickLine (world.clock) in
+    let begins = say (line ∷ []) world in
+    after-but line (run_tasks script) (begins followed_by run_timers script followed_by update_rendering script) (tasks-hushed script)
+    (after-but line (update_rendering script) (begins followed_by run_timers script) (update-hushed script)
+    (after-but line (run_timers script) begins (timers-hushed script)
+    (record { lines = refl; flow = refl; quiet = quiet })))
