@@ -12,14 +12,15 @@ module _ {A B : Type 0} (show : A → B) where
   change_shown f g (suc place) (x ∷ xs) agree = ap (λ ys. show x ∷ ys) (change_shown f g place xs agree)
 
   -- a change that is none of what is shown
-  pub no_change_shown : (g : B → B) → ((x : A) → g (show x) ≡ show x) → (place : ℕ) (xs : List A) → change_at g place (map show xs) ≡ map show xs
-  no_change_shown g none place [] = refl
-  no_change_shown g none zero (x ∷ xs) = ap (λ y. y ∷ map show xs) (none x)
-  no_change_shown g none (suc place) (x ∷ xs) = ap (λ ys. show x ∷ ys) (no_change_shown g none place xs)
+  no_change_shown : (g : B → B) (place : ℕ) (xs : List A) → ((x : A) → slice_get xs place ≡ Some x → g (show x) ≡ show x) → change_at g place (map show xs) ≡ map show xs
+  no_change_shown g place [] none = refl
+  no_change_shown g zero (x ∷ xs) none = ap (λ y. y ∷ map show xs) (none x refl)
+  no_change_shown g (suc place) (x ∷ xs) none = ap (λ ys. show x ∷ ys) (no_change_shown g place xs none)
 
-  pub no_changes_shown : (g : B → B) → ((x : A) → g (show x) ≡ show x) → (places : List ℕ) (xs : List A) → change_each g places (map show xs) ≡ map show xs
-  no_changes_shown g none [] xs = refl
-  no_changes_shown g none (place ∷ places) xs = ap (change_each g places) (no_change_shown g none place xs) ∙ no_changes_shown g none places xs
+  pub no_changes_shown : (g : B → B) (places : List ℕ) (xs : List A) → ((place : ℕ) (x : A) → slice_get xs place ≡ Some x → g (show x) ≡ show x)
+      → change_each g places (map show xs) ≡ map show xs
+  no_changes_shown g [] xs none = refl
+  no_changes_shown g (place ∷ places) xs none = ap (change_each g places) (no_change_shown g place xs (none place)) ∙ no_changes_shown g places xs none
 
 -- changes that don't meddle with one another may be made in any order
 pub changes_commute : {A : Type 0} (f g : A → A) → ((x : A) → f (g x) ≡ g (f x)) → (i j : ℕ) (xs : List A)

@@ -1,11 +1,11 @@
 -- A page in which no element is a frame with a document: nothing follows from what stands in frames.
-use Rattle.std.proofs.Common.{◌≡◌, ℕ, Bool, true, false, cond, List, [], ◌∷◌, filter_map, map, Option, None, refl, ap}
+use Rattle.std.proofs.Common.{◌≡◌, ℕ, Bool, true, false, cond, List, [], ◌∷◌, filter_map, map, Option, None, option_map, refl, ap, sym, ◌∙◌}
 use Rattle.page_model.specs.World.{DocumentState, Dead, Active, Tree}
 use Rattle.page_model.specs.Lookups.{element_at}
 use Rattle.page_model.specs.Documents.{frames_in, led_to, frame_levels, documents_inside, inclusive_descendants, stands_in_active, is_active_state, is_fresh_state, with_state, unlinked, container_of, removed, shown, adopted}
 use Rattle.element_tree.specs.Forest.{Knot}
 use Rattle.page_tree.specs.Items.{Described}
-use Rattle.page_tree.specs.Views.{element_of, spread}
+use Rattle.page_tree.specs.Views.{element_of, spread, home_in, home_of}
 use Rattle.page_tree.proofs.Changes.{no_changes_shown}
 
 pub no_states : (state : DocumentState) (tree : Tree) → with_state state [] tree ≡ tree
@@ -40,8 +40,11 @@ module _ (tree : Tree) (none : (n : ℕ) → (element_at tree n).framed ≡ None
   shown_same n = ap (λ fresh. with_state Active fresh tree) (both_none (stands_in_active tree n) _ (nothing_inside is_fresh_state n))
 
 -- every element has `top` as its node document already
-pub adopted_same : (nodes : List (Knot Described)) (root : Option ℕ) (n : ℕ) → adopted (spread (map element_of nodes) root) 0 n ≡ spread (map element_of nodes) root
+pub adopted_same : (nodes : List (Knot Described)) (root : Option ℕ) → ((m : ℕ) → home_of nodes m ≡ (0, None)) → (n : ℕ)
+    → adopted (spread (map element_of nodes) root) 0 n ≡ spread (map element_of nodes) root
 unfolding adopted
-adopted_same nodes root n =
+adopted_same nodes root lone n =
     ap (λ elements. spread elements root)
-    (no_changes_shown element_of (λ element. record element { document = 0 }) (λ knot. refl) (inclusive_descendants (spread (map element_of nodes) root) n) nodes)
+    (no_changes_shown element_of (λ element. record element { document = 0 }) (inclusive_descendants (spread (map element_of nodes) root) n) nodes
+    (λ m knot at. ap (λ document. record (element_of knot) { document = document })
+    (ap (λ home. home.0) (sym (lone m) ∙ ap (λ it. home_in (option_map (λ k. k.payload) it)) at))))

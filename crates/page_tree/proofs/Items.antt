@@ -8,7 +8,8 @@ use Rattle.element_tree.specs.Forest.{Knot, Forest, parent_of}
 use Rattle.element_tree.specs.Edits.{with_payload, with_nodes, change_at as changed_at}
 use Rattle.element_tree.proofs.Nodes.{length-changed}
 use Rattle.page_tree.specs.Items.{Described, with_item}
-use Rattle.page_tree.specs.Views.{PageElements, element_of, name_in, spread, seen_page, IsPage}
+use Rattle.page_tree.specs.Views.{PageElements, element_of, name_in, spread, home_in, seen_page, IsPage}
+use Rattle.page_tree.proofs.Homes.{lone_written}
 use Rattle.page_tree.proofs.Changes.{change_shown, change_unseen}
 use Rattle.page_tree.proofs.Outcomes.{rest_same}
 
@@ -41,6 +42,7 @@ module _ (old : PageElements) (forest : Forest Described) (root : Option ℕ) (s
       subst (λ k. m < k) (sym (length-changed (with_payload now) n forest.nodes)) (is.rooted m e).0,
       parent-written now n forest.nodes m ∙ (is.rooted m e).1,
     );
+    lone = lone_written now (ap (λ it. home_in (Some it)) made ∙ sym (ap home_in there) ∙ is.lone n) n forest.nodes is.lone;
   }
 
   pub written_done : (seen_page (with_nodes (changed_at (with_payload now) n) forest) root).tree ≡ change_item change n (old.tree)

@@ -1,4 +1,5 @@
 pub mod Changes
+pub mod Homes
 pub mod Siblings
 pub mod Lookups
 pub mod Paths

@@ -8,7 +8,7 @@ use Rattle.element_tree.specs.Forest.{Knot, parent_of, children_of, parent_in, c
 use Rattle.block_layout.specs.Trees.{layout_tree as tree_in, node_in}
 use Rattle.page_model.specs.Documents.{node_of}
 use Rattle.page_tree.specs.Items.{Described, style_in, kind_in}
-use Rattle.page_tree.specs.Views.{element_of, spread, IsLone}
+use Rattle.page_tree.specs.Views.{element_of, spread, home_in, home_of, IsLone}
 
 -- the element that stands for what is found
 abbrev pub found : Option (Knot Described) → Element
@@ -27,13 +27,12 @@ found_children : (it : Option (Knot Described)) → (found it).children ≡ chil
 found_children None = refl
 found_children (Some knot) = refl
 
-found_document : (it : Option (Knot Described)) → (found it).document ≡ 0
-found_document None = refl
-found_document (Some knot) = refl
+abbrev home : Element → ℕ × Option ℕ
+home it = (it.document, it.framed)
 
-found_framed : (it : Option (Knot Described)) → (found it).framed ≡ None
-found_framed None = refl
-found_framed (Some knot) = refl
+found_home : (it : Option (Knot Described)) → home (found it) ≡ home_in (option_map (λ knot. knot.payload) it)
+found_home None = refl
+found_home (Some knot) = refl
 
 found_node : (it : Option (Knot Described)) → node_of (found it) ≡ node_in style_in kind_in it
 found_node None = refl
@@ -53,15 +52,20 @@ module _ (nodes : List (Knot Described)) (root : Option ℕ) where
   pub children_found : (n : ℕ) → (element_at (spread (map element_of nodes) root) n).children ≡ children_of nodes n
   children_found n = ap (λ (it : Element). it.children) (element_found n) ∙ found_children (slice_get nodes n)
 
-  pub document_found : (n : ℕ) → (element_at (spread (map element_of nodes) root) n).document ≡ 0
-  document_found n = ap (λ (it : Element). it.document) (element_found n) ∙ found_document (slice_get nodes n)
-
-  pub framed_found : (n : ℕ) → (element_at (spread (map element_of nodes) root) n).framed ≡ None
-  framed_found n = ap (λ (it : Element). it.framed) (element_found n) ∙ found_framed (slice_get nodes n)
-
   pub tree_found : nodes_of (spread (map element_of nodes) root) ≡ tree_in style_in kind_in nodes
   unfolding tree_in
   tree_found = pointwise (λ n. ap node_of (element_found n) ∙ found_node (slice_get nodes n))
 
-  pub lone_page : IsLone (spread (map element_of nodes) root)
-  lone_page = record { documents = refl; document = document_found; framed = framed_found }
+  -- `top` is the only document
+  module _ (lone : (n : ℕ) → home_of nodes n ≡ (0, None)) where
+    home_found : (n : ℕ) → home (element_at (spread (map element_of nodes) root) n) ≡ (0, None)
+    home_found n = ap home (element_found n) ∙ found_home (slice_get nodes n) ∙ lone n
+
+    pub document_found : (n : ℕ) → (element_at (spread (map element_of nodes) root) n).document ≡ 0
+    document_found n = ap (λ (it : ℕ × Option ℕ). it.0) (home_found n)
+
+    pub framed_found : (n : ℕ) → (element_at (spread (map element_of nodes) root) n).framed ≡ None
+    framed_found n = ap (λ (it : ℕ × Option ℕ). it.1) (home_found n)
+
+    pub lone_page : IsLone (spread (map element_of nodes) root)
+    lone_page = record { documents = refl; document = document_found; framed = framed_found }

@@ -18,6 +18,7 @@ use Rattle.page_tree.specs.Faults.{refusal}
 use Rattle.page_tree.specs.Answers.{put_fault, mark_for, refusal_of, is_absent}
 use Rattle.page_tree.proofs.Changes.{change_unseen}
 use Rattle.page_tree.proofs.Standing.{no_root, length_removed, length_inserted, rooted_removed, rooted_inserted, root_made}
+use Rattle.page_tree.proofs.Homes.{lone_removed, lone_inserted}
 use Rattle.page_tree.proofs.Lookups.{parent_found}
 use Rattle.page_tree.proofs.Places.{removed_page}
 use Rattle.page_tree.proofs.Placing.{in_refused, in_done, top_missing, top_full, top_done}
@@ -84,13 +85,13 @@ module _ (old : PageElements) (forest : Forest Described) (root : Option ℕ) (s
     IsPage-removed =
         subst (λ f. IsPage f left) (sym taken)
         (subst (IsPage (with_nodes (taken_away n) forest)) (sym left_is)
-        (record { most_nodes = is.most_nodes; counted = omega (arith, length_removed n forest.nodes, is.counted); most_depth = is.most_depth; rooted = rooted_removed forest.nodes root is.rooted trees n n_within }))
+        (record { most_nodes = is.most_nodes; counted = omega (arith, length_removed n forest.nodes, is.counted); most_depth = is.most_depth; rooted = rooted_removed forest.nodes root is.rooted trees n n_within; lone = lone_removed n forest.nodes is.lone }))
 
     pub removed_done : (seen_page later left).tree ≡ removed (old.tree) n
     removed_done =
         ap (λ (f : Forest Described). spread (map element_of f.nodes) left) taken
         ∙ ap (λ r. spread (map element_of (taken_away n forest.nodes)) r) left_is
-        ∙ sym (removed_page forest.nodes trees root is.rooted n)
+        ∙ sym (removed_page forest.nodes trees root is.rooted is.lone n)
         ∙ ap (λ page. removed (page.tree) n) seen
 
     pub removed_rest : seen_page later left ≡ record old { tree = spread (map element_of later.nodes) left }
@@ -111,6 +112,7 @@ module _ (old : PageElements) (forest : Forest Described) (root : Option ℕ) (s
             counted = omega (arith, length_inserted p n (mark_for n sibling forest.nodes) forest.nodes, is.counted);
             most_depth = is.most_depth;
             rooted = rooted_inserted forest.nodes root is.rooted trees n n_within p (mark_for n sibling forest.nodes) (within old forest root seen p p_in);
+            lone = lone_inserted p n (mark_for n sibling forest.nodes) forest.nodes is.lone;
           }))
 
       pub put_done : put_fault forest p n sibling ≡ None → placing (InElement p) n sibling (old.tree) ≡ Did ((seen_page later left).tree)
@@ -137,7 +139,7 @@ module _ (old : PageElements) (forest : Forest Described) (root : Option ℕ) (s
       pub IsPage-topped : IsPage later (Some n)
       IsPage-topped =
           subst (λ f. IsPage f (Some n)) (sym taken)
-          (record { most_nodes = is.most_nodes; counted = omega (arith, length_removed n forest.nodes, is.counted); most_depth = is.most_depth; rooted = root_made forest.nodes root is.rooted trees n n_within })
+          (record { most_nodes = is.most_nodes; counted = omega (arith, length_removed n forest.nodes, is.counted); most_depth = is.most_depth; rooted = root_made forest.nodes root is.rooted trees n n_within; lone = lone_removed n forest.nodes is.lone })
 
       pub topped_done : is_absent root sibling ≡ false → is_some root ≡ false → placing (InDocument 0) n sibling (old.tree) ≡ Did ((seen_page later (Some n)).tree)
       topped_done e free =

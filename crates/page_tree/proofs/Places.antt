@@ -7,12 +7,13 @@ use Rattle.element_tree.specs.Forest.{Knot, IsForest, IsOnce, parent_of, childre
 use Rattle.element_tree.specs.Edits.{with_parent, with_children, put_before, without as taken_out, removed_from, removed as taken_away, attached, inserted as put_in, change_at as changed_at}
 use Rattle.element_tree.proofs.Nodes.{children-reparented}
 use Rattle.page_tree.specs.Items.{Described}
-use Rattle.page_tree.specs.Views.{element_of, spread, IsRoot, root_without}
+use Rattle.page_tree.specs.Views.{element_of, spread, home_of, IsRoot, root_without}
 use Rattle.page_tree.proofs.Changes.{change_shown, changes_commute}
 use Rattle.page_tree.proofs.Siblings.{without_once, placed_put}
 use Rattle.page_tree.proofs.Lookups.{parent_found, document_found, framed_found}
 use Rattle.page_tree.proofs.Frames.{removed_unlinked, shown_same, adopted_same}
 use Rattle.page_tree.proofs.Standing.{no_root}
+use Rattle.page_tree.proofs.Homes.{lone_removed, lone_inserted}
 
 -- an element with other children
 abbrev with_list : Knot Described → List ℕ → Element
@@ -23,10 +24,10 @@ module _ (nodes : List (Knot Described)) (root : Option ℕ) where
   abbrev pub page : Tree
   page = spread (map element_of nodes) root
 
-  pub container_found : (n : ℕ) → container_of (spread (map element_of nodes) root) n ≡ container_by (parent_of nodes n) (is_number root n) 0
-  container_found n =
+  pub container_found : ((m : ℕ) → home_of nodes m ≡ (0, None)) → (n : ℕ) → container_of (spread (map element_of nodes) root) n ≡ container_by (parent_of nodes n) (is_number root n) 0
+  container_found lone n =
       ap (λ parent. container_by parent (is_root_element page n) ((element_at page n).document)) (parent_found nodes root n)
-      ∙ ap (λ document. container_by (parent_of nodes n) (is_number ((document_at page document).root) n) document) (document_found nodes root n)
+      ∙ ap (λ document. container_by (parent_of nodes n) (is_number ((document_at page document).root) n) document) (document_found nodes root lone n)
 
   unlinked_lone : (n : ℕ) (b : Bool) → unlinked page n (container_by None b 0) ≡ spread (map element_of nodes) (cond b None root)
   unlinked_lone n true = refl
@@ -42,7 +43,8 @@ module _ (nodes : List (Knot Described)) (root : Option ℕ) where
       ∙ ap (λ xs. spread (map element_of xs) root)
       (changes_commute (with_children (put_before mark n)) (with_parent (Some p)) (λ knot. refl) p n nodes)
 
-module _ {most : ℕ} (nodes : List (Knot Described)) (forest : IsForest most nodes) (root : Option ℕ) (rooted : (m : ℕ) → root ≡ Some m → IsRoot nodes m) where
+module _ {most : ℕ} (nodes : List (Knot Described)) (forest : IsForest most nodes) (root : Option ℕ) (rooted : (m : ℕ) → root ≡ Some m → IsRoot nodes m)
+    (lone : (m : ℕ) → home_of nodes m ≡ (0, None)) where
   once_there : (n p : ℕ) (knot : Knot Described) → slice_get (changed_at (with_parent None) n nodes) p ≡ Some knot → IsOnce knot.children
   once_there n p knot is =
       subst IsOnce (sym (children-reparented None n nodes p) ∙ ap children_in is) (forest.once p)
@@ -62,8 +64,8 @@ module _ {most : ℕ} (nodes : List (Knot Described)) (forest : IsForest most no
 
   pub removed_page : (n : ℕ) → removed (spread (map element_of nodes) root) n ≡ spread (map element_of (taken_away n nodes)) (root_without n root)
   removed_page n =
-      removed_unlinked (page nodes root) (framed_found nodes root) n
-      ∙ ap (unlinked (page nodes root) n) (container_found nodes root n)
+      removed_unlinked (page nodes root) (framed_found nodes root lone) n
+      ∙ ap (unlinked (page nodes root) n) (container_found nodes root lone n)
       ∙ unlinked_from n (parent_of nodes n) refl
 
   pub inserted_page : (p n : ℕ) (sibling mark : Option ℕ) → sibling_meant (spread (map element_of nodes) root) (InElement p) n sibling ≡ mark
@@ -77,9 +79,9 @@ module _ {most : ℕ} (nodes : List (Knot Described)) (forest : IsForest most no
       ap (λ it. at home (linked it (InElement p) n (sibling_meant (page nodes root) (InElement p) n sibling))) (removed_page n)
       ∙ ap (λ m. at home (linked (spread (map element_of (taken_away n nodes)) left) (InElement p) n m)) meant
       ∙ ap (at home) (linked_in (taken_away n nodes) left p n mark)
-      ∙ ap (λ document. at document (page later left)) (document_found nodes root p)
-      ∙ ap (λ it. shown it n) (adopted_same later left n)
-      ∙ shown_same (page later left) (framed_found later left) n
+      ∙ ap (λ document. at document (page later left)) (document_found nodes root lone p)
+      ∙ ap (λ it. shown it n) (adopted_same later left (lone_inserted p n mark nodes lone) n)
+      ∙ shown_same (page later left) (framed_found later left (lone_inserted p n mark nodes lone)) n
 
   pub inserted_top : (n : ℕ) (sibling : Option ℕ) → inserted (spread (map element_of nodes) root) (InDocument 0) n sibling ≡ spread (map element_of (taken_away n nodes)) (Some n)
   unfolding inserted
@@ -87,5 +89,5 @@ module _ {most : ℕ} (nodes : List (Knot Described)) (forest : IsForest most no
       let meant : Option ℕ = sibling_meant (page nodes root) (InDocument 0) n sibling in
       let later : List (Knot Described) = taken_away n nodes in
       ap (λ it. shown (adopted (linked it (InDocument 0) n meant) 0 n) n) (removed_page n)
-      ∙ ap (λ it. shown it n) (adopted_same later (Some n) n)
-      ∙ shown_same (page later (Some n)) (framed_found later (Some n)) n
+      ∙ ap (λ it. shown it n) (adopted_same later (Some n) (lone_removed n nodes lone) n)
+      ∙ shown_same (page later (Some n)) (framed_found later (Some n) (lone_removed n nodes lone)) n

@@ -110,7 +110,7 @@ module _ (forest : Forest Described) (root : Option ℕ) (is : IsPage forest roo
 
   missing_same : (p sibling : ℕ) → is_no_child now (InElement p) (Some sibling) ≡ not (names (parent_of forest.nodes sibling) p)
   missing_same p sibling =
-      ap (λ held. not (is_container_of (InElement p) held)) (container_found forest.nodes root sibling)
+      ap (λ held. not (is_container_of (InElement p) held)) (container_found forest.nodes root is.lone sibling)
       ∙ ap not (child_of p (parent_of forest.nodes sibling) (is_number root sibling))
 
   next_meant : (p n sibling : ℕ) → parent_of forest.nodes sibling ≡ Some p → (same : Bool) → nat_eq sibling n ≡ same
@@ -154,18 +154,18 @@ module _ (forest : Forest Described) (root : Option ℕ) (is : IsPage forest roo
       → placing (InElement p) n sibling (spread (map element_of forest.nodes) root) ≡ Did (spread (map element_of (put_in p n (mark_for n sibling forest.nodes) forest.nodes)) (root_without n root))
   in_done p n None e =
       judged_append p n ∙ append_done (is_ancestor forest.nodes n p) (too_deep forest p n) _ e
-      ∙ ap Did (inserted_page forest.nodes trees root is.rooted p n None None refl)
+      ∙ ap Did (inserted_page forest.nodes trees root is.rooted is.lone p n None None refl)
   in_done p n (Some sibling) e =
       let all = insert_done (is_ancestor forest.nodes n p) (not (names (parent_of forest.nodes sibling) p)) (too_deep forest p n) (inserted now (InElement p) n (Some sibling)) e in
       judged_insert p n sibling ∙ all.0
       ∙ ap Did
-      (inserted_page forest.nodes trees root is.rooted p n (Some sibling) (mark_of n sibling forest.nodes)
+      (inserted_page forest.nodes trees root is.rooted is.lone p n (Some sibling) (mark_of n sibling forest.nodes)
       (meant_same p n sibling (names_some (parent_of forest.nodes sibling) p (not_missing _ all.1))))
 
   absent_same : (sibling : Option ℕ) → is_no_child now (InDocument 0) sibling ≡ is_absent root sibling
   absent_same None = refl
   absent_same (Some sibling) =
-      ap (λ held. not (is_container_of (InDocument 0) held)) (container_found forest.nodes root sibling)
+      ap (λ held. not (is_container_of (InDocument 0) held)) (container_found forest.nodes root is.lone sibling)
       ∙ ap not (root_of_top (parent_of forest.nodes sibling) (is_number root sibling) (no_root forest.nodes is.rooted sibling))
 
   judged_top : (n : ℕ) (sibling : Option ℕ) → placing (InDocument 0) n sibling now
@@ -200,4 +200,4 @@ module _ (forest : Forest Described) (root : Option ℕ) (is : IsPage forest roo
   top_done n sibling e free =
       top_as n sibling false false e free
       ∙ ap (λ fits. judged false false false fits (inserted now (InDocument 0) n sibling)) (low n)
-      ∙ ap Did (inserted_top forest.nodes trees root is.rooted n sibling)
+      ∙ ap Did (inserted_top forest.nodes trees root is.rooted is.lone n sibling)

@@ -1,15 +1,17 @@
--- What an element of the page is by itself: its name, its style and its kind.
-use Rattle.std.specs.Prelude.{ℕ, ℤ, pos, ◌≤ℤ◌, List, unsigned_abs}
+-- What an element of the page is by itself: its name, its style and its kind, and the documents that it belongs to and holds.
+use Rattle.std.specs.Prelude.{ℕ, ℤ, pos, ◌≤ℤ◌, List, Option, None, unsigned_abs}
 use Rattle.px_units.specs.declared.Size.{Size}
 use Rattle.layout_model.specs.Styles.{Style, first_style, declared, Declaration}
 use Rattle.layout_model.specs.Items.{Kind, ImageKind, Item}
 use Rattle.block_layout.specs.declared.ItemKind.{ItemKind}
 use Rattle.block_layout.specs.declared.ItemKind.TheVariants.{Block, Image, Frame}
 
--- what the tree carries of an element
+-- what the tree carries of an element; `document` is its node document, and `framed` the document of a frame
 pub record Described : Type 0 where
   pub name : List ℕ
   pub item : Item
+  pub document : ℕ
+  pub framed : Option ℕ
 
 abbrev pub style_in : Described → Style
 style_in it = it.item.style
@@ -30,9 +32,14 @@ IsKind Block = Unit {0}
 IsKind (Image size) = IsNatural size
 IsKind Frame = Unit {0}
 
--- an element just made
-abbrev pub described : List ℕ → Kind → Described
-described name kind = record { name = name; item = record { style = first_style; kind = kind } }
+-- an element just made in a document, and no frame with one
+abbrev pub described : List ℕ → Kind → ℕ → Described
+described name kind document = record {
+  name = name;
+  item = record { style = first_style; kind = kind };
+  document = document;
+  framed = None;
+}
 
 abbrev pub with_item : (Item → Item) → Described → Described
 with_item change it = record it { item = change (it.item) }

@@ -1,6 +1,6 @@
 -- What the tree of the page is seen as: the definitions' elements and documents (DOM, 4.2.1 and 4.5), with what is kept beside
--- them. `top` is the only document yet, and no element is a frame with a document.
-use Rattle.std.specs.Prelude.{◌≡◌, ◌<◌, ◌≤◌, ℕ, Bool, cond, List, [], ◌∷◌, length, map, Option, Some, None}
+-- them. `top` is the only document yet, and no element is a frame with a document: `lone` of IsPage says so, and nothing else.
+use Rattle.std.specs.Prelude.{◌≡◌, ◌<◌, ◌≤◌, ℕ, Bool, cond, List, [], ◌∷◌, length, map, Option, Some, None, option_map, slice_get}
 use Rattle.text_io.specs.declared.kinds.LimitKind.TheVariants as limits
 use Rattle.text_io.specs.Limits.{limit_number}
 use Rattle.element_tree.specs.Forest.{Knot, Forest, parent_of}
@@ -33,19 +33,22 @@ element_of knot = record {
   item = knot.payload.item;
   parent = knot.parent;
   children = knot.children;
-  document = 0;
-  framed = None;
+  document = knot.payload.document;
+  framed = knot.payload.framed;
 }
 
 abbrev pub name_in : Knot Described → List ℕ
 name_in knot = knot.payload.name
 
-abbrev pub seen_page : Forest Described → Option ℕ → PageElements
-seen_page forest root = record {
-  tree = spread (map element_of forest.nodes) root;
+abbrev pub seen_with : Forest Described → List Document → PageElements
+seen_with forest documents = record {
+  tree = record { elements = map element_of forest.nodes; documents = documents };
   names = map name_in forest.nodes;
   ready = forest.ready;
 }
+
+abbrev pub seen_page : Forest Described → Option ℕ → PageElements
+seen_page forest root = seen_with forest (top_document root ∷ [])
 
 -- `top` is the only document, and each element is one of it and no frame with a document
 pub record IsLone (tree : Tree) : Type 0 where
@@ -61,9 +64,18 @@ root_without n root = cond (is_number root n) None root
 abbrev pub IsRoot : List (Knot Described) → ℕ → Type 0
 IsRoot nodes n = (n < length nodes) × (parent_of nodes n ≡ None)
 
--- the tree has the limits of the page, and its root element is one
+-- the node document of an element, and the document that it is a frame of; of what isn't there as of an element of `top`
+abbrev pub home_in : Option Described → ℕ × Option ℕ
+home_in None = (0, None)
+home_in (Some it) = (it.document, it.framed)
+
+abbrev pub home_of : List (Knot Described) → ℕ → ℕ × Option ℕ
+home_of nodes n = home_in (option_map (λ knot. knot.payload) (slice_get nodes n))
+
+-- the tree has the limits of the page, its root element is one, and every element is of `top` and no frame with a document
 pub record IsPage (forest : Forest Described) (root : Option ℕ) : Type 0 where
   pub most_nodes : forest.most_nodes ≡ limit_number limits.Nodes
   pub counted : length forest.nodes ≤ limit_number limits.Nodes
   pub most_depth : forest.most_depth ≡ limit_number limits.Depth
   pub rooted : (n : ℕ) → root ≡ Some n → IsRoot forest.nodes n
+  pub lone : (n : ℕ) → home_of forest.nodes n ≡ (0, None)

@@ -13,12 +13,15 @@ use std::marker::Model;
 use style_values::{Declaration, Style};
 use text_io::Name;
 
-/// An element by itself: its name, its style and its kind. No length in it is negative.
+/// An element by itself: its name, its style and its kind, its node document (DOM, 4.4), and the document of a frame (HTML,
+/// 4.8.5). No length in it is negative.
 #[derive(Drop)]
 pub struct Element {
     name: Name,
     kind: ItemKind,
     style: Style,
+    document: u32,
+    framed: Option<u32>,
 }
 
 impl Model for Element {
@@ -29,20 +32,23 @@ impl Model for Element {
 
     ghost Value = { Described };
 
-    ghost view = { λ e. record { name = e.name; item = record { style = seen_style e.style; kind = seen_kind e.kind } } };
+    ghost view = { λ e. record { name = e.name; item = record { style = seen_style e.style; kind = seen_kind e.kind }; document = e.document; framed = e.framed } };
 
     ghost invariant = { λ e. IsStyle e.style × IsKind e.kind };
 }
 
 impl Element {
-    pub(crate) fn new(name: Name, kind: ItemKind) -> Element
+    // Made in this document, and no frame with a document.
+    pub(crate) fn new(name: Name, kind: ItemKind, document: u32) -> Element
         requires { IsKind kind }
-        ensures { result ≡ described name (seen_kind kind) }
+        ensures { result ≡ described name (seen_kind kind) document }
     {
         Element {
             name,
             kind,
             style: Style::new(),
+            document,
+            framed: None,
         }
     }
 
@@ -51,6 +57,20 @@ impl Element {
         ensures { result ≡ self.now.name }
     {
         self.name
+    }
+
+    /// The number of its node document.
+    pub fn document(&self) -> u32
+        ensures { result ≡ self.now.document }
+    {
+        self.document
+    }
+
+    /// The number of the document in it, where it is a frame with one.
+    pub fn framed(&self) -> Option<u32>
+        ensures { result ≡ self.now.framed }
+    {
+        self.framed
     }
 
     pub(crate) fn apply(&mut self, declaration: Declaration)

@@ -37,6 +37,9 @@ const MOST_NODES: u32 = 20000;
 /// As many elements as a path to a root may have.
 const MOST_DEPTH: u32 = 256;
 
+/// The number of the document `top`, which is the only one yet.
+const TOP: u32 = 0;
+
 /// The greatest length of a style, in units of 1/64 pixel: 1,000,000 pixels.
 const MOST_UNITS: i64 = 64_000_000;
 
@@ -129,7 +132,7 @@ impl PageTree {
         if let Err(fault) = self.reserve() {
             return Err(fault);
         }
-        let Ok(node) = self.tree.add(Element::new(name, kind)) else {
+        let Ok(node) = self.tree.add(Element::new(name, kind, TOP)) else {
             return Err(MakeFault::Memory);
         };
         Ok(node)

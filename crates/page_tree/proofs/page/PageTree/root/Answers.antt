@@ -13,4 +13,4 @@ pub returns-clause-held : goal.returns-clause-held
 returns-clause-held c = root_held c.args.self.now c.self.inside.tree (option_map number c.self.inside.root) c.self.view_is c.self.invariant
 
 pub returns-clause-lone : goal.returns-clause-lone
-returns-clause-lone c = subst (λ (page : PageElements). IsLone page.tree) c.self.view_is (lone_page c.self.inside.tree.nodes (option_map number c.self.inside.root))
+returns-clause-lone c = subst (λ (page : PageElements). IsLone page.tree) c.self.view_is (lone_page c.self.inside.tree.nodes (option_map number c.self.inside.root) (c.self.invariant.lone))

@@ -12,4 +12,4 @@ returns-clause-nodes c = ap (λ page. nodes_of (page.tree)) (sym c.self.view_is)
     ∙ tree_found c.self.inside.tree.nodes (option_map number c.self.inside.root)
 
 pub returns-clause-lone : goal.returns-clause-lone
-returns-clause-lone c = subst (λ (page : PageElements). IsLone page.tree) c.self.view_is (lone_page c.self.inside.tree.nodes (option_map number c.self.inside.root))
+returns-clause-lone c = subst (λ (page : PageElements). IsLone page.tree) c.self.view_is (lone_page c.self.inside.tree.nodes (option_map number c.self.inside.root) (c.self.invariant.lone))
