@@ -3,15 +3,16 @@ use Rattle.std.proofs.Common.{◌≡◌, ◌∙◌, ap, refl}
 use Rattle.std.specs.Prelude.{Bool, true, false, cond, List, [], ◌∷◌, find, map, Some}
 use Rattle.script_model.specs.TraceLines.{TraceLine}
 use Rattle.page_model.specs.World.{World, Timer}
-use Rattle.page_model.specs.Runs.{Said, Flow, Next, Thrown, Limited, behind, follow, after, for_each, only_if}
+use Rattle.page_model.specs.Runs.{Said, Flow, Next, Thrown, Limited, behind, follow, ◌followed_by◌, for_each, only_if}
 use Rattle.page_model.specs.Callbacks.{Script}
-use Rattle.page_model.specs.Ticks.{run_timer, timer_stands}
+use Rattle.page_model.specs.Ticks.{run_timer}
+use Rattle.page_model.specs.Timers.{timer_stands}
 use Rattle.event_tables.specs.Handed.{behind_first, one_by_one, run_and_then}
-use Rattle.event_tables.specs.Timers.{callback_of, timer_of}
+use Rattle.event_tables.specs.Timers.{callback_of, copied_stands, timer_of}
 
 -- the first entry is run where it stands, else it is passed over
-first_by : {A S : Type 0} (stands : A → S → Bool) (run : A → S → Said S) (entry : A) (others : List A) (state : S) (answer : Bool) → one_by_one stands run others state ≡ run_and_then stands run (find (λ it. stands it state) others) (behind_first (λ it. stands it state) others) state → after (one_by_one stands run others) (only_if (run entry) state answer) ≡ run_and_then stands run (cond answer (Some entry) (find (λ it. stands it state) others)) (cond answer others (behind_first (λ it. stands it state) others)) state
-unfolding after follow
+first_by : {A S : Type 0} (stands : A → S → Bool) (run : A → S → Said S) (entry : A) (others : List A) (state : S) (answer : Bool) → one_by_one stands run others state ≡ run_and_then stands run (find (λ it. stands it state) others) (behind_first (λ it. stands it state) others) state → (only_if (run entry) state answer followed_by one_by_one stands run others) ≡ run_and_then stands run (cond answer (Some entry) (find (λ it. stands it state) others)) (cond answer others (behind_first (λ it. stands it state) others)) state
+unfolding ◌followed_by◌ follow
 first_by stands run entry others state true so = refl
 first_by stands run entry others state false so = so
 
@@ -27,8 +28,8 @@ follow_same one other same lines Next state = ap (behind lines) (same state)
 follow_same one other same lines Thrown state = refl
 follow_same one other same lines Limited state = refl
 
-after_same : {S : Type 0} (one other : S → Said S) → ((state : S) → one state ≡ other state) → (said : Said S) → after one said ≡ after other said
-unfolding after
+after_same : {S : Type 0} (one other : S → Said S) → ((state : S) → one state ≡ other state) → (said : Said S) → (said followed_by one) ≡ (said followed_by other)
+unfolding ◌followed_by◌
 after_same one other same said = follow_same one other same (said.lines) (said.flow) (said.state)
 
 -- the steps for each item are those for what the items are copied to
@@ -36,10 +37,10 @@ for_copies : {A B S : Type 0} (step : A → S → Said S) (copy : A → B) (step
 unfolding for_each
 for_copies step copy step_of_copy same [] state = refl
 for_copies step copy step_of_copy same (item ∷ others) state =
-    ap (after (for_each step others)) (same item state)
+    ap (λ said. said followed_by for_each step others) (same item state)
     ∙ after_same (for_each step others) (for_each step_of_copy (map copy others)) (for_copies step copy step_of_copy same others) (step_of_copy (copy item) state)
 
-pub timers_run : (script : Script) (timers : List Timer) (world : World) → one_by_one timer_stands (run_timer script) timers world ≡ one_by_one (λ it now. timer_stands (timer_of it) now) (λ it. run_timer script (timer_of it)) (map callback_of timers) world
+pub timers_run : (script : Script) (timers : List Timer) (world : World) → one_by_one (λ timer now. timer_stands timer now.timers) (run_timer script) timers world ≡ one_by_one (λ it now. copied_stands now.timers it) (λ it. run_timer script (timer_of it)) (map callback_of timers) world
 timers_run script timers world =
-    for_copies (λ timer now. only_if (run_timer script timer) now (timer_stands timer now)) callback_of
-    (λ it now. only_if (run_timer script (timer_of it)) now (timer_stands (timer_of it) now)) (λ timer now. refl) timers world
+    for_copies (λ timer now. only_if (run_timer script timer) now (timer_stands timer now.timers)) callback_of
+    (λ it now. only_if (run_timer script (timer_of it)) now (copied_stands now.timers it)) (λ timer now. refl) timers world

@@ -34,30 +34,30 @@ all_kept test (x ∷ xs) none = all_kept_by test x xs (test x) none (all_kept te
 
 -- a table as it is kept
 abbrev pub table_of : {A B : Type 0} → (A → B) → (given most : ℕ) → List A → Bounded B
-table_of seen given most held = record { table = record { given = given; held = map seen held }; most = most }
+table_of seen given most held = record { part = record { given = given; held = map seen held }; most = most }
 
 -- an entry that passes a test is in a table
-pub any_in : {A B : Type 0} (seen : A → B) (test : B → Bool) (given most : ℕ) (read held : List A) (it : Bounded B) (answer : Bool) → answer ≡ list_any (λ x. test (seen x)) read → read ≡ held → table_of seen given most held ≡ it → answer ≡ list_any test (it.table.held)
+pub any_in : {A B : Type 0} (seen : A → B) (test : B → Bool) (given most : ℕ) (read held : List A) (it : Bounded B) (answer : Bool) → answer ≡ list_any (λ x. test (seen x)) read → read ≡ held → table_of seen given most held ≡ it → answer ≡ list_any test (it.part.held)
 any_in seen test given most read held it answer is same view =
     is
     ∙ ap (λ these. list_any (λ x. test (seen x)) these) same
     ∙ any_seen seen test held
-    ∙ ap (λ (now : Bounded _). list_any test (now.table.held)) view
+    ∙ ap (λ (now : Bounded _). list_any test (now.part.held)) view
 
 -- the entries of a table that pass a test are copied
-pub copied_from : {A B : Type 0} (seen : A → B) (test : B → Bool) (given most : ℕ) (read held : List A) (it : Bounded B) → read ≡ held → table_of seen given most held ≡ it → map seen (filter (λ x. test (seen x)) read) ≡ filter test (it.table.held)
+pub copied_from : {A B : Type 0} (seen : A → B) (test : B → Bool) (given most : ℕ) (read held : List A) (it : Bounded B) → read ≡ held → table_of seen given most held ≡ it → map seen (filter (λ x. test (seen x)) read) ≡ filter test (it.part.held)
 copied_from seen test given most read held it same view =
     ap (λ these. map seen (filter (λ x. test (seen x)) these)) same
     ∙ kept_seen seen test held
-    ∙ ap (λ (now : Bounded _). filter test (now.table.held)) view
+    ∙ ap (λ (now : Bounded _). filter test (now.part.held)) view
 
 -- the entries of a table that pass a test are kept in it
-pub kept_in : {A B : Type 0} (seen : A → B) (test : B → Bool) (given most : ℕ) (held new : List A) (it : Bounded B) → new ≡ filter (λ x. test (seen x)) held → table_of seen given most held ≡ it → table_of seen given most new ≡ record it { table = kept test (it.table) }
+pub kept_in : {A B : Type 0} (seen : A → B) (test : B → Bool) (given most : ℕ) (held new : List A) (it : Bounded B) → new ≡ filter (λ x. test (seen x)) held → table_of seen given most held ≡ it → table_of seen given most new ≡ record it { part = kept test (it.part) }
 kept_in seen test given most held new it same view =
     ap (table_of seen given most) same
-    ∙ ap (λ these. record { table = record { given = given; held = these }; most = most }) (kept_seen seen test held)
-    ∙ ap (λ (now : Bounded _). record now { table = kept test (now.table) }) view
+    ∙ ap (λ these. record { part = record { given = given; held = these }; most = most }) (kept_seen seen test held)
+    ∙ ap (λ (now : Bounded _). record now { part = kept test (now.part) }) view
 
 -- where nothing in a table passes a test, taking out what passes it changes nothing
-pub none_out : {B : Type 0} (test : B → Bool) (it : Bounded B) → list_any test (it.table.held) ≡ false → it ≡ record it { table = kept (λ each. not (test each)) (it.table) }
-none_out test it none = sym (ap (λ held. record it { table = record (it.table) { held = held } }) (all_kept test (it.table.held) none))
+pub none_out : {B : Type 0} (test : B → Bool) (it : Bounded B) → list_any test (it.part.held) ≡ false → it ≡ record it { part = kept (λ each. not (test each)) (it.part) }
+none_out test it none = sym (ap (λ held. record it { part = record (it.part) { held = held } }) (all_kept test (it.part.held) none))

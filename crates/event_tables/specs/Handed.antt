@@ -1,6 +1,6 @@
 -- Handing out the entries of a batch one after the other, and what the definitions do with the entries that they copied.
 use Rattle.std.specs.Prelude.{Bool, cond, List, [], ◌∷◌, Option, Some, None}
-use Rattle.page_model.specs.Runs.{Said, silent, after, for_each, only_if}
+use Rattle.page_model.specs.Runs.{Said, silent, ◌followed_by◌, for_each, only_if}
 
 -- what a batch still has once the first entry that passes the test was handed out: those behind it
 abbrev pub behind_first : {A : Type 0} → (A → Bool) → List A → List A
@@ -14,4 +14,4 @@ one_by_one stands run entries state = for_each (λ entry now. only_if (run entry
 -- an entry is run, if there is one, and then the others
 abbrev pub run_and_then : {A S : Type 0} → (A → S → Bool) → (A → S → Said S) → Option A → List A → S → Said S
 run_and_then stands run None others state = silent state
-run_and_then stands run (Some entry) others state = after (one_by_one stands run others) (run entry state)
+run_and_then stands run (Some entry) others state = run entry state followed_by one_by_one stands run others

@@ -2,7 +2,6 @@ pub mod Answers
 pub mod Handed
 pub mod Seen
 pub mod Tables
-pub mod Listeners
 pub mod FrameCallbacks
 pub mod Timers
 pub mod Tasks

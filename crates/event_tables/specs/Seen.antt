@@ -19,7 +19,7 @@ seen_task (task.Notify number) = model.Notify number
 seen_task (task.Posted number handler) = model.Posted number handler.0
 
 abbrev pub seen_listener : Listener → model.Listener
-seen_listener it = record { serial = it.serial; target = seen_target it.target; event = seen_event it.kind; handler = it.handler.0 }
+seen_listener it = record { serial = it.serial; target = seen_target it.target; event = it.kind; handler = it.handler.0 }
 
 -- a frame callback, or what a timer has but for its due time
 abbrev pub seen_callback : Callback → model.FrameCallback

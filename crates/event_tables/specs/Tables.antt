@@ -3,9 +3,9 @@ use Rattle.std.specs.Prelude.{ℕ, Bool, nat_lt, length}
 use Rattle.page_model.specs.World.{Table}
 
 pub record Bounded (A : Type 0) : Type 0 where
-  pub table : Table A
+  pub part : Table A
   pub most : ℕ
 
 -- whether one more entry may be held
 abbrev pub has_room : {A : Type 0} → Bounded A → Bool
-has_room it = nat_lt (length it.table.held) it.most
+has_room it = nat_lt (length it.part.held) it.most

@@ -2,7 +2,7 @@
 
 ghost use Rattle.std.specs.Prelude.{◌≡◌, [], ◌∷◌, ◌==◌, ◌++◌, filter, map, not, IfOk, OnOk, MatchOption};
 ghost use Rattle.std.specs.List.{list_any};
-ghost use Rattle.page_model.specs.Observing.{is_frame_callback};
+ghost use Rattle.page_model.specs.FrameCallbacks.{is_frame_callback};
 ghost use Rattle.event_tables.specs.Seen.{seen_callback};
 
 use crate::HandlerId;

@@ -1,7 +1,8 @@
 //! What events are fired at, handlers, and tasks.
 
 ghost use Rattle.std.specs.Prelude.{◌≡◌};
-ghost use Rattle.page_model.specs.Observing.{is_same_target, is_same_event, is_posted};
+ghost use Rattle.page_model.specs.Listeners.{is_same_target, is_same_event};
+ghost use Rattle.page_model.specs.Tasks.{is_posted};
 ghost use Rattle.event_tables.specs.Seen.{seen_target, seen_task};
 
 use element_tree::NodeId;

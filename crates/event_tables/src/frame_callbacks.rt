@@ -1,13 +1,14 @@
 //! Animation frame callbacks (HTML, animation frames).
 
-ghost use Rattle.std.specs.Prelude.{◌≡◌, ℕ, List, ◌+◌, ◌<◌, ◌≤◌, ◌-◌, ◌^◌, [], ◌==◌, false, find, option_map, IfOk, OnOk, OnErr};
+ghost use Rattle.std.specs.Prelude.{◌≡◌, ℕ, List, ◌+◌, ◌<◌, ◌≤◌, ◌-◌, ◌^◌, [], ◌==◌, false, find, not, option_map, IfOk, OnOk, OnErr};
 ghost use Rattle.std.specs.List.{list_any};
 ghost use Rattle.page_model.specs.World.{FrameCallback};
+ghost use Rattle.page_model.specs.FrameCallbacks.{is_frame_requested, with_frame_callback, without_frame_callback, frame_callbacks_of, frame_callback_stands, frame_callback_taken};
 ghost use Rattle.event_tables.specs.Answers.{Enters};
 ghost use Rattle.event_tables.specs.Handed.{behind_first};
 ghost use Rattle.event_tables.specs.Seen.{seen_callback};
 ghost use Rattle.event_tables.specs.Tables.{has_room};
-ghost use Rattle.event_tables.specs.FrameCallbacks.{is_requested, requesting, cancelling, callbacks_of, callback_stands, without_serial, once_handed, told};
+ghost use Rattle.event_tables.specs.FrameCallbacks.{once_handed, told};
 
 use crate::callbacks::{Callback, contains, copies, is_held, remove, remove_serial};
 use crate::{Batch, HandlerId, TableFault};
@@ -33,19 +34,33 @@ impl Model for FrameCallbacks {
 
     ghost use Rattle.event_tables.specs.Seen.{seen_callback};
 
-    ghost view = { λ f. record { table = record { given = f.given; held = map seen_callback f.held.items }; most = f.most } };
+    ghost view = { λ f. record { part = record { given = f.given; held = map seen_callback f.held.items }; most = f.most } };
 }
 
 impl FrameCallbacks {
     /// No frame callbacks, which take no memory yet. At most `most` can be held.
     pub fn new(alloc: Global, most: u32) -> FrameCallbacks
-        ensures { result ≡ record { table = record { given = 0; held = [] }; most = most } }
+        ensures { result ≡ record { part = record { given = 0; held = [] }; most = most } }
     {
         FrameCallbacks {
             given: 0,
             held: Vec::new(alloc),
             most,
         }
+    }
+
+    /// Whether as many are held as may be, so that a new one meets `Limit`.
+    pub fn is_full(&self) -> bool
+        ensures { result ≡ not (has_room self.now) }
+    {
+        self.held.len() >= self.most as usize
+    }
+
+    /// Whether a document has a frame callback under a key.
+    pub fn is_there(&self, document: u32, key: Name) -> bool
+        ensures { result ≡ is_frame_requested document key self.now.part }
+    {
+        contains(self.held.as_slice(), document, key)
     }
 
     /// Requests a frame callback of a document under a key, last.
@@ -58,16 +73,16 @@ impl FrameCallbacks {
         key: Name,
         handler: HandlerId,
     ) -> Result<(), TableFault>
-        requires { self.old.table.given < 2 ^ 64 - 1 }
-        ensures answer { Enters result (is_requested document key self.old) (has_room self.old) }
-        ensures requested { OnOk result (self.new ≡ requesting document key handler.0 self.old) }
+        requires { self.old.part.given < 2 ^ 64 - 1 }
+        ensures answer { Enters result (is_frame_requested document key self.old.part) (has_room self.old) }
+        ensures requested { OnOk result (self.new ≡ record self.old { part = with_frame_callback document key handler.0 (self.old.part) }) }
         ensures same { OnErr result (self.new ≡ self.old) }
-        ensures given { self.new.table.given ≤ self.old.table.given + 1 }
+        ensures given { self.new.part.given ≤ self.old.part.given + 1 }
     {
-        if self.has(document, key) {
+        if self.is_there(document, key) {
             return Err(TableFault::Taken);
         }
-        if self.held.len() >= self.most as usize {
+        if self.is_full() {
             return Err(TableFault::Limit);
         }
         let callback = Callback {
@@ -86,11 +101,11 @@ impl FrameCallbacks {
     /// Cancels the frame callback of a document under a key. The answer is false, and nothing changes, exactly where there
     /// is none.
     pub fn cancel(&mut self, document: u32, key: Name) -> bool
-        ensures answer { result ≡ is_requested document key self.old }
-        ensures cancelled { self.new ≡ cancelling document key self.old }
+        ensures answer { result ≡ is_frame_requested document key self.old.part }
+        ensures cancelled { self.new ≡ record self.old { part = without_frame_callback document key (self.old.part) } }
         ensures same { result ≡ false → self.new ≡ self.old }
     {
-        let there = self.has(document, key);
+        let there = self.is_there(document, key);
         if there {
             remove(&mut self.held, document, key);
         }
@@ -99,7 +114,7 @@ impl FrameCallbacks {
 
     /// Copies the frame callbacks of a document as it begins to run them.
     pub fn begin(&self, document: u32) -> Result<Batch, AllocError>
-        ensures { IfOk result (λ batch. batch ≡ callbacks_of document self.now) }
+        ensures { IfOk result (λ batch. batch ≡ frame_callbacks_of document self.now.part) }
     {
         copies(*self.held.allocator(), self.held.as_slice(), document)
     }
@@ -108,10 +123,10 @@ impl FrameCallbacks {
     /// leave the batch. None exactly where none of those that are left still stands: one that was cancelled and requested
     /// anew is another.
     pub fn next(&mut self, batch: &mut Batch) -> Option<(Name, HandlerId)>
-        ensures value { option_map {U = List ℕ × ℕ} (λ called. (called.0, called.1.0)) result ≡ option_map told (find (callback_stands self.old) batch.old) }
-        ensures removed { self.new ≡ once_handed (find (callback_stands self.old) batch.old) self.old }
-        ensures left { batch.new ≡ behind_first (callback_stands self.old) batch.old }
-        ensures given { self.new.table.given ≡ self.old.table.given }
+        ensures value { option_map {U = List ℕ × ℕ} (λ called. (called.0, called.1.0)) result ≡ option_map told (find (λ it. frame_callback_stands it self.old.part) batch.old) }
+        ensures removed { self.new ≡ record self.old { part = once_handed (find (λ it. frame_callback_stands it self.old.part) batch.old) (self.old.part) } }
+        ensures left { batch.new ≡ behind_first (λ it. frame_callback_stands it self.old.part) batch.old }
+        ensures given { self.new.part.given ≡ self.old.part.given }
     {
         let callback = self.first_standing(batch)?;
         self.remove_serial(callback.serial);
@@ -120,8 +135,8 @@ impl FrameCallbacks {
 
     // Takes the first callback that still stands off the batch, with those before it.
     fn first_standing(&self, batch: &mut Batch) -> Option<Callback>
-        ensures value { option_map seen_callback result ≡ find (callback_stands self.now) batch.old }
-        ensures left { batch.new ≡ behind_first (callback_stands self.now) batch.old }
+        ensures value { option_map seen_callback result ≡ find (λ it. frame_callback_stands it self.now.part) batch.old }
+        ensures left { batch.new ≡ behind_first (λ it. frame_callback_stands it self.now.part) batch.old }
     {
         while let Some(callback) = batch.pop() {
             if self.stands(callback.serial) {
@@ -133,20 +148,14 @@ impl FrameCallbacks {
 
     // Takes the one of a serial number out.
     fn remove_serial(&mut self, serial: u64)
-        ensures { self.new ≡ without_serial serial self.old }
+        ensures { self.new ≡ record self.old { part = frame_callback_taken serial (self.old.part) } }
     {
         remove_serial(&mut self.held, serial);
     }
 
-    fn has(&self, document: u32, key: Name) -> bool
-        ensures { result ≡ is_requested document key self.now }
-    {
-        contains(self.held.as_slice(), document, key)
-    }
-
     // Whether the callback of a serial number is held.
     fn stands(&self, serial: u64) -> bool
-        ensures { result ≡ list_any (λ (each : FrameCallback). each.serial == serial) self.now.table.held }
+        ensures { result ≡ list_any (λ (each : FrameCallback). each.serial == serial) self.now.part.held }
     {
         is_held(self.held.as_slice(), serial)
     }

@@ -17,10 +17,7 @@ pub use answers::TableFault;
 pub use callbacks::Batch;
 pub use events::{EventTarget, HandlerId, Task};
 pub use frame_callbacks::FrameCallbacks;
-pub use laws::{
-    frame_callbacks_are_those_of_any_world, handing_out_runs_each_that_stands,
-    listeners_are_those_of_any_world, tasks_are_those_of_any_world, timers_are_those_of_any_world,
-};
+pub use laws::handing_out_runs_each_that_stands;
 pub use listeners::{Dispatch, Listeners};
 pub use tasks::Tasks;
 pub use timers::Timers;

@@ -3,12 +3,11 @@
 ghost use Rattle.std.specs.Prelude.{◌≡◌, ◌≤◌, ◌+◌, ◌<◌, ◌-◌, ◌^◌, [], ◌∷◌, ◌==◌, false, find, filter, not, option_map, if◌then◌else◌, IfOk, OnErr, MatchOption};
 ghost use Rattle.std.specs.List.{list_any};
 ghost use Rattle.page_model.specs.World.{Listener as ModelListener};
-ghost use Rattle.page_model.specs.Observing.{is_listener};
+ghost use Rattle.page_model.specs.Listeners.{hears, is_listener, is_listening, with_listener, without_listener, listeners_of, listener_stands};
 ghost use Rattle.event_tables.specs.Answers.{Adds};
 ghost use Rattle.event_tables.specs.Handed.{behind_first};
 ghost use Rattle.event_tables.specs.Seen.{seen_target, seen_listener};
 ghost use Rattle.event_tables.specs.Tables.{has_room};
-ghost use Rattle.event_tables.specs.Listeners.{hears, is_there, listening, unlistening, listeners_at, listener_stands};
 
 use crate::events::{is_same_kind, is_same_target};
 use crate::{EventTarget, HandlerId, TableFault};
@@ -59,19 +58,33 @@ impl Model for Listeners {
 
     ghost use Rattle.event_tables.specs.Seen.{seen_listener};
 
-    ghost view = { λ l. record { table = record { given = l.given; held = map seen_listener l.held.items }; most = l.most } };
+    ghost view = { λ l. record { part = record { given = l.given; held = map seen_listener l.held.items }; most = l.most } };
 }
 
 impl Listeners {
     /// No listeners, which take no memory yet. At most `most` can be held.
     pub fn new(alloc: Global, most: u32) -> Listeners
-        ensures { result ≡ record { table = record { given = 0; held = [] }; most = most } }
+        ensures { result ≡ record { part = record { given = 0; held = [] }; most = most } }
     {
         Listeners {
             given: 0,
             held: Vec::new(alloc),
             most,
         }
+    }
+
+    /// Whether as many are held as may be, so that a new one meets `Limit`.
+    pub fn is_full(&self) -> bool
+        ensures { result ≡ not (has_room self.now) }
+    {
+        self.held.len() >= self.most as usize
+    }
+
+    /// Whether a handler listens for an event at a target.
+    pub fn is_there(&self, target: EventTarget, kind: EventKind, handler: HandlerId) -> bool
+        ensures { result ≡ is_listening (seen_target target) kind handler.0 self.now.part }
+    {
+        contains(self.held.as_slice(), target, kind, handler)
     }
 
     /// Adds a listener, last (DOM, 2.7: add an event listener). The answer is false, and nothing changes, exactly where
@@ -85,16 +98,16 @@ impl Listeners {
         kind: EventKind,
         handler: HandlerId,
     ) -> Result<bool, TableFault>
-        requires { self.old.table.given < 2 ^ 64 - 1 }
-        ensures answer { Adds result (is_there (seen_target target) kind handler.0 self.old) (has_room self.old) }
-        ensures added { IfOk result (λ added. self.new ≡ (if added then listening (seen_target target) kind handler.0 self.old else self.old)) }
+        requires { self.old.part.given < 2 ^ 64 - 1 }
+        ensures answer { Adds result (is_listening (seen_target target) kind handler.0 self.old.part) (has_room self.old) }
+        ensures added { IfOk result (λ added. self.new ≡ (if added then record self.old { part = with_listener (seen_target target) kind handler.0 (self.old.part) } else self.old)) }
         ensures same { OnErr result (self.new ≡ self.old) }
-        ensures given { self.new.table.given ≤ self.old.table.given + 1 }
+        ensures given { self.new.part.given ≤ self.old.part.given + 1 }
     {
         if self.is_there(target, kind, handler) {
             return Ok(false);
         }
-        if self.held.len() >= self.most as usize {
+        if self.is_full() {
             return Err(TableFault::Limit);
         }
         let listener = Listener {
@@ -113,8 +126,8 @@ impl Listeners {
     /// Removes the listener of a handler for an event at a target (DOM, 2.7: remove an event listener). The answer is
     /// false, and nothing changes, exactly where there is none.
     pub fn remove(&mut self, target: EventTarget, kind: EventKind, handler: HandlerId) -> bool
-        ensures answer { result ≡ is_there (seen_target target) kind handler.0 self.old }
-        ensures removed { self.new ≡ unlistening (seen_target target) kind handler.0 self.old }
+        ensures answer { result ≡ is_listening (seen_target target) kind handler.0 self.old.part }
+        ensures removed { self.new ≡ record self.old { part = without_listener (seen_target target) kind handler.0 (self.old.part) } }
         ensures same { result ≡ false → self.new ≡ self.old }
     {
         let there = self.is_there(target, kind, handler);
@@ -130,7 +143,7 @@ impl Listeners {
         target: EventTarget,
         kind: EventKind,
     ) -> Result<Dispatch, AllocError>
-        ensures { IfOk result (λ dispatch. dispatch ≡ listeners_at (seen_target target) kind self.now) }
+        ensures { IfOk result (λ dispatch. dispatch ≡ listeners_of (seen_target target) kind self.now.part) }
     {
         let left = copies(*self.held.allocator(), self.held.as_slice(), target, kind)?;
         Ok(Dispatch { left })
@@ -139,8 +152,8 @@ impl Listeners {
     /// The handler of the first copied listener that still stands; it and those before it leave the dispatch. None exactly
     /// where none of those that are left still stands: one that was removed and made anew is another.
     pub fn next(&self, dispatch: &mut Dispatch) -> Option<HandlerId>
-        ensures value { option_map (λ handler. handler.0) result ≡ option_map (λ (it : ModelListener). it.handler) (find (listener_stands self.now) dispatch.old) }
-        ensures left { dispatch.new ≡ behind_first (listener_stands self.now) dispatch.old }
+        ensures value { option_map (λ handler. handler.0) result ≡ option_map (λ (it : ModelListener). it.handler) (find (λ it. listener_stands it self.now.part) dispatch.old) }
+        ensures left { dispatch.new ≡ behind_first (λ it. listener_stands it self.now.part) dispatch.old }
     {
         while let Some(listener) = dispatch.pop() {
             if self.stands(listener.serial) {
@@ -150,15 +163,9 @@ impl Listeners {
         None
     }
 
-    fn is_there(&self, target: EventTarget, kind: EventKind, handler: HandlerId) -> bool
-        ensures { result ≡ is_there (seen_target target) kind handler.0 self.now }
-    {
-        contains(self.held.as_slice(), target, kind, handler)
-    }
-
     // Whether the listener of a serial number is held.
     fn stands(&self, serial: u64) -> bool
-        ensures { result ≡ list_any (λ (held : ModelListener). held.serial == serial) self.now.table.held }
+        ensures { result ≡ list_any (λ (held : ModelListener). held.serial == serial) self.now.part.held }
     {
         is_held(self.held.as_slice(), serial)
     }

@@ -1,9 +1,10 @@
 //! Tasks that wait.
 
-ghost use Rattle.std.specs.Prelude.{◌≡◌, [], option_map, OnOk, OnErr};
+ghost use Rattle.std.specs.Prelude.{◌≡◌, [], not, option_map, OnOk, OnErr};
 ghost use Rattle.event_tables.specs.Answers.{Queues};
 ghost use Rattle.event_tables.specs.Seen.{seen_task};
-ghost use Rattle.event_tables.specs.Tasks.{may_queue, queueing, first_of, others_of};
+ghost use Rattle.page_model.specs.Tasks.{with_task};
+ghost use Rattle.event_tables.specs.Tasks.{has_room, may_queue, first_of, others_of};
 
 use crate::events::is_posted;
 use crate::{TableFault, Task};
@@ -23,14 +24,14 @@ pub struct Tasks {
 impl Model for Tasks {
     ghost use Rattle.std.specs.Prelude.{◌≡◌, map};
     ghost use Rattle.std.specs.List.{count_by};
-    ghost use Rattle.page_model.specs.Observing.{is_posted};
+    ghost use Rattle.page_model.specs.Tasks.{is_posted};
     ghost use Rattle.event_tables.specs.Tasks.{WaitingTasks};
 
     ghost Value = { WaitingTasks };
 
     ghost use Rattle.event_tables.specs.Seen.{seen_task};
 
-    ghost view = { λ t. record { waiting = map seen_task t.waiting.items; most = t.most } };
+    ghost view = { λ t. record { part = map seen_task t.waiting.items; most = t.most } };
 
     ghost invariant = { λ t. t.posted ≡ count_by is_posted (map seen_task t.waiting.items) };
 }
@@ -38,7 +39,7 @@ impl Model for Tasks {
 impl Tasks {
     /// No tasks, which take no memory yet. At most `most` posted tasks can wait.
     pub fn new(alloc: Global, most: u32) -> Tasks
-        ensures { result ≡ record { waiting = []; most = most } }
+        ensures { result ≡ record { part = []; most = most } }
     {
         Tasks {
             waiting: VecDeque::new(alloc),
@@ -47,16 +48,23 @@ impl Tasks {
         }
     }
 
+    /// Whether as many posted tasks wait as may, so that a further one meets `Limit`.
+    pub fn is_full(&self) -> bool
+        ensures { result ≡ not (has_room self.now) }
+    {
+        self.posted >= self.most
+    }
+
     /// Queues a task, last.
     ///
     /// `Limit` exactly for a posted task where `most` posted tasks wait; else `Memory` where there is none; never `Taken`.
     pub fn push(&mut self, task: Task) -> Result<(), TableFault>
         ensures answer { Queues result (may_queue (seen_task task) self.old) }
-        ensures queued { OnOk result (self.new ≡ queueing (seen_task task) self.old) }
+        ensures queued { OnOk result (self.new ≡ record self.old { part = with_task (seen_task task) (self.old.part) }) }
         ensures same { OnErr result (self.new ≡ self.old) }
     {
         let posted = is_posted(task);
-        if posted && self.posted >= self.most {
+        if posted && self.is_full() {
             return Err(TableFault::Limit);
         }
         let Ok(()) = self.waiting.push_back(task) else {
@@ -70,8 +78,8 @@ impl Tasks {
 
     /// Takes the first task off. None exactly where no task waits.
     pub fn pop(&mut self) -> Option<Task>
-        ensures value { option_map seen_task result ≡ first_of self.old.waiting }
-        ensures left { self.new ≡ record self.old { waiting = others_of self.old.waiting } }
+        ensures value { option_map seen_task result ≡ first_of self.old.part }
+        ensures left { self.new ≡ record self.old { part = others_of (self.old.part) } }
     {
         let task = self.waiting.pop_front()?;
         if is_posted(task) {

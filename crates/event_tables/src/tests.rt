@@ -52,8 +52,8 @@ enum Listening {
 }
 
 fn listen(listeners: &mut Listeners, dispatch: &mut Dispatch, step: Listening) -> Outcome
-    requires { listeners.old.table.given < 2 ^ 32 }
-    ensures { listeners.new.table.given ≤ listeners.old.table.given + 1 }
+    requires { listeners.old.part.given < 2 ^ 32 }
+    ensures { listeners.new.part.given ≤ listeners.old.part.given + 1 }
 {
     match step {
         Listening::Add(target, kind, handler) => {
@@ -112,8 +112,8 @@ enum Step {
 }
 
 fn request(callbacks: &mut FrameCallbacks, batch: &mut Batch, step: Step) -> Outcome
-    requires { callbacks.old.table.given < 2 ^ 32 }
-    ensures { callbacks.new.table.given ≤ callbacks.old.table.given + 1 }
+    requires { callbacks.old.part.given < 2 ^ 32 }
+    ensures { callbacks.new.part.given ≤ callbacks.old.part.given + 1 }
 {
     match step {
         Step::Add(document, key, handler) => {
@@ -155,8 +155,8 @@ fn a_frame_callback_that_is_requested_anew_waits_for_the_next_update(
 
 // A timer that is set is due at 0.
 fn set(timers: &mut Timers, batch: &mut Batch, step: Step) -> Outcome
-    requires { timers.old.table.given < 2 ^ 32 }
-    ensures { timers.new.table.given ≤ timers.old.table.given + 1 }
+    requires { timers.old.part.given < 2 ^ 32 }
+    ensures { timers.new.part.given ≤ timers.old.part.given + 1 }
 {
     match step {
         Step::Add(document, key, handler) => {

@@ -1,6 +1,6 @@
 use Rattle.std.proofs.Common.{rules, not}
 use Rattle.std.proofs.lemmas.Fn.{filter_same}
-use Rattle.page_model.specs.Observing.{is_frame_callback}
+use Rattle.page_model.specs.FrameCallbacks.{is_frame_callback}
 use Rattle.event_tables.specs.Seen.{seen_callback}
 use Rattle.event_tables.specs.declared.callbacks.Callback.{Callback}
 use Rattle.event_tables.proofs.callbacks.remove.Goals as goal

@@ -1,6 +1,6 @@
 use Rattle.std.proofs.Common.{rules, not}
 use Rattle.std.proofs.lemmas.Fn.{filter_same}
-use Rattle.page_model.specs.Observing.{is_listener}
+use Rattle.page_model.specs.Listeners.{is_listener}
 use Rattle.event_tables.specs.Seen.{seen_target, seen_listener}
 use Rattle.event_tables.specs.declared.listeners.Listener.{Listener}
 use Rattle.event_tables.proofs.listeners.remove.Goals as goal

@@ -1,6 +1,6 @@
 use Rattle.std.proofs.Common.{◌∙◌, ap, map}
 use Rattle.event_tables.specs.Seen.{seen_target, seen_listener}
-use Rattle.event_tables.specs.Listeners.{hears}
+use Rattle.page_model.specs.Listeners.{hears}
 use Rattle.event_tables.proofs.Seen.{copied_from}
 use Rattle.event_tables.proofs.listeners.Listeners.begin_dispatch.Goals as goal
 

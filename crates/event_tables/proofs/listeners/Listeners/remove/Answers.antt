@@ -1,6 +1,6 @@
 use Rattle.std.proofs.Common.{not, ◌∙◌, sym}
 use Rattle.page_model.specs.World.{Listener}
-use Rattle.page_model.specs.Observing.{is_listener}
+use Rattle.page_model.specs.Listeners.{is_listener}
 use Rattle.event_tables.specs.Seen.{seen_target, seen_listener}
 use Rattle.event_tables.proofs.Seen.{kept_in, none_out}
 use Rattle.event_tables.proofs.listeners.Listeners.remove.Goals as goal
