@@ -28,13 +28,17 @@ use Rattle.page_laws.proofs.Successors.{still, alike}
 pub record IsNext (before after : World) : Type 0 where
   pub successor : IsSuccessor before after
   pub within : (handlers : ℕ) → IsInRange handlers before → IsInRange handlers after
+  pub observers : length after.resize_observers.made ≡ length before.resize_observers.made
+  pub queries : length after.queries ≡ length before.queries
 
 pub same-next : (world : World) → IsNext world world
-same-next world = record { successor = still world; within = λ handlers within. within }
+same-next world = record { successor = still world; within = λ handlers within. within; observers = refl; queries = refl }
 
 pub then-next : {first second third : World} → IsNext first second → IsNext second third → IsNext first third
 then-next {first = first} {third = third} one two = record {
   successor = chained (one.successor) (two.successor);
+  observers = two.observers ∙ one.observers;
+  queries = two.queries ∙ one.queries;
   within = λ handlers within. two.within handlers (one.within handlers within);
 }
   where
@@ -61,24 +65,32 @@ module _ (world : World) where
   pub timer-next : (serial : ℕ) → IsNext world (record world { timers = timer_taken serial (world.timers) })
   timer-next serial = record {
     successor = alike world _ refl refl refl refl;
+    observers = refl;
+    queries = refl;
     within = λ handlers within. timers-in handlers world within _ (all-filter _ _ (world.timers.held) within.timers);
   }
 
   pub frame-next : (serial : ℕ) → IsNext world (record world { frame_callbacks = frame_callback_taken serial (world.frame_callbacks) })
   frame-next serial = record {
     successor = alike world _ refl refl refl refl;
+    observers = refl;
+    queries = refl;
     within = λ handlers within. frame-callbacks-in handlers world within _ (all-filter _ _ (world.frame_callbacks.held) within.frame_callbacks);
   }
 
   pub noted-next : (document : ℕ) (size : Extent) → document < length world.tree.documents → IsNext world (record world { viewports = with_noted document size (world.viewports) })
   noted-next document size is = record {
     successor = alike world _ refl refl refl refl;
+    observers = refl;
+    queries = refl;
     within = λ handlers within. viewports-in handlers world within _ (put-within (length world.tree.documents) None document (Some size) (world.viewports.noted) is within.noted);
   }
 
   pub pending-next : (document : ℕ) → IsNext world (record world { scrolls = without_pending document (world.scrolls) })
   pending-next document = record {
     successor = alike world _ refl refl refl refl;
+    observers = refl;
+    queries = refl;
     within = λ handlers within.
         let counts : Counts = counts_of handlers world in
         let kept = changed (AllByRecursion (IsScrollIn counts)) (λ (pending : List ScrollTarget). []) (λ pending all. tt) document (world.scrolls.pending) in
@@ -89,6 +101,8 @@ module _ (world : World) where
   pub matched-next : (matched : Bool) (query : ℕ) → IsNext world (record world { queries = with_state matched query (world.queries) })
   matched-next matched query = record {
     successor = alike world _ refl refl refl refl;
+    observers = refl;
+    queries = (changed (λ (list : QueryList). ⊤) (λ it. record it { matched = matched }) (λ it is. is) query (world.queries)).same;
     within = λ handlers within.
         queries-in handlers world _ (changed (λ (list : QueryList). list.document < length world.tree.documents) (λ it. record it { matched = matched }) (λ it is. is) query (world.queries)) within;
   }
@@ -96,6 +110,8 @@ module _ (world : World) where
   pub tasks-next : (task : Task) (others : List Task) → world.tasks ≡ task ∷ others → IsNext world (record world { tasks = others })
   tasks-next task others are = record {
     successor = alike world _ refl refl refl refl;
+    observers = refl;
+    queries = refl;
     within = λ handlers within.
         tasks-in handlers world within others (subst (λ (tasks : List Task). AllByRecursion (IsTaskIn (counts_of handlers world)) tasks) are within.tasks).1;
   }
@@ -103,6 +119,8 @@ module _ (world : World) where
   flags-next : (flags : List Bool) → length flags ≡ length world.notifying → IsNext world (record world { notifying = flags })
   flags-next flags same = record {
     successor = alike world _ refl refl refl refl;
+    observers = refl;
+    queries = refl;
     within = λ handlers within. flags-in handlers within (let most : length world.notifying ≤ length world.tree.documents = within.notifying in omega arith);
   }
     where
@@ -116,6 +134,8 @@ module _ (world : World) where
   notified-next document true is = same-next world
   notified-next document false is = record {
     successor = alike world _ refl refl refl refl;
+    observers = refl;
+    queries = refl;
     within = λ handlers within. both-in handlers within
         (put-within (length world.tree.documents) false document true (world.notifying) is within.notifying)
         (all-add (IsTaskIn (counts_of handlers world)) (world.tasks) (Notify document) within.tasks is);
@@ -129,12 +149,16 @@ module _ (world : World) where
   pub resize-next : (after : ResizeObservers) → ((counts : Counts) → IsKept (IsResizeObserverIn counts) world.resize_observers.made after.made) → IsNext world (record world { resize_observers = after })
   resize-next after kept = record {
     successor = alike world _ refl refl refl refl;
+    observers = (kept (counts_of 0 world)).same;
+    queries = refl;
     within = λ handlers within. resize-in handlers world after (kept (counts_of handlers world)) within;
   }
 
   pub intersection-next : (after : IntersectionObservers) → ((counts : Counts) → IsKept (IsIntersectionObserverIn counts) world.intersection_observers.made after.made) → IsNext world (record world { intersection_observers = after })
   intersection-next after kept = record {
     successor = alike world _ refl refl refl refl;
+    observers = refl;
+    queries = refl;
     within = λ handlers within. intersection-in handlers world after (kept (counts_of handlers world)) within;
   }
 

@@ -231,6 +231,10 @@ module _ (script : Script) (P : ℕ → World → Type 0) (In : ℕ → Present 
         all-sized count [] all = tt
         all-sized count (x ∷ xs) all = (all.0, all-sized count xs (all.1))
 
+    pub due-keeps : (document observer : ℕ) (so_far : Broadcast) → P k (so_far.world) → P k (deliver_some script document observer so_far (due_at document observer (so_far.world.resize_observers))).state.world
+    due-keeps document observer so_far held =
+        some-keeps document observer so_far (due_at document observer (so_far.world.resize_observers)) (kept.due k (so_far.world) document observer held) held
+
     broadcast-keeps : (document : ℕ) (world : World) → P k world → P k (broadcast script document world).state.world
     unfolding broadcast
     broadcast-keeps document world here =
@@ -238,7 +242,7 @@ module _ (script : Script) (P : ℕ → World → Type 0) (In : ℕ → Present 
         (λ so_far. length (so_far.world.resize_observers.made))
         (λ so_far. is_active (so_far.world.tree) document)
         (λ observer so_far. deliver_some script document observer so_far (due_at document observer (so_far.world.resize_observers)))
-        (λ observer so_far held. some-keeps document observer so_far (due_at document observer (so_far.world.resize_observers)) (kept.due k (so_far.world) document observer held) held)
+        (due-keeps document)
         (record { world = world; shallowest = None })
         here
 
@@ -314,18 +318,18 @@ module _ (script : Script) (P : ℕ → World → Type 0) (In : ℕ → Present 
         (fire-keeps (FiredChange (query_list_text (world.names) query) matched) (QueryTarget query) events.Change)
         (kept.next k world now (matched-next world matched query) here)
 
+    pub evaluate-keeps : (document query : ℕ) (world : World) → P k world → P k (evaluate script document query world).state
+    evaluate-keeps document query world here =
+        let it = query_list_at (world.queries) query in
+        only_if-keeps (P k) (λ each. evaluated script query (matches_now each document (it.query)) each) world
+        (it.document == document)
+        (λ each there. evaluated-keeps query (matches_now each document (it.query)) each there)
+        here
+
     media-keeps : (document : ℕ) (world : World) → P k world → P k (media_steps script document world).state
     unfolding media_steps
     media-keeps document world here =
-        by_place-keeps (P k) (λ now. length (now.queries)) (λ now. is_active (now.tree) document) (evaluate script document)
-        (λ query now held.
-        let it = query_list_at (now.queries) query in
-        only_if-keeps (P k) (λ each. evaluated script query (matches_now each document (it.query)) each) now
-        (it.document == document)
-        (λ each there. evaluated-keeps query (matches_now each document (it.query)) each there)
-        held)
-        world
-        here
+        by_place-keeps (P k) (λ now. length (now.queries)) (λ now. is_active (now.tree) document) (evaluate script document) (evaluate-keeps document) world here
 
     callback-keeps : (callback : FrameCallback) (world : World) → P k world → P k (run_frame_callback script callback world).state
     callback-keeps callback world here =

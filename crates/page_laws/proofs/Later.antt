@@ -22,7 +22,7 @@ use Rattle.page_laws.proofs.Commands.{does-next}
 use Rattle.page_laws.proofs.Keeping.{IsKept, command-keeps, called-keeps, tick-keeps}
 use Rattle.page_laws.proofs.WholeRuns.{run_tick-keeps, items-keep}
 
-all-so : {A : Type 0} (xs : List A) → AllByRecursion (λ (x : A). ⊤) xs
+pub all-so : {A : Type 0} (xs : List A) → AllByRecursion (λ (x : A). ⊤) xs
 all-so [] = tt
 all-so (x ∷ xs) = (tt, all-so xs)
 

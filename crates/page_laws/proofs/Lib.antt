@@ -16,3 +16,6 @@ mod Later
 mod RunsInRange
 mod Targets
 mod Quiet
+mod Places
+mod Limits
+mod Turns

@@ -22,6 +22,7 @@ use Rattle.page_model.specs.Intersections.{places_from, is_rooted_in, settled_ob
 use Rattle.page_model.specs.Loop.{gather, round, report_skipped, resize_loop}
 use Rattle.page_model.specs.Ticks.{run_timer, run_timers, resize_steps, event_target_of, scrolled_text, scroll_steps, evaluate, media_steps, run_frame_callback, frame_steps, intersection_steps, update_rendering, run_first, run_tasks, tick}
 use Rattle.page_laws.specs.Quiet.{IsQuiet}
+use Rattle.page_laws.proofs.Places.{repeat-not, and-false}
 
 -- nothing is said, and the page is quiet
 record IsHushed (said : Said World) : Type 0 where
@@ -68,15 +69,6 @@ only_if-hushed step world false each quiet = stays world quiet
 
 only_if-not : (step : World → Said World) (world : World) (test : Bool) → test ≡ false → IsQuiet world → IsHushed (only_if step world test)
 only_if-not step world test fails quiet = subst (λ b. IsHushed (only_if step world b)) (sym fails) (stays world quiet)
-
-repeat-not : {S : Type 0} (goes_on : S → Bool) (step : S → Said S) (most : ℕ) (state : S) → goes_on state ≡ false → repeat goes_on step most state ≡ silent state
-unfolding repeat
-repeat-not goes_on step zero state fails = refl
-repeat-not goes_on step (suc most) state fails = ap (only_if (λ now. step now followed_by repeat goes_on step most) state) fails
-
-and-false : (a b : Bool) → b ≡ false → (a && b) ≡ false
-and-false true b fails = fails
-and-false false b fails = refl
 
 -- documents: the only one is the top document
 

@@ -62,15 +62,15 @@ module _ (present other : Present) (same : present_target present ≡ present_ta
   same-does handlers world (Listen aim event handler) = step-same _ _ _ _ (aim-same (world.names) aim) (λ value. refl)
   same-does handlers world (Unlisten aim event handler) = step-same _ _ _ _ (aim-same (world.names) aim) (λ value. refl)
   same-does handlers world (MakeQueryList name document query) = refl
-  same-does handlers world (ScrollTo target left top) = step-same _ _ _ _ (container-same (world.names) target) (λ value. refl)
-  same-does handlers world (ScrollBy target left top) = step-same _ _ _ _ (container-same (world.names) target) (λ value. refl)
+  same-does handlers world (ScrollTo scrolled left top) = step-same _ _ _ _ (container-same (world.names) scrolled) (λ value. refl)
+  same-does handlers world (ScrollBy scrolled left top) = step-same _ _ _ _ (container-same (world.names) scrolled) (λ value. refl)
   same-does handlers world (RequestFrame document key handler) = refl
   same-does handlers world (CancelFrame document key) = refl
   same-does handlers world (SetTimer document key delay handler) = refl
   same-does handlers world (ClearTimer document key) = refl
   same-does handlers world (Post document handler) = refl
   same-does handlers world (Say word) = refl
-  same-does handlers world (Read target) = step-same _ _ _ _ (container-same (world.names) target) (λ value. refl)
+  same-does handlers world (Read shown) = step-same _ _ _ _ (container-same (world.names) shown) (λ value. refl)
 
 pub same-target : (handlers : Handlers) (world : World) (present other : Present) (action : Action) → present_target present ≡ present_target other → does handlers world present action ≡ does handlers world other action
 same-target handlers world present other action same = same-does present other same handlers world action

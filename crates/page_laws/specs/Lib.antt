@@ -1,3 +1,4 @@
 pub mod Successors
 pub mod Later
 pub mod Quiet
+pub mod Bounds

@@ -1,6 +1,6 @@
 //! Laws of callbacks, ticks and whole runs.
 
-ghost use Rattle.std.specs.Prelude.{◌≡◌, ℕ, suc, ◌<◌, ◌≤◌, List, [], ◌∷◌, Option, length};
+ghost use Rattle.std.specs.Prelude.{◌≡◌, ℕ, suc, ◌<◌, ◌≤◌, List, [], ◌∷◌, Option, None, length};
 ghost use Rattle.std.specs.List.{AllByRecursion};
 ghost use Rattle.text_io.specs.declared.kinds.ThrowKind.TheVariants.{RangeError};
 ghost use Rattle.script_model.specs.Syntax.{Command, Item};
@@ -9,11 +9,15 @@ ghost use Rattle.script_model.specs.TraceLines.{ThrowLine, TickLine};
 ghost use Rattle.page_model.specs.World.{World};
 ghost use Rattle.page_model.specs.Operands.{Present};
 ghost use Rattle.page_model.specs.Ranges.{IsInRange, IsPresentIn};
+ghost use Rattle.page_model.specs.Documents.{is_active};
+ghost use Rattle.page_model.specs.Gathering.{due_at};
+ghost use Rattle.page_model.specs.Loop.{Broadcast, broadcast, deliver_some};
+ghost use Rattle.page_laws.specs.Bounds.{IsWithinLimits, places_up_to};
 ghost use Rattle.page_laws.specs.Later.{IsLater};
 ghost use Rattle.page_laws.specs.Quiet.{IsQuiet};
 ghost use Rattle.page_model.specs.Runs.{Thrown};
 ghost use Rattle.page_model.specs.Callbacks.{Script, Entries, presents, run_command, call};
-ghost use Rattle.page_model.specs.Ticks.{tick};
+ghost use Rattle.page_model.specs.Ticks.{evaluate, media_steps, tick};
 ghost use Rattle.page_model.specs.Outcome.{opening_world, run_item, run_items, run_tick};
 
 /// Nothing in a run takes back what was before: not a command with its block, not a callback, not a tick, and not the
@@ -47,4 +51,18 @@ pub fn runs_stay_in_range()
 pub fn ticks_of_a_quiet_page_say_nothing_more()
     ensures line { (script : Script) (world : World) → IsQuiet world → (tick script world).lines ≡ TickLine (world.clock) ∷ [] }
     ensures quiet { (script : Script) (world : World) → IsQuiet world → IsQuiet (tick script world).state }
+{}
+
+/// No loop over a list by place, that of the query lists and that of the resize observers, is cut off by the bound of its
+/// recursion: with any bound from 4,096 on it comes to the same, while callbacks go on to make more. For the limits on both lists
+/// are kept over whole runs.
+pub fn turns_by_place_are_never_cut_off()
+    ensures opening { IsWithinLimits opening_world }
+    ensures commands { (script : Script) (world : World) → IsWithinLimits world → (entries : List Present) (command : Command) (present : Present) → IsWithinLimits (run_command script entries command present world).state }
+    ensures callbacks { (script : Script) (world : World) → IsWithinLimits world → (document : ℕ) (handler : Option ℕ) (handed : Entries) → IsWithinLimits (call script document handler handed world).state }
+    ensures ticks { (script : Script) (world : World) → IsWithinLimits world → IsWithinLimits (tick script world).state }
+    ensures items { (script : Script) (world : World) → IsWithinLimits world → (item : Item) → IsWithinLimits (run_item script item world).state }
+    ensures scripts { (items : List Item) → IsWithinLimits (run_items items opening_world).state }
+    ensures query_lists { (script : Script) (world : World) → IsWithinLimits world → (document most : ℕ) → 4096 ≤ most → media_steps script document world ≡ places_up_to most (λ now. length (now.queries)) (λ now. is_active (now.tree) document) (evaluate script document) world }
+    ensures observers { (script : Script) (world : World) → IsWithinLimits world → (document most : ℕ) → 4096 ≤ most → broadcast script document world ≡ places_up_to most (λ (so_far : Broadcast). length (so_far.world.resize_observers.made)) (λ so_far. is_active (so_far.world.tree) document) (λ observer so_far. deliver_some script document observer so_far (due_at document observer (so_far.world.resize_observers))) (record { world = world; shallowest = None }) }
 {}

@@ -1,0 +1,76 @@
+-- The limits on what a tick goes over by place are kept by whole runs, and so its turns are never cut off.
+use Rattle.std.proofs.Common.{◌≡◌, refl, arith, ◌≤◌}
+use Rattle.std.specs.Prelude.{ℕ, Option, None, List, length, nat_lt, false, ⊤}
+use Rattle.script_model.specs.Syntax.{Item, Command}
+use Rattle.script_model.specs.Scripts.{handlers_in}
+use Rattle.page_model.specs.World.{World}
+use Rattle.page_model.specs.Documents.{is_active}
+use Rattle.page_model.specs.Operands.{Present}
+use Rattle.page_model.specs.Gathering.{due_at}
+use Rattle.page_model.specs.Callbacks.{Script, Entries, handler_names, presents, run_command, call}
+use Rattle.page_model.specs.Loop.{Broadcast, broadcast, deliver_some}
+use Rattle.page_model.specs.Ticks.{evaluate, media_steps, tick}
+use Rattle.page_model.specs.Outcome.{opening_world, run_item, run_items}
+use Rattle.page_laws.specs.Bounds.{IsWithinLimits, places_up_to}
+use Rattle.page_laws.proofs.Limits.{as-many, does-within}
+use Rattle.page_laws.proofs.Keeping.{IsKept, evaluate-keeps, due-keeps, command-keeps, called-keeps, tick-keeps}
+use Rattle.page_laws.proofs.WholeRuns.{item-keeps, items-keep}
+use Rattle.page_laws.proofs.Later.{all-so}
+use Rattle.page_laws.proofs.Places.{same-places}
+
+abbrev Within : ℕ → World → Type 0
+Within k world = IsWithinLimits world
+
+abbrev Any : ℕ → Present → Type 0
+Any k present = ⊤
+
+limits-kept : (script : Script) → IsKept script Within Any
+limits-kept script = record {
+  next = λ k before now next here. as-many before here now next.observers next.queries;
+  begun = λ k world here. as-many world here _ refl refl;
+  does = λ k world present action is here. does-within world here (handler_names script) present action;
+  none = λ k. tt;
+  entered = λ k world here. here;
+  left = λ k before now here there. there;
+  due = λ k world document observer here. all-so _;
+  queued = λ k world observer here. all-so _;
+}
+
+timed : (time : ℕ) (world : World) → IsWithinLimits world → nat_lt time world.clock ≡ false → IsWithinLimits (record world { clock = time })
+timed time world here is = as-many world here _ refl refl
+
+pub opening-within : IsWithinLimits opening_world
+opening-within = record { resize_observers = omega arith; queries = omega arith }
+
+module _ (script : Script) (world : World) (within : IsWithinLimits world) where
+  pub command-within : (entries : List Present) (command : Command) (present : Present) → IsWithinLimits (run_command script entries command present world).state
+  command-within entries command present = command-keeps script Within Any (limits-kept script) 0 entries (all-so entries) command present world tt within
+
+  pub call-within : (document : ℕ) (handler : Option ℕ) (handed : Entries) → IsWithinLimits (call script document handler handed world).state
+  call-within document handler handed = called-keeps script Within Any (limits-kept script) 0 document handler handed world (all-so (presents handed)) within
+
+  pub tick-within : IsWithinLimits (tick script world).state
+  tick-within = tick-keeps script Within Any (limits-kept script) 0 world within
+
+  pub item-within : (item : Item) → IsWithinLimits (run_item script item world).state
+  item-within item = item-keeps script Within Any (limits-kept script) 0 timed item world within
+
+  -- loops by place
+  pub queries-same : (document most : ℕ) → 4096 ≤ most → media_steps script document world ≡ places_up_to most (λ now. length (now.queries)) (λ now. is_active (now.tree) document) (evaluate script document) world
+  unfolding media_steps
+  queries-same document most fits =
+      same-places IsWithinLimits (λ now. length (now.queries)) (λ now. is_active (now.tree) document) (evaluate script document) 4096
+      (λ now here. here.queries)
+      (λ query now here. evaluate-keeps script Within Any (limits-kept script) 0 document query now here)
+      most world within fits (omega arith)
+
+  pub observers-same : (document most : ℕ) → 4096 ≤ most → broadcast script document world ≡ places_up_to most (λ (so_far : Broadcast). length (so_far.world.resize_observers.made)) (λ so_far. is_active (so_far.world.tree) document) (λ observer so_far. deliver_some script document observer so_far (due_at document observer (so_far.world.resize_observers))) (record { world = world; shallowest = None })
+  unfolding broadcast
+  observers-same document most fits =
+      same-places (λ (so_far : Broadcast). IsWithinLimits so_far.world) (λ so_far. length (so_far.world.resize_observers.made)) (λ so_far. is_active (so_far.world.tree) document) (λ observer so_far. deliver_some script document observer so_far (due_at document observer (so_far.world.resize_observers))) 4096
+      (λ so_far here. here.resize_observers)
+      (λ observer so_far here. due-keeps script Within Any (limits-kept script) 0 document observer so_far here)
+      most (record { world = world; shallowest = None }) within fits (omega arith)
+
+pub items-within : (items : List Item) → IsWithinLimits (run_items items opening_world).state
+items-within items = items-keep items Within Any (limits-kept (handlers_in items)) 0 timed opening_world opening-within
