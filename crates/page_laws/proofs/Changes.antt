@@ -78,12 +78,14 @@ module _ (world : World) where
     within = λ handlers within. frame-callbacks-in handlers world within _ (all-filter _ _ (world.frame_callbacks.held) within.frame_callbacks);
   }
 
-  pub noted-next : (document : ℕ) (size : Extent) → document < length world.tree.documents → IsNext world (record world { viewports = with_noted document size (world.viewports) })
+  pub noted-next : (document : ℕ) (size : Extent) → document < length world.tree.documents →
+      IsNext world (record world { viewports = with_noted document size (world.viewports) })
   noted-next document size is = record {
     successor = alike world _ refl refl refl refl;
     observers = refl;
     queries = refl;
-    within = λ handlers within. viewports-in handlers world within _ (put-within (length world.tree.documents) None document (Some size) (world.viewports.noted) is within.noted);
+    within = λ handlers within. viewports-in handlers world within _
+        (put-within (length world.tree.documents) None document (Some size) (world.viewports.noted) is within.noted);
   }
 
   pub pending-next : (document : ℕ) → IsNext world (record world { scrolls = without_pending document (world.scrolls) })
@@ -95,7 +97,12 @@ module _ (world : World) where
         let counts : Counts = counts_of handlers world in
         let kept = changed (AllByRecursion (IsScrollIn counts)) (λ (pending : List ScrollTarget). []) (λ pending all. tt) document (world.scrolls.pending) in
         let same : length (without_pending document (world.scrolls)).pending ≡ length world.scrolls.pending = kept.same in
-        with-scrolls counts world _ within (record { elements = within.scrolls.elements; documents = within.scrolls.documents; listed = omega (arith, within.scrolls.listed); pending = kept.within within.scrolls.pending });
+        with-scrolls counts world _ within (record {
+          elements = within.scrolls.elements;
+          documents = within.scrolls.documents;
+          listed = omega (arith, within.scrolls.listed);
+          pending = kept.within within.scrolls.pending;
+        });
   }
 
   pub matched-next : (matched : Bool) (query : ℕ) → IsNext world (record world { queries = with_state matched query (world.queries) })
@@ -104,7 +111,8 @@ module _ (world : World) where
     observers = refl;
     queries = (changed (λ (list : QueryList). ⊤) (λ it. record it { matched = matched }) (λ it is. is) query (world.queries)).same;
     within = λ handlers within.
-        queries-in handlers world _ (changed (λ (list : QueryList). list.document < length world.tree.documents) (λ it. record it { matched = matched }) (λ it is. is) query (world.queries)) within;
+        queries-in handlers world _ (changed (λ (list : QueryList). list.document < length world.tree.documents) (λ it. record it { matched = matched })
+        (λ it is. is) query (world.queries)) within;
   }
 
   pub tasks-next : (task : Task) (others : List Task) → world.tasks ≡ task ∷ others → IsNext world (record world { tasks = others })
@@ -124,7 +132,8 @@ module _ (world : World) where
     within = λ handlers within. flags-in handlers within (let most : length world.notifying ≤ length world.tree.documents = within.notifying in omega arith);
   }
     where
-      flags-in : (handlers : ℕ) → IsInRange handlers world → length flags ≤ length world.tree.documents → IsInRange handlers (record world { notifying = flags })
+      flags-in : (handlers : ℕ) → IsInRange handlers world → length flags ≤ length world.tree.documents →
+          IsInRange handlers (record world { notifying = flags })
       flags-in handlers within fits = search
 
   pub unnotified-next : (document : ℕ) → IsNext world (record world { notifying = without_notifying document (world.notifying) })
@@ -141,12 +150,15 @@ module _ (world : World) where
         (all-add (IsTaskIn (counts_of handlers world)) (world.tasks) (Notify document) within.tasks is);
   }
     where
-      both-in : (handlers : ℕ) → IsInRange handlers world → length (with_notifying document (world.notifying)) ≤ length world.tree.documents → AllByRecursion (IsTaskIn (counts_of handlers world)) (world.tasks ++ Notify document ∷ []) → IsInRange handlers (with_notify_task document false world)
+      both-in : (handlers : ℕ) → IsInRange handlers world → length (with_notifying document (world.notifying)) ≤ length world.tree.documents →
+          AllByRecursion (IsTaskIn (counts_of handlers world)) (world.tasks ++ Notify document ∷ []) →
+          IsInRange handlers (with_notify_task document false world)
       both-in handlers within fits all = search
 
   -- observers
 
-  pub resize-next : (after : ResizeObservers) → ((counts : Counts) → IsKept (IsResizeObserverIn counts) world.resize_observers.made after.made) → IsNext world (record world { resize_observers = after })
+  pub resize-next : (after : ResizeObservers) → ((counts : Counts) → IsKept (IsResizeObserverIn counts) world.resize_observers.made after.made) →
+      IsNext world (record world { resize_observers = after })
   resize-next after kept = record {
     successor = alike world _ refl refl refl refl;
     observers = (kept (counts_of 0 world)).same;
@@ -154,7 +166,9 @@ module _ (world : World) where
     within = λ handlers within. resize-in handlers world after (kept (counts_of handlers world)) within;
   }
 
-  pub intersection-next : (after : IntersectionObservers) → ((counts : Counts) → IsKept (IsIntersectionObserverIn counts) world.intersection_observers.made after.made) → IsNext world (record world { intersection_observers = after })
+  pub intersection-next : (after : IntersectionObservers) →
+      ((counts : Counts) → IsKept (IsIntersectionObserverIn counts) world.intersection_observers.made after.made) →
+      IsNext world (record world { intersection_observers = after })
   intersection-next after kept = record {
     successor = alike world _ refl refl refl refl;
     observers = refl;
@@ -167,9 +181,11 @@ module _ (world : World) where
 
   pub inactive-next : (observer : ℕ) → IsNext world (record world { resize_observers = without_active observer (world.resize_observers) })
   inactive-next observer =
-      resize-next _ (λ counts. resize-changed counts (world.resize_observers) observer _ (λ each is. record { document = is.document; handler = is.handler; targets = is.targets; active = tt; skipped = is.skipped }))
+      resize-next _ (λ counts. resize-changed counts (world.resize_observers) observer _
+      (λ each is. record { document = is.document; handler = is.handler; targets = is.targets; active = tt; skipped = is.skipped }))
 
-  emptied-if : (test : Bool) (observer : ℕ) → IsNext world (cond test (record world { resize_observers = without_active observer (world.resize_observers) }) world)
+  emptied-if : (test : Bool) (observer : ℕ) → IsNext world
+      (cond test (record world { resize_observers = without_active observer (world.resize_observers) }) world)
   emptied-if true observer = inactive-next observer
   emptied-if false observer = same-next world
 
@@ -178,24 +194,29 @@ module _ (world : World) where
 
 -- gathering and reporting
 
-reported-at : (counts : Counts) (sight : Sight) (delivered : List Observation) (it : Observation) → it.target < counts.elements → (reported sight delivered it).target < counts.elements
+reported-at : (counts : Counts) (sight : Sight) (delivered : List Observation) (it : Observation) → it.target < counts.elements →
+    (reported sight delivered it).target < counts.elements
 reported-at counts sight delivered it is = by_test (list_any (λ (each : Observation). each.serial == it.serial) delivered)
   where
     by_test : (test : Bool) → (cond test (record it { last = observed_size sight it }) it).target < counts.elements
     by_test true = is
     by_test false = is
 
-pub reported-next : (world : World) (sight : Sight) (observer : ℕ) (delivered : List Observation) → IsNext world (record world { resize_observers = with_reported sight observer delivered (world.resize_observers) })
+pub reported-next : (world : World) (sight : Sight) (observer : ℕ) (delivered : List Observation) →
+    IsNext world (record world { resize_observers = with_reported sight observer delivered (world.resize_observers) })
 reported-next world sight observer delivered =
     resize-next world _ (λ counts. resize-changed counts (world.resize_observers) observer _ (λ each is. record {
       document = is.document;
       handler = is.handler;
-      targets = all-mapped (λ (it : Observation). it.target < counts.elements) (λ it. it.target < counts.elements) (reported sight delivered) (reported-at counts sight delivered) (each.targets) is.targets;
+      targets =
+          all-mapped (λ (it : Observation). it.target < counts.elements) (λ it. it.target < counts.elements) (reported sight delivered)
+          (reported-at counts sight delivered) (each.targets) is.targets;
       active = is.active;
       skipped = is.skipped;
     }))
 
-gathered-if-in : (counts : Counts) (test : Bool) (sight : Sight) (depth : ℕ) (it : ResizeObserver) → IsResizeObserverIn counts it → IsResizeObserverIn counts (gathered_if test sight depth it)
+gathered-if-in : (counts : Counts) (test : Bool) (sight : Sight) (depth : ℕ) (it : ResizeObserver) → IsResizeObserverIn counts it →
+    IsResizeObserverIn counts (gathered_if test sight depth it)
 gathered-if-in counts false sight depth it is = is
 gathered-if-in counts true sight depth it is =
     let changed_ones : AreObserved counts (filter (has_changed sight) (it.targets)) = all-filter _ (has_changed sight) (it.targets) is.targets in
@@ -210,7 +231,8 @@ gathered-if-in counts true sight depth it is =
 pub gather-next : (document depth : ℕ) (world : World) → IsNext world (gather document depth world)
 unfolding gather
 gather-next document depth world =
-    resize-next world _ (λ counts. mapped (IsResizeObserverIn counts) _ (λ it is. gathered-if-in counts (is_of document it) _ depth it is) (world.resize_observers.made))
+    resize-next world _ (λ counts. mapped (IsResizeObserverIn counts) _ (λ it is. gathered-if-in counts (is_of document it) _ depth it is)
+    (world.resize_observers.made))
 
 -- intersections
 
@@ -224,22 +246,29 @@ cons-in : (P : Entry → Type 0) (found : Option Entry) (rest : List Entry) → 
 cons-in P None rest is all = all
 cons-in P (Some entry) rest is all = (is, all)
 
-all-filter-map : {A : Type 0} (find : A → Option Entry) (P : Entry → Type 0) (xs : List A) → AllByRecursion (λ x. IfSome (find x) P) xs → AllByRecursion P (filter_map find xs)
+all-filter-map : {A : Type 0} (find : A → Option Entry) (P : Entry → Type 0) (xs : List A) → AllByRecursion (λ x. IfSome (find x) P) xs →
+    AllByRecursion P (filter_map find xs)
 all-filter-map find P [] all = tt
 all-filter-map find P (x ∷ xs) all = cons-in P (find x) (filter_map find xs) (all.0) (all-filter-map find P xs (all.1))
 
-entries-settled : (counts : Counts) (time : ℕ) (find : ℕ → Finding) (registrations : List Registration) → AllByRecursion (λ (each : Registration). each.target < counts.elements) registrations → AllByRecursion (λ (each : Entry). each.target < counts.elements) (filter_map (λ (it : Settled). it.entry) (map (λ (registration : Registration). settled time (find (registration.target)) registration) registrations))
+entries-settled : (counts : Counts) (time : ℕ) (find : ℕ → Finding) (registrations : List Registration) →
+    AllByRecursion (λ (each : Registration). each.target < counts.elements) registrations →
+    AllByRecursion (λ (each : Entry). each.target < counts.elements)
+    (filter_map (λ (it : Settled). it.entry) (map (λ (registration : Registration). settled time (find (registration.target)) registration) registrations))
 entries-settled counts time find registrations all =
     all-filter-map (λ (it : Settled). it.entry) _ _
     (all-mapped (λ (each : Registration). each.target < counts.elements) (λ (it : Settled). IfSome it.entry (λ each. each.target < counts.elements)) _
     (λ each is. news-in (λ (entry : Entry). entry.target < counts.elements) _ (is_news each (find (each.target))) is) registrations all)
 
-settled-in : (counts : Counts) (time : ℕ) (find : IntersectionObserver → ℕ → Finding) (it : IntersectionObserver) → IsIntersectionObserverIn counts it → IsIntersectionObserverIn counts (settled_observer time find it)
+settled-in : (counts : Counts) (time : ℕ) (find : IntersectionObserver → ℕ → Finding) (it : IntersectionObserver) → IsIntersectionObserverIn counts it →
+    IsIntersectionObserverIn counts (settled_observer time find it)
 settled-in counts time find it is = record {
   document = is.document;
   handler = is.handler;
   root = is.root;
-  registrations = all-mapped _ _ _ (λ settled_one held. held) _ (all-mapped _ (λ (each : Settled). each.registration.target < counts.elements) _ (λ registration held. held) (it.registrations) is.registrations);
+  registrations =
+      all-mapped _ _ _ (λ settled_one held. held) _ (all-mapped _ (λ (each : Settled). each.registration.target < counts.elements) _
+      (λ registration held. held) (it.registrations) is.registrations);
   queue = all-append _ (it.queue) _ is.queue (entries-settled counts time (find it) (it.registrations) is.registrations);
 }
 
@@ -250,9 +279,12 @@ update-next document world is =
     let settled_ones = settling (world.clock) (finding world) observers (world.intersection_observers) in
     let now = record world { intersection_observers = settled_ones } in
     let first : IsNext world now =
-    intersection-next world settled_ones (λ counts. changed-each (IsIntersectionObserverIn counts) (settled_observer (world.clock) (finding world)) (settled-in counts (world.clock) (finding world)) observers (world.intersection_observers.made)) in
+    intersection-next world settled_ones (λ counts. changed-each (IsIntersectionObserverIn counts) (settled_observer (world.clock) (finding world))
+    (settled-in counts (world.clock) (finding world)) observers (world.intersection_observers.made)) in
     by_test settled_ones first (list_any (has_queued (world.intersection_observers) settled_ones) observers)
   where
-    by_test : (it : IntersectionObservers) → IsNext world (record world { intersection_observers = it }) → (test : Bool) → IsNext world (cond test (with_notify_task document (is_notifying document (world.notifying)) (record world { intersection_observers = it })) (record world { intersection_observers = it }))
+    by_test : (it : IntersectionObservers) → IsNext world (record world { intersection_observers = it }) → (test : Bool) →
+        IsNext world (cond test (with_notify_task document (is_notifying document (world.notifying)) (record world { intersection_observers = it }))
+        (record world { intersection_observers = it }))
     by_test it first true = then-next first (notified-next (record world { intersection_observers = it }) document (is_notifying document (world.notifying)) is)
     by_test it first false = first

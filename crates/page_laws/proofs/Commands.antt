@@ -47,7 +47,11 @@ loading-next n width height tree = search (both, did, element-changed) depth 9
 
 -- things made
 
-made-next : (name : List ℕ) (kind : Kind) (document : ℕ) (world : World) → IsSuccessor world (record world { names = with_name name (ElementThing (length world.tree.elements)) (world.names); tree = with_element kind document None (world.tree) })
+made-next : (name : List ℕ) (kind : Kind) (document : ℕ) (world : World) →
+    IsSuccessor world (record world {
+      names = with_name name (ElementThing (length world.tree.elements)) (world.names);
+      tree = with_element kind document None (world.tree);
+    })
 made-next name kind document world = record {
   elements = less-more (world.tree.elements) _;
   states = λ wanted each come. come;
@@ -56,12 +60,18 @@ made-next name kind document world = record {
   begun = refl;
 }
 
-framed-next : (name inside : List ℕ) (document : ℕ) (world : World) → IsSuccessor world (record world { names = with_name inside (DocumentThing (length world.tree.documents)) (with_name name (ElementThing (length world.tree.elements)) (world.names)); tree = with_frame document (world.tree) })
+framed-next : (name inside : List ℕ) (document : ℕ) (world : World) →
+    IsSuccessor world (record world {
+      names = with_name inside (DocumentThing (length world.tree.documents))
+          (with_name name (ElementThing (length world.tree.elements)) (world.names));
+      tree = with_frame document (world.tree);
+    })
 framed-next name inside document world = record {
   elements = less-more (world.tree.elements) _;
   states = λ wanted each come. more-documents wanted (world.tree.documents) _ each come;
   names = λ text thing is.
-      named-still inside text (DocumentThing (length world.tree.documents)) thing _ (named-still name text (ElementThing (length world.tree.elements)) thing (world.names) is);
+      named-still inside text (DocumentThing (length world.tree.documents)) thing _
+      (named-still name text (ElementThing (length world.tree.elements)) thing (world.names) is);
   clock = refl;
   begun = refl;
 }
@@ -73,13 +83,35 @@ making-next world name document kind = search (both, bind, did, made-next) depth
 -- a name added to a world that is else alike
 module _ (name : List ℕ) (thing : Thing) (world : World) where
   pub resize-made : (it : ResizeObservers) → IsSuccessor world (record world { names = with_name name thing (world.names); resize_observers = it })
-  resize-made it = record { elements = (still world).elements; states = λ wanted document come. come; names = λ text that is. named-still name text thing that (world.names) is; clock = refl; begun = refl }
+  resize-made it =
+      record {
+        elements = (still world).elements;
+        states = λ wanted document come. come;
+        names = λ text that is. named-still name text thing that (world.names) is;
+        clock = refl;
+        begun = refl;
+      }
 
-  pub intersection-made : (it : IntersectionObservers) → IsSuccessor world (record world { names = with_name name thing (world.names); intersection_observers = it })
-  intersection-made it = record { elements = (still world).elements; states = λ wanted document come. come; names = λ text that is. named-still name text thing that (world.names) is; clock = refl; begun = refl }
+  pub intersection-made : (it : IntersectionObservers) →
+      IsSuccessor world (record world { names = with_name name thing (world.names); intersection_observers = it })
+  intersection-made it =
+      record {
+        elements = (still world).elements;
+        states = λ wanted document come. come;
+        names = λ text that is. named-still name text thing that (world.names) is;
+        clock = refl;
+        begun = refl;
+      }
 
   pub query-made : (it : List QueryList) → IsSuccessor world (record world { names = with_name name thing (world.names); queries = it })
-  query-made it = record { elements = (still world).elements; states = λ wanted document come. come; names = λ text that is. named-still name text thing that (world.names) is; clock = refl; begun = refl }
+  query-made it =
+      record {
+        elements = (still world).elements;
+        states = λ wanted document come. come;
+        names = λ text that is. named-still name text thing that (world.names) is;
+        clock = refl;
+        begun = refl;
+      }
 
 -- scrolling
 
@@ -91,7 +123,8 @@ scrolled-by-next : (left top : ℤ) (target : Option ScrollTarget) (world : Worl
 scrolled-by-next left top None world = still world
 scrolled-by-next left top (Some target) world = alike world _ refl refl refl refl
 
-pub does-next : (handlers : Handlers) (world : World) (present : Present) (action : Action) → OnDid (does handlers world present action) (λ effect. IsSuccessor world (effect.world))
+pub does-next : (handlers : Handlers) (world : World) (present : Present) (action : Action) →
+    OnDid (does handlers world present action) (λ effect. IsSuccessor world (effect.world))
 unfolding does OnDid
 does-next handlers world present (Viewport width height) = search alike
 does-next handlers world present (MakeBlock name document) = making-next world name document _

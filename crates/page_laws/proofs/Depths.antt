@@ -20,14 +20,16 @@ use Rattle.page_laws.proofs.Lists.{changed}
 abbrev parent_in : List Element → ℕ → Option ℕ
 parent_in xs m = (unwrap_or (slice_get xs m) no_element).parent
 
-parent-kept : (change : Element → Element) → ((it : Element) → (change it).parent ≡ it.parent) → (place m : ℕ) (xs : List Element) → parent_in (change_at change place xs) m ≡ parent_in xs m
+parent-kept : (change : Element → Element) → ((it : Element) → (change it).parent ≡ it.parent) → (place m : ℕ) (xs : List Element) →
+    parent_in (change_at change place xs) m ≡ parent_in xs m
 parent-kept change same place m [] = refl
 parent-kept change same zero zero (x ∷ xs) = same x
 parent-kept change same zero (suc m) (x ∷ xs) = refl
 parent-kept change same (suc place) zero (x ∷ xs) = refl
 parent-kept change same (suc place) (suc m) (x ∷ xs) = parent-kept change same place m xs
 
-parent-kept_each : (change : Element → Element) → ((it : Element) → (change it).parent ≡ it.parent) → (places : List ℕ) (m : ℕ) (xs : List Element) → parent_in (change_each change places xs) m ≡ parent_in xs m
+parent-kept_each : (change : Element → Element) → ((it : Element) → (change it).parent ≡ it.parent) → (places : List ℕ) (m : ℕ) (xs : List Element) →
+    parent_in (change_each change places xs) m ≡ parent_in xs m
 parent-kept_each change same [] m xs = refl
 parent-kept_each change same (place ∷ places) m xs = parent-kept_each change same places m (change_at change place xs) ∙ parent-kept change same place m xs
 
@@ -38,7 +40,8 @@ parent-other change zero (suc m) (x ∷ xs) other = refl
 parent-other change (suc place) zero (x ∷ xs) other = refl
 parent-other change (suc place) (suc m) (x ∷ xs) other = parent-other change place m xs (λ same. other (ap suc same))
 
-parent-set : (change : Element → Element) (parent : Option ℕ) → ((it : Element) → (change it).parent ≡ parent) → (place : ℕ) (xs : List Element) → place < length xs → parent_in (change_at change place xs) place ≡ parent
+parent-set : (change : Element → Element) (parent : Option ℕ) → ((it : Element) → (change it).parent ≡ parent) → (place : ℕ) (xs : List Element) →
+    place < length xs → parent_in (change_at change place xs) place ≡ parent
 parent-set change parent sets place [] within = absurd (omega arith)
 parent-set change parent sets zero (x ∷ xs) within = sets x
 parent-set change parent sets (suc place) (x ∷ xs) within = parent-set change parent sets place xs (omega arith)
@@ -54,7 +57,8 @@ length-unlinked tree n None = refl
 length-unlinked tree n (Some (InElement parent)) = length-change_at _ parent (change_at loses n (tree.elements)) ∙ length-change_at loses n (tree.elements)
 length-unlinked tree n (Some (InDocument document)) = refl
 
-parent-unlinked : (tree : Tree) (n m : ℕ) (container : Option Container) → m ≢ n → parent_in (unlinked tree n container).elements m ≡ parent_in (tree.elements) m
+parent-unlinked : (tree : Tree) (n m : ℕ) (container : Option Container) → m ≢ n →
+    parent_in (unlinked tree n container).elements m ≡ parent_in (tree.elements) m
 parent-unlinked tree n m None other = refl
 parent-unlinked tree n m (Some (InElement parent)) other =
     parent-kept (λ element. record element { children = without n (element.children) }) (λ it. refl) parent m (change_at loses n (tree.elements))
@@ -74,8 +78,10 @@ module _ (tree : Tree) (parent n : ℕ) (sibling : Option ℕ) where
   parent-inserted : (m : ℕ) → parent_in (inserted tree (InElement parent) n sibling).elements m ≡ parent_in (change_at gains n (apart.elements)) m
   unfolding inserted adopted shown
   parent-inserted m =
-      parent-kept_each (λ element. record element { document = (element_at tree parent).document }) (λ it. refl) (inclusive_descendants joined n) m (joined.elements)
-      ∙ parent-kept (λ element. record element { children = placed_before n (sibling_meant tree (InElement parent) n sibling) (element.children) }) (λ it. refl) parent m (change_at gains n (apart.elements))
+      parent-kept_each (λ element. record element { document = (element_at tree parent).document }) (λ it. refl) (inclusive_descendants joined n) m
+      (joined.elements)
+      ∙ parent-kept (λ element. record element { children = placed_before n (sibling_meant tree (InElement parent) n sibling) (element.children) })
+      (λ it. refl) parent m (change_at gains n (apart.elements))
 
   parent-elsewhere : (m : ℕ) → m ≢ n → (nodes_of (inserted tree (InElement parent) n sibling) m).parent ≡ (nodes_of tree m).parent
   unfolding removed
@@ -85,7 +91,8 @@ module _ (tree : Tree) (parent n : ℕ) (sibling : Option ℕ) where
   unfolding removed
   parent-here within =
       parent-inserted n
-      ∙ parent-set gains (Some parent) (λ it. refl) n (apart.elements) (subst (λ (count : ℕ). n < count) (sym (length-unlinked tree n (container_of tree n))) within)
+      ∙ parent-set gains (Some parent) (λ it. refl) n (apart.elements)
+      (subst (λ (count : ℕ). n < count) (sym (length-unlinked tree n (container_of tree n))) within)
 
 -- paths
 
@@ -93,14 +100,16 @@ or-false : (a b : Bool) → (a || b) ≡ false → (a ≡ false) × (b ≡ false
 or-false true b none = absurd (true≢false none)
 or-false false b none = (refl, none)
 
-above-same : (up up' : ℕ → List ℕ) (n : ℕ) (parent : Option ℕ) → ((p : ℕ) → is_among n (up' p) ≡ false → up p ≡ up' p) → is_among n (path_above up' parent) ≡ false → path_above up parent ≡ path_above up' parent
+above-same : (up up' : ℕ → List ℕ) (n : ℕ) (parent : Option ℕ) → ((p : ℕ) → is_among n (up' p) ≡ false → up p ≡ up' p) →
+    is_among n (path_above up' parent) ≡ false → path_above up parent ≡ path_above up' parent
 above-same up up' n None each none = refl
 above-same up up' n (Some p) each none = each p none
 
 not-equal : (n m : ℕ) → (n == m) ≡ false → m ≢ n
 not-equal n m none same = grind (arith, tests)
 
-path-same : (at at' : ℕ → Node) (n : ℕ) → ((m : ℕ) → m ≢ n → (at m).parent ≡ (at' m).parent) → (high m : ℕ) → is_among n (path_up high at' m) ≡ false → path_up high at m ≡ path_up high at' m
+path-same : (at at' : ℕ → Node) (n : ℕ) → ((m : ℕ) → m ≢ n → (at m).parent ≡ (at' m).parent) → (high m : ℕ) → is_among n (path_up high at' m) ≡ false →
+    path_up high at m ≡ path_up high at' m
 unfolding path_up is_among
 path-same at at' n elsewhere zero m none = refl
 path-same at at' n elsewhere (suc high) m none =
@@ -114,7 +123,8 @@ last-more : (m : ℕ) (parent : Option ℕ) → length (m ∷ path_above (λ p. 
 last-more m None within = refl
 last-more m (Some p) within = absurd (omega arith)
 
-above-more : (high : ℕ) (more up : ℕ → List ℕ) (parent : Option ℕ) → ((p : ℕ) → length (more p) ≤ high → more p ≡ up p) → length (path_above more parent) ≤ high → path_above more parent ≡ path_above up parent
+above-more : (high : ℕ) (more up : ℕ → List ℕ) (parent : Option ℕ) → ((p : ℕ) → length (more p) ≤ high → more p ≡ up p) →
+    length (path_above more parent) ≤ high → path_above more parent ≡ path_above up parent
 above-more high more up None each within = refl
 above-more high more up (Some p) each within = each p within
 
@@ -124,23 +134,30 @@ path-more at zero m within = last-more m (at m).parent within
 path-more at (suc high) m within =
     ap (λ above. m ∷ above) (above-more (suc high) (path_up (suc high) at) (path_up high at) (at m).parent (path-more at high) (omega arith))
 
-path-begins : (at : ℕ → Node) (n : ℕ) (parent : Option ℕ) (high : ℕ) → (at n).parent ≡ parent → length (path_up (suc high) at n) ≡ length (path_above (path_up high at) parent) + 1
+path-begins : (at : ℕ → Node) (n : ℕ) (parent : Option ℕ) (high : ℕ) → (at n).parent ≡ parent →
+    length (path_up (suc high) at n) ≡ length (path_above (path_up high at) parent) + 1
 unfolding path_up
-path-begins at n parent high is = subst (λ (above : Option ℕ). length (n ∷ path_above (path_up high at) above) ≡ length (path_above (path_up high at) parent) + 1) (sym is) (omega arith)
+path-begins at n parent high is =
+    subst (λ (above : Option ℕ). length (n ∷ path_above (path_up high at) above) ≡ length (path_above (path_up high at) parent) + 1) (sym is) (omega arith)
 
-path-below : (at at' : ℕ → Node) (n parent : ℕ) → ((m : ℕ) → m ≢ n → (at m).parent ≡ (at' m).parent) → (at n).parent ≡ Some parent → (high : ℕ) → is_among n (path_up (suc high) at' parent) ≡ false → length (path_up (suc high) at' parent) ≤ suc high → length (path_up (suc high) at n) ≡ length (path_up (suc high) at' parent) + 1
+path-below : (at at' : ℕ → Node) (n parent : ℕ) → ((m : ℕ) → m ≢ n → (at m).parent ≡ (at' m).parent) → (at n).parent ≡ Some parent → (high : ℕ) →
+    is_among n (path_up (suc high) at' parent) ≡ false → length (path_up (suc high) at' parent) ≤ suc high →
+    length (path_up (suc high) at n) ≡ length (path_up (suc high) at' parent) + 1
 path-below at at' n parent elsewhere here high none within =
     path-begins at n (Some parent) high here
-    ∙ ap (λ (path : List ℕ). length path + 1) (path-same at at' n elsewhere high parent (subst (λ (path : List ℕ). is_among n path ≡ false) (path-more at' high parent within) none) ∙ sym (path-more at' high parent within))
+    ∙ ap (λ (path : List ℕ). length path + 1) (path-same at at' n elsewhere high parent
+    (subst (λ (path : List ℕ). is_among n path ≡ false) (path-more at' high parent within) none) ∙ sym (path-more at' high parent within))
 
 -- the step that put it there
 
-unless-thrown : (test : Bool) (exception : ThrowKind) (next : Step Tree) (Holds : Tree → Type 0) → (test ≡ false → OnDid next Holds) → OnDid (throw_if test exception >> next) Holds
+unless-thrown : (test : Bool) (exception : ThrowKind) (next : Step Tree) (Holds : Tree → Type 0) → (test ≡ false → OnDid next Holds) →
+    OnDid (throw_if test exception >> next) Holds
 unfolding OnDid ◌>>◌
 unless-thrown true exception next Holds there = tt
 unless-thrown false exception next Holds there = there refl
 
-unless-met : (test : Bool) (limit : LimitKind) (next : Step Tree) (Holds : Tree → Type 0) → (test ≡ true → OnDid next Holds) → OnDid (met_unless test limit >> next) Holds
+unless-met : (test : Bool) (limit : LimitKind) (next : Step Tree) (Holds : Tree → Type 0) → (test ≡ true → OnDid next Holds) →
+    OnDid (met_unless test limit >> next) Holds
 unfolding OnDid ◌>>◌
 unless-met true limit next Holds there = there refl
 unless-met false limit next Holds there = tt
@@ -148,10 +165,12 @@ unless-met false limit next Holds there = tt
 few-levels : (depth more : ℕ) → nat_le (depth + more) 256 ≡ true → depth ≤ suc 65535
 few-levels depth more few = grind (arith, tests)
 
-depth-inserted : (tree : Tree) (parent n : ℕ) (sibling : Option ℕ) → n < length tree.elements → is_inclusive_ancestor tree n parent ≡ false → element_depth tree parent ≤ suc 65535 → element_depth (inserted tree (InElement parent) n sibling) n ≡ element_depth tree parent + 1
+depth-inserted : (tree : Tree) (parent n : ℕ) (sibling : Option ℕ) → n < length tree.elements → is_inclusive_ancestor tree n parent ≡ false →
+    element_depth tree parent ≤ suc 65535 → element_depth (inserted tree (InElement parent) n sibling) n ≡ element_depth tree parent + 1
 unfolding is_inclusive_ancestor element_depth
 depth-inserted tree parent n sibling within none few =
-    path-below (nodes_of (inserted tree (InElement parent) n sibling)) (nodes_of tree) n parent (parent-elsewhere tree parent n sibling) (parent-here tree parent n sibling within) 65535 none few
+    path-below (nodes_of (inserted tree (InElement parent) n sibling)) (nodes_of tree) n parent (parent-elsewhere tree parent n sibling)
+    (parent-here tree parent n sibling within) 65535 none few
 
 abbrev last_step : Tree → Container → ℕ → Option ℕ → Step Tree
 last_step tree container n sibling =
@@ -171,11 +190,14 @@ placing-steps tree container n sibling = refl
 abbrev IsBelow : Tree → ℕ → ℕ → Tree → Type 0
 IsBelow tree parent n after = element_depth after n ≡ element_depth tree parent + 1
 
-steps-depth : (tree : Tree) (parent n : ℕ) (sibling : Option ℕ) → n < length tree.elements → OnDid (steps_of tree (InElement parent) n sibling) (IsBelow tree parent n)
+steps-depth : (tree : Tree) (parent n : ℕ) (sibling : Option ℕ) → n < length tree.elements →
+    OnDid (steps_of tree (InElement parent) n sibling) (IsBelow tree parent n)
 steps-depth tree parent n sibling within =
     unless-thrown _ _ _ _ (λ none. both _ _ _ (both _ _ _ (unless-met _ _ _ _ (λ few.
     did _ (IsBelow tree parent n) (depth-inserted tree parent n sibling within none (few-levels (element_depth tree parent) (levels_of tree n) few))))))
 
-pub placing-depth : (tree : Tree) (parent n : ℕ) (sibling : Option ℕ) → n < length tree.elements → OnDid (placing (InElement parent) n sibling tree) (λ after. element_depth after n ≡ element_depth tree parent + 1)
+pub placing-depth : (tree : Tree) (parent n : ℕ) (sibling : Option ℕ) → n < length tree.elements →
+    OnDid (placing (InElement parent) n sibling tree) (λ after. element_depth after n ≡ element_depth tree parent + 1)
 placing-depth tree parent n sibling within =
-    subst (λ (step : Step Tree). OnDid step (IsBelow tree parent n)) (sym (placing-steps tree (InElement parent) n sibling)) (steps-depth tree parent n sibling within)
+    subst (λ (step : Step Tree). OnDid step (IsBelow tree parent n)) (sym (placing-steps tree (InElement parent) n sibling))
+    (steps-depth tree parent n sibling within)

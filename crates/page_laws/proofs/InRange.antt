@@ -32,11 +32,14 @@ use Rattle.page_laws.proofs.Parts.{target-kept, no-target-kept, no-targets-kept,
 
 -- names
 
-found-step : (counts : Counts) (p : Name → Bool) (x : Name) (xs : List Name) (passes : Bool) → IsThingIn counts (x.thing) → IfSome (option_map (λ (named : Name). named.thing) (find p xs)) (IsThingIn counts) → IfSome (option_map (λ (named : Name). named.thing) (cond passes (Some x) (find p xs))) (IsThingIn counts)
+found-step : (counts : Counts) (p : Name → Bool) (x : Name) (xs : List Name) (passes : Bool) → IsThingIn counts (x.thing) →
+    IfSome (option_map (λ (named : Name). named.thing) (find p xs)) (IsThingIn counts) →
+    IfSome (option_map (λ (named : Name). named.thing) (cond passes (Some x) (find p xs))) (IsThingIn counts)
 found-step counts p x xs true is others = is
 found-step counts p x xs false is others = others
 
-name-in : (counts : Counts) (p : Name → Bool) (xs : List Name) → AllByRecursion (λ (named : Name). IsThingIn counts named.thing) xs → IfSome (option_map (λ (named : Name). named.thing) (find p xs)) (IsThingIn counts)
+name-in : (counts : Counts) (p : Name → Bool) (xs : List Name) → AllByRecursion (λ (named : Name). IsThingIn counts named.thing) xs →
+    IfSome (option_map (λ (named : Name). named.thing) (find p xs)) (IsThingIn counts)
 name-in counts p [] all = tt
 name-in counts p (x ∷ xs) all = found-step counts p x xs (p x) (all.0) (name-in counts p xs (all.1))
 
@@ -92,13 +95,16 @@ module _ (handlers : Handlers) (world : World) (within : IsInRange (length handl
   operand-thing present (Named name) is = thing-named name
   operand-thing present Target is = bind-in _ _ _ _ (present-target present is) (λ n is-n. did _ (IsThingIn counts) is-n)
 
-  element-meant : (present : Present) (operand : Operand) → IsPresentIn world present → OnDid (element_meant (world.names) present operand) (λ n. n < length world.tree.elements)
+  element-meant : (present : Present) (operand : Operand) → IsPresentIn world present →
+      OnDid (element_meant (world.names) present operand) (λ n. n < length world.tree.elements)
   element-meant present operand is = bind-in _ _ _ _ (operand-thing present operand is) element-of
 
-  container-meant : (present : Present) (operand : Operand) → IsPresentIn world present → OnDid (container_meant (world.names) present operand) (IsContainerIn counts)
+  container-meant : (present : Present) (operand : Operand) → IsPresentIn world present →
+      OnDid (container_meant (world.names) present operand) (IsContainerIn counts)
   container-meant present operand is = bind-in _ _ _ _ (operand-thing present operand is) container-of
 
-  event-target-meant : (present : Present) (aim : Aim) → IsPresentIn world present → OnDid (event_target_meant (world.names) present aim) (IsEventTargetIn counts)
+  event-target-meant : (present : Present) (aim : Aim) → IsPresentIn world present →
+      OnDid (event_target_meant (world.names) present aim) (IsEventTargetIn counts)
   event-target-meant present (PlainAim operand) is = bind-in _ _ _ _ (operand-thing present operand is) event-target-of
   event-target-meant present (WindowAim name) is = bind-in _ _ _ _ (document-named name) (λ document is-document. did _ (IsEventTargetIn counts) is-document)
 
@@ -108,7 +114,8 @@ module _ (handlers : Handlers) (world : World) (within : IsInRange (length handl
 
   root-meant : (present : Present) (operand : Option Operand) → IsPresentIn world present → OnDid (root_meant (world.names) present operand) (IsRootIn counts)
   root-meant present None is = did _ (IsRootIn counts) tt
-  root-meant present (Some operand) is = bind-in _ _ _ _ (container-meant present operand is) (λ container is-in. did _ (IsRootIn counts) (root-at-in container is-in))
+  root-meant present (Some operand) is =
+      bind-in _ _ _ _ (container-meant present operand is) (λ container is-in. did _ (IsRootIn counts) (root-at-in container is-in))
 
 place-in : (place count : ℕ) (less : Bool) → nat_lt place count ≡ less → IfSome (cond less (Some place) None) (λ n. n < count)
 place-in place count true less = grind (arith, tests)
@@ -119,26 +126,32 @@ handler-named handlers name =
     required-in ReferenceError (position (bytes_eq name) handlers) (λ handler. handler < length handlers)
     (place-in (position_or_len (bytes_eq name) handlers) (length handlers) (nat_lt (position_or_len (bytes_eq name) handlers) (length handlers)) refl)
 
-handler-given : (handlers : Handlers) (name : Option (List ℕ)) → OnDid (handler_given handlers name) (λ handler. IfSome handler (λ called. called < length handlers))
+handler-given : (handlers : Handlers) (name : Option (List ℕ)) →
+    OnDid (handler_given handlers name) (λ handler. IfSome handler (λ called. called < length handlers))
 handler-given handlers None = did _ (λ (handler : Option ℕ). IfSome handler (λ called. called < length handlers)) tt
-handler-given handlers (Some name) = bind-in _ _ _ _ (handler-named handlers name) (λ handler is. did _ (λ (given : Option ℕ). IfSome given (λ called. called < length handlers)) is)
+handler-given handlers (Some name) =
+    bind-in _ _ _ _ (handler-named handlers name) (λ handler is. did _ (λ (given : Option ℕ). IfSome given (λ called. called < length handlers)) is)
 
 -- tables, tasks and viewports
 
 module _ (handlers : ℕ) (world : World) (within : IsInRange handlers world) where
-  pub listeners-in : (table : Table Listener) → AllByRecursion (IsListenerIn (counts_of handlers world)) table.held → IsInRange handlers (record world { listeners = table })
+  pub listeners-in : (table : Table Listener) → AllByRecursion (IsListenerIn (counts_of handlers world)) table.held →
+      IsInRange handlers (record world { listeners = table })
   listeners-in table all = search
 
-  pub frame-callbacks-in : (table : Table FrameCallback) → AllByRecursion (IsFrameCallbackIn (counts_of handlers world)) table.held → IsInRange handlers (record world { frame_callbacks = table })
+  pub frame-callbacks-in : (table : Table FrameCallback) → AllByRecursion (IsFrameCallbackIn (counts_of handlers world)) table.held →
+      IsInRange handlers (record world { frame_callbacks = table })
   frame-callbacks-in table all = search
 
-  pub timers-in : (table : Table Timer) → AllByRecursion (IsTimerIn (counts_of handlers world)) table.held → IsInRange handlers (record world { timers = table })
+  pub timers-in : (table : Table Timer) → AllByRecursion (IsTimerIn (counts_of handlers world)) table.held →
+      IsInRange handlers (record world { timers = table })
   timers-in table all = search
 
   pub tasks-in : (tasks : List Task) → AllByRecursion (IsTaskIn (counts_of handlers world)) tasks → IsInRange handlers (record world { tasks = tasks })
   tasks-in tasks all = search
 
-  pub viewports-in : (viewports : Viewports) → length viewports.noted ≤ length world.tree.documents → IsInRange handlers (record world { viewports = viewports })
+  pub viewports-in : (viewports : Viewports) → length viewports.noted ≤ length world.tree.documents →
+      IsInRange handlers (record world { viewports = viewports })
   viewports-in viewports fits = search
 
 -- commands
@@ -152,16 +165,19 @@ module _ (handlers : Handlers) (world : World) (within : IsInRange (length handl
   unfolding with_tree
   tree-step step kept = bind-in step _ _ Holds kept (λ after is. did _ Holds (tree-in (length handlers) world after is within))
 
-  observed : (observer n : ℕ) (already : Bool) → n < length world.tree.elements → OnDid (with_intersections world (observing observer n already (world.intersection_observers))) Holds
+  observed : (observer n : ℕ) (already : Bool) → n < length world.tree.elements →
+      OnDid (with_intersections world (observing observer n already (world.intersection_observers))) Holds
   unfolding with_intersections observing
   observed observer n true is-n = did _ Holds within
   observed observer n false is-n =
       bind-in _ _ (λ it. IsInRange (length handlers) (record world { intersection_observers = it })) Holds
       (both (room limits.IntersectionObservations (intersection_observations (world.intersection_observers))) _ _
-      (did _ _ (intersection-in (length handlers) world _ (registration-kept (counts_of (length handlers) world) (world.intersection_observers) observer n is-n) within)))
+      (did _ _ (intersection-in (length handlers) world _
+      (registration-kept (counts_of (length handlers) world) (world.intersection_observers) observer n is-n) within)))
       (λ it is. did _ Holds is)
 
-  listened : (target : EventTarget) (event : EventKind) (handler : ℕ) (already : Bool) → IsEventTargetIn (counts_of (length handlers) world) target → handler < length handlers → OnDid (with_listeners world (listening target event handler already (world.listeners))) Holds
+  listened : (target : EventTarget) (event : EventKind) (handler : ℕ) (already : Bool) → IsEventTargetIn (counts_of (length handlers) world) target →
+      handler < length handlers → OnDid (with_listeners world (listening target event handler already (world.listeners))) Holds
   unfolding with_listeners listening
   listened target event handler true is-target is-handler = did _ Holds within
   listened target event handler false is-target is-handler =
@@ -176,30 +192,38 @@ module _ (handlers : Handlers) (world : World) (within : IsInRange (length handl
       both (new_name (world.names) name) _ _ (bind-in _ _ _ _ (document-named handlers world within document) (λ d is-d.
       both (room limits.Nodes (length world.tree.elements)) _ _ (did _ Holds (made-in (length handlers) world within name kind d is-d))))
 
-  pub does-in : (present : Present) (action : Action) → IsPresentIn world present → OnDid (does handlers world present action) (λ effect. IsInRange (length handlers) (effect.world))
+  pub does-in : (present : Present) (action : Action) → IsPresentIn world present →
+      OnDid (does handlers world present action) (λ effect. IsInRange (length handlers) (effect.world))
   unfolding does
   does-in present (Viewport width height) here = did _ Holds (viewports-in (length handlers) world within _ within.noted)
   does-in present (MakeBlock name document) here = made name document _
   does-in present (MakeImage name document width height) here = made name document _
   does-in present (MakeFrame name document inside) here =
       both (new_name (world.names) name) _ _ (bind-in _ _ _ _ (document-named handlers world within document) (λ d is-d.
-      both (other_new_name (world.names) name inside) _ _ (both (room limits.Nodes (length world.tree.elements)) _ _ (both (room limits.Documents (length world.tree.documents)) _ _
+      both (other_new_name (world.names) name inside) _ _
+      (both (room limits.Nodes (length world.tree.elements)) _ _ (both (room limits.Documents (length world.tree.documents)) _ _
       (did _ Holds (frame-in (length handlers) world within name inside d is-d))))))
   does-in present (Append parent node) here =
       bind-in _ _ _ _ (container-meant handlers world within present parent here) (λ container is-in.
-      bind-in _ _ _ _ (element-meant handlers world within present node here) (λ n is-n. tree-step _ (placing-kept (counts_of (length handlers) world) (world.tree) container n None within.top within.tree is-n is-in)))
+      bind-in _ _ _ _ (element-meant handlers world within present node here)
+      (λ n is-n. tree-step _ (placing-kept (counts_of (length handlers) world) (world.tree) container n None within.top within.tree is-n is-in)))
   does-in present (Before parent node sibling) here =
       bind-in _ _ _ _ (container-meant handlers world within present parent here) (λ container is-in.
       bind-in _ _ _ _ (element-meant handlers world within present node here) (λ n is-n.
-      bind-in _ _ _ _ (element-meant handlers world within present sibling here) (λ s is-s. tree-step _ (placing-kept (counts_of (length handlers) world) (world.tree) container n (Some s) within.top within.tree is-n is-in))))
+      bind-in _ _ _ _ (element-meant handlers world within present sibling here)
+      (λ s is-s. tree-step _ (placing-kept (counts_of (length handlers) world) (world.tree) container n (Some s) within.top within.tree is-n is-in))))
   does-in present (Remove node) here =
-      bind-in _ _ _ _ (element-meant handlers world within present node here) (λ n is-n. did _ Holds (tree-in (length handlers) world _ (removed-kept (counts_of (length handlers) world) (world.tree) n) within))
+      bind-in _ _ _ _ (element-meant handlers world within present node here)
+      (λ n is-n. did _ Holds (tree-in (length handlers) world _ (removed-kept (counts_of (length handlers) world) (world.tree) n) within))
   does-in present (SetStyle node declaration) here =
-      bind-in _ _ _ _ (element-meant handlers world within present node here) (λ n is-n. did _ Holds (tree-in (length handlers) world _ (item-changed (counts_of (length handlers) world) _ n (world.tree)) within))
+      bind-in _ _ _ _ (element-meant handlers world within present node here)
+      (λ n is-n. did _ Holds (tree-in (length handlers) world _ (item-changed (counts_of (length handlers) world) _ n (world.tree)) within))
   does-in present (Grow node dimension by) here =
-      bind-in _ _ _ _ (element-meant handlers world within present node here) (λ n is-n. tree-step _ (growing-kept (counts_of (length handlers) world) dimension n by (world.tree)))
+      bind-in _ _ _ _ (element-meant handlers world within present node here)
+      (λ n is-n. tree-step _ (growing-kept (counts_of (length handlers) world) dimension n by (world.tree)))
   does-in present (Load node width height) here =
-      bind-in _ _ _ _ (element-meant handlers world within present node here) (λ n is-n. tree-step _ (loading-kept (counts_of (length handlers) world) n width height (world.tree)))
+      bind-in _ _ _ _ (element-meant handlers world within present node here)
+      (λ n is-n. tree-step _ (loading-kept (counts_of (length handlers) world) n width height (world.tree)))
   does-in present (MakeResizeObserver name document handler) here =
       both (new_name (world.names) name) _ _ (bind-in _ _ _ _ (document-named handlers world within document) (λ d is-d.
       bind-in _ _ _ _ (handler-given handlers handler) (λ called is-called.
@@ -208,12 +232,16 @@ module _ (handlers : Handlers) (world : World) (within : IsInRange (length handl
   does-in present (ObserveResize observer node observed) here =
       bind (resize_observer_named (world.names) observer) _ _ (λ o.
       bind-in _ _ _ _ (element-meant handlers world within present node here) (λ n is-n.
-      both (room_unless (is_observed n (resize_observer_at (world.resize_observers) o).targets) limits.ResizeObservations (resize_observations (world.resize_observers))) _ _
+      both (room_unless (is_observed n (resize_observer_at (world.resize_observers) o).targets) limits.ResizeObservations
+      (resize_observations (world.resize_observers))) _ _
       (did _ Holds (resize-in (length handlers) world _ (target-kept (counts_of (length handlers) world) (world.resize_observers) o n observed is-n) within))))
   does-in present (UnobserveResize observer node) here =
-      bind (resize_observer_named (world.names) observer) _ _ (λ o. bind (element_meant (world.names) present node) _ _ (λ n. did _ Holds (resize-in (length handlers) world _ (no-target-kept (counts_of (length handlers) world) (world.resize_observers) o n) within)))
+      bind (resize_observer_named (world.names) observer) _ _
+      (λ o. bind (element_meant (world.names) present node) _ _
+      (λ n. did _ Holds (resize-in (length handlers) world _ (no-target-kept (counts_of (length handlers) world) (world.resize_observers) o n) within)))
   does-in present (DisconnectResize observer) here =
-      bind (resize_observer_named (world.names) observer) _ _ (λ o. did _ Holds (resize-in (length handlers) world _ (no-targets-kept (counts_of (length handlers) world) (world.resize_observers) o) within))
+      bind (resize_observer_named (world.names) observer) _ _
+      (λ o. did _ Holds (resize-in (length handlers) world _ (no-targets-kept (counts_of (length handlers) world) (world.resize_observers) o) within))
   does-in present (MakeIntersectionObserver making) here =
       both (new_name (world.names) making.name) _ _ (bind-in _ _ _ _ (document-named handlers world within making.document) (λ d is-d.
       bind-in _ _ _ _ (handler-given handlers making.handler) (λ called is-called.
@@ -224,43 +252,61 @@ module _ (handlers : Handlers) (world : World) (within : IsInRange (length handl
       (did _ Holds (intersection-made-in (length handlers) world within (making.name) d called root margins thresholds is-d is-called is-root))))))))
   does-in present (ObserveIntersection observer node) here =
       bind (intersection_observer_named (world.names) observer) _ _ (λ o.
-      bind-in _ _ _ _ (element-meant handlers world within present node here) (λ n is-n. observed o n (is_registered n (intersection_observer_at (world.intersection_observers) o).registrations) is-n))
+      bind-in _ _ _ _ (element-meant handlers world within present node here)
+      (λ n is-n. observed o n (is_registered n (intersection_observer_at (world.intersection_observers) o).registrations) is-n))
   does-in present (UnobserveIntersection observer node) here =
-      bind (intersection_observer_named (world.names) observer) _ _ (λ o. bind (element_meant (world.names) present node) _ _ (λ n. did _ Holds (intersection-in (length handlers) world _ (no-registration-kept (counts_of (length handlers) world) (world.intersection_observers) o n) within)))
+      bind (intersection_observer_named (world.names) observer) _ _
+      (λ o. bind (element_meant (world.names) present node) _ _
+      (λ n. did _ Holds (intersection-in (length handlers) world _
+      (no-registration-kept (counts_of (length handlers) world) (world.intersection_observers) o n) within)))
   does-in present (DisconnectIntersection observer) here =
-      bind (intersection_observer_named (world.names) observer) _ _ (λ o. did _ Holds (intersection-in (length handlers) world _ (no-registrations-kept (counts_of (length handlers) world) (world.intersection_observers) o) within))
+      bind (intersection_observer_named (world.names) observer) _ _
+      (λ o. did _ Holds (intersection-in (length handlers) world _
+      (no-registrations-kept (counts_of (length handlers) world) (world.intersection_observers) o) within))
   does-in present (TakeIntersections observer) here =
-      bind (intersection_observer_named (world.names) observer) _ _ (λ o. did _ Holds (intersection-in (length handlers) world _ (no-queue-kept (counts_of (length handlers) world) (world.intersection_observers) o) within))
+      bind (intersection_observer_named (world.names) observer) _ _
+      (λ o. did _ Holds (intersection-in (length handlers) world _
+      (no-queue-kept (counts_of (length handlers) world) (world.intersection_observers) o) within))
   does-in present (Listen aim event handler) here =
       bind-in _ _ _ _ (event-target-meant handlers world within present aim here) (λ target is-target.
-      bind-in _ _ _ _ (handler-named handlers handler) (λ called is-called. listened target event called (is_listening target event called (world.listeners)) is-target is-called))
+      bind-in _ _ _ _ (handler-named handlers handler)
+      (λ called is-called. listened target event called (is_listening target event called (world.listeners)) is-target is-called))
   does-in present (Unlisten aim event handler) here =
-      bind (event_target_meant (world.names) present aim) _ _ (λ target. bind (handler_named handlers handler) _ _ (λ called. did _ Holds (listeners-in (length handlers) world within _ (all-filter _ _ (world.listeners.held) within.listeners))))
+      bind (event_target_meant (world.names) present aim) _ _
+      (λ target. bind (handler_named handlers handler) _ _
+      (λ called. did _ Holds (listeners-in (length handlers) world within _ (all-filter _ _ (world.listeners.held) within.listeners))))
   does-in present (MakeQueryList name document query) here =
       both (new_name (world.names) name) _ _ (bind-in _ _ _ _ (document-named handlers world within document) (λ d is-d.
-      both (room limits.Queries (length world.queries)) _ _ (did _ Holds (query-made-in (length handlers) world within name d query (matches_now world d query) is-d))))
+      both (room limits.Queries (length world.queries)) _ _
+      (did _ Holds (query-made-in (length handlers) world within name d query (matches_now world d query) is-d))))
   does-in present (ScrollTo scrolled left top) here =
-      bind-in _ _ _ _ (container-meant handlers world within present scrolled here) (λ container is-in. did _ Holds (scroll-in (length handlers) world within left top container is-in))
+      bind-in _ _ _ _ (container-meant handlers world within present scrolled here)
+      (λ container is-in. did _ Holds (scroll-in (length handlers) world within left top container is-in))
   does-in present (ScrollBy scrolled left top) here =
-      bind-in _ _ _ _ (container-meant handlers world within present scrolled here) (λ container is-in. did _ Holds (scroll-by-in (length handlers) world within left top container is-in))
+      bind-in _ _ _ _ (container-meant handlers world within present scrolled here)
+      (λ container is-in. did _ Holds (scroll-by-in (length handlers) world within left top container is-in))
   does-in present (RequestFrame document key handler) here =
       bind-in _ _ _ _ (document-named handlers world within document) (λ d is-d.
       bind-in _ _ _ _ (handler-named handlers handler) (λ called is-called.
-      both (throw_if (is_frame_requested d key (world.frame_callbacks)) TypeError) _ _ (both (room limits.FrameCallbacks (length world.frame_callbacks.held)) _ _
+      both (throw_if (is_frame_requested d key (world.frame_callbacks)) TypeError) _ _
+      (both (room limits.FrameCallbacks (length world.frame_callbacks.held)) _ _
       (did _ Holds (frame-callbacks-in (length handlers) world within _ (all-add _ (world.frame_callbacks.held) _ within.frame_callbacks (is-d, is-called)))))))
   does-in present (CancelFrame document key) here =
-      bind (document_named (world.names) document) _ _ (λ d. did _ Holds (frame-callbacks-in (length handlers) world within _ (all-filter _ _ (world.frame_callbacks.held) within.frame_callbacks)))
+      bind (document_named (world.names) document) _ _
+      (λ d. did _ Holds (frame-callbacks-in (length handlers) world within _ (all-filter _ _ (world.frame_callbacks.held) within.frame_callbacks)))
   does-in present (SetTimer document key delay handler) here =
       bind-in _ _ _ _ (document-named handlers world within document) (λ d is-d.
       bind-in _ _ _ _ (handler-named handlers handler) (λ called is-called.
       both (throw_if (is_timer_set d key (world.timers)) TypeError) _ _ (both (room limits.Timers (length world.timers.held)) _ _
       (did _ Holds (timers-in (length handlers) world within _ (all-add _ (world.timers.held) _ within.timers (is-d, is-called)))))))
   does-in present (ClearTimer document key) here =
-      bind (document_named (world.names) document) _ _ (λ d. did _ Holds (timers-in (length handlers) world within _ (all-filter _ _ (world.timers.held) within.timers)))
+      bind (document_named (world.names) document) _ _
+      (λ d. did _ Holds (timers-in (length handlers) world within _ (all-filter _ _ (world.timers.held) within.timers)))
   does-in present (Post document handler) here =
       bind-in _ _ _ _ (document-named handlers world within document) (λ d is-d.
       bind-in _ _ _ _ (handler-named handlers handler) (λ called is-called.
-      both (room limits.Tasks (posted_tasks (world.tasks))) _ _ (did _ Holds (tasks-in (length handlers) world within _ (all-add _ (world.tasks) (Posted d called) within.tasks (is-d, is-called))))))
+      both (room limits.Tasks (posted_tasks (world.tasks))) _ _
+      (did _ Holds (tasks-in (length handlers) world within _ (all-add _ (world.tasks) (Posted d called) within.tasks (is-d, is-called))))))
   does-in present (Say word) here = did _ Holds within
   does-in present (Read shown) here =
       bind (container_meant (world.names) present shown) _ _ (λ container. did _ Holds within)

@@ -53,18 +53,21 @@ module _ {S : Type 0} (P : S → Type 0) where
   pub only_if-keeps : (step : S → Said S) (s : S) (test : Bool) → ((s : S) → P s → P (step s).state) → P s → P (only_if step s test).state
   only_if-keeps step s test each here = where-keeps step s test (λ is. each s here) here
 
-  pub all_of-keeps : {A : Type 0} (In : A → Type 0) (step : A → S → Said S) (items : List A) → AllByRecursion In items → ((item : A) (s : S) → In item → P s → P (step item s).state) → (s : S) → P s → P (for_each step items s).state
+  pub all_of-keeps : {A : Type 0} (In : A → Type 0) (step : A → S → Said S) (items : List A) → AllByRecursion In items →
+      ((item : A) (s : S) → In item → P s → P (step item s).state) → (s : S) → P s → P (for_each step items s).state
   unfolding for_each
   all_of-keeps In step [] all each s here = here
   all_of-keeps In step (item ∷ others) all each s here =
       then-keeps (step item s) (for_each step others) (each item s (all.0) here) (all_of-keeps In step others (all.1) each)
 
-  pub for_each-keeps : {A : Type 0} (step : A → S → Said S) (items : List A) → ((item : A) (s : S) → P s → P (step item s).state) → (s : S) → P s → P (for_each step items s).state
+  pub for_each-keeps : {A : Type 0} (step : A → S → Said S) (items : List A) → ((item : A) (s : S) → P s → P (step item s).state) → (s : S) → P s →
+      P (for_each step items s).state
   unfolding for_each
   for_each-keeps step [] each s here = here
   for_each-keeps step (item ∷ others) each s here = then-keeps (step item s) (for_each step others) (each item s here) (for_each-keeps step others each)
 
-  pub repeat-keeps : (goes_on : S → Bool) (step : S → Said S) (most : ℕ) → ((s : S) → P s → goes_on s ≡ true → P (step s).state) → (s : S) → P s → P (repeat goes_on step most s).state
+  pub repeat-keeps : (goes_on : S → Bool) (step : S → Said S) (most : ℕ) → ((s : S) → P s → goes_on s ≡ true → P (step s).state) → (s : S) → P s →
+      P (repeat goes_on step most s).state
   unfolding repeat
   repeat-keeps goes_on step zero each s here = here
   repeat-keeps goes_on step (suc most) each s here =
@@ -72,7 +75,8 @@ module _ {S : Type 0} (P : S → Type 0) where
       (λ is. then-keeps (step s) (repeat goes_on step most) (each s here is) (repeat-keeps goes_on step most each))
       here
 
-pub by_place-keeps : {S : Type 0} (P : S → Type 0) (count : S → ℕ) (goes_on : S → Bool) (step : ℕ → S → Said S) → ((place : ℕ) (s : S) → P s → P (step place s).state) → (s : S) → P s → P (by_place count goes_on step s).state
+pub by_place-keeps : {S : Type 0} (P : S → Type 0) (count : S → ℕ) (goes_on : S → Bool) (step : ℕ → S → Said S) →
+    ((place : ℕ) (s : S) → P s → P (step place s).state) → (s : S) → P s → P (by_place count goes_on step s).state
 unfolding by_place
 by_place-keeps {S = S} P count goes_on step each s here =
     repeat-keeps (λ (turn : Turn S). P (turn.state))
@@ -89,24 +93,30 @@ by_place-keeps {S = S} P count goes_on step each s here =
 pub record IsKept (script : Script) (P : ℕ → World → Type 0) (In : ℕ → Present → Type 0) : Type 0 where
   pub next : (k : ℕ) (before now : World) → IsNext before now → P k before → P k now
   pub begun : (k : ℕ) (world : World) → P k world → P k (record world { begun = suc world.begun })
-  pub does : (k : ℕ) (world : World) (present : Present) (action : Action) → In k present → P k world → OnDid (does (handler_names script) world present action) (λ effect. P k (effect.world))
+  pub does : (k : ℕ) (world : World) (present : Present) (action : Action) → In k present → P k world →
+      OnDid (does (handler_names script) world present action) (λ effect. P k (effect.world))
   pub none : (k : ℕ) → In k NoEntry
   pub entered : (k : ℕ) (world : World) → P k world → P (length world.tree.elements) world
   pub left : (k : ℕ) (before now : World) → P k before → P (length before.tree.elements) now → P k now
-  pub due : (k : ℕ) (world : World) (document observer : ℕ) → P k world → AllByRecursion (λ (each : Observation). In (length world.tree.elements) (ResizeEntry (each.target))) (due_at document observer (world.resize_observers))
-  pub queued : (k : ℕ) (world : World) (observer : ℕ) → P k world → AllByRecursion (λ (each : Entry). In (length world.tree.elements) (IntersectionEntry (each.target) (each.finding.meets))) (intersection_observer_at (world.intersection_observers) observer).queue
+  pub due : (k : ℕ) (world : World) (document observer : ℕ) → P k world →
+      AllByRecursion (λ (each : Observation). In (length world.tree.elements) (ResizeEntry (each.target))) (due_at document observer (world.resize_observers))
+  pub queued : (k : ℕ) (world : World) (observer : ℕ) → P k world →
+      AllByRecursion (λ (each : Entry). In (length world.tree.elements) (IntersectionEntry (each.target) (each.finding.meets)))
+      (intersection_observer_at (world.intersection_observers) observer).queue
 
 module _ (script : Script) (P : ℕ → World → Type 0) (In : ℕ → Present → Type 0) (kept : IsKept script P In) where
   -- within a callback
 
   module _ (k : ℕ) where
-    pub answered-keeps : {A : Type 0} (line : ℕ) (world : World) (next : A → Said World) (step : Step A) → P k world → OnDid step (λ value. P k (next value).state) → P k (answered line world next step).state
+    pub answered-keeps : {A : Type 0} (line : ℕ) (world : World) (next : A → Said World) (step : Step A) → P k world →
+        OnDid step (λ value. P k (next value).state) → P k (answered line world next step).state
     unfolding answered OnDid
     answered-keeps line world next (Did value) here there = there
     answered-keeps line world next (Threw exception) here there = here
     answered-keeps line world next (Met limit) here there = here
 
-    pub once_begun-keeps : (line : ℕ) (world : World) (run : World → Said World) → P k world → ((now : World) → P k now → P k (run now).state) → P k (once_begun line world run).state
+    pub once_begun-keeps : (line : ℕ) (world : World) (run : World → Said World) → P k world → ((now : World) → P k now → P k (run now).state) →
+        P k (once_begun line world run).state
     unfolding once_begun begun_in
     once_begun-keeps line world run here each = answered-keeps line world run (begun_in world) here (both _ _ _ (did _ _ (each _ (kept.begun k world here))))
 
@@ -114,7 +124,8 @@ module _ (script : Script) (P : ℕ → World → Type 0) (In : ℕ → Present 
       mutual
         unfolding run_command
 
-        pub command-keeps : (command : Command) (present : Present) (world : World) → In k present → P k world → P k (run_command script entries command present world).state
+        pub command-keeps : (command : Command) (present : Present) (world : World) → In k present → P k world →
+            P k (run_command script entries command present world).state
         command-keeps (Simple line action) present world is here =
             once_begun-keeps line world _ here λ begun held. answered-keeps line begun said_by _ held (kept.does k begun present action is held)
         command-keeps (Each line block end_line) present world is here =
@@ -123,9 +134,11 @@ module _ (script : Script) (P : ℕ → World → Type 0) (In : ℕ → Present 
         command-keeps (When line condition block end_line) present world is here =
             once_begun-keeps line world _ here λ begun held.
             answered-keeps line begun _ (holds begun present condition) held
-            (on_did-all (holds begun present condition) _ (λ answer. only_if-keeps (P k) (run_block script entries block present) begun answer (λ now. block-keeps block present now is) held))
+            (on_did-all (holds begun present condition) _
+            (λ answer. only_if-keeps (P k) (run_block script entries block present) begun answer (λ now. block-keeps block present now is) held))
 
-        pub block-keeps : (block : Block) (present : Present) (world : World) → In k present → P k world → P k (run_block script entries block present world).state
+        pub block-keeps : (block : Block) (present : Present) (world : World) → In k present → P k world →
+            P k (run_block script entries block present world).state
         block-keeps NoMore present world is here = here
         block-keeps (Then command others) present world is here =
             then-keeps (P k) (run_command script entries command present world) (run_block script entries others present)
@@ -135,16 +148,19 @@ module _ (script : Script) (P : ℕ → World → Type 0) (In : ℕ → Present 
     unfolding caught
     caught-keeps said here = here
 
-    handler-keeps : (handed : Entries) → AllByRecursion (In k) (presents handed) → (handler : Option ℕ) (world : World) → P k world → P k (run_handler script handed handler world).state
+    handler-keeps : (handed : Entries) → AllByRecursion (In k) (presents handed) → (handler : Option ℕ) (world : World) → P k world →
+        P k (run_handler script handed handler world).state
     handler-keeps handed are None world here = here
     handler-keeps handed are (Some handler) world here =
         caught-keeps (run_block script (presents handed) (handler_block script handler) NoEntry world)
         (block-keeps (presents handed) are (handler_block script handler) NoEntry world (kept.none k) here)
 
-    pub called-keeps : (document : ℕ) (handler : Option ℕ) (handed : Entries) (world : World) → AllByRecursion (In k) (presents handed) → P k world → P k (call script document handler handed world).state
+    pub called-keeps : (document : ℕ) (handler : Option ℕ) (handed : Entries) (world : World) → AllByRecursion (In k) (presents handed) → P k world →
+        P k (call script document handler handed world).state
     unfolding call
     called-keeps document handler handed world are here =
-        only_if-keeps (P k) (λ now. say (entry_lines (now.names) handed) now followed_by run_handler script handed handler) world (is_active (world.tree) document)
+        only_if-keeps (P k) (λ now. say (entry_lines (now.names) handed) now followed_by run_handler script handed handler) world
+        (is_active (world.tree) document)
         (λ now held. then-keeps (P k) (say (entry_lines (now.names) handed) now) (run_handler script handed handler) held (handler-keeps handed are handler))
         here
 
@@ -152,7 +168,8 @@ module _ (script : Script) (P : ℕ → World → Type 0) (In : ℕ → Present 
 
   module _ (k : ℕ) where
     -- a callback with entries of the world that it is called in, or of one with as many elements
-    entries-keep : (document : ℕ) (handler : Option ℕ) (handed : Entries) (world : World) → AllByRecursion (In (length world.tree.elements)) (presents handed) → P k world → P k (call script document handler handed world).state
+    entries-keep : (document : ℕ) (handler : Option ℕ) (handed : Entries) (world : World) →
+        AllByRecursion (In (length world.tree.elements)) (presents handed) → P k world → P k (call script document handler handed world).state
     entries-keep document handler handed world are here =
         kept.left k world _ here (called-keeps (length world.tree.elements) document handler handed world are (kept.entered k world here))
 
@@ -164,7 +181,8 @@ module _ (script : Script) (P : ℕ → World → Type 0) (In : ℕ → Present 
     invoke-keeps target event world here =
         for_each-keeps (P k) (notify_listener script) (listeners_of target event (world.listeners))
         (λ listener now held.
-        only_if-keeps (P k) (call script (document_of_target now (listener.target)) (Some (listener.handler)) NoEntries) now (listener_stands listener (now.listeners))
+        only_if-keeps (P k) (call script (document_of_target now (listener.target)) (Some (listener.handler)) NoEntries) now
+        (listener_stands listener (now.listeners))
         (call-keeps (document_of_target now (listener.target)) (Some (listener.handler)))
         held)
         world
@@ -187,20 +205,26 @@ module _ (script : Script) (P : ℕ → World → Type 0) (In : ℕ → Present 
         (bubble-keeps target name)
 
     -- a step where a document is Active, which is then one that there is
-    active-keeps : (document : ℕ) (run : World → Said World) → ((now : World) → is_active (now.tree) document ≡ true → P k now → P k (run now).state) → (world : World) → P k world → P k (while_active document run world).state
+    active-keeps : (document : ℕ) (run : World → Said World) → ((now : World) → is_active (now.tree) document ≡ true → P k now → P k (run now).state) →
+        (world : World) → P k world → P k (while_active document run world).state
     active-keeps document run each world here = where-keeps (P k) run world (is_active (world.tree) document) (λ is. each world is here) here
 
     -- intersections
 
-    queue-keeps : (entries : List Entry) (observer : ℕ) (world : World) → AllByRecursion (λ (each : Entry). In (length world.tree.elements) (IntersectionEntry (each.target) (each.finding.meets))) entries → P k world → P k (take_queue script entries observer world).state
+    queue-keeps : (entries : List Entry) (observer : ℕ) (world : World) →
+        AllByRecursion (λ (each : Entry). In (length world.tree.elements) (IntersectionEntry (each.target) (each.finding.meets))) entries → P k world →
+        P k (take_queue script entries observer world).state
     queue-keeps [] observer world are here = here
     queue-keeps (entry ∷ entries) observer world are here =
         let it = intersection_observer_at (world.intersection_observers) observer in
-        entries-keep (it.document) (it.handler) (CutEntries observer (entry ∷ entries)) (record world { intersection_observers = without_queue observer (world.intersection_observers) })
+        entries-keep (it.document) (it.handler) (CutEntries observer (entry ∷ entries))
+        (record world { intersection_observers = without_queue observer (world.intersection_observers) })
         (all-cut (length world.tree.elements) (entry ∷ entries) are)
         (kept.next k world _ (queue-next world observer) here)
       where
-        all-cut : (count : ℕ) (these : List Entry) → AllByRecursion (λ (each : Entry). In count (IntersectionEntry (each.target) (each.finding.meets))) these → AllByRecursion (In count) (presents (CutEntries observer these))
+        all-cut : (count : ℕ) (these : List Entry) → AllByRecursion
+            (λ (each : Entry). In count (IntersectionEntry (each.target) (each.finding.meets))) these →
+            AllByRecursion (In count) (presents (CutEntries observer these))
         all-cut count [] all = tt
         all-cut count (x ∷ xs) all = (all.0, all-cut count xs (all.1))
 
@@ -209,14 +233,17 @@ module _ (script : Script) (P : ℕ → World → Type 0) (In : ℕ → Present 
     notify-keeps document world here =
         only_if-keeps (P k) (notify_watchers script document) world (is_active (world.tree) document)
         (λ now held. for_each-keeps (P k) (notify_watcher script) (watchers (now.tree) document (now.intersection_observers))
-        (λ observer each there. queue-keeps (intersection_observer_at (each.intersection_observers) observer).queue observer each (kept.queued k each observer there) there)
+        (λ observer each there. queue-keeps (intersection_observer_at (each.intersection_observers) observer).queue observer each
+        (kept.queued k each observer there) there)
         (record now { notifying = without_notifying document (now.notifying) })
         (kept.next k now _ (unnotified-next now document) held))
         here
 
     -- the resize loop
 
-    some-keeps : (document observer : ℕ) (so_far : Broadcast) (delivered : List Observation) → AllByRecursion (λ (each : Observation). In (length so_far.world.tree.elements) (ResizeEntry (each.target))) delivered → P k (so_far.world) → P k (deliver_some script document observer so_far delivered).state.world
+    some-keeps : (document observer : ℕ) (so_far : Broadcast) (delivered : List Observation) →
+        AllByRecursion (λ (each : Observation). In (length so_far.world.tree.elements) (ResizeEntry (each.target))) delivered → P k (so_far.world) →
+        P k (deliver_some script document observer so_far delivered).state.world
     some-keeps document observer so_far [] are held = held
     some-keeps document observer so_far (first ∷ others) are held =
         let world = so_far.world in
@@ -225,13 +252,16 @@ module _ (script : Script) (P : ℕ → World → Type 0) (In : ℕ → Present 
         let handler = (resize_observer_at (world.resize_observers) observer).handler in
         let handed = SizeEntries observer (map (size_entry (sight_of world)) delivered) in
         kept.next k _ _ (emptied-next (call script document handler handed now).state document observer)
-        (entries-keep document handler handed now (all-sized (length world.tree.elements) delivered are) (kept.next k world now (reported-next world (sight_of world) observer delivered) held))
+        (entries-keep document handler handed now (all-sized (length world.tree.elements) delivered are)
+        (kept.next k world now (reported-next world (sight_of world) observer delivered) held))
       where
-        all-sized : (count : ℕ) (these : List Observation) → AllByRecursion (λ (each : Observation). In count (ResizeEntry (each.target))) these → AllByRecursion (In count) (presents (SizeEntries observer (map (size_entry (sight_of (so_far.world))) these)))
+        all-sized : (count : ℕ) (these : List Observation) → AllByRecursion (λ (each : Observation). In count (ResizeEntry (each.target))) these →
+            AllByRecursion (In count) (presents (SizeEntries observer (map (size_entry (sight_of (so_far.world))) these)))
         all-sized count [] all = tt
         all-sized count (x ∷ xs) all = (all.0, all-sized count xs (all.1))
 
-    pub due-keeps : (document observer : ℕ) (so_far : Broadcast) → P k (so_far.world) → P k (deliver_some script document observer so_far (due_at document observer (so_far.world.resize_observers))).state.world
+    pub due-keeps : (document observer : ℕ) (so_far : Broadcast) → P k (so_far.world) →
+        P k (deliver_some script document observer so_far (due_at document observer (so_far.world.resize_observers))).state.world
     due-keeps document observer so_far held =
         some-keeps document observer so_far (due_at document observer (so_far.world.resize_observers)) (kept.due k (so_far.world) document observer held) held
 
@@ -267,7 +297,8 @@ module _ (script : Script) (P : ℕ → World → Type 0) (In : ℕ → Present 
         let goes_on = λ (now : World). is_active (now.tree) document && has_active document (now.resize_observers) in
         let first = gather document 0 world in
         then-keeps (P k) (repeat goes_on (round script document) most_steps first) (report_skipped script document)
-        (repeat-keeps (P k) goes_on (round script document) most_steps (λ now held is. round-keeps document now held) first (kept.next k world first (gather-next document 0 world) here))
+        (repeat-keeps (P k) goes_on (round script document) most_steps (λ now held is. round-keeps document now held) first
+        (kept.next k world first (gather-next document 0 world) here))
         (error-keeps document)
 
     -- the other parts of a tick
@@ -305,7 +336,8 @@ module _ (script : Script) (P : ℕ → World → Type 0) (In : ℕ → Present 
         for_each-keeps (P k)
         (λ target. while_active document (λ now. fire script (FiredScroll (scrolled_text (now.names) target)) (event_target_of target) events.Scroll now))
         (pending_of document (world.scrolls))
-        (λ target now held. active-keeps document (λ each. fire script (FiredScroll (scrolled_text (each.names) target)) (event_target_of target) events.Scroll each)
+        (λ target now held. active-keeps document (λ each. fire script (FiredScroll (scrolled_text (each.names) target))
+        (event_target_of target) events.Scroll each)
         (λ each is there. fire-keeps (FiredScroll (scrolled_text (each.names) target)) (event_target_of target) events.Scroll each there) now held)
         (record world { scrolls = without_pending document (world.scrolls) })
         (kept.next k world _ (pending-next world document) here)
@@ -329,7 +361,8 @@ module _ (script : Script) (P : ℕ → World → Type 0) (In : ℕ → Present 
     media-keeps : (document : ℕ) (world : World) → P k world → P k (media_steps script document world).state
     unfolding media_steps
     media-keeps document world here =
-        by_place-keeps (P k) (λ now. length (now.queries)) (λ now. is_active (now.tree) document) (evaluate script document) (evaluate-keeps document) world here
+        by_place-keeps (P k) (λ now. length (now.queries)) (λ now. is_active (now.tree) document) (evaluate script document)
+        (evaluate-keeps document) world here
 
     callback-keeps : (callback : FrameCallback) (world : World) → P k world → P k (run_frame_callback script callback world).state
     callback-keeps callback world here =
@@ -343,15 +376,20 @@ module _ (script : Script) (P : ℕ → World → Type 0) (In : ℕ → Present 
     frames-keep : (document : ℕ) (world : World) → P k world → P k (frame_steps script document world).state
     unfolding frame_steps
     frames-keep document world here =
-        for_each-keeps (P k) (λ callback now. only_if (run_frame_callback script callback) now (is_active (now.tree) document && frame_callback_stands callback (now.frame_callbacks)))
+        for_each-keeps (P k) (λ callback now. only_if (run_frame_callback script callback) now
+        (is_active (now.tree) document && frame_callback_stands callback (now.frame_callbacks)))
         (frame_callbacks_of document (world.frame_callbacks))
-        (λ callback now held. only_if-keeps (P k) (run_frame_callback script callback) now (is_active (now.tree) document && frame_callback_stands callback (now.frame_callbacks)) (callback-keeps callback) held)
+        (λ callback now held. only_if-keeps (P k) (run_frame_callback script callback) now
+        (is_active (now.tree) document && frame_callback_stands callback (now.frame_callbacks)) (callback-keeps callback) held)
         world
         here
 
-    documents-keep : (part : ℕ → World → Said World) (documents : List ℕ) → ((document : ℕ) (world : World) → is_active (world.tree) document ≡ true → P k world → P k (part document world).state) → (world : World) → P k world → P k (for_each (λ document. while_active document (part document)) documents world).state
+    documents-keep : (part : ℕ → World → Said World) (documents : List ℕ) →
+        ((document : ℕ) (world : World) → is_active (world.tree) document ≡ true → P k world → P k (part document world).state) → (world : World) →
+        P k world → P k (for_each (λ document. while_active document (part document)) documents world).state
     documents-keep part documents each world here =
-        for_each-keeps (P k) (λ document. while_active document (part document)) documents (λ document now held. active-keeps document (part document) (each document) now held) world here
+        for_each-keeps (P k) (λ document. while_active document (part document)) documents
+        (λ document now held. active-keeps document (part document) (each document) now held) world here
 
     update-keeps : (world : World) → P k world → P k (update_rendering script world).state
     unfolding update_rendering for_each
@@ -359,12 +397,17 @@ module _ (script : Script) (P : ℕ → World → Type 0) (In : ℕ → Present 
         let documents = active_documents (world.tree) in
         let over : (ℕ → World → Said World) → World → Said World = λ part. for_each (λ document. while_active document (part document)) documents in
         then-keeps (P k) (over (resize_steps script) world) _ (documents-keep (resize_steps script) documents size-keeps world here) (λ a ha.
-        then-keeps (P k) (over (scroll_steps script) a) _ (documents-keep (scroll_steps script) documents (λ document now is. scroll-keeps document now) a ha) (λ b hb.
-        then-keeps (P k) (over (media_steps script) b) _ (documents-keep (media_steps script) documents (λ document now is. media-keeps document now) b hb) (λ c hc.
-        then-keeps (P k) (over (frame_steps script) c) _ (documents-keep (frame_steps script) documents (λ document now is. frames-keep document now) c hc) (λ d hd.
-        then-keeps (P k) (over (resize_loop script) d) _ (documents-keep (resize_loop script) documents (λ document now is. loop-keeps document now) d hd) (λ e he.
+        then-keeps (P k) (over (scroll_steps script) a) _ (documents-keep (scroll_steps script) documents (λ document now is. scroll-keeps document now) a ha)
+        (λ b hb.
+        then-keeps (P k) (over (media_steps script) b) _ (documents-keep (media_steps script) documents (λ document now is. media-keeps document now) b hb)
+        (λ c hc.
+        then-keeps (P k) (over (frame_steps script) c) _ (documents-keep (frame_steps script) documents (λ document now is. frames-keep document now) c hc)
+        (λ d hd.
+        then-keeps (P k) (over (resize_loop script) d) _ (documents-keep (resize_loop script) documents (λ document now is. loop-keeps document now) d hd)
+        (λ e he.
         then-keeps (P k) (over intersection_steps e) (λ f. silent f)
-        (documents-keep intersection_steps documents (λ document now is held. kept.next k now _ (update-next document now (active-in (now.tree) document is)) held) e he) (λ f hf. hf))))))
+        (documents-keep intersection_steps documents (λ document now is held. kept.next k now _
+        (update-next document now (active-in (now.tree) document is)) held) e he) (λ f hf. hf))))))
 
     -- tasks and ticks
 
@@ -385,7 +428,8 @@ module _ (script : Script) (P : ℕ → World → Type 0) (In : ℕ → Present 
     tasks-keep : (world : World) → P k world → P k (run_tasks script world).state
     unfolding run_tasks
     tasks-keep world here =
-        repeat-keeps (P k) (λ now. has_tasks (now.tasks)) (λ now. run_first script (now.tasks) now) most_steps (λ now held is. first-keeps (now.tasks) now refl held) world here
+        repeat-keeps (P k) (λ now. has_tasks (now.tasks)) (λ now. run_first script (now.tasks) now) most_steps
+        (λ now held is. first-keeps (now.tasks) now refl held) world here
 
     pub tick-keeps : (world : World) → P k world → P k (tick script world).state
     unfolding tick

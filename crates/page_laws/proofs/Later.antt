@@ -27,11 +27,13 @@ all-so [] = tt
 all-so (x ∷ xs) = (tt, all-so xs)
 
 -- what goes over from a world to each successor of it
-successor-kept : (script : Script) (P : World → Type 0) → ((before now : World) → IsSuccessor before now → P before → P now) → ((world : World) → P world → P (record world { begun = suc world.begun })) → IsKept script (λ (k : ℕ). P) (λ (k : ℕ) (present : Present). ⊤)
+successor-kept : (script : Script) (P : World → Type 0) → ((before now : World) → IsSuccessor before now → P before → P now) →
+    ((world : World) → P world → P (record world { begun = suc world.begun })) → IsKept script (λ (k : ℕ). P) (λ (k : ℕ) (present : Present). ⊤)
 successor-kept script P goes_over begun = record {
   next = λ k before now next here. goes_over before now (next.successor) here;
   begun = λ k world here. begun world here;
-  does = λ k world present action is here. on_did-map (does (handler_names script) world present action) _ _ (λ effect next. goes_over world (effect.world) next here) (does-next (handler_names script) world present action);
+  does = λ k world present action is here. on_did-map (does (handler_names script) world present action) _ _
+      (λ effect next. goes_over world (effect.world) next here) (does-next (handler_names script) world present action);
   none = λ k. tt;
   entered = λ k world here. here;
   left = λ k before now here there. there;
@@ -70,11 +72,13 @@ later-timed first time world later is = record {
   begun = later.begun;
 }
 
-pub command-later : (script : Script) (entries : List Present) (command : Command) (present : Present) (world : World) → IsLater world (run_command script entries command present world).state
+pub command-later : (script : Script) (entries : List Present) (command : Command) (present : Present) (world : World) →
+    IsLater world (run_command script entries command present world).state
 command-later script entries command present world =
     command-keeps script _ _ (later-kept script world) 0 entries (all-so entries) command present world tt (self world)
 
-pub call-later : (script : Script) (document : ℕ) (handler : Option ℕ) (handed : Entries) (world : World) → IsLater world (call script document handler handed world).state
+pub call-later : (script : Script) (document : ℕ) (handler : Option ℕ) (handed : Entries) (world : World) →
+    IsLater world (call script document handler handed world).state
 call-later script document handler handed world =
     called-keeps script _ _ (later-kept script world) 0 document handler handed world (all-so (presents handed)) (self world)
 
@@ -92,7 +96,8 @@ clock-stands script world =
     (successor-kept script (λ now. now.clock ≡ world.clock) (λ before now next stands. next.clock ∙ stands) (λ now stands. stands))
     0 world refl
 
-begins-by : (has_room : Bool) (begun : ℕ) (now : World) → nat_lt begun 1000000 ≡ has_room → begun < 1000000 → (met_unless has_room limits.Commands >> Did now) ≡ Did now
+begins-by : (has_room : Bool) (begun : ℕ) (now : World) → nat_lt begun 1000000 ≡ has_room → begun < 1000000 →
+    (met_unless has_room limits.Commands >> Did now) ≡ Did now
 unfolding ◌>>◌
 begins-by true begun now is room = refl
 begins-by false begun now is room = absurd (grind (arith, room, is))
@@ -101,12 +106,15 @@ begins : (world : World) → world.begun < 1000000 → begun_in world ≡ Did (r
 unfolding begun_in
 begins world room = begins-by (nat_lt world.begun 1000000) (world.begun) (record world { begun = suc world.begun }) refl room
 
-refused-by : (is_before : Bool) (time : ℕ) (world : World) → nat_lt time world.clock ≡ is_before → time < world.clock → cond is_before (Threw RangeError) (Did (record world { clock = time })) ≡ Threw RangeError
+refused-by : (is_before : Bool) (time : ℕ) (world : World) → nat_lt time world.clock ≡ is_before → time < world.clock →
+    cond is_before (Threw RangeError) (Did (record world { clock = time })) ≡ Threw RangeError
 refused-by true time world is before = refl
 refused-by false time world is before = absurd (grind (arith, before, is))
 
-pub tick-refused : (script : Script) (line time : ℕ) (world : World) → world.begun < 1000000 → time < world.clock → run_tick script line time world ≡ record { lines = ThrowLine line RangeError ∷ []; flow = Thrown; state = record world { begun = suc world.begun } }
+pub tick-refused : (script : Script) (line time : ℕ) (world : World) → world.begun < 1000000 → time < world.clock →
+    run_tick script line time world ≡ record { lines = ThrowLine line RangeError ∷ []; flow = Thrown; state = record world { begun = suc world.begun } }
 unfolding once_begun answered
 tick-refused script line time world room before =
     ap (answered line world (λ begun. answered line begun (tick script) (time_set time begun))) (begins world room)
-    ∙ ap (answered line (record world { begun = suc world.begun }) (tick script)) (refused-by (nat_lt time world.clock) time (record world { begun = suc world.begun }) refl before)
+    ∙ ap (answered line (record world { begun = suc world.begun }) (tick script))
+    (refused-by (nat_lt time world.clock) time (record world { begun = suc world.begun }) refl before)

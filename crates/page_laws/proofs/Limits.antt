@@ -17,7 +17,8 @@ use Rattle.page_laws.specs.Bounds.{IsWithinLimits}
 use Rattle.page_laws.proofs.Steps.{bind, both, did}
 use Rattle.page_laws.proofs.Lists.{changed}
 
-room-then : {B : Type 0} (limit : LimitKind) (less : Bool) (next : Step B) (Holds : B → Type 0) → (less ≡ true → OnDid next Holds) → OnDid (met_unless less limit >> next) Holds
+room-then : {B : Type 0} (limit : LimitKind) (less : Bool) (next : Step B) (Holds : B → Type 0) → (less ≡ true → OnDid next Holds) →
+    OnDid (met_unless less limit >> next) Holds
 unfolding OnDid ◌>>◌
 room-then limit true next Holds there = there refl
 room-then limit false next Holds there = tt
@@ -33,10 +34,12 @@ module _ (world : World) (within : IsWithinLimits world) where
   abbrev Within : Effect → Type 0
   Within effect = IsWithinLimits (effect.world)
 
-  pub as-many : (after : World) → length after.resize_observers.made ≡ length world.resize_observers.made → length after.queries ≡ length world.queries → IsWithinLimits after
+  pub as-many : (after : World) → length after.resize_observers.made ≡ length world.resize_observers.made → length after.queries ≡ length world.queries →
+      IsWithinLimits after
   as-many after observers queries = record { resize_observers = omega (arith, within.resize_observers); queries = omega (arith, within.queries) }
 
-  resize-changed : (given : ℕ) (change : ResizeObserver → ResizeObserver) (observer : ℕ) → IsWithinLimits (record world { resize_observers = record { given = given; made = change_at change observer (world.resize_observers.made) } })
+  resize-changed : (given : ℕ) (change : ResizeObserver → ResizeObserver) (observer : ℕ) →
+      IsWithinLimits (record world { resize_observers = record { given = given; made = change_at change observer (world.resize_observers.made) } })
   resize-changed given change observer = as-many _ (changed (λ (it : ResizeObserver). ⊤) change (λ it is. is) observer (world.resize_observers.made)).same refl
 
   tree-within : (step : Step Tree) → OnDid (with_tree world step) Within
@@ -63,13 +66,22 @@ module _ (world : World) (within : IsWithinLimits world) where
   scrolled-by-within left top None = within
   scrolled-by-within left top (Some target) = as-many _ refl refl
 
-  observer-made : (names : List Name) (it : ResizeObserver) → nat_lt (length world.resize_observers.made) (limit_number limits.ResizeObservers) ≡ true → IsWithinLimits (record world { names = names; resize_observers = record { given = world.resize_observers.given; made = world.resize_observers.made ++ it ∷ [] } })
+  observer-made : (names : List Name) (it : ResizeObserver) → nat_lt (length world.resize_observers.made) (limit_number limits.ResizeObservers) ≡ true →
+      IsWithinLimits (record world {
+        names = names;
+        resize_observers = record {
+          given = world.resize_observers.given;
+          made = world.resize_observers.made ++ it ∷ [];
+        };
+      })
   observer-made names it less = record { resize_observers = one-fits _ (world.resize_observers.made) it less; queries = within.queries }
 
-  query-made : (names : List Name) (it : QueryList) → nat_lt (length world.queries) (limit_number limits.Queries) ≡ true → IsWithinLimits (record world { names = names; queries = world.queries ++ it ∷ [] })
+  query-made : (names : List Name) (it : QueryList) → nat_lt (length world.queries) (limit_number limits.Queries) ≡ true →
+      IsWithinLimits (record world { names = names; queries = world.queries ++ it ∷ [] })
   query-made names it less = record { resize_observers = within.resize_observers; queries = one-fits _ (world.queries) it less }
 
-  pub does-within : (handlers : Handlers) (present : Present) (action : Action) → OnDid (does handlers world present action) (λ effect. IsWithinLimits (effect.world))
+  pub does-within : (handlers : Handlers) (present : Present) (action : Action) →
+      OnDid (does handlers world present action) (λ effect. IsWithinLimits (effect.world))
   unfolding does
   does-within handlers present (Viewport width height) = search (did, as-many) depth 9
   does-within handlers present (MakeBlock name document) = making-within name document _
@@ -82,8 +94,10 @@ module _ (world : World) (within : IsWithinLimits world) where
   does-within handlers present (Grow node dimension by) = search (bind, tree-within) depth 9
   does-within handlers present (Load node width height) = search (bind, tree-within) depth 9
   does-within handlers present (MakeResizeObserver name document handler) =
-      both (new_name (world.names) name) _ Within (bind (document_named (world.names) document) _ Within (λ owner. bind (handler_given handlers handler) _ Within (λ called.
-      room-then limits.ResizeObservers (nat_lt (length world.resize_observers.made) (limit_number limits.ResizeObservers)) _ Within (λ less. did _ Within (observer-made _ _ less)))))
+      both (new_name (world.names) name) _ Within (bind (document_named (world.names) document) _ Within
+      (λ owner. bind (handler_given handlers handler) _ Within (λ called.
+      room-then limits.ResizeObservers (nat_lt (length world.resize_observers.made) (limit_number limits.ResizeObservers)) _ Within
+      (λ less. did _ Within (observer-made _ _ less)))))
   does-within handlers present (ObserveResize observer node observed) = search (both, bind, did, resize-changed) depth 9
   does-within handlers present (UnobserveResize observer node) = search (bind, did, resize-changed) depth 9
   does-within handlers present (DisconnectResize observer) = search (bind, did, resize-changed) depth 9

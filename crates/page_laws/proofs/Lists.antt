@@ -9,7 +9,8 @@ all-map P Q each [] all = tt
 all-map P Q each (x ∷ xs) all = (each x (all.0), all-map P Q each xs (all.1))
 
 -- the entries after a function
-pub all-mapped : {A B : Type 0} (P : A → Type 0) (Q : B → Type 0) (change : A → B) → ((x : A) → P x → Q (change x)) → (xs : List A) → AllByRecursion P xs → AllByRecursion Q (map change xs)
+pub all-mapped : {A B : Type 0} (P : A → Type 0) (Q : B → Type 0) (change : A → B) → ((x : A) → P x → Q (change x)) → (xs : List A) → AllByRecursion P xs →
+    AllByRecursion Q (map change xs)
 all-mapped P Q change each [] all = tt
 all-mapped P Q change each (x ∷ xs) all = (each x (all.0), all-mapped P Q change each xs (all.1))
 
@@ -20,7 +21,8 @@ all-append P (x ∷ xs) ys left right = (left.0, all-append P xs ys (left.1) rig
 pub all-add : {A : Type 0} (P : A → Type 0) (xs : List A) (y : A) → AllByRecursion P xs → P y → AllByRecursion P (xs ++ y ∷ [])
 all-add P xs y all last = all-append P xs (y ∷ []) all (last, tt)
 
-all-filter_step : {A : Type 0} (P : A → Type 0) (x : A) (rest : List A) (passes : Bool) → P x → AllByRecursion P rest → AllByRecursion P (cond passes (x ∷ rest) rest)
+all-filter_step : {A : Type 0} (P : A → Type 0) (x : A) (rest : List A) (passes : Bool) → P x → AllByRecursion P rest →
+    AllByRecursion P (cond passes (x ∷ rest) rest)
 all-filter_step P x rest true first others = (first, others)
 all-filter_step P x rest false first others = others
 
@@ -28,7 +30,8 @@ pub all-filter : {A : Type 0} (P : A → Type 0) (test : A → Bool) (xs : List 
 all-filter P test [] all = tt
 all-filter P test (x ∷ xs) all = all-filter_step P x (filter test xs) (test x) (all.0) (all-filter P test xs (all.1))
 
-pub all-put : {A : Type 0} (P : A → Type 0) (default : A) (place : ℕ) (value : A) (xs : List A) → P default → P value → AllByRecursion P xs → AllByRecursion P (put_at default place value xs)
+pub all-put : {A : Type 0} (P : A → Type 0) (default : A) (place : ℕ) (value : A) (xs : List A) → P default → P value → AllByRecursion P xs →
+    AllByRecursion P (put_at default place value xs)
 all-put P default zero value [] plain new all = (new, tt)
 all-put P default zero value (x ∷ xs) plain new all = (new, all.1)
 all-put P default (suc place) value [] plain new all = (plain, all-put P default place value [] plain new tt)
@@ -47,7 +50,8 @@ one-more (x ∷ xs) y = let more : length xs < length (xs ++ y ∷ []) = one-mor
 pub less-more : {A : Type 0} (xs : List A) (y : A) → length xs ≤ length (xs ++ y ∷ [])
 less-more xs y = let more : length xs < length (xs ++ y ∷ []) = one-more xs y in omega arith
 
-pub put-within : {A : Type 0} (most : ℕ) (default : A) (place : ℕ) (value : A) (xs : List A) → place < most → length xs ≤ most → length (put_at default place value xs) ≤ most
+pub put-within : {A : Type 0} (most : ℕ) (default : A) (place : ℕ) (value : A) (xs : List A) → place < most → length xs ≤ most →
+    length (put_at default place value xs) ≤ most
 put-within zero default place value xs is fits = absurd (omega arith)
 put-within (suc most) default zero value [] is fits = omega arith
 put-within (suc most) default zero value (x ∷ xs) is fits = fits
@@ -67,14 +71,16 @@ still-kept P xs = record { within = λ all. all; same = refl }
 pub then-kept : {A : Type 0} {P : A → Type 0} {first second third : List A} → IsKept P first second → IsKept P second third → IsKept P first third
 then-kept one two = record { within = λ all. two.within (one.within all); same = two.same ∙ one.same }
 
-pub changed : {A : Type 0} (P : A → Type 0) (change : A → A) → ((x : A) → P x → P (change x)) → (place : ℕ) (xs : List A) → IsKept P xs (change_at change place xs)
+pub changed : {A : Type 0} (P : A → Type 0) (change : A → A) → ((x : A) → P x → P (change x)) → (place : ℕ) (xs : List A) →
+    IsKept P xs (change_at change place xs)
 changed P change each place [] = still-kept P []
 changed P change each zero (x ∷ xs) = record { within = λ all. (each x (all.0), all.1); same = refl }
 changed P change each (suc place) (x ∷ xs) =
     let others : IsKept P xs (change_at change place xs) = changed P change each place xs in
     record { within = λ all. (all.0, others.within (all.1)); same = ap suc (others.same) }
 
-pub changed-each : {A : Type 0} (P : A → Type 0) (change : A → A) → ((x : A) → P x → P (change x)) → (places : List ℕ) (xs : List A) → IsKept P xs (change_each change places xs)
+pub changed-each : {A : Type 0} (P : A → Type 0) (change : A → A) → ((x : A) → P x → P (change x)) → (places : List ℕ) (xs : List A) →
+    IsKept P xs (change_each change places xs)
 changed-each P change each [] xs = still-kept P xs
 changed-each P change each (place ∷ places) xs = then-kept (changed P change each place xs) (changed-each P change each places (change_at change place xs))
 

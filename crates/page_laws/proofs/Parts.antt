@@ -18,41 +18,73 @@ use Rattle.page_laws.proofs.Trees.{IsContainerIn, found-in}
 -- observers
 
 module _ (counts : Counts) (it : ResizeObservers) (observer : ℕ) where
-  pub resize-changed : (change : ResizeObserver → ResizeObserver) → ((each : ResizeObserver) → IsResizeObserverIn counts each → IsResizeObserverIn counts (change each)) → IsKept (IsResizeObserverIn counts) it.made (change_at change observer (it.made))
+  pub resize-changed : (change : ResizeObserver → ResizeObserver) →
+      ((each : ResizeObserver) → IsResizeObserverIn counts each → IsResizeObserverIn counts (change each)) →
+      IsKept (IsResizeObserverIn counts) it.made (change_at change observer (it.made))
   resize-changed change each = changed (IsResizeObserverIn counts) change each observer (it.made)
 
-  pub target-kept : (n : ℕ) (observed : BoxKind) → n < counts.elements → IsKept (IsResizeObserverIn counts) it.made (with_resize_target observer n observed it).made
+  pub target-kept : (n : ℕ) (observed : BoxKind) → n < counts.elements →
+      IsKept (IsResizeObserverIn counts) it.made (with_resize_target observer n observed it).made
   target-kept n observed is-n =
-      resize-changed _ (λ each is. record { document = is.document; handler = is.handler; targets = all-add _ (without_observed n (each.targets)) _ (all-filter _ _ (each.targets) is.targets) is-n; active = is.active; skipped = is.skipped })
+      resize-changed _ (λ each is. record {
+        document = is.document;
+        handler = is.handler;
+        targets = all-add _ (without_observed n (each.targets)) _ (all-filter _ _ (each.targets) is.targets) is-n;
+        active = is.active;
+        skipped = is.skipped;
+      })
 
   pub no-target-kept : (n : ℕ) → IsKept (IsResizeObserverIn counts) it.made (without_resize_target observer n it).made
   no-target-kept n =
-      resize-changed _ (λ each is. record { document = is.document; handler = is.handler; targets = all-filter _ _ (each.targets) is.targets; active = is.active; skipped = is.skipped })
+      resize-changed _ (λ each is. record {
+        document = is.document;
+        handler = is.handler;
+        targets = all-filter _ _ (each.targets) is.targets;
+        active = is.active;
+        skipped = is.skipped;
+      })
 
   pub no-targets-kept : IsKept (IsResizeObserverIn counts) it.made (without_resize_targets observer it).made
   no-targets-kept = resize-changed _ (λ each is. record { document = is.document; handler = is.handler; targets = tt; active = tt; skipped = is.skipped })
 
 module _ (counts : Counts) (it : IntersectionObservers) (observer : ℕ) where
-  pub intersection-changed : (change : IntersectionObserver → IntersectionObserver) → ((each : IntersectionObserver) → IsIntersectionObserverIn counts each → IsIntersectionObserverIn counts (change each)) → IsKept (IsIntersectionObserverIn counts) it.made (change_at change observer (it.made))
+  pub intersection-changed : (change : IntersectionObserver → IntersectionObserver) →
+      ((each : IntersectionObserver) → IsIntersectionObserverIn counts each → IsIntersectionObserverIn counts (change each)) →
+      IsKept (IsIntersectionObserverIn counts) it.made (change_at change observer (it.made))
   intersection-changed change each = changed (IsIntersectionObserverIn counts) change each observer (it.made)
 
   pub registration-kept : (n : ℕ) → n < counts.elements → IsKept (IsIntersectionObserverIn counts) it.made (with_registration observer n it).made
   registration-kept n is-n =
-      intersection-changed _ (λ each is. record { document = is.document; handler = is.handler; root = is.root; registrations = all-add _ (each.registrations) _ is.registrations is-n; queue = is.queue })
+      intersection-changed _ (λ each is. record {
+        document = is.document;
+        handler = is.handler;
+        root = is.root;
+        registrations = all-add _ (each.registrations) _ is.registrations is-n;
+        queue = is.queue;
+      })
 
   pub no-registration-kept : (n : ℕ) → IsKept (IsIntersectionObserverIn counts) it.made (without_registration observer n it).made
   no-registration-kept n =
-      intersection-changed _ (λ each is. record { document = is.document; handler = is.handler; root = is.root; registrations = all-filter _ _ (each.registrations) is.registrations; queue = is.queue })
+      intersection-changed _ (λ each is. record {
+        document = is.document;
+        handler = is.handler;
+        root = is.root;
+        registrations = all-filter _ _ (each.registrations) is.registrations;
+        queue = is.queue;
+      })
 
   pub no-registrations-kept : IsKept (IsIntersectionObserverIn counts) it.made (without_registrations observer it).made
-  no-registrations-kept = intersection-changed _ (λ each is. record { document = is.document; handler = is.handler; root = is.root; registrations = tt; queue = is.queue })
+  no-registrations-kept =
+      intersection-changed _ (λ each is. record { document = is.document; handler = is.handler; root = is.root; registrations = tt; queue = is.queue })
 
   pub no-queue-kept : IsKept (IsIntersectionObserverIn counts) it.made (without_queue observer it).made
-  no-queue-kept = intersection-changed _ (λ each is. record { document = is.document; handler = is.handler; root = is.root; registrations = is.registrations; queue = tt })
+  no-queue-kept =
+      intersection-changed _ (λ each is. record { document = is.document; handler = is.handler; root = is.root; registrations = is.registrations; queue = tt })
 
 -- scrolling
 
-entry-in : (P : ScrollTarget → Type 0) (place : ℕ) (lists : List (List ScrollTarget)) → AllByRecursion (AllByRecursion P) lists → AllByRecursion P (unwrap_or (slice_get lists place) [])
+entry-in : (P : ScrollTarget → Type 0) (place : ℕ) (lists : List (List ScrollTarget)) → AllByRecursion (AllByRecursion P) lists →
+    AllByRecursion P (unwrap_or (slice_get lists place) [])
 entry-in P place [] all = tt
 entry-in P zero (x ∷ xs) all = all.0
 entry-in P (suc place) (x ∷ xs) all = entry-in P place xs (all.1)
@@ -61,55 +93,84 @@ pub pending-in : (counts : Counts) (document : ℕ) (it : Scrolls) → AreScroll
 pending-in counts document it are = entry-in (IsScrollIn counts) document (it.pending) are.pending
 
 module _ (counts : Counts) where
-  listed-in : (target : ScrollTarget) (pending : List ScrollTarget) (already : Bool) → IsScrollIn counts target → AllByRecursion (IsScrollIn counts) pending → AllByRecursion (IsScrollIn counts) (cond already pending (pending ++ target ∷ []))
+  listed-in : (target : ScrollTarget) (pending : List ScrollTarget) (already : Bool) → IsScrollIn counts target → AllByRecursion (IsScrollIn counts) pending →
+      AllByRecursion (IsScrollIn counts) (cond already pending (pending ++ target ∷ []))
   listed-in target pending true is all = all
   listed-in target pending false is all = all-add (IsScrollIn counts) pending target all is
 
-  position-in : (target : ScrollTarget) (position : Extent) (it : Scrolls) → IsScrollIn counts target → AreScrollsIn counts it → AreScrollsIn counts (with_position target position it)
-  position-in (ScrolledElement n) position it is are = record { elements = put-within (counts.elements) _ n position (it.elements) is are.elements; documents = are.documents; listed = are.listed; pending = are.pending }
-  position-in (ScrolledDocument document) position it is are = record { elements = are.elements; documents = put-within (counts.documents) _ document position (it.documents) is are.documents; listed = are.listed; pending = are.pending }
+  position-in : (target : ScrollTarget) (position : Extent) (it : Scrolls) → IsScrollIn counts target → AreScrollsIn counts it →
+      AreScrollsIn counts (with_position target position it)
+  position-in (ScrolledElement n) position it is are =
+      record {
+        elements = put-within (counts.elements) _ n position (it.elements) is are.elements;
+        documents = are.documents;
+        listed = are.listed;
+        pending = are.pending;
+      }
+  position-in (ScrolledDocument document) position it is are =
+      record {
+        elements = are.elements;
+        documents = put-within (counts.documents) _ document position (it.documents) is are.documents;
+        listed = are.listed;
+        pending = are.pending;
+      }
 
-  put-pending-in : (document : ℕ) (target : ScrollTarget) (it : Scrolls) → document < counts.documents → IsScrollIn counts target → AreScrollsIn counts it → AreScrollsIn counts (with_pending document target it)
+  put-pending-in : (document : ℕ) (target : ScrollTarget) (it : Scrolls) → document < counts.documents → IsScrollIn counts target → AreScrollsIn counts it →
+      AreScrollsIn counts (with_pending document target it)
   put-pending-in document target it is-document is are = record {
     elements = are.elements;
     documents = are.documents;
     listed = put-within (counts.documents) [] document _ (it.pending) is-document are.listed;
-    pending = all-put (AllByRecursion (IsScrollIn counts)) [] document _ (it.pending) tt (listed-in target (pending_of document it) (list_any (is_same_scroll target) (pending_of document it)) is (pending-in counts document it are)) are.pending;
+    pending =
+        all-put (AllByRecursion (IsScrollIn counts)) [] document _ (it.pending) tt
+        (listed-in target (pending_of document it) (list_any (is_same_scroll target) (pending_of document it)) is
+        (pending-in counts document it are)) are.pending;
   }
 
-  scrolled-in : (already : Bool) (document : ℕ) (target : ScrollTarget) (position : Extent) (it : Scrolls) → document < counts.documents → IsScrollIn counts target → AreScrollsIn counts it → AreScrollsIn counts (moved_unless already document target position it)
+  scrolled-in : (already : Bool) (document : ℕ) (target : ScrollTarget) (position : Extent) (it : Scrolls) → document < counts.documents →
+      IsScrollIn counts target → AreScrollsIn counts it → AreScrollsIn counts (moved_unless already document target position it)
   scrolled-in true document target position it is-document is are = are
   scrolled-in false document target position it is-document is are = put-pending-in document target _ is-document is (position-in target position it is are)
 
-  element-scroll-in : (tree : Tree) (n : ℕ) (is_root scrolls : Bool) → 0 < counts.documents → IsTreeIn counts tree → n < counts.elements → IfSome (scrolled_element n (element_at tree n).document is_root scrolls) (IsScrollIn counts)
+  element-scroll-in : (tree : Tree) (n : ℕ) (is_root scrolls : Bool) → 0 < counts.documents → IsTreeIn counts tree → n < counts.elements →
+      IfSome (scrolled_element n (element_at tree n).document is_root scrolls) (IsScrollIn counts)
   element-scroll-in tree n true scrolls top within is-n = (found-in counts (tree.elements) n top within.elements).document
   element-scroll-in tree n false true top within is-n = is-n
   element-scroll-in tree n false false top within is-n = tt
 
-  thing-scroll-in : (tree : Tree) (size : Extent) (container : Container) → 0 < counts.documents → IsTreeIn counts tree → IsContainerIn counts container → IfSome (scrolled_thing tree size container) (IsScrollIn counts)
+  thing-scroll-in : (tree : Tree) (size : Extent) (container : Container) → 0 < counts.documents → IsTreeIn counts tree → IsContainerIn counts container →
+      IfSome (scrolled_thing tree size container) (IsScrollIn counts)
   thing-scroll-in tree size (InElement n) top within is-in = element-scroll-in tree n (is_root_element tree n) (is_scroller tree size n) top within is-in
   thing-scroll-in tree size (InDocument document) top within is-in = is-in
 
-  list-document-in : (tree : Tree) (target : ScrollTarget) → 0 < counts.documents → IsTreeIn counts tree → IsScrollIn counts target → scroll_document tree target < counts.documents
+  list-document-in : (tree : Tree) (target : ScrollTarget) → 0 < counts.documents → IsTreeIn counts tree → IsScrollIn counts target →
+      scroll_document tree target < counts.documents
   list-document-in tree (ScrolledElement n) top within is = (found-in counts (tree.elements) n top within.elements).document
   list-document-in tree (ScrolledDocument document) top within is = is
 
 module _ (handlers : ℕ) (world : World) (within : IsInRange handlers world) where
-  scroll-to-in : (left top : ℤ) (target : Option ScrollTarget) → IfSome target (IsScrollIn (counts_of handlers world)) → IsInRange handlers (scrolled_to left top target world)
+  scroll-to-in : (left top : ℤ) (target : Option ScrollTarget) → IfSome target (IsScrollIn (counts_of handlers world)) →
+      IsInRange handlers (scrolled_to left top target world)
   scroll-to-in left top None is = within
   scroll-to-in left top (Some target) is =
       let counts : Counts = counts_of handlers world in
       with-scrolls counts world _ within
-      (scrolled-in counts _ (scroll_document (world.tree) target) target _ (world.scrolls) (list-document-in counts (world.tree) target within.top within.tree is) is within.scrolls)
+      (scrolled-in counts _ (scroll_document (world.tree) target) target _ (world.scrolls)
+      (list-document-in counts (world.tree) target within.top within.tree is) is within.scrolls)
 
-  pub scroll-in : (left top : ℤ) (container : Container) → IsContainerIn (counts_of handlers world) container → IsInRange handlers (scrolled_to left top (scrolled_thing (world.tree) (world.viewports.size) container) world)
+  pub scroll-in : (left top : ℤ) (container : Container) → IsContainerIn (counts_of handlers world) container →
+      IsInRange handlers (scrolled_to left top (scrolled_thing (world.tree) (world.viewports.size) container) world)
   scroll-in left top container is =
-      scroll-to-in left top (scrolled_thing (world.tree) (world.viewports.size) container) (thing-scroll-in (counts_of handlers world) (world.tree) (world.viewports.size) container within.top within.tree is)
+      scroll-to-in left top (scrolled_thing (world.tree) (world.viewports.size) container)
+      (thing-scroll-in (counts_of handlers world) (world.tree) (world.viewports.size) container within.top within.tree is)
 
-  scroll-by-to-in : (left top : ℤ) (target : Option ScrollTarget) → IfSome target (IsScrollIn (counts_of handlers world)) → IsInRange handlers (scrolled_by left top target world)
+  scroll-by-to-in : (left top : ℤ) (target : Option ScrollTarget) → IfSome target (IsScrollIn (counts_of handlers world)) →
+      IsInRange handlers (scrolled_by left top target world)
   scroll-by-to-in left top None is = within
   scroll-by-to-in left top (Some target) is = scroll-to-in _ _ (Some target) is
 
-  pub scroll-by-in : (left top : ℤ) (container : Container) → IsContainerIn (counts_of handlers world) container → IsInRange handlers (scrolled_by left top (scrolled_thing (world.tree) (world.viewports.size) container) world)
+  pub scroll-by-in : (left top : ℤ) (container : Container) → IsContainerIn (counts_of handlers world) container →
+      IsInRange handlers (scrolled_by left top (scrolled_thing (world.tree) (world.viewports.size) container) world)
   scroll-by-in left top container is =
-      scroll-by-to-in left top (scrolled_thing (world.tree) (world.viewports.size) container) (thing-scroll-in (counts_of handlers world) (world.tree) (world.viewports.size) container within.top within.tree is)
+      scroll-by-to-in left top (scrolled_thing (world.tree) (world.viewports.size) container)
+      (thing-scroll-in (counts_of handlers world) (world.tree) (world.viewports.size) container within.top within.tree is)

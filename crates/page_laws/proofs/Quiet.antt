@@ -39,7 +39,8 @@ thrown-is-no-next is = cc
 limited-is-no-next : Limited ≡ Next → ⊥
 limited-is-no-next is = cc
 
-follow-hushed : (flow : Flow) (rest : World → Said World) (said : Said World) → flow ≡ Next → said.lines ≡ [] → IsHushed (rest (said.state)) → IsHushed (follow flow rest said)
+follow-hushed : (flow : Flow) (rest : World → Said World) (said : Said World) → flow ≡ Next → said.lines ≡ [] → IsHushed (rest (said.state)) →
+    IsHushed (follow flow rest said)
 unfolding follow
 follow-hushed Next rest said is lines more = record {
   lines = subst (λ first. first ++ (rest (said.state)).lines ≡ []) (sym lines) (more.lines);
@@ -49,21 +50,25 @@ follow-hushed Next rest said is lines more = record {
 follow-hushed Thrown rest said is lines more = absurd (thrown-is-no-next is)
 follow-hushed Limited rest said is lines more = absurd (limited-is-no-next is)
 
-after-hushed : (rest : World → Said World) (said : Said World) → ((world : World) → IsQuiet world → IsHushed (rest world)) → IsHushed said → IsHushed (said followed_by rest)
+after-hushed : (rest : World → Said World) (said : Said World) → ((world : World) → IsQuiet world → IsHushed (rest world)) → IsHushed said →
+    IsHushed (said followed_by rest)
 unfolding ◌followed_by◌
 after-hushed rest said each here = follow-hushed (said.flow) rest said (here.flow) (here.lines) (each (said.state) (here.quiet))
 
-for_each-hushed : {A : Type 0} (step : A → World → Said World) (items : List A) → ((item : A) (world : World) → IsQuiet world → IsHushed (step item world)) → (world : World) → IsQuiet world → IsHushed (for_each step items world)
+for_each-hushed : {A : Type 0} (step : A → World → Said World) (items : List A) → ((item : A) (world : World) → IsQuiet world → IsHushed (step item world)) →
+    (world : World) → IsQuiet world → IsHushed (for_each step items world)
 unfolding for_each
 for_each-hushed step [] each world quiet = stays world quiet
 for_each-hushed step (item ∷ others) each world quiet =
     after-hushed (for_each step others) (step item world) (for_each-hushed step others each) (each item world quiet)
 
-for_each-none : {A : Type 0} (step : A → World → Said World) (items : List A) (world : World) → items ≡ [] → IsQuiet world → IsHushed (for_each step items world)
+for_each-none : {A : Type 0} (step : A → World → Said World) (items : List A) (world : World) → items ≡ [] → IsQuiet world →
+    IsHushed (for_each step items world)
 unfolding for_each
 for_each-none step items world none quiet = subst (λ these. IsHushed (for_each step these world)) (sym none) (stays world quiet)
 
-only_if-hushed : (step : World → Said World) (world : World) (test : Bool) → (test ≡ true → IsHushed (step world)) → IsQuiet world → IsHushed (only_if step world test)
+only_if-hushed : (step : World → Said World) (world : World) (test : Bool) → (test ≡ true → IsHushed (step world)) → IsQuiet world →
+    IsHushed (only_if step world test)
 only_if-hushed step world true each quiet = each refl
 only_if-hushed step world false each quiet = stays world quiet
 
@@ -81,9 +86,11 @@ others-inactive world quiet n = ap (λ documents. is_active_state (unwrap_or (sl
 own-viewport : (world : World) → IsQuiet world → viewport_of (world.tree) (world.viewports.size) 0 ≡ world.viewports.size
 unfolding viewport_of
 own-viewport world quiet =
-    ap (λ frame. extent_of (unwrap_or (framed_size (world.tree) (world.viewports.size) (view_of (world.tree) (world.viewports.size)) frame) (0, 0))) (ap (λ (it : Document). it.frame) (at-top world quiet) ∙ quiet.frame)
+    ap (λ frame. extent_of (unwrap_or (framed_size (world.tree) (world.viewports.size) (view_of (world.tree) (world.viewports.size)) frame) (0, 0)))
+    (ap (λ (it : Document). it.frame) (at-top world quiet) ∙ quiet.frame)
 
-active-hushed : (document : ℕ) (part : ℕ → World → Said World) → ((world : World) → IsQuiet world → IsHushed (part 0 world)) → (world : World) → IsQuiet world → IsHushed (while_active document (part document) world)
+active-hushed : (document : ℕ) (part : ℕ → World → Said World) → ((world : World) → IsQuiet world → IsHushed (part 0 world)) → (world : World) →
+    IsQuiet world → IsHushed (while_active document (part document) world)
 active-hushed zero part each world quiet = only_if-hushed (part 0) world (is_active (world.tree) 0) (λ is. each world quiet) quiet
 active-hushed (suc n) part each world quiet = only_if-not (part (suc n)) world (is_active (world.tree) (suc n)) (others-inactive world quiet n) quiet
 
@@ -99,13 +106,15 @@ put-first : (value : Option Extent) (noted : List (Option Extent)) → entry_or 
 put-first value [] = refl
 put-first value (x ∷ xs) = refl
 
-noted-quiet : (world : World) (size : Extent) → size ≡ world.viewports.size → IsQuiet world → IsQuiet (record world { viewports = with_noted 0 size (world.viewports) })
+noted-quiet : (world : World) (size : Extent) → size ≡ world.viewports.size → IsQuiet world →
+    IsQuiet (record world { viewports = with_noted 0 size (world.viewports) })
 noted-quiet world size is quiet = record {
   top = quiet.top;
   alone = quiet.alone;
   frame = quiet.frame;
   pending = quiet.pending;
-  noted = ap (differs_from (world.viewports.size)) (put-first (Some size) (world.viewports.noted)) ∙ subst (λ it. differs_from (world.viewports.size) (Some it) ≡ false) (sym is) (ap not (same-size (world.viewports.size)));
+  noted = ap (differs_from (world.viewports.size)) (put-first (Some size) (world.viewports.noted)) ∙ subst
+      (λ it. differs_from (world.viewports.size) (Some it) ≡ false) (sym is) (ap not (same-size (world.viewports.size)));
   resize_observers = quiet.resize_observers;
   intersection_observers = quiet.intersection_observers;
   queries = quiet.queries;
@@ -176,7 +185,8 @@ media-hushed script world quiet =
 frames-hushed : (script : Script) (world : World) → IsQuiet world → IsHushed (frame_steps script 0 world)
 unfolding frame_steps
 frames-hushed script world quiet =
-    for_each-none (λ callback now. only_if (run_frame_callback script callback) now (is_active (now.tree) 0 && frame_callback_stands callback (now.frame_callbacks)))
+    for_each-none (λ callback now. only_if (run_frame_callback script callback) now
+    (is_active (now.tree) 0 && frame_callback_stands callback (now.frame_callbacks)))
     (frame_callbacks_of 0 (world.frame_callbacks))
     world
     (ap (λ held. filter (λ (callback : FrameCallback). callback.document == 0) held) (quiet.frame_callbacks))
@@ -202,11 +212,13 @@ none-active : (world : World) → IsQuiet world → has_active 0 (world.resize_o
 none-active world quiet = ap (λ these. list_any (λ (observer : ResizeObserver). is_of 0 observer && is_filled (observer.active)) these) (quiet.resize_observers)
 
 none-skipped : (world : World) → IsQuiet world → has_skipped 0 (world.resize_observers) ≡ false
-none-skipped world quiet = ap (λ these. list_any (λ (observer : ResizeObserver). is_of 0 observer && is_filled (observer.skipped)) these) (quiet.resize_observers)
+none-skipped world quiet =
+    ap (λ these. list_any (λ (observer : ResizeObserver). is_of 0 observer && is_filled (observer.skipped)) these) (quiet.resize_observers)
 
 error-hushed : (script : Script) (world : World) → IsQuiet world → IsHushed (report_skipped script 0 world)
 error-hushed script world quiet =
-    only_if-not (fire script (FiredError (document_text (world.names) 0)) (WindowTarget 0) events.Error) world (is_active (world.tree) 0 && has_skipped 0 (world.resize_observers))
+    only_if-not (fire script (FiredError (document_text (world.names) 0)) (WindowTarget 0) events.Error) world
+    (is_active (world.tree) 0 && has_skipped 0 (world.resize_observers))
     (and-false (is_active (world.tree) 0) (has_skipped 0 (world.resize_observers)) (none-skipped world quiet))
     quiet
 
@@ -218,14 +230,19 @@ loop-hushed script world quiet =
     (error-hushed script)
     (subst IsHushed
     (sym (repeat-not (λ now. is_active (now.tree) 0 && has_active 0 (now.resize_observers)) (round script 0) most_steps (gather 0 0 world)
-    (and-false (is_active (gather 0 0 world).tree 0) ((has_active 0 (gather 0 0 world).resize_observers)) (none-active (gather 0 0 world) (gathered-quiet world quiet)))))
+    (and-false (is_active (gather 0 0 world).tree 0) ((has_active 0 (gather 0 0 world).resize_observers))
+    (none-active (gather 0 0 world) (gathered-quiet world quiet)))))
     (stays (gather 0 0 world) (gathered-quiet world quiet)))
 
 updated-quiet : (world : World) → IsQuiet world → IsQuiet (update_intersections 0 world)
 unfolding update_intersections
 updated-quiet world quiet =
     let watching = places_from 0 (λ (observer : IntersectionObserver). is_rooted_in (world.tree) 0 (observer.root)) in
-    let now = record world { intersection_observers = settling (world.clock) (finding world) (watchers (world.tree) 0 (world.intersection_observers)) (world.intersection_observers) } in
+    let now =
+    record world {
+      intersection_observers = settling (world.clock) (finding world) (watchers (world.tree) 0 (world.intersection_observers))
+          (world.intersection_observers);
+    } in
     let still : IsQuiet now = record {
       top = quiet.top;
       alone = quiet.alone;
@@ -261,7 +278,8 @@ update-hushed script world quiet =
     (documents-hushed (scroll_steps script) documents (scroll-hushed script) a qa))
     (documents-hushed (resize_steps script) documents (resize-hushed script) world quiet)
   where
-    documents-hushed : (part : ℕ → World → Said World) (documents : List ℕ) → ((now : World) → IsQuiet now → IsHushed (part 0 now)) → (now : World) → IsQuiet now → IsHushed (for_each (λ document. while_active document (part document)) documents now)
+    documents-hushed : (part : ℕ → World → Said World) (documents : List ℕ) → ((now : World) → IsQuiet now → IsHushed (part 0 now)) → (now : World) →
+        IsQuiet now → IsHushed (for_each (λ document. while_active document (part document)) documents now)
     documents-hushed part documents each now here =
         for_each-hushed (λ document. while_active document (part document)) documents (λ document it quiet. active-hushed document part each it quiet) now here
 
@@ -278,7 +296,8 @@ pub record IsHushedBut (line : TraceLine) (said : Said World) : Type 0 where
   pub flow : said.flow ≡ Next
   pub quiet : IsQuiet (said.state)
 
-follow-but : (line : TraceLine) (flow : Flow) (rest : World → Said World) (said : Said World) → flow ≡ Next → said.lines ≡ line ∷ [] → IsHushed (rest (said.state)) → IsHushedBut line (follow flow rest said)
+follow-but : (line : TraceLine) (flow : Flow) (rest : World → Said World) (said : Said World) → flow ≡ Next → said.lines ≡ line ∷ [] →
+    IsHushed (rest (said.state)) → IsHushedBut line (follow flow rest said)
 unfolding follow
 follow-but line Next rest said is lines more = record {
   lines = subst (λ first. first ++ (rest (said.state)).lines ≡ line ∷ []) (sym lines) (ap (λ others. line ∷ others) (more.lines));
@@ -288,7 +307,8 @@ follow-but line Next rest said is lines more = record {
 follow-but line Thrown rest said is lines more = absurd (thrown-is-no-next is)
 follow-but line Limited rest said is lines more = absurd (limited-is-no-next is)
 
-after-but : (line : TraceLine) (rest : World → Said World) (said : Said World) → ((world : World) → IsQuiet world → IsHushed (rest world)) → IsHushedBut line said → IsHushedBut line (said followed_by rest)
+after-but : (line : TraceLine) (rest : World → Said World) (said : Said World) → ((world : World) → IsQuiet world → IsHushed (rest world)) →
+    IsHushedBut line said → IsHushedBut line (said followed_by rest)
 unfolding ◌followed_by◌
 after-but line rest said each here = follow-but line (said.flow) rest said (here.flow) (here.lines) (each (said.state) (here.quiet))
 

@@ -49,7 +49,8 @@ module _ (counts more : Counts) (grows : IsMore counts more) where
   thing-more (QueryListThing query) is = below grows.queries is
 
   observed-more : (xs : List Observation) → AreObserved counts xs → AreObserved more xs
-  observed-more xs is = all-map (λ (each : Observation). each.target < counts.elements) (λ each. each.target < more.elements) (λ each. below grows.elements) xs is
+  observed-more xs is =
+      all-map (λ (each : Observation). each.target < counts.elements) (λ each. each.target < more.elements) (λ each. below grows.elements) xs is
 
   handler-more : (it : Option ℕ) → IfSome it (λ handler. handler < counts.handlers) → IfSome it (λ handler. handler < more.handlers)
   handler-more it is = some-map (λ n. n < counts.handlers) (λ n. n < more.handlers) (λ n. below grows.handlers) it is
@@ -73,7 +74,9 @@ module _ (counts more : Counts) (grows : IsMore counts more) where
     document = below grows.documents is.document;
     handler = handler-more (it.handler) is.handler;
     root = root-more (it.root) is.root;
-    registrations = all-map (λ (each : Registration). each.target < counts.elements) (λ each. each.target < more.elements) (λ each. below grows.elements) (it.registrations) is.registrations;
+    registrations =
+        all-map (λ (each : Registration). each.target < counts.elements) (λ each. each.target < more.elements) (λ each. below grows.elements)
+        (it.registrations) is.registrations;
     queue = all-map (λ (each : Entry). each.target < counts.elements) (λ each. each.target < more.elements) (λ each. below grows.elements) (it.queue) is.queue;
   }
 
@@ -99,16 +102,28 @@ module _ (counts more : Counts) (grows : IsMore counts more) where
       elements = at-most grows.elements is.scrolls.elements;
       documents = at-most grows.documents is.scrolls.documents;
       listed = at-most grows.documents is.scrolls.listed;
-      pending = all-map (AllByRecursion (IsScrollIn counts)) (AllByRecursion (IsScrollIn more)) (all-map (IsScrollIn counts) (IsScrollIn more) scroll-more) (world.scrolls.pending) is.scrolls.pending;
+      pending =
+          all-map (AllByRecursion (IsScrollIn counts)) (AllByRecursion (IsScrollIn more)) (all-map (IsScrollIn counts) (IsScrollIn more) scroll-more)
+          (world.scrolls.pending) is.scrolls.pending;
     };
     notifying = at-most grows.documents is.notifying;
-    names = all-map (λ (named : Name). IsThingIn counts named.thing) (λ named. IsThingIn more named.thing) (λ named. thing-more (named.thing)) (world.names) is.names;
+    names = all-map (λ (named : Name). IsThingIn counts named.thing) (λ named. IsThingIn more named.thing) (λ named. thing-more (named.thing))
+        (world.names) is.names;
     resize_observers = all-map (IsResizeObserverIn counts) (IsResizeObserverIn more) resize-more (world.resize_observers.made) is.resize_observers;
-    intersection_observers = all-map (IsIntersectionObserverIn counts) (IsIntersectionObserverIn more) intersection-more (world.intersection_observers.made) is.intersection_observers;
-    queries = all-map (λ (list : QueryList). list.document < counts.documents) (λ list. list.document < more.documents) (λ list. below grows.documents) (world.queries) is.queries;
-    listeners = all-map (IsListenerIn counts) (IsListenerIn more) (λ it given. (event-target-more (it.target) (given.0), below grows.handlers (given.1))) (world.listeners.held) is.listeners;
-    frame_callbacks = all-map (IsFrameCallbackIn counts) (IsFrameCallbackIn more) (λ it given. (below grows.documents (given.0), below grows.handlers (given.1))) (world.frame_callbacks.held) is.frame_callbacks;
-    timers = all-map (IsTimerIn counts) (IsTimerIn more) (λ it given. (below grows.documents (given.0), below grows.handlers (given.1))) (world.timers.held) is.timers;
+    intersection_observers =
+        all-map (IsIntersectionObserverIn counts) (IsIntersectionObserverIn more) intersection-more
+        (world.intersection_observers.made) is.intersection_observers;
+    queries =
+        all-map (λ (list : QueryList). list.document < counts.documents) (λ list. list.document < more.documents) (λ list. below grows.documents)
+        (world.queries) is.queries;
+    listeners =
+        all-map (IsListenerIn counts) (IsListenerIn more) (λ it given. (event-target-more (it.target) (given.0), below grows.handlers (given.1)))
+        (world.listeners.held) is.listeners;
+    frame_callbacks =
+        all-map (IsFrameCallbackIn counts) (IsFrameCallbackIn more) (λ it given. (below grows.documents (given.0), below grows.handlers (given.1)))
+        (world.frame_callbacks.held) is.frame_callbacks;
+    timers = all-map (IsTimerIn counts) (IsTimerIn more) (λ it given. (below grows.documents (given.0), below grows.handlers (given.1)))
+        (world.timers.held) is.timers;
     tasks = all-map (IsTaskIn counts) (IsTaskIn more) task-more (world.tasks) is.tasks;
   }
 
@@ -117,19 +132,24 @@ module _ (counts more : Counts) (grows : IsMore counts more) where
 pub with-tree : (counts : Counts) (world : World) (tree : Tree) → IsWithin counts world → IsTreeIn counts tree → IsWithin counts (record world { tree = tree })
 with-tree counts world tree within is = search
 
-pub with-names : (counts : Counts) (world : World) (names : List Name) → IsWithin counts world → AllByRecursion (λ (named : Name). IsThingIn counts named.thing) names → IsWithin counts (record world { names = names })
+pub with-names : (counts : Counts) (world : World) (names : List Name) → IsWithin counts world →
+    AllByRecursion (λ (named : Name). IsThingIn counts named.thing) names → IsWithin counts (record world { names = names })
 with-names counts world names within all = search
 
-pub with-scrolls : (counts : Counts) (world : World) (scrolls : Scrolls) → IsWithin counts world → AreScrollsIn counts scrolls → IsWithin counts (record world { scrolls = scrolls })
+pub with-scrolls : (counts : Counts) (world : World) (scrolls : Scrolls) → IsWithin counts world → AreScrollsIn counts scrolls →
+    IsWithin counts (record world { scrolls = scrolls })
 with-scrolls counts world scrolls within are = search
 
-pub with-resize : (counts : Counts) (world : World) (it : ResizeObservers) → IsWithin counts world → AllByRecursion (IsResizeObserverIn counts) it.made → IsWithin counts (record world { resize_observers = it })
+pub with-resize : (counts : Counts) (world : World) (it : ResizeObservers) → IsWithin counts world → AllByRecursion (IsResizeObserverIn counts) it.made →
+    IsWithin counts (record world { resize_observers = it })
 with-resize counts world it within all = search
 
-pub with-intersection : (counts : Counts) (world : World) (it : IntersectionObservers) → IsWithin counts world → AllByRecursion (IsIntersectionObserverIn counts) it.made → IsWithin counts (record world { intersection_observers = it })
+pub with-intersection : (counts : Counts) (world : World) (it : IntersectionObservers) → IsWithin counts world →
+    AllByRecursion (IsIntersectionObserverIn counts) it.made → IsWithin counts (record world { intersection_observers = it })
 with-intersection counts world it within all = search
 
-pub with-queries : (counts : Counts) (world : World) (queries : List QueryList) → IsWithin counts world → AllByRecursion (λ (list : QueryList). list.document < counts.documents) queries → IsWithin counts (record world { queries = queries })
+pub with-queries : (counts : Counts) (world : World) (queries : List QueryList) → IsWithin counts world →
+    AllByRecursion (λ (list : QueryList). list.document < counts.documents) queries → IsWithin counts (record world { queries = queries })
 with-queries counts world queries within all = search
 
 -- a tree after another one of as many elements and documents
@@ -137,39 +157,49 @@ pub record IsTreeKept (counts : Counts) (before after : Tree) : Type 0 where
   pub elements : IsKept (IsElementIn counts) before.elements after.elements
   pub documents : IsKept (IsDocumentIn counts) before.documents after.documents
 
-pub tree-in : (handlers : ℕ) (world : World) (after : Tree) → IsTreeKept (counts_of handlers world) (world.tree) after → IsInRange handlers world → IsInRange handlers (record world { tree = after })
+pub tree-in : (handlers : ℕ) (world : World) (after : Tree) → IsTreeKept (counts_of handlers world) (world.tree) after → IsInRange handlers world →
+    IsInRange handlers (record world { tree = after })
 tree-in handlers world after kept within =
     let counts : Counts = counts_of handlers world in
     let elements : length after.elements ≡ length world.tree.elements = kept.elements.same in
     let documents : length after.documents ≡ length world.tree.documents = kept.documents.same in
     within-more counts (counts_of handlers (record world { tree = after }))
-    (record { elements = omega arith; documents = omega arith; resize_observers = omega arith; intersection_observers = omega arith; queries = omega arith; handlers = omega arith })
+    (grind arith)
     (record world { tree = after })
-    (with-tree counts world after within (record { elements = kept.elements.within within.tree.elements; documents = kept.documents.within within.tree.documents }))
+    (with-tree counts world after within (record {
+      elements = kept.elements.within within.tree.elements;
+      documents = kept.documents.within within.tree.documents;
+    }))
 
-pub resize-in : (handlers : ℕ) (world : World) (after : ResizeObservers) → IsKept (IsResizeObserverIn (counts_of handlers world)) world.resize_observers.made after.made → IsInRange handlers world → IsInRange handlers (record world { resize_observers = after })
+pub resize-in : (handlers : ℕ) (world : World) (after : ResizeObservers) →
+    IsKept (IsResizeObserverIn (counts_of handlers world)) world.resize_observers.made after.made → IsInRange handlers world →
+    IsInRange handlers (record world { resize_observers = after })
 resize-in handlers world after kept within =
     let counts : Counts = counts_of handlers world in
     let made : length after.made ≡ length world.resize_observers.made = kept.same in
     within-more counts (counts_of handlers (record world { resize_observers = after }))
-    (record { elements = omega arith; documents = omega arith; resize_observers = omega arith; intersection_observers = omega arith; queries = omega arith; handlers = omega arith })
+    (grind arith)
     (record world { resize_observers = after })
     (with-resize counts world after within (kept.within within.resize_observers))
 
-pub intersection-in : (handlers : ℕ) (world : World) (after : IntersectionObservers) → IsKept (IsIntersectionObserverIn (counts_of handlers world)) world.intersection_observers.made after.made → IsInRange handlers world → IsInRange handlers (record world { intersection_observers = after })
+pub intersection-in : (handlers : ℕ) (world : World) (after : IntersectionObservers) →
+    IsKept (IsIntersectionObserverIn (counts_of handlers world)) world.intersection_observers.made after.made → IsInRange handlers world →
+    IsInRange handlers (record world { intersection_observers = after })
 intersection-in handlers world after kept within =
     let counts : Counts = counts_of handlers world in
     let made : length after.made ≡ length world.intersection_observers.made = kept.same in
     within-more counts (counts_of handlers (record world { intersection_observers = after }))
-    (record { elements = omega arith; documents = omega arith; resize_observers = omega arith; intersection_observers = omega arith; queries = omega arith; handlers = omega arith })
+    (grind arith)
     (record world { intersection_observers = after })
     (with-intersection counts world after within (kept.within within.intersection_observers))
 
-pub queries-in : (handlers : ℕ) (world : World) (after : List QueryList) → IsKept (λ (list : QueryList). list.document < length world.tree.documents) world.queries after → IsInRange handlers world → IsInRange handlers (record world { queries = after })
+pub queries-in : (handlers : ℕ) (world : World) (after : List QueryList) →
+    IsKept (λ (list : QueryList). list.document < length world.tree.documents) world.queries after → IsInRange handlers world →
+    IsInRange handlers (record world { queries = after })
 queries-in handlers world after kept within =
     let counts : Counts = counts_of handlers world in
     let made : length after ≡ length world.queries = kept.same in
     within-more counts (counts_of handlers (record world { queries = after }))
-    (record { elements = omega arith; documents = omega arith; resize_observers = omega arith; intersection_observers = omega arith; queries = omega arith; handlers = omega arith })
+    (grind arith)
     (record world { queries = after })
     (with-queries counts world after within (kept.within within.queries))

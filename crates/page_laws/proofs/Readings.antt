@@ -17,11 +17,14 @@ use Rattle.page_laws.specs.Successors.{OnDid}
 use Rattle.page_laws.proofs.Steps.{bind}
 use Rattle.page_laws.proofs.Successors.{led-pass}
 
-pub reading-same : (handlers : Handlers) (world : World) (present : Present) (operand : Operand) → OnDid (does handlers world present (Read operand)) (λ effect. effect.world ≡ world)
+pub reading-same : (handlers : Handlers) (world : World) (present : Present) (operand : Operand) →
+    OnDid (does handlers world present (Read operand)) (λ effect. effect.world ≡ world)
 unfolding does OnDid
 reading-same handlers world present operand = search bind depth 9
 
-counted-if : (world : World) (more : Bool) → nat_lt (world.begun) 1000000 ≡ more → OnDid (met_unless more limits.Commands >> Did (record world { begun = suc world.begun })) (λ after. (after ≡ record world { begun = suc world.begun }) × (world.begun < 1000000))
+counted-if : (world : World) (more : Bool) → nat_lt (world.begun) 1000000 ≡ more →
+    OnDid (met_unless more limits.Commands >> Did (record world { begun = suc world.begun }))
+    (λ after. (after ≡ record world { begun = suc world.begun }) × (world.begun < 1000000))
 unfolding ◌>>◌ OnDid
 counted-if world true less = (refl, grind (arith, tests))
 counted-if world false less = tt
@@ -34,7 +37,8 @@ pub active-listed : (tree : Tree) → AllByRecursion (λ document. IsTrue (is_ac
 unfolding active_documents
 active-listed tree = led-pass frame_levels is_active_state tree (0 ∷ [])
 
-no-size : (tree : Tree) (n : ℕ) (kind : BoxKind) (inputs : Option Inputs) → is_some inputs ≡ false → extent_of (unwrap_or (option_map (size_by kind) (option_map (λ given. box_in (nodes_of tree) given n) inputs)) (0, 0)) ≡ no_extent
+no-size : (tree : Tree) (n : ℕ) (kind : BoxKind) (inputs : Option Inputs) → is_some inputs ≡ false →
+    extent_of (unwrap_or (option_map (size_by kind) (option_map (λ given. box_in (nodes_of tree) given n) inputs)) (0, 0)) ≡ no_extent
 no-size tree n kind None none = refl
 no-size tree n kind (Some inputs) none = absurd (true≢false none)
 

@@ -42,7 +42,8 @@ entry-in world NoEntry is = tt
 entry-in world (ResizeEntry target) is = is
 entry-in world (IntersectionEntry target meets) is = is
 
-on_did-with : {A : Type 0} (step : Step A) (One Two Both : A → Type 0) → ((value : A) → One value → Two value → Both value) → OnDid step One → OnDid step Two → OnDid step Both
+on_did-with : {A : Type 0} (step : Step A) (One Two Both : A → Type 0) → ((value : A) → One value → Two value → Both value) → OnDid step One →
+    OnDid step Two → OnDid step Both
 unfolding OnDid
 on_did-with (Did value) One Two Both each one two = each value one two
 on_did-with (Threw exception) One Two Both each one two = tt
@@ -50,12 +51,14 @@ on_did-with (Met limit) One Two Both each one two = tt
 
 -- the lists that callbacks are handed entries of
 
-active-in : (counts : Counts) (made : List ResizeObserver) (observer : ℕ) → AllByRecursion (IsResizeObserverIn counts) made → AreObserved counts (unwrap_or (slice_get made observer) no_resize_observer).active
+active-in : (counts : Counts) (made : List ResizeObserver) (observer : ℕ) → AllByRecursion (IsResizeObserverIn counts) made →
+    AreObserved counts (unwrap_or (slice_get made observer) no_resize_observer).active
 active-in counts [] observer all = tt
 active-in counts (x ∷ xs) zero all = all.0.active
 active-in counts (x ∷ xs) (suc observer) all = active-in counts xs observer (all.1)
 
-queue-in : (counts : Counts) (made : List IntersectionObserver) (observer : ℕ) → AllByRecursion (IsIntersectionObserverIn counts) made → AllByRecursion (λ (each : Entry). each.target < counts.elements) (unwrap_or (slice_get made observer) no_intersection_observer).queue
+queue-in : (counts : Counts) (made : List IntersectionObserver) (observer : ℕ) → AllByRecursion (IsIntersectionObserverIn counts) made →
+    AllByRecursion (λ (each : Entry). each.target < counts.elements) (unwrap_or (slice_get made observer) no_intersection_observer).queue
 queue-in counts [] observer all = tt
 queue-in counts (x ∷ xs) zero all = all.0.queue
 queue-in counts (x ∷ xs) (suc observer) all = queue-in counts xs observer (all.1)
@@ -85,7 +88,8 @@ running-kept script = record {
   queued = λ k world observer running. queue-in _ (world.intersection_observers.made) observer running.within.intersection_observers;
 }
   where
-    counted : (world : World) → IsInRange (length (handler_names script)) world → IsInRange (length (handler_names script)) (record world { begun = suc world.begun })
+    counted : (world : World) → IsInRange (length (handler_names script)) world →
+        IsInRange (length (handler_names script)) (record world { begun = suc world.begun })
     counted world within = search
 
 timed : (handlers time : ℕ) (world : World) → IsInRange handlers world → IsInRange handlers (record world { clock = time })
@@ -103,26 +107,35 @@ ends : (script : Script) (k : ℕ) (world : World) → IsRunning (length (handle
 ends script k world running = subst (λ (count : ℕ). IsInRange count world) (same-count script) (running.within)
 
 module _ (script : Script) (world : World) (within : IsInRange (length script) world) where
-  pub command-in : (entries : List Present) (command : Command) (present : Present) → AllByRecursion (IsPresentIn world) entries → IsPresentIn world present → IsInRange (length script) (run_command script entries command present world).state
+  pub command-in : (entries : List Present) (command : Command) (present : Present) → AllByRecursion (IsPresentIn world) entries → IsPresentIn world present →
+      IsInRange (length script) (run_command script entries command present world).state
   command-in entries command present are is =
       ends script (length world.tree.elements) _
-      (command-keeps script _ IsEntryIn (running-kept script) (length world.tree.elements) entries (all-map (IsPresentIn world) (IsEntryIn (length world.tree.elements)) (entry-in world) entries are) command present world (entry-in world present is) (begins script world within))
+      (command-keeps script _ IsEntryIn (running-kept script) (length world.tree.elements) entries
+      (all-map (IsPresentIn world) (IsEntryIn (length world.tree.elements)) (entry-in world) entries are) command present world
+      (entry-in world present is) (begins script world within))
 
-  pub call-in : (document : ℕ) (handler : Option ℕ) (handed : Entries) → AllByRecursion (IsPresentIn world) (presents handed) → IsInRange (length script) (call script document handler handed world).state
+  pub call-in : (document : ℕ) (handler : Option ℕ) (handed : Entries) → AllByRecursion (IsPresentIn world) (presents handed) →
+      IsInRange (length script) (call script document handler handed world).state
   call-in document handler handed are =
       ends script (length world.tree.elements) _
-      (called-keeps script _ IsEntryIn (running-kept script) (length world.tree.elements) document handler handed world (all-map (IsPresentIn world) (IsEntryIn (length world.tree.elements)) (entry-in world) (presents handed) are) (begins script world within))
+      (called-keeps script _ IsEntryIn (running-kept script) (length world.tree.elements) document handler handed world
+      (all-map (IsPresentIn world) (IsEntryIn (length world.tree.elements)) (entry-in world) (presents handed) are) (begins script world within))
 
   pub tick-in : IsInRange (length script) (tick script world).state
-  tick-in = ends script (length world.tree.elements) _ (tick-keeps script _ IsEntryIn (running-kept script) (length world.tree.elements) world (begins script world within))
+  tick-in =
+      ends script (length world.tree.elements) _ (tick-keeps script _ IsEntryIn (running-kept script) (length world.tree.elements) world
+      (begins script world within))
 
-running-timed : (script : Script) (k time : ℕ) (world : World) → IsRunning (length (handler_names script)) k world → nat_lt time world.clock ≡ false → IsRunning (length (handler_names script)) k (record world { clock = time })
+running-timed : (script : Script) (k time : ℕ) (world : World) → IsRunning (length (handler_names script)) k world → nat_lt time world.clock ≡ false →
+    IsRunning (length (handler_names script)) k (record world { clock = time })
 running-timed script k time world running is = record { within = timed (length (handler_names script)) time world (running.within); most = running.most }
 
 pub item-in : (script : Script) (item : Item) (world : World) → IsInRange (length script) world → IsInRange (length script) (run_item script item world).state
 item-in script item world within =
     ends script (length world.tree.elements) _
-    (item-keeps script _ IsEntryIn (running-kept script) (length world.tree.elements) (running-timed script (length world.tree.elements)) item world (begins script world within))
+    (item-keeps script _ IsEntryIn (running-kept script) (length world.tree.elements) (running-timed script (length world.tree.elements)) item world
+    (begins script world within))
 
 pub opening-in : (handlers : ℕ) → IsInRange handlers opening_world
 opening-in handlers = record {
@@ -144,4 +157,5 @@ opening-in handlers = record {
 pub items-in : (items : List Item) → IsInRange (length (handlers_in items)) (run_items items opening_world).state
 items-in items =
     ends (handlers_in items) 0 _
-    (items-keep items _ IsEntryIn (running-kept (handlers_in items)) 0 (running-timed (handlers_in items) 0) opening_world (begins (handlers_in items) opening_world (opening-in (length (handlers_in items)))))
+    (items-keep items _ IsEntryIn (running-kept (handlers_in items)) 0 (running-timed (handlers_in items) 0) opening_world
+    (begins (handlers_in items) opening_world (opening-in (length (handlers_in items)))))

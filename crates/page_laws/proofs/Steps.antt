@@ -21,7 +21,8 @@ unfolding OnDid
 did value Holds holds = holds
 
 -- the next step where something is known of the value
-pub bind-in : {A B : Type 0} (step : Step A) (next : A → Step B) (Fact : A → Type 0) (Holds : B → Type 0) → OnDid step Fact → ((value : A) → Fact value → OnDid (next value) Holds) → OnDid (step >>= next) Holds
+pub bind-in : {A B : Type 0} (step : Step A) (next : A → Step B) (Fact : A → Type 0) (Holds : B → Type 0) → OnDid step Fact →
+    ((value : A) → Fact value → OnDid (next value) Holds) → OnDid (step >>= next) Holds
 unfolding OnDid ◌>>=◌
 bind-in (Did value) next Fact Holds fact each = each value fact
 bind-in (Threw exception) next Fact Holds fact each = tt

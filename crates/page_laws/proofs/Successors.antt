@@ -16,7 +16,9 @@ dead-is-last Fresh = refl
 dead-is-last Active = refl
 dead-is-last Dead = refl
 
-state-kept : (change : Document → Document) → ((it : Document) → (change it).state ≡ it.state) → (wanted : DocumentState) (place document : ℕ) (xs : List Document) → is_come_to wanted (slice_get (change_at change place xs) document) ≡ is_come_to wanted (slice_get xs document)
+state-kept : (change : Document → Document) → ((it : Document) → (change it).state ≡ it.state) →
+    (wanted : DocumentState) (place document : ℕ) (xs : List Document) →
+    is_come_to wanted (slice_get (change_at change place xs) document) ≡ is_come_to wanted (slice_get xs document)
 state-kept change same wanted place document [] = refl
 state-kept change same wanted zero zero (x ∷ xs) = ap (has_come_to wanted) (same x)
 state-kept change same wanted zero (suc document) (x ∷ xs) = refl
@@ -26,16 +28,19 @@ state-kept change same wanted (suc place) (suc document) (x ∷ xs) = state-kept
 abbrev into : DocumentState → Document → Document
 into state it = record it { state = state }
 
-dying-one : (wanted : DocumentState) (place document : ℕ) (xs : List Document) → IsTrue (is_come_to wanted (slice_get xs document)) → IsTrue (is_come_to wanted (slice_get (change_at (into Dead) place xs) document))
+dying-one : (wanted : DocumentState) (place document : ℕ) (xs : List Document) → IsTrue (is_come_to wanted (slice_get xs document)) →
+    IsTrue (is_come_to wanted (slice_get (change_at (into Dead) place xs) document))
 dying-one wanted place document [] come = come
 dying-one wanted zero zero (x ∷ xs) come = dead-is-last wanted
 dying-one wanted zero (suc document) (x ∷ xs) come = come
 dying-one wanted (suc place) zero (x ∷ xs) come = come
 dying-one wanted (suc place) (suc document) (x ∷ xs) come = dying-one wanted place document xs come
 
-dying-each : (wanted : DocumentState) (document : ℕ) (places : List ℕ) (xs : List Document) → IsTrue (is_come_to wanted (slice_get xs document)) → IsTrue (is_come_to wanted (slice_get (change_each (into Dead) places xs) document))
+dying-each : (wanted : DocumentState) (document : ℕ) (places : List ℕ) (xs : List Document) → IsTrue (is_come_to wanted (slice_get xs document)) →
+    IsTrue (is_come_to wanted (slice_get (change_each (into Dead) places xs) document))
 dying-each wanted document [] xs come = come
-dying-each wanted document (place ∷ places) xs come = dying-each wanted document places (change_at (into Dead) place xs) (dying-one wanted place document xs come)
+dying-each wanted document (place ∷ places) xs come =
+    dying-each wanted document places (change_at (into Dead) place xs) (dying-one wanted place document xs come)
 
 -- a document that isn't Dead
 abbrev is_alive_state : DocumentState → Bool
@@ -54,14 +59,16 @@ active-follows Dead Fresh alive come = come
 active-follows Dead Active alive come = come
 active-follows Dead Dead alive come = alive
 
-waking-one : (wanted : DocumentState) (place document : ℕ) (xs : List Document) → IsTrue (is_alive (slice_get xs place)) → IsTrue (is_come_to wanted (slice_get xs document)) → IsTrue (is_come_to wanted (slice_get (change_at (into Active) place xs) document))
+waking-one : (wanted : DocumentState) (place document : ℕ) (xs : List Document) → IsTrue (is_alive (slice_get xs place)) →
+    IsTrue (is_come_to wanted (slice_get xs document)) → IsTrue (is_come_to wanted (slice_get (change_at (into Active) place xs) document))
 waking-one wanted place document [] alive come = come
 waking-one wanted zero zero (x ∷ xs) alive come = active-follows wanted (x.state) alive come
 waking-one wanted zero (suc document) (x ∷ xs) alive come = come
 waking-one wanted (suc place) zero (x ∷ xs) alive come = come
 waking-one wanted (suc place) (suc document) (x ∷ xs) alive come = waking-one wanted place document xs alive come
 
-alive-still : (place document : ℕ) (xs : List Document) → IsTrue (is_alive (slice_get xs document)) → IsTrue (is_alive (slice_get (change_at (into Active) place xs) document))
+alive-still : (place document : ℕ) (xs : List Document) → IsTrue (is_alive (slice_get xs document)) →
+    IsTrue (is_alive (slice_get (change_at (into Active) place xs) document))
 alive-still place document [] alive = alive
 alive-still zero zero (x ∷ xs) alive = refl
 alive-still zero (suc document) (x ∷ xs) alive = alive
@@ -75,22 +82,28 @@ all-alive-still : (place : ℕ) (xs : List Document) (places : List ℕ) → All
 all-alive-still place xs [] alive = tt
 all-alive-still place xs (other ∷ places) alive = (alive-still place other xs (alive.0), all-alive-still place xs places (alive.1))
 
-waking-each : (wanted : DocumentState) (document : ℕ) (places : List ℕ) (xs : List Document) → AllAlive xs places → IsTrue (is_come_to wanted (slice_get xs document)) → IsTrue (is_come_to wanted (slice_get (change_each (into Active) places xs) document))
+waking-each : (wanted : DocumentState) (document : ℕ) (places : List ℕ) (xs : List Document) → AllAlive xs places →
+    IsTrue (is_come_to wanted (slice_get xs document)) → IsTrue (is_come_to wanted (slice_get (change_each (into Active) places xs) document))
 waking-each wanted document [] xs alive come = come
 waking-each wanted document (place ∷ places) xs alive come =
-    waking-each wanted document places (change_at (into Active) place xs) (all-alive-still place xs places (alive.1)) (waking-one wanted place document xs (alive.0) come)
+    waking-each wanted document places (change_at (into Active) place xs) (all-alive-still place xs places (alive.1))
+    (waking-one wanted place document xs (alive.0) come)
 
 -- the documents that a state is looked for in have it
 
-all-flat-step : (Holds : ℕ → Type 0) (test : ℕ → Bool) (below : ℕ → List ℕ) (x : ℕ) (rest : List ℕ) (passes : Bool) → (passes ≡ true → AllByRecursion Holds (below x)) → AllByRecursion Holds (flat_map below rest) → AllByRecursion Holds (flat_map below (cond passes (x ∷ rest) rest))
+all-flat-step : (Holds : ℕ → Type 0) (test : ℕ → Bool) (below : ℕ → List ℕ) (x : ℕ) (rest : List ℕ) (passes : Bool) →
+    (passes ≡ true → AllByRecursion Holds (below x)) → AllByRecursion Holds (flat_map below rest) →
+    AllByRecursion Holds (flat_map below (cond passes (x ∷ rest) rest))
 all-flat-step Holds test below x rest true first others = all-append Holds (below x) (flat_map below rest) (first refl) others
 all-flat-step Holds test below x rest false first others = others
 
-all-flat : (Holds : ℕ → Type 0) (test : ℕ → Bool) (below : ℕ → List ℕ) → ((x : ℕ) → test x ≡ true → AllByRecursion Holds (below x)) → (xs : List ℕ) → AllByRecursion Holds (flat_map below (filter test xs))
+all-flat : (Holds : ℕ → Type 0) (test : ℕ → Bool) (below : ℕ → List ℕ) → ((x : ℕ) → test x ≡ true → AllByRecursion Holds (below x)) → (xs : List ℕ) →
+    AllByRecursion Holds (flat_map below (filter test xs))
 all-flat Holds test below each [] = tt
 all-flat Holds test below each (x ∷ xs) = all-flat-step Holds test below x (filter test xs) (test x) (each x) (all-flat Holds test below each xs)
 
-pub led-pass : (deep : ℕ) (test : DocumentState → Bool) (tree : Tree) (documents : List ℕ) → AllByRecursion (λ document. IsTrue (test (document_at tree document).state)) (led_to deep test tree documents)
+pub led-pass : (deep : ℕ) (test : DocumentState → Bool) (tree : Tree) (documents : List ℕ) →
+    AllByRecursion (λ document. IsTrue (test (document_at tree document).state)) (led_to deep test tree documents)
 unfolding led_to
 led-pass zero test tree documents = tt
 led-pass (suc deep) test tree documents =
@@ -110,11 +123,13 @@ fresh-alive-at : (found : Option Document) → IsTrue (is_fresh_state (unwrap_or
 fresh-alive-at None fresh = refl
 fresh-alive-at (Some document) fresh = fresh-alive (document.state) fresh
 
-fresh-all-alive : (tree : Tree) (places : List ℕ) → AllByRecursion (λ document. IsTrue (is_fresh_state (document_at tree document).state)) places → AllAlive (tree.documents) places
+fresh-all-alive : (tree : Tree) (places : List ℕ) → AllByRecursion (λ document. IsTrue (is_fresh_state (document_at tree document).state)) places →
+    AllAlive (tree.documents) places
 fresh-all-alive tree [] fresh = tt
 fresh-all-alive tree (place ∷ places) fresh = (fresh-alive-at (slice_get tree.documents place) (fresh.0), fresh-all-alive tree places (fresh.1))
 
-pub more-documents : (wanted : DocumentState) (xs ys : List Document) (document : ℕ) → IsTrue (is_come_to wanted (slice_get xs document)) → IsTrue (is_come_to wanted (slice_get (xs ++ ys) document))
+pub more-documents : (wanted : DocumentState) (xs ys : List Document) (document : ℕ) → IsTrue (is_come_to wanted (slice_get xs document)) →
+    IsTrue (is_come_to wanted (slice_get (xs ++ ys) document))
 more-documents wanted [] ys document come = absurd (true≢false (sym come))
 more-documents wanted (x ∷ xs) ys zero come = come
 more-documents wanted (x ∷ xs) ys (suc document) come = more-documents wanted xs ys document come
@@ -137,11 +152,14 @@ on one two = record {
 
 pub element-changed : (change : Element → Element) (n : ℕ) (tree : Tree) → IsTreeNext tree (change_element change n tree)
 element-changed change n tree = record {
-  elements = let same : length (change_at change n (tree.elements)) ≡ length tree.elements = (changed (λ (it : Element). ⊤) change (λ it is. is) n (tree.elements)).same in omega arith;
+  elements =
+      let same : length (change_at change n (tree.elements)) ≡ length tree.elements =
+      (changed (λ (it : Element). ⊤) change (λ it is. is) n (tree.elements)).same in omega arith;
   states = λ wanted document come. come;
 }
 
-document-changed : (change : Document → Document) → ((it : Document) → (change it).state ≡ it.state) → (place : ℕ) (tree : Tree) → IsTreeNext tree (change_document change place tree)
+document-changed : (change : Document → Document) → ((it : Document) → (change it).state ≡ it.state) → (place : ℕ) (tree : Tree) →
+    IsTreeNext tree (change_document change place tree)
 document-changed change same place tree = record {
   elements = omega arith;
   states = λ wanted document come. state-kept change same wanted place document (tree.documents) ∙ come;
@@ -161,7 +179,8 @@ unlinked-next tree n (Some (InDocument document)) = document-changed (λ it. rec
 pub removed-next : (tree : Tree) (n : ℕ) → IsTreeNext tree (removed tree n)
 unfolding removed
 removed-next tree n =
-    on (unlinked-next tree n (container_of tree n)) (dying (cond (stands_in_active tree n) (documents_inside is_active_state tree n) []) (unlinked tree n (container_of tree n)))
+    on (unlinked-next tree n (container_of tree n)) (dying (cond (stands_in_active tree n) (documents_inside is_active_state tree n) [])
+    (unlinked tree n (container_of tree n)))
 
 linked-next : (tree : Tree) (container : Container) (n : ℕ) (sibling : Option ℕ) → IsTreeNext tree (linked tree container n sibling)
 linked-next tree (InElement parent) n sibling = on (element-changed _ n tree) (element-changed _ parent _)
@@ -179,7 +198,9 @@ adopted-next tree document n = record {
 
 shown-if : (tree : Tree) (n : ℕ) (stands : Bool) → IsTreeNext tree (with_state Active (cond stands (documents_inside is_fresh_state tree n) []) tree)
 unfolding documents_inside
-shown-if tree n true = waking (documents_inside is_fresh_state tree n) tree (fresh-all-alive tree (documents_inside is_fresh_state tree n) (led-pass frame_levels is_fresh_state tree (frames_in tree n)))
+shown-if tree n true =
+    waking (documents_inside is_fresh_state tree n) tree
+    (fresh-all-alive tree (documents_inside is_fresh_state tree n) (led-pass frame_levels is_fresh_state tree (frames_in tree n)))
 shown-if tree n false = waking [] tree tt
 
 shown-next : (tree : Tree) (n : ℕ) → IsTreeNext tree (shown tree n)
@@ -195,19 +216,24 @@ inserted-next tree container n sibling =
 
 -- names
 
-name-step : (p : Name → Bool) (x : Name) (xs ys : List Name) (passes : Bool) (thing : Thing) → (option_map (λ (named : Name). named.thing) (find p xs) ≡ Some thing → option_map (λ (named : Name). named.thing) (find p (xs ++ ys)) ≡ Some thing) → option_map (λ (named : Name). named.thing) (cond passes (Some x) (find p xs)) ≡ Some thing → option_map (λ (named : Name). named.thing) (cond passes (Some x) (find p (xs ++ ys))) ≡ Some thing
+name-step : (p : Name → Bool) (x : Name) (xs ys : List Name) (passes : Bool) (thing : Thing) →
+    (option_map (λ (named : Name). named.thing) (find p xs) ≡ Some thing → option_map (λ (named : Name). named.thing) (find p (xs ++ ys)) ≡ Some thing) →
+    option_map (λ (named : Name). named.thing) (cond passes (Some x) (find p xs)) ≡ Some thing →
+    option_map (λ (named : Name). named.thing) (cond passes (Some x) (find p (xs ++ ys))) ≡ Some thing
 name-step p x xs ys true thing others is = is
 name-step p x xs ys false thing others is = others is
 
 none-some : {A : Type 0} (found : Option A) (value : A) → None ≡ Some value → found ≡ Some value
 none-some found value is = cc
 
-name-found : (p : Name → Bool) (thing : Thing) (xs ys : List Name) → option_map (λ (named : Name). named.thing) (find p xs) ≡ Some thing → option_map (λ (named : Name). named.thing) (find p (xs ++ ys)) ≡ Some thing
+name-found : (p : Name → Bool) (thing : Thing) (xs ys : List Name) → option_map (λ (named : Name). named.thing) (find p xs) ≡ Some thing →
+    option_map (λ (named : Name). named.thing) (find p (xs ++ ys)) ≡ Some thing
 name-found p thing [] ys is = none-some (option_map (λ (named : Name). named.thing) (find p ys)) thing is
 name-found p thing (x ∷ xs) ys is = name-step p x xs ys (p x) thing (name-found p thing xs ys) is
 
 -- whatever is named stays so where names are added
-pub named-still : (text other : List ℕ) (thing that : Thing) (names : List Name) → named_thing names other ≡ Some that → named_thing (with_name text thing names) other ≡ Some that
+pub named-still : (text other : List ℕ) (thing that : Thing) (names : List Name) → named_thing names other ≡ Some that →
+    named_thing (with_name text thing names) other ≡ Some that
 named-still text other thing that names is = name-found (λ named. bytes_eq named.text other) that names _ is
 
 -- successors
@@ -216,7 +242,8 @@ pub still : (world : World) → IsSuccessor world world
 still world = record { elements = omega arith; states = λ wanted document come. come; names = λ text thing is. is; clock = refl; begun = refl }
 
 -- a world of the same tree, names, clock and count
-pub alike : (world after : World) → after.tree ≡ world.tree → after.names ≡ world.names → after.clock ≡ world.clock → after.begun ≡ world.begun → IsSuccessor world after
+pub alike : (world after : World) → after.tree ≡ world.tree → after.names ≡ world.names → after.clock ≡ world.clock → after.begun ≡ world.begun →
+    IsSuccessor world after
 alike world after tree names clock begun = record {
   elements = subst (λ (it : Tree). length world.tree.elements ≤ length it.elements) (sym tree) (still world).elements;
   states = λ wanted document come. subst (λ (it : Tree). IsTrue (came_to wanted it document)) (sym tree) come;

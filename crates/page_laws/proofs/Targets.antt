@@ -13,7 +13,8 @@ then-same (Did value) rest rest' each = each value
 then-same (Threw exception) rest rest' each = refl
 then-same (Met limit) rest rest' each = refl
 
-step-same : {A B : Type 0} (step step' : Step A) (rest rest' : A → Step B) → step ≡ step' → ((value : A) → rest value ≡ rest' value) → (step >>= rest) ≡ (step' >>= rest')
+step-same : {A B : Type 0} (step step' : Step A) (rest rest' : A → Step B) → step ≡ step' → ((value : A) → rest value ≡ rest' value) →
+    (step >>= rest) ≡ (step' >>= rest')
 step-same step step' rest rest' same each = ap (λ first. first >>= rest) same ∙ then-same step' rest rest' each
 
 behind-same : {A B : Type 0} (step : Step A) (next next' : Step B) → next ≡ next' → (step >> next) ≡ (step >> next')
@@ -44,19 +45,29 @@ module _ (present other : Present) (same : present_target present ≡ present_ta
   same-does handlers world (MakeBlock name document) = refl
   same-does handlers world (MakeImage name document width height) = refl
   same-does handlers world (MakeFrame name document inside) = refl
-  same-does handlers world (Append parent node) = step-same _ _ _ _ (container-same (world.names) parent) (λ container. step-same _ _ _ _ (element-same (world.names) node) (λ value. refl))
-  same-does handlers world (Before parent node sibling) = step-same _ _ _ _ (container-same (world.names) parent) (λ container. step-same _ _ _ _ (element-same (world.names) node) (λ n. step-same _ _ _ _ (element-same (world.names) sibling) (λ value. refl)))
+  same-does handlers world (Append parent node) =
+      step-same _ _ _ _ (container-same (world.names) parent) (λ container. step-same _ _ _ _ (element-same (world.names) node) (λ value. refl))
+  same-does handlers world (Before parent node sibling) =
+      step-same _ _ _ _ (container-same (world.names) parent)
+      (λ container. step-same _ _ _ _ (element-same (world.names) node) (λ n. step-same _ _ _ _ (element-same (world.names) sibling) (λ value. refl)))
   same-does handlers world (Remove node) = step-same _ _ _ _ (element-same (world.names) node) (λ value. refl)
   same-does handlers world (SetStyle node declaration) = step-same _ _ _ _ (element-same (world.names) node) (λ value. refl)
   same-does handlers world (Grow node dimension by) = step-same _ _ _ _ (element-same (world.names) node) (λ value. refl)
   same-does handlers world (Load node width height) = step-same _ _ _ _ (element-same (world.names) node) (λ value. refl)
   same-does handlers world (MakeResizeObserver name document handler) = refl
-  same-does handlers world (ObserveResize observer node observed) = then-same _ _ _ (λ observer_meant. step-same _ _ _ _ (element-same (world.names) node) (λ value. refl))
-  same-does handlers world (UnobserveResize observer node) = then-same _ _ _ (λ observer_meant. step-same _ _ _ _ (element-same (world.names) node) (λ value. refl))
+  same-does handlers world (ObserveResize observer node observed) =
+      then-same _ _ _ (λ observer_meant. step-same _ _ _ _ (element-same (world.names) node) (λ value. refl))
+  same-does handlers world (UnobserveResize observer node) =
+      then-same _ _ _ (λ observer_meant. step-same _ _ _ _ (element-same (world.names) node) (λ value. refl))
   same-does handlers world (DisconnectResize observer) = refl
-  same-does handlers world (MakeIntersectionObserver made) = behind-same (new_name (world.names) (made.name)) _ _ (then-same (document_named (world.names) (made.document)) _ _ (λ owner. then-same (handler_given handlers (made.handler)) _ _ (λ called. step-same _ _ _ _ (root-same (world.names) made.root) (λ value. refl))))
-  same-does handlers world (ObserveIntersection observer node) = then-same _ _ _ (λ observer_meant. step-same _ _ _ _ (element-same (world.names) node) (λ value. refl))
-  same-does handlers world (UnobserveIntersection observer node) = then-same _ _ _ (λ observer_meant. step-same _ _ _ _ (element-same (world.names) node) (λ value. refl))
+  same-does handlers world (MakeIntersectionObserver made) =
+      behind-same (new_name (world.names) (made.name)) _ _
+      (then-same (document_named (world.names) (made.document)) _ _
+      (λ owner. then-same (handler_given handlers (made.handler)) _ _ (λ called. step-same _ _ _ _ (root-same (world.names) made.root) (λ value. refl))))
+  same-does handlers world (ObserveIntersection observer node) =
+      then-same _ _ _ (λ observer_meant. step-same _ _ _ _ (element-same (world.names) node) (λ value. refl))
+  same-does handlers world (UnobserveIntersection observer node) =
+      then-same _ _ _ (λ observer_meant. step-same _ _ _ _ (element-same (world.names) node) (λ value. refl))
   same-does handlers world (DisconnectIntersection observer) = refl
   same-does handlers world (TakeIntersections observer) = refl
   same-does handlers world (Listen aim event handler) = step-same _ _ _ _ (aim-same (world.names) aim) (λ value. refl)
@@ -72,5 +83,6 @@ module _ (present other : Present) (same : present_target present ≡ present_ta
   same-does handlers world (Say word) = refl
   same-does handlers world (Read shown) = step-same _ _ _ _ (container-same (world.names) shown) (λ value. refl)
 
-pub same-target : (handlers : Handlers) (world : World) (present other : Present) (action : Action) → present_target present ≡ present_target other → does handlers world present action ≡ does handlers world other action
+pub same-target : (handlers : Handlers) (world : World) (present other : Present) (action : Action) → present_target present ≡ present_target other →
+    does handlers world present action ≡ does handlers world other action
 same-target handlers world present other action same = same-does present other same handlers world action

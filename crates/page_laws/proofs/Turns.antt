@@ -43,7 +43,8 @@ pub opening-within : IsWithinLimits opening_world
 opening-within = record { resize_observers = omega arith; queries = omega arith }
 
 module _ (script : Script) (world : World) (within : IsWithinLimits world) where
-  pub command-within : (entries : List Present) (command : Command) (present : Present) → IsWithinLimits (run_command script entries command present world).state
+  pub command-within : (entries : List Present) (command : Command) (present : Present) →
+      IsWithinLimits (run_command script entries command present world).state
   command-within entries command present = command-keeps script Within Any (limits-kept script) 0 entries (all-so entries) command present world tt within
 
   pub call-within : (document : ℕ) (handler : Option ℕ) (handed : Entries) → IsWithinLimits (call script document handler handed world).state
@@ -56,7 +57,9 @@ module _ (script : Script) (world : World) (within : IsWithinLimits world) where
   item-within item = item-keeps script Within Any (limits-kept script) 0 timed item world within
 
   -- loops by place
-  pub queries-same : (document most : ℕ) → 4096 ≤ most → media_steps script document world ≡ places_up_to most (λ now. length (now.queries)) (λ now. is_active (now.tree) document) (evaluate script document) world
+  pub queries-same : (document most : ℕ) → 4096 ≤ most →
+      media_steps script document world ≡ places_up_to most (λ now. length (now.queries)) (λ now. is_active (now.tree) document)
+      (evaluate script document) world
   unfolding media_steps
   queries-same document most fits =
       same-places IsWithinLimits (λ now. length (now.queries)) (λ now. is_active (now.tree) document) (evaluate script document) 4096
@@ -64,10 +67,16 @@ module _ (script : Script) (world : World) (within : IsWithinLimits world) where
       (λ query now here. evaluate-keeps script Within Any (limits-kept script) 0 document query now here)
       most world within fits (omega arith)
 
-  pub observers-same : (document most : ℕ) → 4096 ≤ most → broadcast script document world ≡ places_up_to most (λ (so_far : Broadcast). length (so_far.world.resize_observers.made)) (λ so_far. is_active (so_far.world.tree) document) (λ observer so_far. deliver_some script document observer so_far (due_at document observer (so_far.world.resize_observers))) (record { world = world; shallowest = None })
+  pub observers-same : (document most : ℕ) → 4096 ≤ most →
+      broadcast script document world ≡ places_up_to most (λ (so_far : Broadcast). length (so_far.world.resize_observers.made))
+      (λ so_far. is_active (so_far.world.tree) document)
+      (λ observer so_far. deliver_some script document observer so_far (due_at document observer (so_far.world.resize_observers)))
+      (record { world = world; shallowest = None })
   unfolding broadcast
   observers-same document most fits =
-      same-places (λ (so_far : Broadcast). IsWithinLimits so_far.world) (λ so_far. length (so_far.world.resize_observers.made)) (λ so_far. is_active (so_far.world.tree) document) (λ observer so_far. deliver_some script document observer so_far (due_at document observer (so_far.world.resize_observers))) 4096
+      same-places (λ (so_far : Broadcast). IsWithinLimits so_far.world) (λ so_far. length (so_far.world.resize_observers.made))
+      (λ so_far. is_active (so_far.world.tree) document)
+      (λ observer so_far. deliver_some script document observer so_far (due_at document observer (so_far.world.resize_observers))) 4096
       (λ so_far here. here.resize_observers)
       (λ observer so_far here. due-keeps script Within Any (limits-kept script) 0 document observer so_far here)
       most (record { world = world; shallowest = None }) within fits (omega arith)

@@ -15,7 +15,8 @@ use Rattle.page_laws.proofs.Steps.{on_did-map}
 use Rattle.page_laws.proofs.Keeping.{IsKept, for_each-keeps, answered-keeps, once_begun-keeps, command-keeps, caught-keeps, tick-keeps}
 
 -- a time that isn't before the clock is set
-pub time-kept : (P : World → Type 0) (world : World) (time : ℕ) → (nat_lt time world.clock ≡ false → P (record world { clock = time })) → OnDid (time_set time world) P
+pub time-kept : (P : World → Type 0) (world : World) (time : ℕ) → (nat_lt time world.clock ≡ false → P (record world { clock = time })) →
+    OnDid (time_set time world) P
 unfolding OnDid
 time-kept P world time there = by_order (nat_lt time world.clock) refl
   where
@@ -23,7 +24,8 @@ time-kept P world time there = by_order (nat_lt time world.clock) refl
     by_order true is = tt
     by_order false is = there is
 
-module _ (script : Script) (P : ℕ → World → Type 0) (In : ℕ → Present → Type 0) (kept : IsKept script P In) (k : ℕ) (timed : (time : ℕ) (world : World) → P k world → nat_lt time world.clock ≡ false → P k (record world { clock = time })) where
+module _ (script : Script) (P : ℕ → World → Type 0) (In : ℕ → Present → Type 0) (kept : IsKept script P In) (k : ℕ)
+    (timed : (time : ℕ) (world : World) → P k world → nat_lt time world.clock ≡ false → P k (record world { clock = time })) where
   pub run_tick-keeps : (line time : ℕ) (world : World) → P k world → P k (run_tick script line time world).state
   run_tick-keeps line time world here =
       once_begun-keeps script P In kept k line world _ here λ begun held.
@@ -33,10 +35,14 @@ module _ (script : Script) (P : ℕ → World → Type 0) (In : ℕ → Present 
   pub item-keeps : (item : Item) (world : World) → P k world → P k (run_item script item world).state
   unfolding run_item
   item-keeps (Outside command) world here =
-      caught-keeps script P In kept k (run_command script [] command NoEntry world) (command-keeps script P In kept k [] tt command NoEntry world (kept.none k) here)
+      caught-keeps script P In kept k (run_command script [] command NoEntry world)
+      (command-keeps script P In kept k [] tt command NoEntry world (kept.none k) here)
   item-keeps (Tick line time) world here = caught-keeps script P In kept k (run_tick script line time world) (run_tick-keeps line time world here)
   item-keeps (Handler line name block end_line) world here = here
 
-pub items-keep : (items : List Item) (P : ℕ → World → Type 0) (In : ℕ → Present → Type 0) (kept : IsKept (handlers_in items) P In) (k : ℕ) → ((time : ℕ) (world : World) → P k world → nat_lt time world.clock ≡ false → P k (record world { clock = time })) → (world : World) → P k world → P k (run_items items world).state
+pub items-keep : (items : List Item) (P : ℕ → World → Type 0) (In : ℕ → Present → Type 0) (kept : IsKept (handlers_in items) P In) (k : ℕ) →
+    ((time : ℕ) (world : World) → P k world → nat_lt time world.clock ≡ false → P k (record world { clock = time })) → (world : World) → P k world →
+    P k (run_items items world).state
 unfolding run_items
-items-keep items P In kept k timed world here = for_each-keeps (P k) (run_item (handlers_in items)) items (item-keeps (handlers_in items) P In kept k timed) world here
+items-keep items P In kept k timed world here =
+    for_each-keeps (P k) (run_item (handlers_in items)) items (item-keeps (handlers_in items) P In kept k timed) world here

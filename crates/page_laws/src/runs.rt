@@ -23,8 +23,10 @@ ghost use Rattle.page_model.specs.Outcome.{opening_world, run_item, run_items, r
 /// Nothing in a run takes back what was before: not a command with its block, not a callback, not a tick, and not the
 /// items of a script. A throw and a limit leave a later world too.
 pub fn runs_take_nothing_back()
-    ensures commands { (script : Script) (entries : List Present) (command : Command) (present : Present) (world : World) → IsLater world (run_command script entries command present world).state }
-    ensures callbacks { (script : Script) (document : ℕ) (handler : Option ℕ) (handed : Entries) (world : World) → IsLater world (call script document handler handed world).state }
+    ensures commands { (script : Script) (entries : List Present) (command : Command) (present : Present) (world : World) →
+        IsLater world (run_command script entries command present world).state }
+    ensures callbacks { (script : Script) (document : ℕ) (handler : Option ℕ) (handed : Entries) (world : World) →
+        IsLater world (call script document handler handed world).state }
     ensures ticks { (script : Script) (line time : ℕ) (world : World) → IsLater world (run_tick script line time world).state }
     ensures scripts { (items : List Item) (world : World) → IsLater world (run_items items world).state }
 {}
@@ -32,7 +34,8 @@ pub fn runs_take_nothing_back()
 /// The clock stands at a tick's time until the tick has ended, and a time before it is refused.
 pub fn the_clock_stands_in_a_tick()
     ensures stands { (script : Script) (world : World) → (tick script world).state.clock ≡ world.clock }
-    ensures refused { (script : Script) (line time : ℕ) (world : World) → world.begun < 1000000 → time < world.clock → run_tick script line time world ≡ record { lines = ThrowLine line RangeError ∷ []; flow = Thrown; state = record world { begun = suc world.begun } } }
+    ensures refused { (script : Script) (line time : ℕ) (world : World) → world.begun < 1000000 → time < world.clock →
+        run_tick script line time world ≡ record { lines = ThrowLine line RangeError ∷ []; flow = Thrown; state = record world { begun = suc world.begun } } }
 {}
 
 /// Each number in a world is that of something over whole runs too, so no lookup ever comes to a default. A script opens in a
@@ -40,10 +43,14 @@ pub fn the_clock_stands_in_a_tick()
 /// entries that are handed in are of elements that there are and the handlers are those of the script.
 pub fn runs_stay_in_range()
     ensures opening { (handlers : ℕ) → IsInRange handlers opening_world }
-    ensures commands { (script : Script) (world : World) → IsInRange (length script) world → (entries : List Present) (command : Command) (present : Present) → AllByRecursion (IsPresentIn world) entries → IsPresentIn world present → IsInRange (length script) (run_command script entries command present world).state }
-    ensures callbacks { (script : Script) (world : World) → IsInRange (length script) world → (document : ℕ) (handler : Option ℕ) (handed : Entries) → AllByRecursion (IsPresentIn world) (presents handed) → IsInRange (length script) (call script document handler handed world).state }
+    ensures commands { (script : Script) (world : World) → IsInRange (length script) world →
+        (entries : List Present) (command : Command) (present : Present) → AllByRecursion (IsPresentIn world) entries → IsPresentIn world present →
+        IsInRange (length script) (run_command script entries command present world).state }
+    ensures callbacks { (script : Script) (world : World) → IsInRange (length script) world → (document : ℕ) (handler : Option ℕ) (handed : Entries) →
+        AllByRecursion (IsPresentIn world) (presents handed) → IsInRange (length script) (call script document handler handed world).state }
     ensures ticks { (script : Script) (world : World) → IsInRange (length script) world → IsInRange (length script) (tick script world).state }
-    ensures items { (script : Script) (item : Item) (world : World) → IsInRange (length script) world → IsInRange (length script) (run_item script item world).state }
+    ensures items { (script : Script) (item : Item) (world : World) → IsInRange (length script) world →
+        IsInRange (length script) (run_item script item world).state }
     ensures scripts { (items : List Item) → IsInRange (length (handlers_in items)) (run_items items opening_world).state }
 {}
 
@@ -58,11 +65,19 @@ pub fn ticks_of_a_quiet_page_say_nothing_more()
 /// are kept over whole runs.
 pub fn turns_by_place_are_never_cut_off()
     ensures opening { IsWithinLimits opening_world }
-    ensures commands { (script : Script) (world : World) → IsWithinLimits world → (entries : List Present) (command : Command) (present : Present) → IsWithinLimits (run_command script entries command present world).state }
-    ensures callbacks { (script : Script) (world : World) → IsWithinLimits world → (document : ℕ) (handler : Option ℕ) (handed : Entries) → IsWithinLimits (call script document handler handed world).state }
+    ensures commands { (script : Script) (world : World) → IsWithinLimits world → (entries : List Present) (command : Command) (present : Present) →
+        IsWithinLimits (run_command script entries command present world).state }
+    ensures callbacks { (script : Script) (world : World) → IsWithinLimits world → (document : ℕ) (handler : Option ℕ) (handed : Entries) →
+        IsWithinLimits (call script document handler handed world).state }
     ensures ticks { (script : Script) (world : World) → IsWithinLimits world → IsWithinLimits (tick script world).state }
     ensures items { (script : Script) (world : World) → IsWithinLimits world → (item : Item) → IsWithinLimits (run_item script item world).state }
     ensures scripts { (items : List Item) → IsWithinLimits (run_items items opening_world).state }
-    ensures query_lists { (script : Script) (world : World) → IsWithinLimits world → (document most : ℕ) → 4096 ≤ most → media_steps script document world ≡ places_up_to most (λ now. length (now.queries)) (λ now. is_active (now.tree) document) (evaluate script document) world }
-    ensures observers { (script : Script) (world : World) → IsWithinLimits world → (document most : ℕ) → 4096 ≤ most → broadcast script document world ≡ places_up_to most (λ (so_far : Broadcast). length (so_far.world.resize_observers.made)) (λ so_far. is_active (so_far.world.tree) document) (λ observer so_far. deliver_some script document observer so_far (due_at document observer (so_far.world.resize_observers))) (record { world = world; shallowest = None }) }
+    ensures query_lists { (script : Script) (world : World) → IsWithinLimits world → (document most : ℕ) → 4096 ≤ most →
+        media_steps script document world ≡ places_up_to most (λ now. length (now.queries)) (λ now. is_active (now.tree) document)
+        (evaluate script document) world }
+    ensures observers { (script : Script) (world : World) → IsWithinLimits world → (document most : ℕ) → 4096 ≤ most →
+        broadcast script document world ≡ places_up_to most (λ (so_far : Broadcast). length (so_far.world.resize_observers.made))
+        (λ so_far. is_active (so_far.world.tree) document)
+        (λ observer so_far. deliver_some script document observer so_far (due_at document observer (so_far.world.resize_observers)))
+        (record { world = world; shallowest = None }) }
 {}
