@@ -3,11 +3,10 @@ use Rattle.std.proofs.Common.{◌≡◌, ℕ, Bool, true, false, cond, List, [],
 use Rattle.std.proofs.lemmas.Bool.{false≢true}
 use Rattle.std.specs.Prelude.{◌||◌, Result, Ok, Err, OnOk, OnErr}
 use Rattle.std.specs.List.{list_any, AllByRecursion, IsDistinct}
-use Rattle.page_model.specs.World.{Extent, ScrollTarget, ScrolledElement, ScrolledDocument}
-use Rattle.page_model.specs.Lookups.{no_extent}
-use Rattle.page_model.specs.Scrolling.{is_same_scroll}
-use Rattle.scrolling.specs.Places.{put_at}
-use Rattle.scrolling.specs.Scrolls.{ScrollLists, HasNoDoubles, IsStored, IsHeld, pending_of, with_position, with_pending, without_pending}
+use Rattle.page_model.specs.World.{Extent, ScrollTarget, ScrolledElement, ScrolledDocument, Scrolls}
+use Rattle.page_model.specs.Lookups.{no_extent, put_at}
+use Rattle.page_model.specs.Scrolls.{is_same_scroll, pending_of, with_position, with_pending, without_pending}
+use Rattle.scrolling.specs.Held.{HasNoDoubles, IsStored, IsHeld}
 use Rattle.scrolling.proofs.Puts.{put_there, put_grows}
 use Rattle.scrolling.proofs.Lists.{all-map, all-add, all-change, all-entry, all-put, distinct-add}
 
@@ -30,17 +29,17 @@ all-listed P target list true is all = all
 all-listed P target list false is all = all-add P list target all is
 
 -- places that are there stay, and the target's is there then
-stored-more : (it : ScrollLists) (target : ScrollTarget) (position : Extent) (each : ScrollTarget) → IsStored it each → IsStored (with_position target position it) each
+stored-more : (it : Scrolls) (target : ScrollTarget) (position : Extent) (each : ScrollTarget) → IsStored it each → IsStored (with_position target position it) each
 stored-more it (ScrolledElement n) position (ScrolledElement m) is = let more = put_grows no_extent position n (it.elements) in omega (arith, is, more)
 stored-more it (ScrolledElement n) position (ScrolledDocument m) is = is
 stored-more it (ScrolledDocument n) position (ScrolledElement m) is = is
 stored-more it (ScrolledDocument n) position (ScrolledDocument m) is = let more = put_grows no_extent position n (it.documents) in omega (arith, is, more)
 
-stored-now : (it : ScrollLists) (target : ScrollTarget) (position : Extent) → IsStored (with_position target position it) target
+stored-now : (it : Scrolls) (target : ScrollTarget) (position : Extent) → IsStored (with_position target position it) target
 stored-now it (ScrolledElement n) position = put_there no_extent position n (it.elements)
 stored-now it (ScrolledDocument n) position = put_there no_extent position n (it.documents)
 
-listed-held : (it : ScrollLists) (document : ℕ) (target : ScrollTarget) → IsHeld it → IsStored it target → IsHeld (with_pending document target it)
+listed-held : (it : Scrolls) (document : ℕ) (target : ScrollTarget) → IsHeld it → IsStored it target → IsHeld (with_pending document target it)
 listed-held it document target held is =
     let already = list_any (is_same_scroll target) (pending_of document it) in
     record {
@@ -48,7 +47,7 @@ listed-held it document target held is =
       stored = all-put (AllByRecursion (IsStored it)) [] tt _ (all-listed (IsStored it) target (pending_of document it) already is (all-entry (AllByRecursion (IsStored it)) [] tt document (it.pending) held.stored)) document (it.pending) held.stored;
     }
 
-stored-held : (it : ScrollLists) (target : ScrollTarget) (position : Extent) → IsHeld it → IsHeld (with_position target position it)
+stored-held : (it : Scrolls) (target : ScrollTarget) (position : Extent) → IsHeld it → IsHeld (with_position target position it)
 stored-held it (ScrolledElement n) position held = record {
   distinct = held.distinct;
   stored = all-map _ _ (λ list all. all-map _ _ (stored-more it (ScrolledElement n) position) list all) (it.pending) held.stored;
@@ -58,11 +57,11 @@ stored-held it (ScrolledDocument n) position held = record {
   stored = all-map _ _ (λ list all. all-map _ _ (stored-more it (ScrolledDocument n) position) list all) (it.pending) held.stored;
 }
 
-pub moved-held : (it : ScrollLists) (document : ℕ) (target : ScrollTarget) (position : Extent) → IsHeld it → IsHeld (with_pending document target (with_position target position it))
+pub moved-held : (it : Scrolls) (document : ℕ) (target : ScrollTarget) (position : Extent) → IsHeld it → IsHeld (with_pending document target (with_position target position it))
 moved-held it document target position held = listed-held (with_position target position it) document target (stored-held it target position held) (stored-now it target position)
 
 -- the lists after a move that may be refused
-module _ {T E : Type 0} (it : ScrollLists) (document n : ℕ) (position : Extent) (after : List Extent) (pending : List (List ScrollTarget)) where
+module _ {T E : Type 0} (it : Scrolls) (document n : ℕ) (position : Extent) (after : List Extent) (pending : List (List ScrollTarget)) where
   pub element-moved : (result : Result T E) → OnOk result (after ≡ put_at no_extent n position (it.elements)) → OnErr result (after ≡ it.elements) → OnOk result (pending ≡ (with_pending document (ScrolledElement n) it).pending) → OnErr result (pending ≡ it.pending) → IsHeld it → IsHeld (record it { elements = after; pending = pending })
   element-moved (Ok done) stored same listed same_pending held =
       subst (λ (elements : List Extent). IsHeld (record it { elements = elements; pending = pending })) (sym stored)
@@ -81,13 +80,13 @@ module _ {T E : Type 0} (it : ScrollLists) (document n : ℕ) (position : Extent
       subst (λ (documents : List Extent). IsHeld (record it { documents = documents; pending = pending })) (sym same)
       (subst (λ (lists : List (List ScrollTarget)). IsHeld (record it { pending = lists })) (sym same_pending) held)
 
-pub taken-held : (it : ScrollLists) (document : ℕ) → IsHeld it → IsHeld (without_pending document it)
+pub taken-held : (it : Scrolls) (document : ℕ) → IsHeld it → IsHeld (without_pending document it)
 taken-held it document held = record {
   distinct = all-change HasNoDoubles (λ list. []) (λ list. no_doubles) document (it.pending) held.distinct;
   stored = all-change (AllByRecursion (IsStored it)) (λ list. []) (λ list. tt) document (it.pending) held.stored;
 }
 
-pub pending-distinct : (it : ScrollLists) (document : ℕ) → IsHeld it → HasNoDoubles (pending_of document it)
+pub pending-distinct : (it : Scrolls) (document : ℕ) → IsHeld it → HasNoDoubles (pending_of document it)
 pending-distinct it document held = all-entry HasNoDoubles [] no_doubles document (it.pending) held.distinct
 
 among-if : (P : ScrollTarget → Type 0) (first more : Bool) (target each : ScrollTarget) → (first ≡ true → P each → P target) → (more ≡ true → P target) → P each → (first || more) ≡ true → P target
@@ -98,13 +97,13 @@ among : (P : ScrollTarget → Type 0) (target : ScrollTarget) → ((each : Scrol
 among P target same [] all any = absurd (false≢true any)
 among P target same (x ∷ xs) all any = among-if P (is_same_scroll target x) (list_any (is_same_scroll target) xs) target x (same x) (among P target same xs (all.1)) (all.0) any
 
-same_place : (it : ScrollLists) (target each : ScrollTarget) → is_same_scroll target each ≡ true → IsStored it each → IsStored it target
+same_place : (it : Scrolls) (target each : ScrollTarget) → is_same_scroll target each ≡ true → IsStored it each → IsStored it target
 same_place it (ScrolledElement a) (ScrolledElement b) same is = grind (arith, same, is)
 same_place it (ScrolledDocument a) (ScrolledDocument b) same is = grind (arith, same, is)
 same_place it (ScrolledElement a) (ScrolledDocument b) same is = absurd (false≢true same)
 same_place it (ScrolledDocument a) (ScrolledElement b) same is = absurd (false≢true same)
 
 -- the position of a target that is pending is stored
-pub pending-stored : (it : ScrollLists) (document : ℕ) (target : ScrollTarget) → IsHeld it → list_any (is_same_scroll target) (pending_of document it) ≡ true → IsStored it target
+pub pending-stored : (it : Scrolls) (document : ℕ) (target : ScrollTarget) → IsHeld it → list_any (is_same_scroll target) (pending_of document it) ≡ true → IsStored it target
 pending-stored it document target held is =
     among (IsStored it) target (same_place it target) (pending_of document it) (all-entry (AllByRecursion (IsStored it)) [] tt document (it.pending) held.stored) is

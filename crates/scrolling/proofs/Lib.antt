@@ -3,5 +3,3 @@ pub mod Lists
 pub mod Listing
 pub mod Keeping
 pub mod Offsets
-pub mod Placed
-pub mod Fitting

@@ -6,11 +6,10 @@ use Rattle.std.specs.Prelude.{map}
 use Rattle.std.specs.Global.{Vec}
 use Rattle.std.specs.List.{list_any}
 use Rattle.page_model.specs.World.{ScrollTarget as ModelTarget}
-use Rattle.page_model.specs.Lookups.{change_at}
-use Rattle.page_model.specs.Scrolling.{is_same_scroll, with_listed}
+use Rattle.page_model.specs.Lookups.{change_at, entry_or, put_at}
+use Rattle.page_model.specs.Scrolls.{is_same_scroll, with_listed}
 use Rattle.scrolling.specs.declared.target.ScrollTarget.{ScrollTarget}
 use Rattle.scrolling.specs.Pending.{seen_lists}
-use Rattle.scrolling.specs.Places.{entry_or, put_at}
 use Rattle.scrolling.specs.Seen.{seen_target, seen_targets}
 use Rattle.scrolling.proofs.Lists.{any-map}
 use Rattle.scrolling.proofs.Puts.{put_behind}

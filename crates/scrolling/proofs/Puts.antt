@@ -1,7 +1,7 @@
 -- Entries put at a number of a list that has a default past its end.
 use Rattle.std.proofs.Common.{◌≡◌, ℕ, zero, suc, ◌<◌, ◌≤◌, ◌+◌, ◌∙◌, List, [], ◌∷◌, ◌++◌, length, set, replicate, refl, ap, arith}
 use Rattle.std.specs.Prelude.{map}
-use Rattle.scrolling.specs.Places.{entry_or, put_at}
+use Rattle.page_model.specs.Lookups.{entry_or, put_at}
 
 put_only : {A : Type 0} (d v : A) (n : ℕ) → replicate n d ++ v ∷ [] ≡ put_at d n v []
 put_only d v zero = refl

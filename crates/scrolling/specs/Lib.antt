@@ -1,7 +1,5 @@
 pub mod Pending
-pub mod Places
 pub mod Positions
 pub mod Ranges
-pub mod Scrolls
+pub mod Held
 pub mod Seen
-pub mod Worlds

@@ -3,7 +3,7 @@ use Rattle.std.specs.Prelude.{Bool, true, false, pos, List, map, unsigned_abs}
 use Rattle.px_units.specs.declared.Point.{Point}
 use Rattle.px_units.specs.declared.Size.{Size}
 use Rattle.page_model.specs.World.{Extent, ScrollTarget as ModelTarget, ScrolledElement, ScrolledDocument}
-use Rattle.page_model.specs.Scrolling.{within_range}
+use Rattle.page_model.specs.Scrolls.{within_range}
 use Rattle.scrolling.specs.declared.target.ScrollTarget.{ScrollTarget}
 use Rattle.scrolling.specs.declared.target.ScrollTarget.TheVariants.{Node, Document}
 use Rattle.scrolling.specs.declared.target.Outcome.{Outcome}

@@ -10,8 +10,6 @@ mod target;
 #[cfg(test)]
 mod tests;
 
-pub use laws::{
-    a_scroll_comes_to_its_position, scrolls_are_those_of_any_world, what_is_made_is_not_scrolled,
-};
+pub use laws::a_scroll_comes_to_its_position;
 pub use scrolls::Scrolls;
 pub use target::{Outcome, ScrollTarget};

@@ -2,10 +2,9 @@
 
 ghost use Rattle.std.specs.Prelude.{◌≡◌, ◌≤◌, true, [], ◌++◌, ◌-◌, replicate, vec_len, vec_capacity, OnOk, OnErr, IsOk};
 ghost use Rattle.std.specs.List.{list_any};
-ghost use Rattle.page_model.specs.Lookups.{change_at};
-ghost use Rattle.page_model.specs.Scrolling.{is_same_scroll, with_listed};
+ghost use Rattle.page_model.specs.Lookups.{change_at, entry_or, put_at};
+ghost use Rattle.page_model.specs.Scrolls.{is_same_scroll, with_listed};
 ghost use Rattle.scrolling.specs.Pending.{seen_lists};
-ghost use Rattle.scrolling.specs.Places.{entry_or, put_at};
 ghost use Rattle.scrolling.specs.Seen.{seen_target, seen_targets};
 
 use crate::ScrollTarget;

@@ -3,13 +3,12 @@
 ghost use Rattle.std.specs.Prelude.{◌≡◌, ◌<◌, ◌≤◌, true, [], map, min, unsigned_abs, vec_len, IfOk, OnOk, OnErr, IsOk};
 ghost use Rattle.std.specs.List.{list_any};
 ghost use Rattle.page_model.specs.Edits.{kept_within};
-ghost use Rattle.page_model.specs.Lookups.{no_extent};
-ghost use Rattle.page_model.specs.Scrolling.{is_same_scroll, with_listed};
+ghost use Rattle.page_model.specs.Lookups.{no_extent, entry_or, put_at};
+ghost use Rattle.page_model.specs.Scrolls.{is_same_scroll, with_listed, position_of, pending_of, offset_of, with_position, with_pending, without_pending, stays, scrolled};
 ghost use Rattle.scrolling.specs.Pending.{seen_lists};
-ghost use Rattle.scrolling.specs.Places.{entry_or, put_at};
 ghost use Rattle.scrolling.specs.Positions.{seen_position};
 ghost use Rattle.scrolling.specs.Ranges.{IsLength, IsRange};
-ghost use Rattle.scrolling.specs.Scrolls.{unscrolled, position_of, pending_of, offset_of, is_pending, HasNoDoubles, with_position, with_pending, without_pending, stays, scrolled};
+ghost use Rattle.scrolling.specs.Held.{unscrolled, is_pending, HasNoDoubles};
 ghost use Rattle.scrolling.specs.Seen.{seen_size, seen_target, seen_targets, point_of, kept_in, outcome_of};
 
 use crate::pending::{add_pending, take_list};
@@ -35,9 +34,10 @@ impl Model for Scrolls {
     ghost use Rattle.std.specs.Prelude.{map};
     ghost use Rattle.scrolling.specs.Pending.{seen_lists};
     ghost use Rattle.scrolling.specs.Positions.{seen_position};
-    ghost use Rattle.scrolling.specs.Scrolls.{ScrollLists, IsHeld};
+    ghost use Rattle.scrolling.specs.Held.{IsHeld};
+    ghost use Rattle.page_model.specs.World.{Scrolls as ModelScrolls};
 
-    ghost Value = { ScrollLists };
+    ghost Value = { ModelScrolls };
 
     ghost view = { λ o. record { elements = map seen_position o.elements.items; documents = map seen_position o.documents.items; pending = seen_lists o.pending.items } };
 

@@ -1,7 +1,7 @@
 //! What is scrolled, and what comes of it.
 
 ghost use Rattle.std.specs.Prelude.{◌≡◌};
-ghost use Rattle.page_model.specs.Scrolling.{is_same_scroll};
+ghost use Rattle.page_model.specs.Scrolls.{is_same_scroll};
 ghost use Rattle.scrolling.specs.Seen.{seen_target};
 
 use element_tree::NodeId;

@@ -3,7 +3,7 @@ use Rattle.std.proofs.lemmas.Bool.{false≢true}
 use Rattle.std.proofs.lemmas.Result.{on_ok_weaker, on_err_weaker}
 use Rattle.std.specs.Prelude.{vec_len}
 use Rattle.std.specs.List.{list_any}
-use Rattle.page_model.specs.Scrolling.{is_same_scroll}
+use Rattle.page_model.specs.Scrolls.{is_same_scroll}
 use Rattle.scrolling.specs.declared.target.ScrollTarget.{ScrollTarget}
 use Rattle.scrolling.specs.Pending.{seen_lists}
 use Rattle.scrolling.specs.Seen.{seen_target}

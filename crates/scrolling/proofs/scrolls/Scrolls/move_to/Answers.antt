@@ -2,7 +2,7 @@ use Rattle.std.proofs.Common.{◌∙◌, ap, sym, arith}
 use Rattle.std.proofs.lemmas.List.{length-map}
 use Rattle.page_model.specs.World.{ScrolledElement, ScrolledDocument}
 use Rattle.scrolling.specs.Positions.{seen_position}
-use Rattle.scrolling.specs.Scrolls.{is_pending}
+use Rattle.scrolling.specs.Held.{is_pending}
 use Rattle.scrolling.specs.Seen.{seen_target}
 use Rattle.scrolling.proofs.Keeping.{element-moved, document-moved, pending-stored}
 use Rattle.scrolling.proofs.scrolls.Scrolls.move_to.Goals as goal

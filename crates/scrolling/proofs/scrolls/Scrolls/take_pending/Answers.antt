@@ -2,7 +2,7 @@ use Rattle.std.proofs.Common.{List, sym, subst}
 use Rattle.std.specs.Prelude.{map}
 use Rattle.page_model.specs.World.{ScrollTarget}
 use Rattle.scrolling.specs.Positions.{seen_position}
-use Rattle.scrolling.specs.Scrolls.{HasNoDoubles, IsHeld}
+use Rattle.scrolling.specs.Held.{HasNoDoubles, IsHeld}
 use Rattle.scrolling.proofs.Keeping.{taken-held, pending-distinct}
 use Rattle.scrolling.proofs.scrolls.Scrolls.take_pending.Goals as goal
 
