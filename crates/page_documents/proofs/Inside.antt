@@ -38,3 +38,9 @@ shown_there tree n stands = sym (ap (λ b. change_each (λ (it : Document). reco
 pub not_shown : (tree : Tree) (n : ℕ) → stands_in_active tree n ≡ false → tree.documents ≡ (shown tree n).documents
 unfolding shown
 not_shown tree n stands = sym (ap (λ b. change_each (λ (it : Document). record it { state = Active }) (cond b (documents_inside is_fresh_state tree n) []) tree.documents) stands)
+
+-- showing changes documents alone
+pub shown_by_documents : (tree before : Tree) (documents : List Document) (n : ℕ) → documents ≡ (shown tree n).documents → tree ≡ before → (let it : Tree = record tree { documents = documents } in it) ≡ shown before n
+unfolding shown
+shown_by_documents tree before documents n is same =
+    ap (λ documents. let it : Tree = record tree { documents = documents } in it) is ∙ ap (λ tree. shown tree n) same

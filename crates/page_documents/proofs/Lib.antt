@@ -6,3 +6,4 @@ pub mod Held
 pub mod Inside
 pub mod Roots
 pub mod Adopting
+pub mod Parts

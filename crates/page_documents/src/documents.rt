@@ -6,7 +6,7 @@ ghost use Rattle.element_tree.specs.Links.{number};
 ghost use Rattle.page_model.specs.World.{Active, Dead};
 ghost use Rattle.page_model.specs.Lookups.{change_at, change_each, entry_or, no_document};
 ghost use Rattle.page_model.specs.Edits.{new_document};
-ghost use Rattle.page_model.specs.Documents.{is_active_state, documents_inside, active_documents, adopted, is_active, tree_document};
+ghost use Rattle.page_model.specs.Documents.{is_active_state, documents_inside, active_documents, adopted, shown, is_active, tree_document};
 ghost use Rattle.page_documents.specs.States.{seen_state, is_in, put_in};
 ghost use Rattle.page_documents.specs.Seen.{seen_tree};
 ghost use Rattle.page_documents.specs.Held.{has_room, changing, ending, opening};
@@ -149,7 +149,7 @@ impl Documents {
     pub fn entered<P: Owned>(&mut self, tree: &mut Tree<P>, node: NodeId, document: u32)
         requires { node.0 < length tree.old.nodes }
         ensures adopted { tree.new ≡ adopted_in P.carried P.adopted document node.0 tree.old }
-        ensures seen { seen_tree P.carried tree.new self.old.held ≡ adopted (seen_tree P.carried tree.old self.old.held) document node.0 }
+        ensures inserted { seen_tree P.carried tree.new self.new.held ≡ shown (adopted (seen_tree P.carried tree.old self.old.held) document node.0) node.0 }
         ensures shown { self.new ≡ opening (seen_tree P.carried tree.new self.old.held) node.0 self.old }
     {
         adopt(tree, node, document);

@@ -9,6 +9,8 @@ mod fault;
 mod finding;
 mod found;
 mod owned;
+#[cfg(test)]
+mod tests;
 
 pub use documents::Documents;
 pub use entry::DocumentState;
