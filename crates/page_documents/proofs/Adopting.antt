@@ -16,7 +16,7 @@ pub change_append : {A : Type 0} (f : A → A) (xs ys : List ℕ) (held : List A
 change_append f [] ys held = refl
 change_append f (x ∷ xs) ys held = change_append f xs ys (change_at f x held)
 
-change_length : {A : Type 0} (f : A → A) (place : ℕ) (held : List A) → length (change_at f place held) ≡ length held
+pub change_length : {A : Type 0} (f : A → A) (place : ℕ) (held : List A) → length (change_at f place held) ≡ length held
 change_length f place [] = refl
 change_length f zero (x ∷ xs) = refl
 change_length f (suc place) (x ∷ xs) = ap suc (change_length f place xs)

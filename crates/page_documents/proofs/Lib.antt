@@ -7,3 +7,4 @@ pub mod Inside
 pub mod Roots
 pub mod Adopting
 pub mod Parts
+pub mod Owners

@@ -6,12 +6,13 @@ ghost use Rattle.element_tree.specs.Links.{number};
 ghost use Rattle.page_model.specs.World.{Active, Dead};
 ghost use Rattle.page_model.specs.Lookups.{change_at, change_each, entry_or, no_document};
 ghost use Rattle.page_model.specs.Edits.{new_document};
-ghost use Rattle.page_model.specs.Documents.{is_active_state, documents_inside, active_documents, adopted, shown, is_active, tree_document};
+ghost use Rattle.page_model.specs.Documents.{is_active_state, documents_inside, active_documents, adopted, shown, first_of_list, is_active, tree_document};
 ghost use Rattle.page_documents.specs.States.{seen_state, is_in, put_in};
 ghost use Rattle.page_documents.specs.Seen.{seen_tree};
 ghost use Rattle.page_documents.specs.Held.{has_room, changing, ending, opening};
 ghost use Rattle.page_documents.specs.Walks.{marked_in};
 ghost use Rattle.page_documents.specs.Paths.{holder_of, way_down, path_to};
+ghost use Rattle.page_documents.specs.Frames.{AreFramed};
 ghost use Rattle.page_documents.specs.Adoption.{adopted_in};
 
 use crate::adoption::{adopt, stands_in_active, tree_document};
@@ -181,7 +182,9 @@ impl Documents {
     /// The documents from `top` to this one, each the one that holds the frame of the next. It takes no memory.
     pub fn path<P: Owned>(&self, tree: &Tree<P>, document: u32) -> SmallVec<u32, 64>
         requires { document < length self.now.held }
-        ensures { result.items ≡ path_to (seen_tree P.carried tree.now self.now.held) document }
+        ensures path { result.items ≡ path_to (seen_tree P.carried tree.now self.now.held) document }
+        ensures top { AreFramed (seen_tree P.carried tree.now self.now.held) → is_active (seen_tree P.carried tree.now self.now.held) document ≡ true →
+            first_of_list result.items ≡ Some 0 }
     {
         let mut path = SmallVec::new(*self.held.allocator());
         self.climb(tree, document, self.count(), &mut path);

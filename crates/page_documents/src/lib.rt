@@ -8,6 +8,7 @@ mod entry;
 mod fault;
 mod finding;
 mod found;
+mod laws;
 mod owned;
 #[cfg(test)]
 mod tests;
@@ -15,4 +16,5 @@ mod tests;
 pub use documents::Documents;
 pub use entry::DocumentState;
 pub use fault::DocumentFault;
+pub use laws::removing_keeps_owners;
 pub use owned::Owned;
