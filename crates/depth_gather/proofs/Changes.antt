@@ -49,8 +49,8 @@ module _ {A : Type 0} where
   first-if false f places x xs others later = later x
 
   -- changing each that passes, place by place or all at once
-  pub changed-each : (test : A → Bool) (f : A → A) (xs : List A) → change_each f (places_from 0 test xs) xs ≡ map (λ x. cond (test x) (f x) x) xs
-  changed-each test f [] = refl
-  changed-each test f (x ∷ xs) =
-      first-if (test x) f (places_from 1 test xs) x xs (map (λ y. cond (test y) (f y) y) xs)
-      (λ y. changed-later test f 0 xs y xs ∙ ap (λ others. y ∷ others) (changed-each test f xs))
+  pub changed-each : (test : A → Bool) (f g : A → A) → ((x : A) → cond (test x) (f x) x ≡ g x) → (xs : List A) → change_each f (places_from 0 test xs) xs ≡ map g xs
+  changed-each test f g same [] = refl
+  changed-each test f g same (x ∷ xs) =
+      first-if (test x) f (places_from 1 test xs) x xs (map g xs) (λ y. changed-later test f 0 xs y xs ∙ ap (λ others. y ∷ others) (changed-each test f g same xs))
+      ∙ ap (λ first. first ∷ map g xs) (same x)

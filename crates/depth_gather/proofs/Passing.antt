@@ -4,36 +4,35 @@ use Rattle.std.proofs.Math.Nat.{eq-or-lt_of_le}
 use Rattle.std.proofs.lemmas.Option.{slice_get_past}
 use Rattle.std.proofs.lemmas.Bool.{false≢true, cond-true, cond-false, ne_eqb}
 use Rattle.std.specs.Prelude.{Bool, true, false, not, cond, ◌==◌, List, [], ◌∷◌, ◌++◌, filter, slice_get, Option, Some, None, unwrap_or}
-use Rattle.page_model.specs.World.{Observation, ResizeObserver}
-use Rattle.page_model.specs.Lookups.{no_resize_observer}
+use Rattle.page_model.specs.World.{Observation, ResizeObserver, ResizeObservers}
+use Rattle.page_model.specs.Lookups.{no_resize_observer, resize_observer_at}
+use Rattle.page_model.specs.Gathering.{is_filled, is_of, due_at}
 use Rattle.page_model.specs.Intersections.{places_from}
-use Rattle.page_model.specs.Loop.{observers_of, is_filled}
-use Rattle.resize_observer.specs.Observers.{ResizeObservers, alone, observer_at, nth_of}
-use Rattle.depth_gather.specs.Gathering.{is_of}
+use Rattle.resize_observer.specs.Observers.{observers_of}
 use Rattle.depth_gather.specs.Deliveries.{Turn, first_turn, active_at, turn_from}
 use Rattle.depth_gather.specs.Turning.{IsNext}
 use Rattle.depth_gather.proofs.Gatherings.{filter_last, one_more}
-use Rattle.depth_gather.proofs.Places.{from_place, past_end, first_from, rest_from}
+use Rattle.depth_gather.proofs.Places.{nth_in, from_place, past_end, first_from, rest_from}
 
 abbrev turn_at : ℕ → ℕ → Turn
 turn_at observer place = record { observer = observer; place = place }
 
-pub turn_here : (document : ℕ) (it : ResizeObservers) (place n : ℕ) → Some n ≡ nth_of it document place → is_filled (active_at it n) ≡ true → Some (turn_at n (place + 1)) ≡ turn_from document place it
+pub turn_here : (document : ℕ) (it : ResizeObservers) (place n : ℕ) → Some n ≡ nth_in it document place → is_filled (active_at it n) ≡ true → Some (turn_at n (place + 1)) ≡ turn_from document place it
 turn_here document it place n found filled =
-    let places : List ℕ = observers_of (alone it) document in
+    let places : List ℕ = observers_of it document in
     ap (λ next. Some (turn_at n next)) (add-one place)
     ∙ sym (cond-true (is_filled (active_at it n)) (Some (turn_at n (suc place))) (first_turn (active_at it) (suc place) (drop (suc place) places)) filled)
     ∙ ap (first_turn (active_at it) place) (sym (from_place places place n (sym found)))
 
-pub turn_later : (document : ℕ) (it : ResizeObservers) (place n : ℕ) → Some n ≡ nth_of it document place → is_filled (active_at it n) ≡ false → turn_from document (place + 1) it ≡ turn_from document place it
+pub turn_later : (document : ℕ) (it : ResizeObservers) (place n : ℕ) → Some n ≡ nth_in it document place → is_filled (active_at it n) ≡ false → turn_from document (place + 1) it ≡ turn_from document place it
 turn_later document it place n found filled =
-    let places : List ℕ = observers_of (alone it) document in
+    let places : List ℕ = observers_of it document in
     ap (λ next. first_turn (active_at it) next (drop next places)) (add-one place)
     ∙ sym (cond-false (is_filled (active_at it n)) (Some (turn_at n (suc place))) (first_turn (active_at it) (suc place) (drop (suc place) places)) filled)
     ∙ ap (first_turn (active_at it) place) (sym (from_place places place n (sym found)))
 
-pub turn_none : (document : ℕ) (it : ResizeObservers) (place : ℕ) → None ≡ nth_of it document place → turn_from document place it ≡ None
-turn_none document it place past = ap (first_turn (active_at it) place) (past_end (observers_of (alone it) document) place (sym past))
+pub turn_none : (document : ℕ) (it : ResizeObservers) (place : ℕ) → None ≡ nth_in it document place → turn_from document place it ≡ None
+turn_none document it place past = ap (first_turn (active_at it) place) (past_end (observers_of it document) place (sym past))
 
 -- whether a list has something, by its length
 pub filled : (xs : List Observation) (count : ℕ) (empty : Bool) → count ≡ length xs → empty ≡ (count == 0) → is_filled xs ≡ not empty
@@ -42,27 +41,24 @@ filled (x ∷ xs) count empty counted is = sym (ap not (is ∙ ne_eqb count 0 (�
 
 -- places beside numbers: nothing is due at the numbers that are passed over
 
-abbrev due_in : ℕ → ResizeObservers → ℕ → List Observation
-due_in document it n = cond ((observer_at it n).document == document) (observer_at it n).active []
-
 pub record Reached (document : ℕ) (it : ResizeObservers) (number : ℕ) (turn : Turn) : Type 0 where
   pub ahead : number ≤ turn.observer
-  pub between : (n : ℕ) → number ≤ n → n < turn.observer → due_in document it n ≡ []
-  pub due : due_in document it turn.observer ≡ active_at it turn.observer
+  pub between : (n : ℕ) → number ≤ n → n < turn.observer → due_at document n it ≡ []
+  pub due : due_at document turn.observer it ≡ active_at it turn.observer
   pub next : IsNext document turn.place (suc turn.observer) it
 
 abbrev pub Passed : ℕ → ResizeObservers → ℕ → Option Turn → Type 0
-Passed document it number None = (n : ℕ) → number ≤ n → due_in document it n ≡ []
+Passed document it number None = (n : ℕ) → number ≤ n → due_at document n it ≡ []
 Passed document it number (Some turn) = Reached document it number turn
 
 at-or-later : (P : ℕ → Type 0) (number n : ℕ) → P number → number ≤ n → (suc number ≤ n → P n) → P n
 at-or-later P number n here from later = elim (eq-or-lt_of_le from) [ inl same ↦ subst P same here | inr less ↦ later (omega (arith, less)) ]
 
-one-passed : (document : ℕ) (it : ResizeObservers) (number : ℕ) (turn : Option Turn) → due_in document it number ≡ [] → Passed document it (suc number) turn → Passed document it number turn
-one-passed document it number None idle later = λ n from. at-or-later (λ m. due_in document it m ≡ []) number n idle from (λ after. later n after)
+one-passed : (document : ℕ) (it : ResizeObservers) (number : ℕ) (turn : Option Turn) → due_at document number it ≡ [] → Passed document it (suc number) turn → Passed document it number turn
+one-passed document it number None idle later = λ n from. at-or-later (λ m. due_at document m it ≡ []) number n idle from (λ after. later n after)
 one-passed document it number (Some turn) idle later = record {
   ahead = omega (arith, later.ahead);
-  between = λ n from below. at-or-later (λ m. due_in document it m ≡ []) number n idle from (λ after. later.between n after below);
+  between = λ n from below. at-or-later (λ m. due_at document m it ≡ []) number n idle from (λ after. later.between n after below);
   due = later.due;
   next = later.next;
 }
@@ -72,20 +68,20 @@ none-filled [] is = refl
 none-filled (x ∷ xs) is = absurd (false≢true (sym is))
 
 passed-filled :
-    (is : Bool) (document : ℕ) (it : ResizeObservers) (place number : ℕ) (others : Option Turn) → is_filled (active_at it number) ≡ is → due_in document it number ≡ active_at it number →
+    (is : Bool) (document : ℕ) (it : ResizeObservers) (place number : ℕ) (others : Option Turn) → is_filled (active_at it number) ≡ is → due_at document number it ≡ active_at it number →
     IsNext document (suc place) (suc number) it → Passed document it (suc number) others → Passed document it number (cond is (Some (turn_at number (suc place))) others)
 passed-filled true document it place number others filled due next later = record { ahead = omega arith; between = λ n from below. absurd (omega (arith, from, below)); due = due; next = next }
 passed-filled false document it place number others filled due next later = one-passed document it number others (due ∙ none-filled (active_at it number) filled) later
 
 passed-first :
-    (is : Bool) (document : ℕ) (it : ResizeObservers) (place number : ℕ) (others : List ℕ) → ((observer_at it number).document == document) ≡ is →
+    (is : Bool) (document : ℕ) (it : ResizeObservers) (place number : ℕ) (others : List ℕ) → ((resize_observer_at it number).document == document) ≡ is →
     length (filter (is_of document) (take (suc number) it.made)) ≡ cond is (suc place) place →
     ((next : ℕ) → IsNext document next (suc number) it → Passed document it (suc number) (first_turn (active_at it) next others)) → Passed document it number (first_turn (active_at it) place (cond is (number ∷ others) others))
 passed-first true document it place number others its counted later =
     passed-filled (is_filled (active_at it number)) document it place number (first_turn (active_at it) (suc place) others) refl
-    (cond-true ((observer_at it number).document == document) (observer_at it number).active [] its) (sym counted) (later (suc place) (sym counted))
+    (cond-true ((resize_observer_at it number).document == document) (resize_observer_at it number).active [] its) (sym counted) (later (suc place) (sym counted))
 passed-first false document it place number others its counted later =
-    one-passed document it number (first_turn (active_at it) place others) (cond-false ((observer_at it number).document == document) (observer_at it number).active [] its) (later place (sym counted))
+    one-passed document it number (first_turn (active_at it) place others) (cond-false ((resize_observer_at it number).document == document) (resize_observer_at it number).active [] its) (later place (sym counted))
 
 last-counted : {A : Type 0} (is : Bool) (xs : List A) (x : A) (place : ℕ) → place ≡ length xs → length (cond is (xs ++ x ∷ []) xs) ≡ cond is (suc place) place
 last-counted true xs x place long = omega (arith, length-append xs (x ∷ []), long)
@@ -101,10 +97,10 @@ either-none : (is : Bool) (xs : List Observation) → xs ≡ [] → cond is xs [
 either-none true xs idle = idle
 either-none false xs idle = refl
 
-none-past : (document : ℕ) (it : ResizeObservers) (number n : ℕ) → drop number it.made ≡ [] → number ≤ n → due_in document it n ≡ []
+none-past : (document : ℕ) (it : ResizeObservers) (number n : ℕ) → drop number it.made ≡ [] → number ≤ n → due_at document n it ≡ []
 none-past document it number n end from =
     let short : length it.made ≤ number = omega (arith, length-drop number it.made, ap (λ (these : List ResizeObserver). length these) end) in
-    either-none ((observer_at it n).document == document) (observer_at it n).active
+    either-none ((resize_observer_at it n).document == document) (resize_observer_at it n).active
     (ap (λ found. (unwrap_or found no_resize_observer).active) (slice_get_past it.made n (omega (arith, short, from))))
 
 passed-from : (document : ℕ) (it : ResizeObservers) (xs : List ResizeObserver) (place number : ℕ) → drop number it.made ≡ xs → IsNext document place number it → Passed document it number (first_turn (active_at it) place (places_from number (is_of document) xs))
@@ -128,6 +124,6 @@ dropped-places test start (suc number) from (x ∷ xs) sum =
 
 pub passed : (document : ℕ) (it : ResizeObservers) (place number : ℕ) → IsNext document place number it → Passed document it number (turn_from document place it)
 passed document it place number next =
-    let from : drop place (observers_of (alone it) document) ≡ places_from number (is_of document) (drop number it.made) =
-    ap (λ at. drop at (observers_of (alone it) document)) next ∙ dropped-places (is_of document) 0 number number it.made (omega arith) in
+    let from : drop place (observers_of it document) ≡ places_from number (is_of document) (drop number it.made) =
+    ap (λ at. drop at (observers_of it document)) next ∙ dropped-places (is_of document) 0 number number it.made (omega arith) in
     subst (λ (places : List ℕ). Passed document it number (first_turn (active_at it) place places)) (sym from) (passed-from document it (drop number it.made) place number refl next)

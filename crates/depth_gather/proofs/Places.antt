@@ -1,14 +1,13 @@
 -- A document's observers by place: their numbers, and the observers themselves.
 use Rattle.std.proofs.Common.{◌≡◌, ℕ, zero, suc, ◌+◌, ◌<◌, ◌≤◌, ◌∙◌, ap, refl, sym, length, drop, arith, add-one}
 use Rattle.std.proofs.lemmas.Option.{none-some, same_Some, slice_get-map, slice_get_within}
-use Rattle.std.specs.Prelude.{Bool, true, false, cond, ◌&&◌, ◌||◌, List, [], ◌∷◌, filter, map, slice_get, unwrap_or, Some, None, option_map}
+use Rattle.std.specs.Prelude.{Bool, true, false, cond, ◌&&◌, ◌||◌, List, [], ◌∷◌, filter, map, slice_get, unwrap_or, Option, Some, None, option_map}
 use Rattle.std.specs.List.{list_any}
-use Rattle.page_model.specs.World.{ResizeObserver}
-use Rattle.page_model.specs.Lookups.{no_resize_observer}
+use Rattle.page_model.specs.World.{ResizeObserver, ResizeObservers}
+use Rattle.page_model.specs.Lookups.{no_resize_observer, resize_observer_at}
+use Rattle.page_model.specs.Gathering.{is_of}
 use Rattle.page_model.specs.Intersections.{places_from}
-use Rattle.page_model.specs.Loop.{observers_of}
-use Rattle.resize_observer.specs.Observers.{ResizeObservers, alone, observer_at, nth_of}
-use Rattle.depth_gather.specs.Gathering.{is_of}
+use Rattle.resize_observer.specs.Observers.{observers_of}
 
 -- a list from a place on begins with what stands there, and is empty past its end
 pub from_place : {A : Type 0} (xs : List A) (place : ℕ) (x : A) → slice_get xs place ≡ Some x → drop place xs ≡ x ∷ drop (suc place) xs
@@ -56,25 +55,29 @@ listed test made number (x ∷ xs) from =
     (ap (λ found. unwrap_or found no_resize_observer) (first_from made number x xs from))
     (listed test made (suc number) xs (rest_from made number x xs from))
 
+-- the observer of a document that stands at a place among those of this document
+abbrev pub nth_in : ResizeObservers → ℕ → ℕ → Option ℕ
+nth_in it document place = slice_get (observers_of it document) place
+
 -- a document's observers
 abbrev pub its_of : ℕ → ResizeObservers → List ResizeObserver
 its_of document it = filter (is_of document) it.made
 
-at-place : (document : ℕ) (it : ResizeObservers) (place : ℕ) → slice_get (its_of document it) place ≡ option_map (observer_at it) (nth_of it document place)
+at-place : (document : ℕ) (it : ResizeObservers) (place : ℕ) → slice_get (its_of document it) place ≡ option_map (resize_observer_at it) (nth_in it document place)
 at-place document it place =
     ap (λ (these : List ResizeObserver). slice_get these place) (sym (listed (is_of document) it.made 0 it.made refl))
-    ∙ slice_get-map (observer_at it) (observers_of (alone it) document) place
+    ∙ slice_get-map (resize_observer_at it) (observers_of it document) place
 
-pub its_next : (document : ℕ) (it : ResizeObservers) (place n : ℕ) → Some n ≡ nth_of it document place → drop place (its_of document it) ≡ observer_at it n ∷ drop (place + 1) (its_of document it)
+pub its_next : (document : ℕ) (it : ResizeObservers) (place n : ℕ) → Some n ≡ nth_in it document place → drop place (its_of document it) ≡ resize_observer_at it n ∷ drop (place + 1) (its_of document it)
 its_next document it place n found =
-    from_place (its_of document it) place (observer_at it n) (at-place document it place ∙ ap (option_map (observer_at it)) (sym found))
-    ∙ ap (λ next. observer_at it n ∷ drop next (its_of document it)) (sym (add-one place))
+    from_place (its_of document it) place (resize_observer_at it n) (at-place document it place ∙ ap (option_map (resize_observer_at it)) (sym found))
+    ∙ ap (λ next. resize_observer_at it n ∷ drop next (its_of document it)) (sym (add-one place))
 
-pub its_end : (document : ℕ) (it : ResizeObservers) (place : ℕ) → None ≡ nth_of it document place → drop place (its_of document it) ≡ []
-its_end document it place past = past_end (its_of document it) place (at-place document it place ∙ ap (option_map (observer_at it)) (sym past))
+pub its_end : (document : ℕ) (it : ResizeObservers) (place : ℕ) → None ≡ nth_in it document place → drop place (its_of document it) ≡ []
+its_end document it place past = past_end (its_of document it) place (at-place document it place ∙ ap (option_map (resize_observer_at it)) (sym past))
 
-pub its_within : (document : ℕ) (it : ResizeObservers) (place n : ℕ) → Some n ≡ nth_of it document place → place < length (its_of document it)
-its_within document it place n found = slice_get_within (its_of document it) place (observer_at it n) (at-place document it place ∙ ap (option_map (observer_at it)) (sym found))
+pub its_within : (document : ℕ) (it : ResizeObservers) (place n : ℕ) → Some n ≡ nth_in it document place → place < length (its_of document it)
+its_within document it place n found = slice_get_within (its_of document it) place (resize_observer_at it n) (at-place document it place ∙ ap (option_map (resize_observer_at it)) (sym found))
 
 any-first : {A : Type 0} (is : Bool) (also : A → Bool) (x : A) (ys : List A) (others : Bool) → list_any also ys ≡ others → list_any also (cond is (x ∷ ys) ys) ≡ ((is && also x) || others)
 any-first true also x ys others rest = ap (λ more. also x || more) rest
@@ -94,5 +97,5 @@ number-bound : (test : ResizeObserver → Bool) (number : ℕ) (xs : List Resize
 number-bound test number [] place n found = absurd (none-some n found)
 number-bound test number (x ∷ xs) place n found = number-first (test x) number (places_from (suc number) test xs) place n (λ p. number-bound test (suc number) xs p n) found
 
-pub place_bound : (document : ℕ) (it : ResizeObservers) (place n : ℕ) → Some n ≡ nth_of it document place → place ≤ n
+pub place_bound : (document : ℕ) (it : ResizeObservers) (place n : ℕ) → Some n ≡ nth_in it document place → place ≤ n
 place_bound document it place n found = let bound : 0 + place ≤ n = number-bound (is_of document) 0 it.made place n (sym found) in omega (arith, bound)

@@ -1,12 +1,11 @@
 -- Turns of a document's observers by place, and what a turn delivers (Resize Observer, 3.4: broadcast active
 -- observations).
-use Rattle.std.specs.Prelude.{ℕ, suc, cond, ◌==◌, List, [], ◌∷◌, map, drop, Option, None, Some}
-use Rattle.std.specs.List.{list_any}
-use Rattle.page_model.specs.World.{Observation, ResizeObserver}
-use Rattle.page_model.specs.Loop.{observers_of, is_filled}
-use Rattle.resize_observer.specs.Observers.{ResizeObservers, alone, observer_at, changing}
-use Rattle.depth_gather.specs.Sights.{Sight}
-use Rattle.depth_gather.specs.Entries.{as_entry, size_entry_in}
+use Rattle.std.specs.Prelude.{ℕ, suc, cond, List, [], ◌∷◌, map, drop, Option, None, Some}
+use Rattle.page_model.specs.World.{Observation, ResizeObservers}
+use Rattle.page_model.specs.Lookups.{resize_observer_at}
+use Rattle.page_model.specs.Gathering.{Sight, is_filled, size_entry, with_reported}
+use Rattle.resize_observer.specs.Observers.{observers_of}
+use Rattle.depth_gather.specs.Entries.{as_entry}
 use Rattle.depth_gather.specs.declared.entries.ResizeEntry.{ResizeEntry}
 use Rattle.depth_gather.specs.declared.deliveries.Delivery.{Delivery}
 
@@ -22,30 +21,22 @@ first_turn active place (observer ∷ others) =
     cond (is_filled (active observer)) (Some (record { observer = observer; place = suc place })) (first_turn active (suc place) others)
 
 abbrev pub active_at : ResizeObservers → ℕ → List Observation
-active_at it observer = (observer_at it observer).active
+active_at it observer = (resize_observer_at it observer).active
 
 -- the first turn from a place on among the observers of a document
 abbrev pub turn_from : ℕ → ℕ → ResizeObservers → Option Turn
-turn_from document place it = first_turn (active_at it) place (drop place (observers_of (alone it) document))
+turn_from document place it = first_turn (active_at it) place (drop place (observers_of it document))
 
 abbrev pub turn_of : Delivery → Turn
 turn_of delivery = record { observer = delivery.observer.0; place = delivery.place }
 
 -- the entries of what is active in an observer, of sizes as they are now
 abbrev pub entries_in : Sight → List Observation → List ResizeEntry
-entries_in sight active = map (λ observation. as_entry (size_entry_in sight observation)) active
-
--- an observation that is delivered now: one that was made anew for the same target is another
-abbrev pub reported_in : Sight → List Observation → Observation → Observation
-reported_in sight delivered observation =
-    cond (list_any (λ (each : Observation). each.serial == observation.serial) delivered)
-    (record observation { last = sight.size (observation.target) (observation.observed) })
-    observation
+entries_in sight active = map (λ observation. as_entry (size_entry sight observation)) active
 
 -- the last reported sizes of what is active in an observer are those of now
 abbrev pub reporting : Sight → ℕ → ResizeObservers → ResizeObservers
-reporting sight observer it =
-    changing (λ (each : ResizeObserver). record each { targets = map (reported_in sight (active_at it observer)) (each.targets) }) observer it
+reporting sight observer it = with_reported sight observer (active_at it observer) it
 
 -- once the observer whose turn it is has its entries
 abbrev pub reporting_turn : Sight → Option Turn → ResizeObservers → ResizeObservers

@@ -2,12 +2,10 @@
 use Rattle.std.specs.Prelude.{pos, unsigned_abs}
 use Rattle.px_units.specs.declared.Size.{Size}
 use Rattle.px_units.specs.declared.Point.{Point}
-use Rattle.px_units.specs.declared.BoxKind.TheVariants.{Content, Border}
-use Rattle.page_model.specs.World.{Extent, Observation}
-use Rattle.page_model.specs.Callbacks.{SizeEntry}
+use Rattle.page_model.specs.World.{Extent}
+use Rattle.page_model.specs.Gathering.{SizeEntry}
 use Rattle.element_tree.specs.Links.{node_id}
 use Rattle.resize_observer.specs.Observations.{seen_size}
-use Rattle.depth_gather.specs.Sights.{Sight}
 use Rattle.depth_gather.specs.declared.entries.ResizeEntry.{ResizeEntry}
 
 abbrev pub as_size : Extent → Size
@@ -37,14 +35,4 @@ as_entry entry = record {
   content = as_size entry.content;
   border = as_size entry.border;
   depth = entry.depth;
-}
-
--- the entry of an observation, of sizes as they are now
-abbrev pub size_entry_in : Sight → Observation → SizeEntry
-size_entry_in sight observation = record {
-  target = observation.target;
-  corner = sight.corner (observation.target);
-  content = sight.size (observation.target) Content;
-  border = sight.size (observation.target) Border;
-  depth = sight.depth (observation.target);
 }

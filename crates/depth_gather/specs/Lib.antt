@@ -1,4 +1,3 @@
-pub mod Sights
 pub mod Gathering
 pub mod Entries
 pub mod Deliveries

@@ -1,7 +1,7 @@
 -- Places among a document's observers, beside the observers' numbers.
 use Rattle.std.specs.Prelude.{◌≡◌, ℕ, filter, length, take}
-use Rattle.resize_observer.specs.Observers.{ResizeObservers}
-use Rattle.depth_gather.specs.Gathering.{is_of}
+use Rattle.page_model.specs.World.{ResizeObservers}
+use Rattle.page_model.specs.Gathering.{is_of}
 use Rattle.depth_gather.specs.Deliveries.{Turn}
 use Rattle.depth_gather.specs.declared.turns.Found.{Found}
 

@@ -3,7 +3,7 @@
 ghost use Rattle.std.specs.Prelude.{◌≡◌, ◌<◌, None, Some, map, fold, length, option_map, IfOk, OnOk, OnErr, IfSome};
 ghost use Rattle.page_model.specs.Loop.{shallower};
 ghost use Rattle.resize_observer.specs.Observations.{seen_observations};
-ghost use Rattle.resize_observer.specs.Observers.{changing, inactive};
+ghost use Rattle.page_model.specs.Gathering.{without_active};
 ghost use Rattle.depth_gather.specs.Entries.{seen_entry};
 ghost use Rattle.depth_gather.specs.Deliveries.{turn_from, turn_of, active_at, entries_in, reporting, reporting_turn};
 
@@ -35,13 +35,13 @@ pub fn next_delivery<Z: Sizes>(
     document: u32,
     place: usize,
 ) -> Result<Option<Delivery>, AllocError>
-    ensures turn { IfOk result (λ next. option_map turn_of next ≡ turn_from document place observers.old) }
-    ensures entries { IfOk result (λ next. IfSome next (λ it. it.entries ≡ entries_in (Z.sight sizes.now) (active_at observers.old it.observer.0))) }
-    ensures reported { OnOk result (observers.new ≡ reporting_turn (Z.sight sizes.now) (turn_from document place observers.old) observers.old) }
+    ensures turn { IfOk result (λ next. option_map turn_of next ≡ turn_from document place observers.old.part) }
+    ensures entries { IfOk result (λ next. IfSome next (λ it. it.entries ≡ entries_in (Z.sight sizes.now) (active_at observers.old.part it.observer.0))) }
+    ensures reported { OnOk result (observers.new ≡ record observers.old { part = reporting_turn (Z.sight sizes.now) (turn_from document place observers.old.part) (observers.old.part) }) }
     ensures same { OnErr result (observers.new ≡ observers.old) }
-    ensures made { IfOk result (λ next. IfSome next (λ it. it.observer.0 < length observers.old.made)) }
+    ensures made { IfOk result (λ next. IfSome next (λ it. it.observer.0 < length observers.old.part.made)) }
     ensures some { IfOk result (λ next. IfSome next (λ it. 0 < length it.entries)) }
-    ensures count { length observers.new.made ≡ length observers.old.made }
+    ensures count { length observers.new.part.made ≡ length observers.old.part.made }
 {
     let Some(found) = next_turn(observers, document, place) else {
         return Ok(None);
@@ -72,9 +72,9 @@ fn entries_of<Z: Sizes>(
 
 // The sizes of now become the last reported ones of what is active.
 fn report_active<Z: Sizes>(observers: &mut Observers, sizes: &Z, observer: ObserverId)
-    requires { observer.0 < length observers.old.made }
-    ensures reported { observers.new ≡ reporting (Z.sight sizes.now) observer.0 observers.old }
-    ensures count { length observers.new.made ≡ length observers.old.made }
+    requires { observer.0 < length observers.old.part.made }
+    ensures reported { observers.new ≡ record observers.old { part = reporting (Z.sight sizes.now) observer.0 (observers.old.part) } }
+    ensures count { length observers.new.part.made ≡ length observers.old.part.made }
 {
     for place in 0..observers.active(observer).len() {
         let observation = observers.active(observer)[place];
@@ -85,9 +85,9 @@ fn report_active<Z: Sizes>(observers: &mut Observers, sizes: &Z, observer: Obser
 
 /// The end of an observer's turn, once its callback was called: its active list is emptied. No memory.
 pub fn end_delivery(observers: &mut Observers, observer: ObserverId)
-    requires { observer.0 < length observers.old.made }
-    ensures ended { observers.new ≡ changing inactive observer.0 observers.old }
-    ensures count { length observers.new.made ≡ length observers.old.made }
+    requires { observer.0 < length observers.old.part.made }
+    ensures ended { observers.new ≡ record observers.old { part = without_active observer.0 (observers.old.part) } }
+    ensures count { length observers.new.part.made ≡ length observers.old.part.made }
 {
     observers.clear_active(observer);
 }

@@ -2,7 +2,8 @@
 
 ghost use Rattle.std.specs.Prelude.{◌≡◌, ◌+◌, ◌<◌, min, length};
 ghost use Rattle.resize_observer.specs.Observers.{observer_at, changing};
-ghost use Rattle.depth_gather.specs.Gathering.{gathered_in, gathered_first, gathering, active_count};
+ghost use Rattle.page_model.specs.Gathering.{gathered, gathering};
+ghost use Rattle.depth_gather.specs.Gathering.{gathered_first, active_count};
 
 use crate::Sizes;
 use crate::observation::has_changed;
@@ -14,9 +15,9 @@ use resize_observer::{ObserverId, Observers};
 ///
 /// The number stands still at the end of its type, which no table of observers reaches: it holds fewer observations.
 pub fn gather<Z: Sizes>(observers: &mut Observers, sizes: &Z, document: u32, depth: u32) -> u32
-    ensures gathered { observers.new ≡ gathering (Z.sight sizes.now) document depth observers.old }
-    ensures number { result ≡ min (active_count document observers.new) 4294967295 }
-    ensures count { length observers.new.made ≡ length observers.old.made }
+    ensures gathered { observers.new ≡ record observers.old { part = gathering (Z.sight sizes.now) document depth (observers.old.part) } }
+    ensures number { result ≡ min (active_count document observers.new.part) 4294967295 }
+    ensures count { length observers.new.part.made ≡ length observers.old.part.made }
 {
     gather_all(observers, sizes, document, depth);
     active_number(observers, document)
@@ -24,8 +25,8 @@ pub fn gather<Z: Sizes>(observers: &mut Observers, sizes: &Z, document: u32, dep
 
 // Each observer of the document gathers.
 fn gather_all<Z: Sizes>(observers: &mut Observers, sizes: &Z, document: u32, depth: u32)
-    ensures gathered { observers.new ≡ gathering (Z.sight sizes.now) document depth observers.old }
-    ensures count { length observers.new.made ≡ length observers.old.made }
+    ensures gathered { observers.new ≡ record observers.old { part = gathering (Z.sight sizes.now) document depth (observers.old.part) } }
+    ensures count { length observers.new.part.made ≡ length observers.old.part.made }
 {
     let mut place = 0;
     while let Some(observer) = observers.of_document(document, place) {
@@ -36,7 +37,7 @@ fn gather_all<Z: Sizes>(observers: &mut Observers, sizes: &Z, document: u32, dep
 
 // How many observations are active in a document.
 fn active_number(observers: &Observers, document: u32) -> u32
-    ensures { result ≡ min (active_count document observers.now) 4294967295 }
+    ensures { result ≡ min (active_count document observers.now.part) 4294967295 }
 {
     let mut number: usize = 0;
     let mut place = 0;
@@ -49,9 +50,9 @@ fn active_number(observers: &Observers, document: u32) -> u32
 
 // One observer gathers.
 fn gather_targets<Z: Sizes>(observers: &mut Observers, sizes: &Z, observer: ObserverId, depth: u32)
-    requires { observer.0 < length observers.old.made }
-    ensures gathered { observers.new ≡ changing (gathered_in (Z.sight sizes.now) depth) observer.0 observers.old }
-    ensures count { length observers.new.made ≡ length observers.old.made }
+    requires { observer.0 < length observers.old.part.made }
+    ensures gathered { observers.new ≡ changing (gathered (Z.sight sizes.now) depth) observer.0 observers.old }
+    ensures count { length observers.new.part.made ≡ length observers.old.part.made }
 {
     observers.begin_gather(observer);
     for place in 0..observers.targets(observer).len() {
@@ -67,11 +68,11 @@ fn gather_target<Z: Sizes>(
     place: usize,
     depth: u32,
 )
-    requires observer { observer.0 < length observers.old.made }
+    requires observer { observer.0 < length observers.old.part.made }
     requires place { place < length (observer_at observers.old observer.0).targets }
     requires before { observer_at observers.old observer.0 ≡ gathered_first (Z.sight sizes.now) depth place (observer_at observers.old observer.0) }
     ensures gathered { observers.new ≡ changing (gathered_first (Z.sight sizes.now) depth (place + 1)) observer.0 observers.old }
-    ensures count { length observers.new.made ≡ length observers.old.made }
+    ensures count { length observers.new.part.made ≡ length observers.old.part.made }
 {
     let observation = observers.targets(observer)[place];
     if has_changed(sizes, &observation) {

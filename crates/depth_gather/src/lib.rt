@@ -20,7 +20,7 @@ pub use deliveries::{Delivery, end_delivery, least_depth, next_delivery};
 pub use entries::{ResizeEntry, ResizeList};
 pub use gathering::gather;
 pub use laws::{
-    deliveries_are_those_of_any_world, gathering_is_that_of_any_world,
+    entries_are_those_of_a_broadcast, something_is_active_where_it_is_counted,
     turns_are_those_of_a_broadcast,
 };
 pub use sizes::Sizes;

@@ -1,10 +1,10 @@
 //! One observation, against sizes as they are now.
 
 ghost use Rattle.std.specs.Prelude.{◌≡◌};
+ghost use Rattle.page_model.specs.Gathering.{has_changed, size_entry};
 ghost use Rattle.page_model.specs.Lookups.{same_extent};
 ghost use Rattle.resize_observer.specs.Observations.{seen_size, seen_observation};
-ghost use Rattle.depth_gather.specs.Gathering.{has_changed_in};
-ghost use Rattle.depth_gather.specs.Entries.{as_entry, size_entry_in};
+ghost use Rattle.depth_gather.specs.Entries.{as_entry};
 
 use crate::{ResizeEntry, Sizes};
 use px_units::{BoxKind, Size};
@@ -20,7 +20,7 @@ fn is_same(a: Size, b: Size) -> bool
 
 // Whether the observed size isn't the last reported one (Resize Observer, 3.1: isActive).
 pub(crate) fn has_changed<Z: Sizes>(sizes: &Z, observation: &Observation) -> bool
-    ensures { result ≡ has_changed_in (Z.sight sizes.now) (seen_observation observation.now) }
+    ensures { result ≡ has_changed (Z.sight sizes.now) (seen_observation observation.now) }
 {
     let now = sizes.size_now(observation.target, observation.observed);
     !is_same(now, observation.last)
@@ -28,7 +28,7 @@ pub(crate) fn has_changed<Z: Sizes>(sizes: &Z, observation: &Observation) -> boo
 
 // The entry of an observation (Resize Observer, 3.4: create and populate a ResizeObserverEntry).
 pub(crate) fn entry_of<Z: Sizes>(sizes: &Z, observation: &Observation) -> ResizeEntry
-    ensures { result ≡ as_entry (size_entry_in (Z.sight sizes.now) (seen_observation observation.now)) }
+    ensures { result ≡ as_entry (size_entry (Z.sight sizes.now) (seen_observation observation.now)) }
 {
     let target = observation.target;
     ResizeEntry {

@@ -8,7 +8,7 @@ use px_units::{BoxKind, Point, Size};
 
 /// Sizes, corners and depths of elements as they are now. All lengths are in units of 1/64 CSS pixel, and none is negative.
 pub trait Sizes {
-    ghost use Rattle.depth_gather.specs.Sights.{Sight};
+    ghost use Rattle.page_model.specs.Gathering.{Sight};
 
     /// Those of the elements, by number.
     ghost sight: { Self → Sight };

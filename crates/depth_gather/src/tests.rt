@@ -77,7 +77,7 @@ fn deliver(
     place: usize,
     width: u32,
 ) -> Result<String, Fail>
-    ensures { observers.new.observed ≡ observers.old.observed }
+    ensures { observers.new.part.given ≡ observers.old.part.given }
 {
     let Some(delivery) = next_delivery(alloc, observers, &Wide { width }, document, place)? else {
         return Ok(format!(in alloc; "none")?);
@@ -93,8 +93,8 @@ fn deliver(
 
 // Whether there is such an observer, and the step was made; a target that is there once more gets a new observation.
 fn change(observers: &mut Observers, step: Step) -> &'static str
-    requires { observers.old.observed < 2 ^ 32 }
-    ensures { observers.new.observed ≤ observers.old.observed + 1 }
+    requires { observers.old.part.given < 2 ^ 32 }
+    ensures { observers.new.part.given ≤ observers.old.part.given + 1 }
 {
     let (document, place) = match step {
         Step::Observe(document, place, _)
@@ -125,8 +125,8 @@ fn change(observers: &mut Observers, step: Step) -> &'static str
 }
 
 fn apply(alloc: Global, observers: &mut Observers, step: Step) -> Result<String, Fail>
-    requires { observers.old.observed < 2 ^ 32 }
-    ensures { observers.new.observed ≤ observers.old.observed + 1 }
+    requires { observers.old.part.given < 2 ^ 32 }
+    ensures { observers.new.part.given ≤ observers.old.part.given + 1 }
 {
     match step {
         Step::Gather(document, depth, width) => {
@@ -141,7 +141,7 @@ fn apply(alloc: Global, observers: &mut Observers, step: Step) -> Result<String,
 
 // Of documents 0, 1 and 0.
 fn three_observers(alloc: Global) -> Result<Observers, ObserveFault>
-    ensures { IfOk result (λ observers. observers.observed ≡ 0) }
+    ensures { IfOk result (λ observers. observers.part.given ≡ 0) }
 {
     let mut observers = Observers::new(alloc, 3, 9);
     observers.make(0, None)?;

@@ -1,8 +1,7 @@
 //! The turns of a document's observers.
 
 ghost use Rattle.std.specs.Prelude.{◌≡◌, ◌<◌, length, option_map, IfSome};
-ghost use Rattle.page_model.specs.Loop.{has_skipped};
-ghost use Rattle.resize_observer.specs.Observers.{alone};
+ghost use Rattle.page_model.specs.Gathering.{has_skipped};
 ghost use Rattle.depth_gather.specs.Deliveries.{turn_from, active_at};
 ghost use Rattle.depth_gather.specs.Turning.{found_turn};
 
@@ -17,9 +16,9 @@ pub(crate) struct Found {
 
 // The first observer of the document from this place on with something active.
 pub(crate) fn next_turn(observers: &Observers, document: u32, place: usize) -> Option<Found>
-    ensures value { option_map found_turn result ≡ turn_from document place observers.now }
-    ensures made { IfSome result (λ found. found.observer.0 < length observers.now.made) }
-    ensures some { IfSome result (λ found. 0 < length (active_at observers.now found.observer.0)) }
+    ensures value { option_map found_turn result ≡ turn_from document place observers.now.part }
+    ensures made { IfSome result (λ found. found.observer.0 < length observers.now.part.made) }
+    ensures some { IfSome result (λ found. 0 < length (active_at observers.now.part found.observer.0)) }
 {
     let mut at = place;
     while let Some(observer) = observers.of_document(document, at) {
@@ -36,7 +35,7 @@ pub(crate) fn next_turn(observers: &Observers, document: u32, place: usize) -> O
 
 /// Whether something is skipped in the document (Resize Observer, 3.4: has skipped observations). No memory.
 pub fn has_skipped(observers: &Observers, document: u32) -> bool
-    ensures { result ≡ has_skipped document (alone observers.now) }
+    ensures { result ≡ has_skipped document observers.now.part }
 {
     let mut place = 0;
     while let Some(observer) = observers.of_document(document, place) {

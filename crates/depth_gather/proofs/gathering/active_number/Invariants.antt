@@ -7,8 +7,8 @@ use Rattle.depth_gather.proofs.gathering.active_number.Given as goal
 
 abbrev pub invariant-loop-observer : goal.invariant-loop-observer
 invariant-loop-observer l =
-    min (l.number + sum_by (λ (it : ResizeObserver). length it.active) (drop l.place (its_of l.document l.observers))) 4294967295
-    ≡ min (active_count l.document l.observers) 4294967295
+    min (l.number + sum_by (λ (it : ResizeObserver). length it.active) (drop l.place (its_of l.document l.observers.part))) 4294967295
+    ≡ min (active_count l.document l.observers.part) 4294967295
 
 abbrev pub decreases-loop-observer : goal.decreases-loop-observer
-decreases-loop-observer l = length (its_of l.document l.observers) - l.place
+decreases-loop-observer l = length (its_of l.document l.observers.part) - l.place

@@ -1,7 +1,8 @@
 use Rattle.std.proofs.Common.{◌≡◌, ◌+◌, ◌∙◌, ap, sym, arith, length}
 use Rattle.page_model.specs.World.{ResizeObserver}
 use Rattle.resize_observer.specs.Observers.{observer_at, changing, ungathered}
-use Rattle.depth_gather.specs.Gathering.{gathered_in, gathered_first}
+use Rattle.page_model.specs.Gathering.{gathered}
+use Rattle.depth_gather.specs.Gathering.{gathered_first}
 use Rattle.depth_gather.proofs.Gatherings.{changing_twice, changing_same, at_changing, all_gathered}
 use Rattle.depth_gather.proofs.gathering.gather_targets.Goals as goal
 
@@ -44,5 +45,5 @@ returns-clause-gathered g c =
     let sight = g.Z.Sizes.sight c.args.sizes.now in
     let first = observer_at c.args.observers.now (c.args.observer.0) in
     c.loop-place.invariant.so_far
-    ∙ changing_same (gathered_first sight c.args.depth c.loop-place.place) (gathered_in sight c.args.depth) (c.args.observer.0) c.args.observers.now
+    ∙ changing_same (gathered_first sight c.args.depth c.loop-place.place) (gathered sight c.args.depth) (c.args.observer.0) c.args.observers.now
     (all_gathered sight c.args.depth c.loop-place.place first (omega (arith, c.loop-place.invariant.end, c.loop-place-test.false)))
