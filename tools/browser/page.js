@@ -1,0 +1,422 @@
+// Runs a script in the page that it stands in. `script` is what tools/browser/run read: items with their lines' numbers.
+// Each command is the call of the DOM or of an observer that it names; what callbacks are told is written as trace lines.
+(function (script) {
+  'use strict';
+  const UNITS = 64;
+  const lines = [];
+  const names = new Map();
+  const docs = [];
+  const observers = [];            // resize observers in order of creation
+  const timers = [];
+  const due = [];                  // posted tasks that wait for the update
+  const handlerCalls = new Map();  // one function per handler, so that the browser sees doubles
+  let clock = 0, inUpdate = false, waiting = 0, round = null, next = 0;
+
+  class Thrown extends Error { constructor(kind) { super(kind); this.kind = kind; } }
+  class NotShown extends Error {}
+  class Ended extends Error {}
+  const write = line => { lines.push(line); if (lines.length > 20000) throw new Ended('more than 20000 lines'); };
+
+  // ---- printing ----
+  function px(value) {
+    const sign = value < 0 ? '-' : '';
+    const all = Math.round(Math.abs(value) * 1e6);
+    const whole = Math.floor(all / 1e6), rest = all % 1e6;
+    if (whole === 0 && rest === 0) return '0';
+    return sign + whole + (rest ? '.' + String(rest).padStart(6, '0').replace(/0+$/, '') : '');
+  }
+  const rect = r => r ? [r.left, r.top, r.width, r.height].map(px).join(' ') : 'null';
+  const area = r => BigInt(Math.round(r.width * UNITS)) * BigInt(Math.round(r.height * UNITS));
+  function share(entry) {
+    const whole = area(entry.boundingClientRect), part = area(entry.intersectionRect);
+    if (whole === 0n) return (entry.intersectionRatio === 1 ? '1' : '0') + '/1';
+    const ratio = Number(part) / Number(whole);
+    return Math.abs(ratio - entry.intersectionRatio) > 1e-4 ? '~' + entry.intersectionRatio : part + '/' + whole;
+  }
+  const intersectLine = (o, e) => `intersect ${o.name} ${nameOf(e.target)} ${clock} ${e.isIntersecting ? 'yes' : 'no'} ${share(e)}` +
+    ` root ${rect(e.rootBounds)} box ${rect(e.boundingClientRect)} cut ${rect(e.intersectionRect)}`;
+  const nameOf = thing => thing.observersName || '?';
+
+  // ---- names ----
+  function named(word, ...kinds) {
+    const thing = names.get(word);
+    if (!thing) throw new Thrown('ReferenceError');
+    if (!kinds.includes(thing.what)) throw new Thrown('TypeError');
+    return thing;
+  }
+  function node(word, entry, ...kinds) {
+    if (word !== '$target') return named(word, ...(kinds.length ? kinds : ['node']));
+    if (!entry) throw new Thrown('ReferenceError');
+    return names.get(nameOf(entry.target));
+  }
+  function fresh(name, also) { if (names.has(name) || name === also) throw new Thrown('TypeError'); }
+  function handler(name) {
+    if (name === '-') return null;
+    if (!script.handlers[name]) throw new Thrown('ReferenceError');
+    return script.handlers[name];
+  }
+  function shown(doc) {
+    if (doc.state === 'fresh') throw new NotShown('something made in the document of a frame that stood nowhere yet');
+    return doc;
+  }
+  const active = doc => doc.state === 'active';
+
+  // ---- documents ----
+  function opened(doc, document) {
+    doc.state = 'active';
+    doc.document = document;
+    doc.window = document.defaultView;
+    document.observersName = doc.name;
+    while (document.firstChild) document.removeChild(document.firstChild);
+    for (const kind of ['resize', 'scroll', 'error']) {
+      doc.window.addEventListener(kind, event => fired(doc, event), true);
+    }
+  }
+  function fired(doc, event) {
+    endRound();
+    if (event.type === 'resize' && event.target === doc.window) write(`event resize @${doc.name}`);
+    else if (event.type === 'scroll') write(`event scroll ${nameOf(event.target)}`);
+    else if (event.type === 'error' && event.target === doc.window) write(`event error @${doc.name} ${event.message}`);
+  }
+  function settleFrames() {
+    for (const doc of docs) {
+      if (!doc.frame) continue;
+      const held = doc.frame.element.isConnected ? doc.frame.element.contentDocument : null;
+      if (doc.state === 'fresh' && held) opened(doc, held);
+      else if (doc.state === 'active' && held !== doc.document) doc.state = 'dead';
+    }
+  }
+
+  // ---- the tree ----
+  const base = { block: 'display:flow-root', image: 'display:block;contain:size', frame: 'display:block' };
+  const common = ';margin:0;padding:0;border:0 solid transparent;box-sizing:content-box;min-width:0;min-height:0';
+  function make(name, kind, doc, tag) {
+    const element = doc.document.createElement(tag);
+    const spacer = doc.document.createElement('i');
+    spacer.style.cssText = 'display:flow-root;height:0;margin:0';
+    element.style.cssText = base[kind] + common;
+    element.observersName = name;
+    const made = { what: 'node', name, kind, element, spacer, style: { width: 'auto', height: 'auto' } };
+    names.set(name, made);
+    return made;
+  }
+  // A spacer of no height stands behind each child, so that margins of neighbours don't collapse.
+  function space(made) {
+    const parent = made.element.parentNode;
+    if (parent && parent.nodeType === 1) parent.insertBefore(made.spacer, made.element.nextSibling);
+    else made.spacer.remove();
+  }
+  const inner = parent => parent.what === 'doc' ? shown(parent).document : parent.element;
+  const natural = (width, height) => `${width} ${height}`;
+
+  // ---- resize observers: the browser doesn't tell where a round ends; it is told apart by what was active as the round began ----
+  const depth = element => { let d = 0; for (let e = element; e && e.nodeType === 1; e = e.parentNode) d++; return d; };
+  function sizeOf(element, box) {
+    const r = element.getBoundingClientRect();
+    if (box === 'border') return r.width + ' ' + r.height;
+    const style = element.ownerDocument.defaultView && element.ownerDocument.defaultView.getComputedStyle(element);
+    if (!style || !element.getClientRects().length) return '0 0';
+    const sum = (...list) => list.reduce((all, p) => all + parseFloat(style[p]), 0);
+    return (r.width - sum('paddingLeft', 'paddingRight', 'borderLeftWidth', 'borderRightWidth')) + ' ' +
+      (r.height - sum('paddingTop', 'paddingBottom', 'borderTopWidth', 'borderBottomWidth'));
+  }
+  function gathered(doc, least) {
+    const all = new Set();
+    for (const o of observers) {
+      if (o.doc !== doc) continue;
+      for (const [element, seen] of o.targets) {
+        if (depth(element) > least && (seen.last === null || seen.last !== sizeOf(element, seen.box))) all.add(o.name + ' ' + nameOf(element));
+      }
+    }
+    return all;
+  }
+  function endRound() {
+    if (!round) return;
+    const ended = round;
+    round = null;
+    if (active(ended.doc)) write(`round ${ended.doc.name} ${ended.least}`);
+    return ended;
+  }
+  function resized(o, entries) {
+    const at = observers.indexOf(o);
+    const same = round && round.doc === o.doc && at > round.at && entries.some(e => round.all.has(o.name + ' ' + nameOf(e.target)));
+    if (!same) {
+      const before = round && round.doc === o.doc ? round.least : 0;
+      endRound();
+      round = { doc: o.doc, least: Infinity, all: gathered(o.doc, before) };
+    }
+    round.at = at;
+    for (const e of entries) {
+      round.least = Math.min(round.least, depth(e.target));
+      const seen = o.targets.get(e.target);
+      const border = e.borderBoxSize[0], content = e.contentBoxSize[0];
+      if (seen) seen.last = seen.box === 'border' ? border.inlineSize + ' ' + border.blockSize : content.inlineSize + ' ' + content.blockSize;
+      write(`resize ${o.name} ${nameOf(e.target)} rect ${rect(e.contentRect)} border ${px(border.inlineSize)} ${px(border.blockSize)}`);
+    }
+    call(o.handler, { kind: 'resize', entries });
+  }
+  function intersected(o, entries) {
+    endRound();
+    for (const e of entries) write(intersectLine(o, e));
+    call(o.handler, { kind: 'intersect', entries });
+  }
+
+  // ---- callbacks ----
+  function guarded(run) {
+    try { run(); } catch (e) {
+      if (e instanceof NotShown || e instanceof Ended) { api.stopped = api.stopped || [e instanceof Ended ? 'ended' : 'not-shown', e.message]; return; }
+      throw e;
+    }
+  }
+  function call(commands, told) {
+    if (!commands || api.stopped) return;
+    guarded(() => body(commands, told, null));
+  }
+  // Runs commands up to the first that throws.
+  function body(commands, told, entry) {
+    for (const c of commands) if (!begun(c, told, entry)) return false;
+    return true;
+  }
+  function begun(c, told, entry) {
+    try {
+      if (c.op === 'each') {
+        for (const e of told ? told.entries : []) if (!body(c.body, told, e)) return false;
+      } else if (c.op === 'when') {
+        if (holds(c.args, told, entry)) return body(c.body, told, entry);
+      } else commands[c.op](c.args, entry);
+      return true;
+    } catch (e) {
+      if (e instanceof NotShown || e instanceof Ended) throw e;
+      write(`throw ${c.line} ${e instanceof Thrown ? e.kind : e.name}`);
+      return false;
+    }
+  }
+  function listener(name) {
+    const found = handler(name);
+    if (!handlerCalls.has(name)) handlerCalls.set(name, () => call(found, null));
+    return handlerCalls.get(name);
+  }
+  function aim(word, entry) {
+    if (word[0] === '@') return shown(named(word.slice(1), 'doc')).window;
+    const thing = node(word, entry, 'node', 'doc', 'query');
+    return thing.what === 'node' ? thing.element : thing.what === 'doc' ? shown(thing).document : thing.list;
+  }
+  function holds(args, told, entry) {
+    if (args[0] === 'not') return !holds(args.slice(1), told, entry);
+    const number = word => parseFloat(word);
+    if (args[0] === 'wider') return node(args[1], entry).element.getBoundingClientRect().width > number(args[2]);
+    if (args[0] === 'taller') return node(args[1], entry).element.getBoundingClientRect().height > number(args[2]);
+    if (args[0] === 'matches') return named(args[1], 'query').list.matches;
+    if (args[0] === 'attached') return node(args[1], entry).element.parentNode !== null;
+    if (!entry) throw new Thrown('ReferenceError');
+    if (told.kind !== 'intersect') throw new Thrown('TypeError');
+    return entry.isIntersecting;
+  }
+  function post(task) {
+    waiting++;
+    const channel = new MessageChannel();
+    channel.port1.onmessage = () => { waiting--; channel.port1.close(); runTask(task); };
+    channel.port2.postMessage(0);
+  }
+  function runTask(task) {
+    endRound();
+    if (!active(task.doc) || api.stopped) return;
+    write(`task ${task.doc.name} ${task.name}`);
+    call(task.handler, null);
+  }
+
+  // ---- commands ----
+  const commands = {
+    viewport() { throw new NotShown('a viewport that is changed inside a handler or block'); },
+    block([name, doc]) { fresh(name); make(name, 'block', shown(named(doc, 'doc')), 'div'); },
+    image([name, doc, width, height]) {
+      fresh(name);
+      const made = make(name, 'image', shown(named(doc, 'doc')), 'canvas');
+      made.element.style.containIntrinsicSize = natural(width, height);
+    },
+    frame([name, doc, inside]) {
+      fresh(name);
+      const home = shown(named(doc, 'doc'));
+      fresh(inside, name);
+      const made = make(name, 'frame', home, 'iframe');
+      const framed = { what: 'doc', name: inside, state: 'fresh', frame: made };
+      names.set(inside, framed);
+      docs.push(framed);
+    },
+    append([parent, child], entry) {
+      const p = node(parent, entry, 'node', 'doc'), n = node(child, entry);
+      inner(p).appendChild(n.element);
+      space(n);
+      settleFrames();
+    },
+    before([parent, child, sibling], entry) {
+      const p = node(parent, entry, 'node', 'doc'), n = node(child, entry), s = node(sibling, entry);
+      inner(p).insertBefore(n.element, s.element);
+      space(n);
+      settleFrames();
+    },
+    remove([child], entry) {
+      const n = node(child, entry);
+      n.element.remove();
+      n.spacer.remove();
+      settleFrames();
+    },
+    set([child, property, value], entry) {
+      const n = node(child, entry);
+      n.style[property] = value;
+      n.element.style.setProperty(property === 'border' || /^border-(top|right|bottom|left)$/.test(property) ? property + '-width' : property,
+        property === 'display' && value === 'block' && n.kind === 'block' ? 'flow-root' : value);
+    },
+    grow([child, property, by], entry) {
+      const n = node(child, entry);
+      if (!/px$/.test(n.style[property])) throw new Thrown('TypeError');
+      const sum = Math.trunc(parseFloat(n.style[property]) * UNITS) + Math.trunc(parseFloat(by) * UNITS);
+      n.style[property] = Math.min(Math.max(sum, 0), 1000000 * UNITS) / UNITS + 'px';
+      n.element.style.setProperty(property, n.style[property]);
+    },
+    load([child, width, height], entry) {
+      const n = node(child, entry);
+      if (n.kind !== 'image') throw new Thrown('TypeError');
+      n.element.style.containIntrinsicSize = natural(width, height);
+    },
+    ro([name, doc, to]) {
+      fresh(name);
+      const o = { what: 'ro', name, doc: shown(named(doc, 'doc')), handler: handler(to), targets: new Map() };
+      o.real = new o.doc.window.ResizeObserver(entries => guarded(() => resized(o, entries)));
+      names.set(name, o);
+      observers.push(o);
+    },
+    'ro-observe'([name, child, box], entry) {
+      const o = named(name, 'ro'), n = node(child, entry);
+      o.real.observe(n.element, { box: box + '-box' });
+      o.targets.delete(n.element);
+      o.targets.set(n.element, { box, last: null });
+    },
+    'ro-unobserve'([name, child], entry) {
+      const o = named(name, 'ro'), n = node(child, entry);
+      o.real.unobserve(n.element);
+      o.targets.delete(n.element);
+    },
+    'ro-disconnect'([name]) { const o = named(name, 'ro'); o.real.disconnect(); o.targets.clear(); },
+    io([name, doc, to, , root, ...rest], entry) {
+      fresh(name);
+      const home = shown(named(doc, 'doc')), commandsTo = handler(to);
+      const at = root === '-' ? null : inner(node(root, entry, 'node', 'doc'));
+      const cut = rest.indexOf('threshold');
+      const o = { what: 'io', name, doc: home, handler: commandsTo };
+      o.real = new home.window.IntersectionObserver(entries => guarded(() => intersected(o, entries)),
+        { root: at, rootMargin: rest.slice(1, cut).join(' '), threshold: rest.slice(cut + 1).map(Number) });
+      names.set(name, o);
+    },
+    'io-observe'([name, child], entry) { named(name, 'io').real.observe(node(child, entry).element); },
+    'io-unobserve'([name, child], entry) { named(name, 'io').real.unobserve(node(child, entry).element); },
+    'io-disconnect'([name]) { named(name, 'io').real.disconnect(); },
+    'io-take'([name]) {
+      const o = named(name, 'io'), taken = o.real.takeRecords();
+      write(`take ${name} ${taken.length}`);
+      for (const e of taken) write(intersectLine(o, e));
+    },
+    listen([target, kind, to], entry) { const t = aim(target, entry); t.addEventListener(kind, listener(to)); },
+    unlisten([target, kind, to], entry) { const t = aim(target, entry); t.removeEventListener(kind, listener(to)); },
+    media([name, doc, query]) {
+      fresh(name);
+      const list = shown(named(doc, 'doc')).window.matchMedia(query);
+      names.set(name, { what: 'query', name, list });
+      list.addEventListener('change', e => { endRound(); write(`event change ${name} ${e.matches}`); });
+    },
+    scroll([target, x, y], entry) { scroller(target, entry).scrollTo(parseFloat(x), parseFloat(y)); },
+    'scroll-by'([target, x, y], entry) { scroller(target, entry).scrollBy(parseFloat(x), parseFloat(y)); },
+    raf([doc, key, to]) {
+      const d = named(doc, 'doc'), commandsTo = handler(to);
+      shown(d).frames = d.frames || new Map();
+      if (d.frames.has(key)) throw new Thrown('TypeError');
+      d.frames.set(key, d.window.requestAnimationFrame(() => {
+        d.frames.delete(key);
+        write(`frame ${doc} ${key}`);
+        call(commandsTo, null);
+      }));
+    },
+    'cancel-raf'([doc, key]) {
+      const d = named(doc, 'doc');
+      if (!d.frames || !d.frames.has(key)) return;
+      d.window.cancelAnimationFrame(d.frames.get(key));
+      d.frames.delete(key);
+    },
+    timer([doc, key, wait, to]) {
+      const d = named(doc, 'doc'), commandsTo = handler(to);
+      if (timers.some(t => t.doc === d && t.key === key)) throw new Thrown('TypeError');
+      timers.push({ doc: d, key, at: clock + Number(wait), handler: commandsTo });
+    },
+    'clear-timer'([doc, key]) {
+      const d = named(doc, 'doc'), at = timers.findIndex(t => t.doc === d && t.key === key);
+      if (at >= 0) timers.splice(at, 1);
+    },
+    post([doc, to]) {
+      const task = { doc: named(doc, 'doc'), name: to, handler: handler(to) };
+      if (inUpdate) post(task); else due.push(task);
+    },
+    say([name]) { write('say ' + name); },
+    read([target], entry) {
+      const t = node(target, entry, 'node', 'doc');
+      if (t.what === 'doc') {
+        const w = shown(t).window;
+        return write(`read ${t.name} ${[0, 0, w.innerWidth, w.innerHeight, w.scrollX, w.scrollY].map(px).join(' ')}`);
+      }
+      const r = t.element.getBoundingClientRect(), root = t.element.parentNode && t.element.parentNode.nodeType === 9;
+      write(`read ${t.name} ${rect(r)} ${root ? '0 0' : px(t.element.scrollLeft) + ' ' + px(t.element.scrollTop)}`);
+    },
+  };
+  function scroller(target, entry) {
+    const t = node(target, entry, 'node', 'doc');
+    return t.what === 'doc' ? shown(t).window : t.element;
+  }
+
+  // ---- ticks ----
+  function startTick(c) {
+    const time = Number(c.args[0]);
+    if (time < clock) { write(`throw ${c.line} RangeError`); return false; }
+    clock = time;
+    write('tick ' + time);
+    const list = timers.filter(t => t.at <= clock).sort((a, b) => a.at - b.at);
+    for (const t of list) {
+      const at = timers.indexOf(t);
+      if (at < 0) continue;
+      timers.splice(at, 1);
+      if (!active(t.doc)) continue;
+      write(`timer ${t.doc.name} ${t.key}`);
+      call(t.handler, null);
+    }
+    // Asked for in each tick, so that there is an update; what was posted before it stands before what the update queues.
+    window.requestAnimationFrame(() => { for (const task of due.splice(0)) post(task); inUpdate = true; });
+    return true;
+  }
+  const api = {
+    stopped: null,
+    lines,
+    // Runs items up to the next thing that only the tool can do.
+    step() {
+      guarded(() => { while (next < script.items.length && !api.stopped) {
+        const c = script.items[next++];
+        if (c.op === 'tick') { if (startTick(c)) { api.wants = ['tick', clock]; return; } }
+        else if (c.op === 'viewport') { api.wants = ['viewport', parseFloat(c.args[0]), parseFloat(c.args[1])]; return; }
+        else begun(c, null, null);
+      } api.wants = ['end']; });
+      return api.stopped || api.wants;
+    },
+    // Waits until no task is left.
+    async drained() {
+      for (let quiet = 0; quiet < 2;) {
+        await new Promise(done => { const c = new MessageChannel(); c.port1.onmessage = () => { c.port1.close(); done(); }; c.port2.postMessage(0); });
+        quiet = waiting ? 0 : quiet + 1;
+        if (api.stopped) break;
+      }
+      endRound();
+      inUpdate = false;
+    },
+  };
+  const top = { what: 'doc', name: 'top', frame: null };
+  names.set('top', top);
+  docs.push(top);
+  opened(top, document);
+  window.observersRun = api;
+})
