@@ -48,7 +48,8 @@ module _ {A : Type 0} (f : A → A) where
     twice true x = sym (again x)
     twice false x = refl
 
-    mark_set : (marks : List Bool) (xs : List A) (i : ℕ) → length xs ≤ length marks → marked_in f (slice_set marks i true) xs ≡ change_at f i (marked_in f marks xs)
+    mark_set : (marks : List Bool) (xs : List A) (i : ℕ) → length xs ≤ length marks → marked_in f (slice_set marks i true) xs
+        ≡ change_at f i (marked_in f marks xs)
     mark_set [] [] i enough = refl
     mark_set [] (x ∷ xs) i enough = absurd (omega arith)
     mark_set (mark ∷ marks) [] zero enough = refl

@@ -17,10 +17,11 @@ taken_append with (x ∷ xs) ys s = taken_append with xs ys (with x s)
 
 filter_append : {A : Type 0} (p : A → Bool) (xs ys : List A) → filter p (xs ++ ys) ≡ filter p xs ++ filter p ys
 filter_append p [] ys = refl
-filter_append p (x ∷ xs) ys = elim (p x) as (λ b. cond b (x ∷ filter p (xs ++ ys)) (filter p (xs ++ ys)) ≡ cond b (x ∷ filter p xs) (filter p xs) ++ filter p ys) [
-  | true ↦ ap (λ zs. x ∷ zs) (filter_append p xs ys)
-  | false ↦ filter_append p xs ys
-]
+filter_append p (x ∷ xs) ys = elim (p x) as (λ b. cond b (x ∷ filter p (xs ++ ys)) (filter p (xs ++ ys))
+    ≡ cond b (x ∷ filter p xs) (filter p xs) ++ filter p ys) [
+      | true ↦ ap (λ zs. x ∷ zs) (filter_append p xs ys)
+      | false ↦ filter_append p xs ys
+    ]
 
 pub frames_whole : (tree : Tree) (n : ℕ) → frames_in tree n ≡ frames_down 65536 tree n
 unfolding frames_in frames_down inclusive_descendants
@@ -30,18 +31,21 @@ pub frames_ended : (tree : Tree) (n : ℕ) → frames_down 0 tree n ≡ []
 unfolding frames_down order_down
 frames_ended tree n = refl
 
-own_first : (framed : Option ℕ) (xs : List ℕ) (tree : Tree) (n : ℕ) → (element_at tree n).framed ≡ framed → filter_map (λ each. (element_at tree each).framed) (n ∷ xs) ≡ option_to_list framed ++ filter_map (λ each. (element_at tree each).framed) xs
+own_first : (framed : Option ℕ) (xs : List ℕ) (tree : Tree) (n : ℕ) → (element_at tree n).framed ≡ framed
+    → filter_map (λ each. (element_at tree each).framed) (n ∷ xs) ≡ option_to_list framed ++ filter_map (λ each. (element_at tree each).framed) xs
 own_first None xs tree n is = rw is
 own_first (Some document) xs tree n is = rw is
 
-frames_flat : (high : ℕ) (tree : Tree) (kids : List ℕ) → filter_map (λ each. (element_at tree each).framed) (flat_map (order_down high tree) kids) ≡ flat_map (frames_down high tree) kids
+frames_flat : (high : ℕ) (tree : Tree) (kids : List ℕ) → filter_map (λ each. (element_at tree each).framed) (flat_map (order_down high tree) kids)
+    ≡ flat_map (frames_down high tree) kids
 unfolding frames_down
 frames_flat high tree [] = refl
 frames_flat high tree (kid ∷ kids) =
     filter_map-append (λ each. (element_at tree each).framed) (order_down high tree kid) (flat_map (order_down high tree) kids)
     ∙ ap (λ xs. filter_map (λ each. (element_at tree each).framed) (order_down high tree kid) ++ xs) (frames_flat high tree kids)
 
-pub frames_more : (high : ℕ) (tree : Tree) (n : ℕ) → frames_down (suc high) tree n ≡ option_to_list (element_at tree n).framed ++ flat_map (frames_down high tree) (element_at tree n).children
+pub frames_more : (high : ℕ) (tree : Tree) (n : ℕ) → frames_down (suc high) tree n
+    ≡ option_to_list (element_at tree n).framed ++ flat_map (frames_down high tree) (element_at tree n).children
 unfolding frames_down order_down
 frames_more high tree n =
     own_first ((element_at tree n).framed) (flat_map (order_down high tree) (element_at tree n).children) tree n refl
@@ -83,8 +87,10 @@ module _ (test : DocumentState → Bool) (tree : Tree) where
   unfolding led_to
   led_append zero xs ys = refl
   led_append (suc deep) xs ys =
-      ap (flat_map (λ document. document ∷ led_to deep test tree (frames_below tree (document_at tree document).root))) (filter_append (λ document. test (document_at tree document).state) xs ys)
-      ∙ flat_map-append (λ document. document ∷ led_to deep test tree (frames_below tree (document_at tree document).root)) (filter (λ document. test (document_at tree document).state) xs) (filter (λ document. test (document_at tree document).state) ys)
+      ap (flat_map (λ document. document ∷ led_to deep test tree (frames_below tree (document_at tree document).root)))
+      (filter_append (λ document. test (document_at tree document).state) xs ys)
+      ∙ flat_map-append (λ document. document ∷ led_to deep test tree (frames_below tree (document_at tree document).root))
+      (filter (λ document. test (document_at tree document).state) xs) (filter (λ document. test (document_at tree document).state) ys)
 
   led_flat : (deep : ℕ) (f : ℕ → List ℕ) (xs : List ℕ) → led_to deep test tree (flat_map f xs) ≡ flat_map (λ x. led_to deep test tree (f x)) xs
   led_flat deep f [] = led_none deep
@@ -107,7 +113,8 @@ module _ (test : DocumentState → Bool) (tree : Tree) where
   -- what an element and its descendants lead to
   pub led_down : (deep high n : ℕ)
       → led_to deep test tree (frames_down (suc high) tree n)
-      ≡ led_to deep test tree (option_to_list (element_at tree n).framed) ++ flat_map (λ kid. led_to deep test tree (frames_down high tree kid)) (element_at tree n).children
+      ≡ led_to deep test tree (option_to_list (element_at tree n).framed) ++ flat_map (λ kid. led_to deep test tree (frames_down high tree kid))
+      (element_at tree n).children
   led_down deep high n =
       ap (led_to deep test tree) (frames_more high tree n)
       ∙ led_append deep (option_to_list (element_at tree n).framed) (flat_map (frames_down high tree) (element_at tree n).children)
@@ -146,25 +153,31 @@ module _ (test : DocumentState → Bool) (tree : Tree) where
     pub late_taken : (xs : List ℕ) (s : S) → deep ≡ 0 → s ≡ taken with (led_to deep test tree xs) s
     late_taken xs s is = sym (ap (λ n. taken with (led_to n test tree xs) s) is ∙ ap (λ ys. taken with ys s) (led_nowhere xs))
 
-    pub other_taken : (o : Option ℕ) (document : ℕ) (s : S) → o ≡ Some document → test ((document_at tree document).state) ≡ false → s ≡ taken with (led_to deep test tree (option_to_list o)) s
-    other_taken o document s is differs = sym (ap (λ o. taken with (led_to deep test tree (option_to_list o)) s) is ∙ ap (λ ys. taken with ys s) (led_past deep document differs))
+    pub other_taken : (o : Option ℕ) (document : ℕ) (s : S) → o ≡ Some document → test ((document_at tree document).state) ≡ false → s
+        ≡ taken with (led_to deep test tree (option_to_list o)) s
+    other_taken o document s is differs = sym (ap (λ o. taken with (led_to deep test tree (option_to_list o)) s) is
+        ∙ ap (λ ys. taken with ys s) (led_past deep document differs))
 
-    one_taken : (o : Option ℕ) (document less : ℕ) (s after : S) → o ≡ Some document → deep ≡ suc less → test ((document_at tree document).state) ≡ true → after ≡ with document s
-        → taken with (led_to less test tree (frames_below tree (document_at tree document).root)) after ≡ taken with (led_to deep test tree (option_to_list o)) s
+    one_taken : (o : Option ℕ) (document less : ℕ) (s after : S) → o ≡ Some document → deep ≡ suc less → test ((document_at tree document).state) ≡ true
+        → after ≡ with document s
+        → taken with (led_to less test tree (frames_below tree (document_at tree document).root)) after
+        ≡ taken with (led_to deep test tree (option_to_list o)) s
     one_taken o document less s after is more meets took =
         ap (taken with (led_to less test tree (frames_below tree (document_at tree document).root))) took
         ∙ sym (ap (λ o. taken with (led_to deep test tree (option_to_list o)) s) is
         ∙ ap (λ n. taken with (led_to n test tree (document ∷ [])) s) more
         ∙ ap (λ ys. taken with ys s) (led_one less document meets))
 
-    pub bare_taken : (o : Option ℕ) (document less : ℕ) (s after : S) → o ≡ Some document → deep ≡ suc less → test ((document_at tree document).state) ≡ true → after ≡ with document s
+    pub bare_taken : (o : Option ℕ) (document less : ℕ) (s after : S) → o ≡ Some document → deep ≡ suc less → test ((document_at tree document).state)
+        ≡ true → after ≡ with document s
         → frames_below tree (document_at tree document).root ≡ []
         → after ≡ taken with (led_to deep test tree (option_to_list o)) s
     bare_taken o document less s after is more meets took bare =
         sym (ap (λ xs. taken with (led_to less test tree xs) after) bare ∙ ap (λ ys. taken with ys after) (led_none less))
         ∙ one_taken o document less s after is more meets took
 
-    pub full_taken : (o : Option ℕ) (document less root : ℕ) (s after end : S) → o ≡ Some document → deep ≡ suc less → test ((document_at tree document).state) ≡ true → after ≡ with document s
+    pub full_taken : (o : Option ℕ) (document less root : ℕ) (s after end : S) → o ≡ Some document → deep ≡ suc less
+        → test ((document_at tree document).state) ≡ true → after ≡ with document s
         → (document_at tree document).root ≡ Some root → end ≡ taken with (led_to less test tree (frames_down 65536 tree root)) after
         → end ≡ taken with (led_to deep test tree (option_to_list o)) s
     full_taken o document less root s after end is more meets took full ends =
@@ -175,4 +188,5 @@ module _ (test : DocumentState → Bool) (tree : Tree) where
 
     -- where no level is looked at
     pub low_taken : (n : ℕ) (s : S) → high ≡ 0 → s ≡ taken with (led_to deep test tree (frames_down high tree n)) s
-    low_taken n s is = sym (ap (λ h. taken with (led_to deep test tree (frames_down h tree n)) s) is ∙ ap (λ xs. taken with (led_to deep test tree xs) s) (frames_ended tree n) ∙ ap (λ xs. taken with xs s) (led_none deep))
+    low_taken n s is = sym (ap (λ h. taken with (led_to deep test tree (frames_down h tree n)) s) is
+        ∙ ap (λ xs. taken with (led_to deep test tree xs) s) (frames_ended tree n) ∙ ap (λ xs. taken with xs s) (led_none deep))

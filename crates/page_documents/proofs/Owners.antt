@@ -58,11 +58,13 @@ then_document x y z first next = record {
   ];
 }
 
-ended : (dying : List ℕ) (d : ℕ) (documents : List Document) → IsLeft (entry_or no_document documents d) (entry_or no_document (change_each (λ (it : Document). record it { state = Dead }) dying documents) d)
+ended : (dying : List ℕ) (d : ℕ) (documents : List Document)
+    → IsLeft (entry_or no_document documents d) (entry_or no_document (change_each (λ (it : Document). record it { state = Dead }) dying documents) d)
 ended [] d documents = same_document (entry_or no_document documents d)
 ended (place ∷ places) d documents =
     then_document _ _ _
-    (entry_changed IsLeft (λ (it : Document). record it { state = Dead }) same_document (λ it. record { frame = refl; root = inl refl }) no_document place d documents)
+    (entry_changed IsLeft (λ (it : Document). record it { state = Dead }) same_document (λ it. record { frame = refl; root = inl refl }) no_document place d
+    documents)
     (ended places d (change_at (λ (it : Document). record it { state = Dead }) place documents))
 
 unlinked_element : (tree : Tree) (n m : ℕ) (container : Option Container) → IsApart (element_at tree m) (element_at (unlinked tree n container) m)
@@ -70,21 +72,25 @@ unlinked_element tree n m None = same_element (element_at tree m)
 unlinked_element tree n m (Some (InDocument document)) = same_element (element_at tree m)
 unlinked_element tree n m (Some (InElement parent)) =
     then_element _ _ _
-    (entry_changed IsApart (λ (it : Element). record it { parent = None }) same_element (λ it. record { framed = refl; owner = refl; parent = inr refl }) no_element n m tree.elements)
-    (entry_changed IsApart (λ (it : Element). record it { children = without n (it.children) }) same_element (λ it. record { framed = refl; owner = refl; parent = inl refl }) no_element parent m
+    (entry_changed IsApart (λ (it : Element). record it { parent = None }) same_element (λ it. record { framed = refl; owner = refl; parent = inr refl })
+    no_element n m tree.elements)
+    (entry_changed IsApart (λ (it : Element). record it { children = without n (it.children) }) same_element
+    (λ it. record { framed = refl; owner = refl; parent = inl refl }) no_element parent m
     (change_at (λ (it : Element). record it { parent = None }) n tree.elements))
 
 unlinked_document : (tree : Tree) (n d : ℕ) (container : Option Container) → IsLeft (document_at tree d) (document_at (unlinked tree n container) d)
 unlinked_document tree n d None = same_document (document_at tree d)
 unlinked_document tree n d (Some (InElement parent)) = same_document (document_at tree d)
 unlinked_document tree n d (Some (InDocument document)) =
-    entry_changed IsLeft (λ (it : Document). record it { root = None }) same_document (λ it. record { frame = refl; root = inr refl }) no_document document d tree.documents
+    entry_changed IsLeft (λ (it : Document). record it { root = None }) same_document (λ it. record { frame = refl; root = inr refl }) no_document document
+    d tree.documents
 
 unlinked_count : (tree : Tree) (n : ℕ) (container : Option Container) → length (unlinked tree n container).elements ≡ length tree.elements
 unlinked_count tree n None = refl
 unlinked_count tree n (Some (InDocument document)) = refl
 unlinked_count tree n (Some (InElement parent)) =
-    change_length (λ (it : Element). record it { children = without n (it.children) }) parent (change_at (λ (it : Element). record it { parent = None }) n tree.elements)
+    change_length (λ (it : Element). record it { children = without n (it.children) }) parent
+    (change_at (λ (it : Element). record it { parent = None }) n tree.elements)
     ∙ change_length (λ (it : Element). record it { parent = None }) n tree.elements
 
 -- something that is there was there before
@@ -96,7 +102,8 @@ gone_stays : (before after : Option ℕ) → (after ≡ before) ⊎ (after ≡ N
 gone_stays before after (inl same) none = same ∙ none
 gone_stays before after (inr gone) none = gone
 
-module _ (before after : Tree) (element : (m : ℕ) → IsApart (element_at before m) (element_at after m)) (document : (d : ℕ) → IsLeft (document_at before d) (document_at after d))
+module _ (before after : Tree) (element : (m : ℕ) → IsApart (element_at before m) (element_at after m)) (document : (d : ℕ)
+    → IsLeft (document_at before d) (document_at after d))
     (count : length after.elements ≡ length before.elements) (owners : HaveOwners before) where
   kept : HaveOwners after
   kept = record {

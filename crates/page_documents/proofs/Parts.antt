@@ -4,14 +4,16 @@ use Rattle.page_model.specs.World.{Dead, Document, Tree}
 use Rattle.page_model.specs.Lookups.{change_at, change_each}
 use Rattle.page_model.specs.Documents.{Container, InElement, InDocument, container_of, unlinked, removed, with_state, stands_in_active, documents_inside, is_active_state}
 
-crossed_at : {A : Type 0} (f g : A → A) → ((x : A) → f (g x) ≡ g (f x)) → (i j : ℕ) (xs : List A) → change_at f i (change_at g j xs) ≡ change_at g j (change_at f i xs)
+crossed_at : {A : Type 0} (f g : A → A) → ((x : A) → f (g x) ≡ g (f x)) → (i j : ℕ) (xs : List A) → change_at f i (change_at g j xs)
+    ≡ change_at g j (change_at f i xs)
 crossed_at f g same i j [] = refl
 crossed_at f g same zero zero (x ∷ xs) = ap (λ y. y ∷ xs) (same x)
 crossed_at f g same zero (suc j) (x ∷ xs) = refl
 crossed_at f g same (suc i) zero (x ∷ xs) = refl
 crossed_at f g same (suc i) (suc j) (x ∷ xs) = ap (λ ys. x ∷ ys) (crossed_at f g same i j xs)
 
-pub crossed_each : {A : Type 0} (f g : A → A) → ((x : A) → f (g x) ≡ g (f x)) → (places : List ℕ) (j : ℕ) (xs : List A) → change_each f places (change_at g j xs) ≡ change_at g j (change_each f places xs)
+pub crossed_each : {A : Type 0} (f g : A → A) → ((x : A) → f (g x) ≡ g (f x)) → (places : List ℕ) (j : ℕ) (xs : List A)
+    → change_each f places (change_at g j xs) ≡ change_at g j (change_each f places xs)
 crossed_each f g same [] j xs = refl
 crossed_each f g same (i ∷ places) j xs = ap (change_each f places) (crossed_at f g same i j xs) ∙ crossed_each f g same places j (change_at f i xs)
 
@@ -36,6 +38,10 @@ by_parts tree n dying (Some (InDocument document)) =
 
 pub removed_by_parts : (tree : Tree) (n : ℕ)
     → removed tree n
-    ≡ (let it : Tree = record { elements = (unlinked tree n (container_of tree n)).elements; documents = unrooted (container_of tree n) (with_state Dead (ends tree n) tree).documents } in it)
+    ≡ (let it : Tree = record {
+      elements = (unlinked tree n (container_of tree n)).elements;
+      documents = unrooted (container_of tree n)
+          (with_state Dead (ends tree n) tree).documents;
+    } in it)
 unfolding removed
 removed_by_parts tree n = by_parts tree n (ends tree n) (container_of tree n)

@@ -36,7 +36,8 @@ module _ {P : Type 0} (carried : P → Carried) (forest : Forest P) (documents :
       ∙ depth_is (parent_of forest.nodes) (depth forest.nodes) (depth_one forest.nodes) is.falls 65537 n (omega (arith, low_enough is n))))
       (low_enough is n)
 
-  pub root_above : (n parent : ℕ) → parent_of forest.nodes n ≡ Some parent → root_of (seen_tree carried forest documents) n ≡ root_of (seen_tree carried forest documents) parent
+  pub root_above : (n parent : ℕ) → parent_of forest.nodes n ≡ Some parent → root_of (seen_tree carried forest documents) n
+      ≡ root_of (seen_tree carried forest documents) parent
   unfolding root_of top_of last_of
   root_above n parent up =
       ap (last_of n) (path_child (nodes_of (seen_tree carried forest documents)) n parent (parent_seen carried forest documents n ∙ up) (shallow parent))
@@ -48,7 +49,8 @@ module _ {P : Type 0} (carried : P → Carried) (forest : Forest P) (documents :
   root_self n top = ap (last_of n) (path_top (nodes_of (seen_tree carried forest documents)) n (parent_seen carried forest documents n ∙ top))
 
 -- which documents there are makes no difference
-pub root_alone : {P : Type 0} (carried : P → Carried) (forest : Forest P) (documents : List Document) (n : ℕ) → root_of (seen_tree carried forest []) n ≡ root_of (seen_tree carried forest documents) n
+pub root_alone : {P : Type 0} (carried : P → Carried) (forest : Forest P) (documents : List Document) (n : ℕ) → root_of (seen_tree carried forest []) n
+    ≡ root_of (seen_tree carried forest documents) n
 unfolding root_of
 root_alone carried forest documents n = refl
 
@@ -66,6 +68,7 @@ unfolding stands_in_active
 active_there tree n found is = ap (is_active_there tree) is
 
 -- whether an element is a root element, by its document
-pub root_number : (tree : Tree) (n owner : ℕ) (it : Document) (root : Option ℕ) → (element_at tree n).document ≡ owner → document_at tree owner ≡ it → it.root ≡ root → is_root_element tree n ≡ is_number root n
+pub root_number : (tree : Tree) (n owner : ℕ) (it : Document) (root : Option ℕ) → (element_at tree n).document ≡ owner → document_at tree owner ≡ it
+    → it.root ≡ root → is_root_element tree n ≡ is_number root n
 root_number tree n owner it root belongs there rooted =
     ap (λ d. is_number (document_at tree d).root n) belongs ∙ ap (λ (it : Document). is_number it.root n) there ∙ ap (λ o. is_number o n) rooted

@@ -35,11 +35,13 @@ module _ {P : Type 0} (carried : P → Carried) where
     pub children_seen : (element_at (seen_tree carried forest documents) n).children ≡ children_of forest.nodes n
     children_seen = ap (λ (it : Element). it.children) element_seen ∙ found_children (slice_get forest.nodes n)
 
-    found_payload : (it : Option (Knot P)) (payload : P) → option_map (λ (knot : Knot P). knot.payload) it ≡ Some payload → (found it).framed ≡ (carried payload).framed
+    found_payload : (it : Option (Knot P)) (payload : P) → option_map (λ (knot : Knot P). knot.payload) it ≡ Some payload → (found it).framed
+        ≡ (carried payload).framed
     found_payload None payload is = cc
     found_payload (Some knot) payload is = ap (λ (p : P). (carried p).framed) (let e : knot.payload ≡ payload = cc in e)
 
-    found_owner : (it : Option (Knot P)) (payload : P) → option_map (λ (knot : Knot P). knot.payload) it ≡ Some payload → (found it).document ≡ (carried payload).document
+    found_owner : (it : Option (Knot P)) (payload : P) → option_map (λ (knot : Knot P). knot.payload) it ≡ Some payload → (found it).document
+        ≡ (carried payload).document
     found_owner None payload is = cc
     found_owner (Some knot) payload is = ap (λ (p : P). (carried p).document) (let e : knot.payload ≡ payload = cc in e)
 
@@ -55,7 +57,8 @@ pub node_there : {P : Type 0} (carried : P → Carried) (nodes : List (Knot P)) 
 node_there carried nodes n inside = subst (λ k. n < k) (sym (length-map nodes (element_of carried))) inside
 
 -- what stands at a document's number
-pub entry_here : (documents : List Document) (number : ℕ) (it : Document) → number < length documents → it ≡ get_or documents number it → entry_or no_document documents number ≡ it
+pub entry_here : (documents : List Document) (number : ℕ) (it : Document) → number < length documents → it ≡ get_or documents number it
+    → entry_or no_document documents number ≡ it
 entry_here documents number it inside is = ap (λ o. unwrap_or o no_document) (slice_get-get_or documents number it inside) ∙ sym is
 
 -- an element that there is, is a node of the tree

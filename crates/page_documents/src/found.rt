@@ -7,7 +7,7 @@ use std::alloc::{AllocError, Global};
 use std::convert::Infallible;
 use std::marker::Model;
 
-/// More documents than these are never held.
+/// As many documents as are ever held.
 pub(crate) const MOST_DOCUMENTS: usize = 64;
 
 // Takes the documents that a walk comes to, in its order.

@@ -12,7 +12,8 @@ returns-then-not-is_root_element g c =
 
 pub returns : goal.returns
 returns g c =
-    ap Some (c.document.ensures ∙ sym (owner_seen (g.P.Owned.carried) c.args.tree.now c.args.entries.now (c.args.node.0) c.payload.result.now c.payload.ensures.value))
+    ap Some (c.document.ensures ∙ sym (owner_seen (g.P.Owned.carried) c.args.tree.now c.args.entries.now (c.args.node.0) c.payload.result.now
+    c.payload.ensures.value))
     ∙ standing (seen_tree (g.P.Owned.carried) c.args.tree.now c.args.entries.now) (c.args.node.0) (c.top_of.result.0)
     (c.top_of.ensures.value ∙ root_alone (g.P.Owned.carried) c.args.tree.now c.args.entries.now (c.args.node.0))
     (sym c.is_root_element.ensures ∙ c.if-not-is_root_element.false)

@@ -17,8 +17,10 @@ decreases-find_in g l = l.deep * 65538 + l.high + 1
 abbrev pub invariant-find_in-loop-next : goal.invariant-find_in-loop-next
 invariant-find_in-loop-next g l = record {
   among : (c : ℕ) → option_map number l.next ≡ Some c → has (children_of l.tree.nodes (l.fn.node.0)) c ≡ true;
-  walk : taken (g.F.Finder.with) (led_kids (is_in l.state) (seen_tree (g.P.Owned.carried) l.tree l.entries) (g.F.Finder.with) l.deep (l.high - 1) (rest_from (option_map number l.next) (children_of l.tree.nodes (l.fn.node.0)))) l.finder
-      ≡ taken (g.F.Finder.with) (led_to l.deep (is_in l.state) (seen_tree (g.P.Owned.carried) l.tree l.entries) (frames_down l.high (seen_tree (g.P.Owned.carried) l.tree l.entries) (l.fn.node.0))) l.fn.finder;
+  walk : taken (g.F.Finder.with) (led_kids (is_in l.state) (seen_tree (g.P.Owned.carried) l.tree l.entries) (g.F.Finder.with) l.deep (l.high - 1)
+      (rest_from (option_map number l.next) (children_of l.tree.nodes (l.fn.node.0)))) l.finder
+      ≡ taken (g.F.Finder.with) (led_to l.deep (is_in l.state) (seen_tree (g.P.Owned.carried) l.tree l.entries)
+      (frames_down l.high (seen_tree (g.P.Owned.carried) l.tree l.entries) (l.fn.node.0))) l.fn.finder;
 }
 
 abbrev pub decreases-find_in-loop-next : goal.decreases-find_in-loop-next

@@ -14,7 +14,8 @@ pub set_states-requires : goal.set_states-requires
 set_states-requires g c =
     let walked = c.in-Ok.ensures in
     ap (λ xs. length xs) walked
-    ∙ marks_left (led_to 65536 (is_in c.args.from) (seen_tree (g.P.Owned.carried) c.args.tree.now c.as_slice.result.now) (frames_down 65536 (seen_tree (g.P.Owned.carried) c.args.tree.now c.as_slice.result.now) (c.args.node.0))) c.new-found.result
+    ∙ marks_left (led_to 65536 (is_in c.args.from) (seen_tree (g.P.Owned.carried) c.args.tree.now c.as_slice.result.now)
+    (frames_down 65536 (seen_tree (g.P.Owned.carried) c.args.tree.now c.as_slice.result.now) (c.args.node.0))) c.new-found.result
     ∙ ap (λ xs. length xs) c.new-found.ensures
 
 pub returns : goal.returns
@@ -24,6 +25,8 @@ returns g c =
     let few : length c.args.self.now.held ≤ 64 = omega (arith, count, c.self.invariant.within, c.self.invariant.bounded) in
     c.set_states.ensures
     ∙ ap (λ (held : List Document). let it : HeldDocuments = record c.args.self.now { held = held } in it)
-    (inside_changed (put_in c.args.to) (λ it. refl) (is_in c.args.from) (seen_tree (g.P.Owned.carried) c.args.tree.now c.as_slice.result.now) (c.args.node.0) c.new-found.result c.find_in.new.finder c.args.self.now.held few
+    (inside_changed (put_in c.args.to) (λ it. refl) (is_in c.args.from) (seen_tree (g.P.Owned.carried) c.args.tree.now c.as_slice.result.now)
+    (c.args.node.0) c.new-found.result c.find_in.new.finder c.args.self.now.held few
     c.new-found.ensures c.in-Ok.ensures
-    ∙ ap (λ documents. change_each (put_in c.args.to) (documents_inside (is_in c.args.from) (seen_tree (g.P.Owned.carried) c.args.tree.now documents) (c.args.node.0)) c.args.self.now.held) held)
+    ∙ ap (λ documents. change_each (put_in c.args.to) (documents_inside (is_in c.args.from) (seen_tree (g.P.Owned.carried) c.args.tree.now documents)
+    (c.args.node.0)) c.args.self.now.held) held)

@@ -12,21 +12,25 @@ returns-then-stands_in_active-clause-shown g c =
     c.change_inside.ensures
     ∙ ap (λ (held : List Document). let it : HeldDocuments = record c.args.self.now { held = held } in it)
     (shown_there (seen_tree (g.P.Owned.carried) c.adopt.new.tree c.args.self.now.held) (c.args.node.0)
-    (ap (λ (documents : List Document). stands_in_active (seen_tree (g.P.Owned.carried) c.adopt.new.tree documents) (c.args.node.0)) (sym held) ∙ sym c.stands_in_active.ensures ∙ c.if-stands_in_active.true))
+    (ap (λ (documents : List Document). stands_in_active (seen_tree (g.P.Owned.carried) c.adopt.new.tree documents) (c.args.node.0)) (sym held)
+    ∙ sym c.stands_in_active.ensures ∙ c.if-stands_in_active.true))
 
 pub returns-else-stands_in_active-clause-shown : goal.returns-else-stands_in_active-clause-shown
 returns-else-stands_in_active-clause-shown g c =
     let held = c.as_slice.ensures.value ∙ ap (λ (it : HeldDocuments). it.held) c.self.view_is in
     ap (λ (held : List Document). let it : HeldDocuments = record c.args.self.now { held = held } in it)
     (not_shown (seen_tree (g.P.Owned.carried) c.adopt.new.tree c.args.self.now.held) (c.args.node.0)
-    (ap (λ (documents : List Document). stands_in_active (seen_tree (g.P.Owned.carried) c.adopt.new.tree documents) (c.args.node.0)) (sym held) ∙ sym c.stands_in_active.ensures ∙ c.if-stands_in_active.false))
+    (ap (λ (documents : List Document). stands_in_active (seen_tree (g.P.Owned.carried) c.adopt.new.tree documents) (c.args.node.0)) (sym held)
+    ∙ sym c.stands_in_active.ensures ∙ c.if-stands_in_active.false))
 
 pub returns-then-stands_in_active-clause-inserted : goal.returns-then-stands_in_active-clause-inserted
 returns-then-stands_in_active-clause-inserted g c =
-    shown_by_documents (seen_tree (g.P.Owned.carried) c.adopt.new.tree c.args.self.now.held) (adopted (seen_tree (g.P.Owned.carried) c.args.tree.now c.args.self.now.held) c.args.document (c.args.node.0)) _ (c.args.node.0)
+    shown_by_documents (seen_tree (g.P.Owned.carried) c.adopt.new.tree c.args.self.now.held)
+    (adopted (seen_tree (g.P.Owned.carried) c.args.tree.now c.args.self.now.held) c.args.document (c.args.node.0)) _ (c.args.node.0)
     (ap (λ (it : HeldDocuments). it.held) (returns-then-stands_in_active-clause-shown g c)) (c.adopt.ensures.seen c.args.self.now.held)
 
 pub returns-else-stands_in_active-clause-inserted : goal.returns-else-stands_in_active-clause-inserted
 returns-else-stands_in_active-clause-inserted g c =
-    shown_by_documents (seen_tree (g.P.Owned.carried) c.adopt.new.tree c.args.self.now.held) (adopted (seen_tree (g.P.Owned.carried) c.args.tree.now c.args.self.now.held) c.args.document (c.args.node.0)) _ (c.args.node.0)
+    shown_by_documents (seen_tree (g.P.Owned.carried) c.adopt.new.tree c.args.self.now.held)
+    (adopted (seen_tree (g.P.Owned.carried) c.args.tree.now c.args.self.now.held) c.args.document (c.args.node.0)) _ (c.args.node.0)
     (ap (λ (it : HeldDocuments). it.held) (returns-else-stands_in_active-clause-shown g c)) (c.adopt.ensures.seen c.args.self.now.held)
