@@ -7,6 +7,7 @@
   const names = new Map();
   const docs = [];
   const observers = [];            // resize observers in order of creation
+  const crossings = [];            // intersection observers in order of creation
   const timers = [];
   const due = [];                  // posted tasks that wait for the update
   const handlerCalls = new Map();  // one function per handler, so that the browser sees doubles
@@ -67,6 +68,12 @@
     doc.document = document;
     doc.window = document.defaultView;
     document.observersName = doc.name;
+    // The page of a new frame is in quirks mode, where a root element fills the viewport; a document type ends that.
+    if (document.compatMode !== 'CSS1Compat') {
+      document.open();
+      document.write('<!doctype html>');
+      document.close();
+    }
     while (document.firstChild) document.removeChild(document.firstChild);
     for (const kind of ['resize', 'scroll', 'error']) {
       doc.window.addEventListener(kind, event => fired(doc, event), true);
@@ -154,6 +161,26 @@
       write(`resize ${o.name} ${nameOf(e.target)} rect ${rect(e.contentRect)} border ${px(border.inlineSize)} ${px(border.blockSize)}`);
     }
     call(o.handler, { kind: 'resize', entries });
+  }
+  // The browser tells observers in an order that isn't the same in two runs. So the first that is told brings out the records of all:
+  // document by document of the roots, in each in order of creation.
+  function told(first, entries) {
+    first.held = entries;
+    const place = o => docs.findIndex(doc => doc.document === o.follows);
+    for (const o of crossings.slice().sort((a, b) => place(a) - place(b))) {
+      const records = taken(o);
+      if (records.length && active(o.doc)) intersected(o, records);
+    }
+  }
+  // The order of the observe calls, also where the browser keeps its targets as a set.
+  const inOrder = (o, records) => {
+    const place = new Map([...o.targets].map((target, at) => [target, at]));
+    return records.slice().sort((a, b) => a.time - b.time || (place.get(a.target) || 0) - (place.get(b.target) || 0));
+  };
+  function taken(o) {
+    const records = o.held.concat(o.real.takeRecords());
+    o.held = [];
+    return inOrder(o, records);
   }
   function intersected(o, entries) {
     endRound();
@@ -303,18 +330,28 @@
       const home = shown(named(doc, 'doc')), commandsTo = handler(to);
       const at = root === '-' ? null : inner(node(root, entry, 'node', 'doc'));
       const cut = rest.indexOf('threshold');
-      const o = { what: 'io', name, doc: home, handler: commandsTo };
-      o.real = new home.window.IntersectionObserver(entries => guarded(() => intersected(o, entries)),
+      const o = { what: 'io', name, doc: home, handler: commandsTo, targets: new Set(), held: [] };
+      o.follows = at ? at.ownerDocument || at : document;
+      o.real = new home.window.IntersectionObserver(entries => guarded(() => told(o, entries)),
         { root: at, rootMargin: rest.slice(1, cut).join(' '), threshold: rest.slice(cut + 1).map(Number) });
       names.set(name, o);
+      crossings.push(o);
     },
-    'io-observe'([name, child], entry) { named(name, 'io').real.observe(node(child, entry).element); },
-    'io-unobserve'([name, child], entry) { named(name, 'io').real.unobserve(node(child, entry).element); },
-    'io-disconnect'([name]) { named(name, 'io').real.disconnect(); },
+    'io-observe'([name, child], entry) {
+      const o = named(name, 'io'), element = node(child, entry).element;
+      o.real.observe(element);
+      o.targets.add(element);
+    },
+    'io-unobserve'([name, child], entry) {
+      const o = named(name, 'io'), element = node(child, entry).element;
+      o.real.unobserve(element);
+      o.targets.delete(element);
+    },
+    'io-disconnect'([name]) { const o = named(name, 'io'); o.real.disconnect(); o.targets.clear(); },
     'io-take'([name]) {
-      const o = named(name, 'io'), taken = o.real.takeRecords();
-      write(`take ${name} ${taken.length}`);
-      for (const e of taken) write(intersectLine(o, e));
+      const o = named(name, 'io'), records = taken(o);
+      write(`take ${name} ${records.length}`);
+      for (const e of records) write(intersectLine(o, e));
     },
     listen([target, kind, to], entry) { const t = aim(target, entry); t.addEventListener(kind, listener(to)); },
     unlisten([target, kind, to], entry) { const t = aim(target, entry); t.removeEventListener(kind, listener(to)); },
@@ -376,6 +413,7 @@
     const time = Number(c.args[0]);
     if (time < clock) { write(`throw ${c.line} RangeError`); return false; }
     clock = time;
+    api.updated = false;
     write('tick ' + time);
     const list = timers.filter(t => t.at <= clock).sort((a, b) => a.at - b.at);
     for (const t of list) {
@@ -387,11 +425,12 @@
       call(t.handler, null);
     }
     // Asked for in each tick, so that there is an update; what was posted before it stands before what the update queues.
-    window.requestAnimationFrame(() => { for (const task of due.splice(0)) post(task); inUpdate = true; });
+    window.requestAnimationFrame(() => { for (const task of due.splice(0)) post(task); inUpdate = api.updated = true; });
     return true;
   }
   const api = {
     stopped: null,
+    updated: false,
     lines,
     // Runs items up to the next thing that only the tool can do.
     step() {
