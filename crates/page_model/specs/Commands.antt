@@ -211,7 +211,7 @@ does handlers world present (ObserveIntersection observer node) = do
   o ← intersection_observer_named (world.names) observer
   n ← element_meant (world.names) present node
   with_intersections world
-    (observing o n (is_registered n (intersection_observer_at (world.intersection_observers) o).registrations) (world.intersection_observers))
+      (observing o n (is_registered n (intersection_observer_at (world.intersection_observers) o).registrations) (world.intersection_observers))
 does handlers world present (UnobserveIntersection observer node) = do
   o ← intersection_observer_named (world.names) observer
   n ← element_meant (world.names) present node

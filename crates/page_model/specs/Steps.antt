@@ -56,3 +56,8 @@ room limit count = met_unless (nat_lt count (limit_number limit)) limit
 -- the same, but where what is asked for is there already no room is needed
 abbrev pub room_unless : Bool → LimitKind → ℕ → Step (Unit {0})
 room_unless already limit count = met_unless (already || nat_lt count (limit_number limit)) limit
+
+-- whether a step neither throws nor meets a limit
+abbrev pub is_did : {A : Type 0} → Step A → Bool
+is_did (Did value) = true
+is_did step = false

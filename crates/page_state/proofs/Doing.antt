@@ -1,135 +1,85 @@
--- What commands do once their operands are found.
-use Rattle.std.proofs.Common.{◌≡◌, ℕ, ℤ, List, [], ◌∷◌, Some, None, length, refl, ◌∙◌}
-use Rattle.layout_model.specs.Items.{Kind, BlockKind, ImageKind}
-use Rattle.layout_model.specs.Styles.{Declaration}
-use Rattle.text_io.specs.declared.kinds.ThrowKind.{ThrowKind}
-use Rattle.text_io.specs.declared.kinds.LimitKind.{LimitKind}
-use Rattle.text_io.specs.declared.kinds.LimitKind.TheVariants as limits
-use Rattle.script_model.specs.Syntax.{Operand, Dimension, MakeBlock, MakeImage, Append, Before, Remove, SetStyle, Grow, Load, Read, Viewport}
-use Rattle.page_model.specs.World.{World}
+-- What commands come to once their operands are found.
+use Rattle.std.proofs.Common.{◌≡◌, ℕ, [], ◌∷◌, Some, None, Result, Ok, Err, refl, ap, sym, subst, arith}
+use Rattle.script_model.specs.Syntax.{Operand, Append, Before, Remove, Read}
+use Rattle.page_model.specs.World.{Tree, World}
 use Rattle.page_model.specs.Documents.{Container, removed}
-use Rattle.page_model.specs.Operands.{Handlers, Present, new_name, document_named, element_meant, container_meant}
-use Rattle.page_model.specs.Steps.{Step, Did, Threw, Met, Effect, ◌>>=◌, ◌>>◌, becomes, writes, room}
-use Rattle.page_model.specs.Edits.{with_element, with_declaration}
+use Rattle.page_model.specs.Operands.{Handlers, Present, element_meant, container_meant}
+use Rattle.page_model.specs.Steps.{Step, Did, ◌>>=◌, becomes, writes, Effect as ModelEffect}
 use Rattle.page_model.specs.Readings.{reading_of}
-use Rattle.page_model.specs.Commands.{does, placing}
-use Rattle.page_tree.specs.Steps.{growing, loading}
-use Rattle.page_state.specs.Making.{making}
+use Rattle.page_model.specs.Commands.{does, placing, with_tree}
+use Rattle.page_tree.specs.declared.faults.PlaceFault.{PlaceFault}
+use Rattle.page_tree.specs.declared.faults.PlaceFault.TheVariants as place
+use Rattle.page_tree.specs.Faults.{refusal}
+use Rattle.page_tree.specs.Views.{PageElements}
+use Rattle.page_state.specs.declared.answers.Effect.{Effect}
+use Rattle.page_state.specs.declared.answers.Effect.TheVariants.{Nothing}
+use Rattle.page_state.specs.Faults.{misplaced}
+use Rattle.page_state.specs.declared.page.Page.TheInside.{Inside}
+use Rattle.page_state.proofs.Inside.{world_of}
+use Rattle.page_state.specs.declared.answers.PageFault.{PageFault}
+use Rattle.page_state.specs.Views.{PageView}
+use Rattle.page_state.specs.Answers.{Applied, Keeps}
 
-module _ (handlers : Handlers) (world : World) (present : Present) (answer : Step Effect) where
-  module _ (node : Operand) (n : ℕ) (found : element_meant world present node ≡ Did n) where
-    pub removes : becomes (removed world n) ≡ answer → does handlers world present (Remove node) ≡ answer
+module _ (handlers : Handlers) (world : World) (present : Present) where
+  module _ (node : Operand) (n : ℕ) (found : element_meant world.names present node ≡ Did n) where
+    pub removes : does handlers world present (Remove node) ≡ becomes (record world { tree = removed (world.tree) n })
     unfolding does
-    removes rest = (λ i. found i >>= λ (m : ℕ). becomes (removed world m)) ∙ rest
+    removes = λ i. found i >>= λ (m : ℕ). becomes (record world { tree = removed (world.tree) m })
 
-    pub sets : (declaration : Declaration) → becomes (with_declaration declaration n world) ≡ answer → does handlers world present (SetStyle node declaration) ≡ answer
-    unfolding does
-    sets declaration rest = (λ i. found i >>= λ (m : ℕ). becomes (with_declaration declaration m world)) ∙ rest
+    module _ (parent : Operand) (container : Container) (there : container_meant world.names present parent ≡ Did container) where
+      pub appends : does handlers world present (Append parent node) ≡ with_tree world (placing container n None (world.tree))
+      unfolding does
+      appends = λ i. there i >>= λ (within : Container). found i >>= λ (m : ℕ). with_tree world (placing within m None (world.tree))
 
-    pub grows : (dimension : Dimension) (by : ℤ) → growing world dimension n by ≡ answer → does handlers world present (Grow node dimension by) ≡ answer
-    unfolding does growing
-    grows dimension by rest = (λ i. found i >>= λ (m : ℕ). growing world dimension m by) ∙ rest
+      pub inserts : (sibling : Operand) (s : ℕ) → element_meant world.names present sibling ≡ Did s
+          → does handlers world present (Before parent node sibling) ≡ with_tree world (placing container n (Some s) (world.tree))
+      unfolding does
+      inserts sibling s other =
+          λ i. there i >>= λ (within : Container). found i >>= λ (m : ℕ). other i >>= λ (next : ℕ). with_tree world (placing within m (Some next) (world.tree))
 
-    pub loads : (width height : ℕ) → loading world n width height ≡ answer → does handlers world present (Load node width height) ≡ answer
-    unfolding does loading
-    loads width height rest = (λ i. found i >>= λ (m : ℕ). loading world m width height) ∙ rest
-
-    pub appends : (parent : Operand) (container : Container) → container_meant world present parent ≡ Did container → placing world container n None ≡ answer
-        → does handlers world present (Append parent node) ≡ answer
-    unfolding does
-    appends parent container there rest =
-        (λ i. there i >>= λ (within : Container). found i >>= λ (m : ℕ). placing world within m None) ∙ rest
-
-    pub inserts : (parent : Operand) (container : Container) (sibling : Operand) (s : ℕ) → container_meant world present parent ≡ Did container
-        → element_meant world present sibling ≡ Did s → placing world container n (Some s) ≡ answer → does handlers world present (Before parent node sibling) ≡ answer
-    unfolding does
-    inserts parent container sibling s there other rest =
-        (λ i. there i >>= λ (within : Container). found i >>= λ (m : ℕ). other i >>= λ (next : ℕ). placing world within m (Some next)) ∙ rest
-
-  pub reads : (of : Operand) (container : Container) → container_meant world present of ≡ Did container
-      → writes (reading_of world container ∷ []) world ≡ answer → does handlers world present (Read of) ≡ answer
+  pub reads : (of : Operand) (container : Container) → container_meant world.names present of ≡ Did container
+      → does handlers world present (Read of) ≡ writes (reading_of (world.names) (world.tree) (world.viewports.size) (world.scrolls) container ∷ []) world
   unfolding does
-  reads of container there rest = (λ i. there i >>= λ (within : Container). writes (reading_of world within ∷ []) world) ∙ rest
+  reads of container there = λ i. there i >>= λ (within : Container). writes (reading_of (world.names) (world.tree) (world.viewports.size) (world.scrolls) within ∷ []) world
 
--- what isn't found
+-- the same step said otherwise
+pub keeps_by : {old new : PageView} {result : Result Effect PageFault} {made : ℕ} {step step' : Handlers → Step ModelEffect} → Keeps old new result made step → ((handlers : Handlers) → step' handlers ≡ step handlers)
+    → Keeps old new result made step'
+keeps_by {old} {new} {result} keeps same = record {
+  applied = λ handlers. subst (Applied result old.world new.world) (sym (same handlers)) (keeps.applied handlers);
+  begun = keeps.begun;
+  observers = keeps.observers;
+  reach = keeps.reach;
+}
 
-module _ (handlers : Handlers) (world : World) (present : Present) (exception : ThrowKind) where
-  module _ (node : Operand) (missing : element_meant world present node ≡ Threw exception) where
-    pub remove_throws : does handlers world present (Remove node) ≡ Threw exception
-    unfolding does
-    remove_throws = λ i. missing i >>= λ (m : ℕ). becomes (removed world m)
+-- the tree is asked to be edited
 
-    pub set_throws : (declaration : Declaration) → does handlers world present (SetStyle node declaration) ≡ Threw exception
-    unfolding does
-    set_throws declaration = λ i. missing i >>= λ (m : ℕ). becomes (with_declaration declaration m world)
+refused_so : (fault : PlaceFault) (old new : World) (step : Step Tree) → step ≡ refusal fault → new ≡ old → Applied (Err (misplaced fault)) old new (with_tree old step)
+unfolding with_tree ◌>>=◌
+refused_so (place.Throw kind) old new step e same = (ap (with_tree old) e, same)
+refused_so (place.Limit kind) old new step e same = (ap (with_tree old) e, same)
 
-    pub grow_throws : (dimension : Dimension) (by : ℤ) → does handlers world present (Grow node dimension by) ≡ Threw exception
-    unfolding does growing
-    grow_throws dimension by = λ i. missing i >>= λ (m : ℕ). growing world dimension m by
+done_so : (old : World) (step : Step Tree) (tree : Tree) → step ≡ Did tree → with_tree old step ≡ becomes (record old { tree = tree })
+unfolding with_tree ◌>>=◌
+done_so old step tree e = ap (with_tree old) e
 
-    pub load_throws : (width height : ℕ) → does handlers world present (Load node width height) ≡ Threw exception
-    unfolding does loading
-    load_throws width height = λ i. missing i >>= λ (m : ℕ). loading world m width height
+module _ (inside : Inside) (now : PageView) (view_is : record { world = world_of inside; begun = inside.begun } ≡ now) (after : PageElements) (step : Tree → Step Tree) where
+  abbrev then_is : PageView
+  then_is = record { world = world_of (record inside { tree = after }); begun = inside.begun }
 
-    pub append_node_throws : (parent : Operand) (container : Container) → container_meant world present parent ≡ Did container → does handlers world present (Append parent node) ≡ Threw exception
-    unfolding does
-    append_node_throws parent container there = λ i. there i >>= λ (within : Container). missing i >>= λ (m : ℕ). placing world within m None
+  pub edit_refused : (result : PageFault) (fault : PlaceFault) → result ≡ misplaced fault → step (inside.tree.tree) ≡ refusal fault → after ≡ inside.tree
+      → Keeps now then_is (Err result) 0 (λ handlers. with_tree now.world (step now.world.tree))
+  edit_refused result fault is e same =
+      subst (λ (it : PageFault). Keeps now then_is (Err it) 0 (λ handlers. with_tree now.world (step now.world.tree))) (sym is)
+      (subst (λ (v : PageView). Keeps v then_is (Err (misplaced fault)) 0 (λ handlers. with_tree v.world (step v.world.tree))) view_is
+      (record {
+        applied = λ handlers. refused_so fault (world_of inside) (world_of (record inside { tree = after })) (step (inside.tree.tree)) e (ap (λ (it : PageElements). world_of (record inside { tree = it })) same);
+        begun = refl;
+        observers = omega arith;
+        reach = tt;
+      }))
 
-    pub insert_node_throws : (parent : Operand) (container : Container) (sibling : Operand) → container_meant world present parent ≡ Did container → does handlers world present (Before parent node sibling) ≡ Threw exception
-    unfolding does
-    insert_node_throws parent container sibling there =
-        λ i. there i >>= λ (within : Container). missing i >>= λ (m : ℕ). element_meant world present sibling >>= λ (next : ℕ). placing world within m (Some next)
-
-    pub insert_sibling_throws : (parent : Operand) (container : Container) (moved : Operand) (n : ℕ) → container_meant world present parent ≡ Did container → element_meant world present moved ≡ Did n
-        → does handlers world present (Before parent moved node) ≡ Threw exception
-    unfolding does
-    insert_sibling_throws parent container moved n there found =
-        λ i. there i >>= λ (within : Container). found i >>= λ (m : ℕ). missing i >>= λ (next : ℕ). placing world within m (Some next)
-
-  module _ (parent : Operand) (missing : container_meant world present parent ≡ Threw exception) where
-    pub append_throws : (node : Operand) → does handlers world present (Append parent node) ≡ Threw exception
-    unfolding does
-    append_throws node = λ i. missing i >>= λ (within : Container). element_meant world present node >>= λ (m : ℕ). placing world within m None
-
-    pub insert_throws : (node sibling : Operand) → does handlers world present (Before parent node sibling) ≡ Threw exception
-    unfolding does
-    insert_throws node sibling =
-        λ i. missing i >>= λ (within : Container). element_meant world present node >>= λ (m : ℕ). element_meant world present sibling >>= λ (next : ℕ). placing world within m (Some next)
-
-    pub read_throws : does handlers world present (Read parent) ≡ Threw exception
-    unfolding does
-    read_throws = λ i. missing i >>= λ (within : Container). writes (reading_of world within ∷ []) world
-
--- making
-
-pub block_makes : (handlers : Handlers) (world : World) (present : Present) (name document : List ℕ) → does handlers world present (MakeBlock name document) ≡ making world name document BlockKind
-unfolding does making
-block_makes handlers world present name document = refl
-
-pub image_makes : (handlers : Handlers) (world : World) (present : Present) (name document : List ℕ) (width height : ℕ) → does handlers world present (MakeImage name document width height) ≡ making world name document (ImageKind width height)
-unfolding does making
-image_makes handlers world present name document width height = refl
-
-module _ (world : World) (name document : List ℕ) (kind : Kind) where
-  pub making_taken : (exception : ThrowKind) → new_name world name ≡ Threw exception → making world name document kind ≡ Threw exception
-  unfolding making
-  making_taken exception taken = λ i. taken i >> (document_named world document >>= λ (made_in : ℕ). room limits.Nodes (length world.elements) >> becomes (with_element name kind made_in None world))
-
-  module _ (free : new_name world name ≡ Did tt) where
-    pub making_missing : (exception : ThrowKind) → document_named world document ≡ Threw exception → making world name document kind ≡ Threw exception
-    unfolding making
-    making_missing exception missing = λ i. free i >> (missing i >>= λ (made_in : ℕ). room limits.Nodes (length world.elements) >> becomes (with_element name kind made_in None world))
-
-    pub making_full : (n : ℕ) (limit : LimitKind) → document_named world document ≡ Did n → room limits.Nodes (length world.elements) ≡ Met limit → making world name document kind ≡ Met limit
-    unfolding making
-    making_full n limit there full = λ i. free i >> (there i >>= λ (made_in : ℕ). full i >> becomes (with_element name kind made_in None world))
-
-    pub made : (n : ℕ) → document_named world document ≡ Did n → room limits.Nodes (length world.elements) ≡ Did tt → making world name document kind ≡ becomes (with_element name kind n None world)
-    unfolding making
-    made n there roomy = λ i. free i >> (there i >>= λ (made_in : ℕ). roomy i >> becomes (with_element name kind made_in None world))
-
--- the viewport
-
-pub resizes : (handlers : Handlers) (world : World) (present : Present) (width height : ℕ) → does handlers world present (Viewport width height) ≡ becomes (record world { size = record { across = width; down = height } })
-unfolding does
-resizes handlers world present width height = refl
+  pub edit_done : step (inside.tree.tree) ≡ Did (after.tree) → Keeps now then_is (Ok Nothing) 0 (λ handlers. with_tree now.world (step now.world.tree))
+  edit_done e =
+      subst (λ (v : PageView). Keeps v then_is (Ok Nothing) 0 (λ handlers. with_tree v.world (step v.world.tree))) view_is
+      (record { applied = λ handlers. done_so (world_of inside) (step (inside.tree.tree)) (after.tree) e; begun = refl; observers = omega arith; reach = tt })

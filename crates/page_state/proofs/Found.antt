@@ -8,7 +8,7 @@ use Rattle.page_model.specs.World.{Thing, DocumentThing, ElementThing, ResizeObs
 use Rattle.page_model.specs.Names.{named_thing, is_same_thing}
 use Rattle.page_model.specs.Ranges.{Counts, IsThingIn}
 use Rattle.page_state.specs.declared.names.Thing.{Thing as Held}
-use Rattle.page_state.specs.Things.{seen_thing, seen_entry, in_names, AreIn}
+use Rattle.page_state.specs.Things.{seen_thing, seen_entry, AreIn}
 
 -- tests
 
@@ -34,7 +34,7 @@ lookup_step false false same entry found named rest = rest
 lookup_step true false same entry found named rest = cc
 lookup_step false true same entry found named rest = cc
 
-pub found_thing : (text : List ℕ) (entries : List (List ℕ × Held)) → option_map seen_thing (lookup (bytes_eq text) entries) ≡ named_thing (in_names (map seen_entry entries)) text
+pub found_thing : (text : List ℕ) (entries : List (List ℕ × Held)) → option_map seen_thing (lookup (bytes_eq text) entries) ≡ named_thing (map seen_entry entries) text
 found_thing text [] = refl
 found_thing text (entry ∷ entries) =
     lookup_step (bytes_eq text entry.0) (bytes_eq entry.0 text) (bytes_eq_flip text entry.0) entry (lookup (bytes_eq text) entries) (find (λ (named : Name). bytes_eq named.text text) (map seen_entry entries)) (found_thing text entries)
@@ -47,7 +47,7 @@ held_step : (counts : Counts) (passes : Bool) (named : Name) (found : Option Nam
 held_step counts true named found is rest = is
 held_step counts false named found is rest = rest
 
-pub found_is_there : (counts : Counts) (text : List ℕ) (names : List Name) → AreIn counts names → IfSome (named_thing (in_names names) text) (IsThingIn counts)
+pub found_is_there : (counts : Counts) (text : List ℕ) (names : List Name) → AreIn counts names → IfSome (named_thing names text) (IsThingIn counts)
 found_is_there counts text [] all = tt
 found_is_there counts text (named ∷ names) all =
     held_step counts (bytes_eq named.text text) named (find (λ (it : Name). bytes_eq it.text text) names) (all.0) (found_is_there counts text names (all.1))
@@ -123,10 +123,10 @@ entered_last name thing [] none = refl
 entered_last name thing (entry ∷ entries) none =
     entered_step (bytes_eq name entry.0) name thing entry entries (insert_entry bytes_eq entries name thing) (lookup (bytes_eq name) entries) (entered_last name thing entries) none
 
-pub entered : (name : List ℕ) (thing : Held) (entries after : List (List ℕ × Held)) (list : List Name) → map seen_entry entries ≡ list → named_thing (in_names list) name ≡ None
+pub entered : (name : List ℕ) (thing : Held) (entries after : List (List ℕ × Held)) (list : List Name) → map seen_entry entries ≡ list → named_thing list name ≡ None
     → after ≡ insert_entry bytes_eq entries name thing → map seen_entry after ≡ list ++ record { text = name; thing = seen_thing thing } ∷ []
 entered name thing entries after list seen free made =
-    let none : lookup (bytes_eq name) entries ≡ None = not_found (lookup (bytes_eq name) entries) (found_thing name entries ∙ ap (λ (it : List Name). named_thing (in_names it) name) seen ∙ free) in
+    let none : lookup (bytes_eq name) entries ≡ None = not_found (lookup (bytes_eq name) entries) (found_thing name entries ∙ ap (λ (it : List Name). named_thing it name) seen ∙ free) in
     ap (map seen_entry) made ∙ entered_last name thing entries none ∙ ap (λ (it : List Name). it ++ seen_entry (name, thing) ∷ []) seen
 
 pub some_named : (found : Option Name) → is_some found ≡ true → is_some (option_map (λ (it : Name). it.text) found) ≡ true

@@ -1,16 +1,12 @@
-pub mod Found
-pub mod Steps
-pub mod Finding
-pub mod Doing
-pub mod Held
-pub mod Parts
-pub mod Inside
-pub mod Counting
-pub mod Enlarging
-pub mod Observing
-pub mod Silence
-pub mod Ticking
+mod Steps
+mod Finding
+mod Found
+mod Parts
+mod Inside
+mod Counting
+mod Doing
 mod Telling
 mod Reporting
 mod Delivered
 mod Watched
+mod Ticking

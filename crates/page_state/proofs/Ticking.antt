@@ -1,60 +1,58 @@
--- What a tick asks of a page.
-use Rattle.std.proofs.Common.{◌≡◌, ℕ, zero, suc, ◌<◌, nat_eq, ◌==◌, ℤ, pos, negsuc, ◌≤ℤ◌, int_eq, unsigned_abs, Bool, true, false, not, ◌&&◌, cond, List, [], ◌∷◌, Option, Some, None, map, slice_get, unwrap_or, option_map, refl, sym, ap, ◌∙◌, subst, arith, tests}
+-- What is noted of the viewport of `top`.
+use Rattle.std.proofs.Common.{◌≡◌, ℕ, ◌<◌, ℤ, pos, negsuc, ◌≤ℤ◌, int_eq, unsigned_abs, ◌==◌, Bool, true, false, not, ◌&&◌, cond, List, [], ◌∷◌, Option, Some, None, option_map, length, refl, sym, ap, ◌∙◌, arith, tests}
 use Rattle.std.proofs.lemmas.Int.{ints}
 use Rattle.px_units.specs.declared.Size.{Size}
-use Rattle.element_tree.specs.Forest.{Knot, Forest}
-use Rattle.page_model.specs.World.{Extent}
-use Rattle.page_model.specs.Lookups.{document_at, change_document, no_element}
+use Rattle.page_model.specs.World.{Document, Extent, Tree, Viewports}
+use Rattle.page_model.specs.Lookups.{document_at}
 use Rattle.page_model.specs.Documents.{is_active}
 use Rattle.page_model.specs.PageBoxes.{viewport_of}
-use Rattle.page_model.specs.Ticks.{differs_from}
-use Rattle.built_part.specs.Deliveries.{IsPlain}
-use Rattle.page_boxes.specs.Worlds.{seen_size}
-use Rattle.page_tree.specs.Items.{Described, IsNatural}
-use Rattle.page_tree.specs.Views.{PageElements, element_of, seen_page}
+use Rattle.page_model.specs.Viewports.{noted_size, with_noted, differs_from}
+use Rattle.page_boxes.specs.Pages.{seen_size}
+use Rattle.page_tree.specs.Items.{IsNatural}
+use Rattle.page_tree.specs.Views.{top_document, IsLone}
 use Rattle.page_state.specs.declared.page.Page.TheInside.{Inside}
-use Rattle.page_state.specs.Views.{seen_world}
-use Rattle.page_state.proofs.Inside.{inner, world_of}
+use Rattle.page_state.specs.Views.{noted_list}
+use Rattle.page_state.proofs.Inside.{world_of}
 
--- but for resize observers nothing waits for a tick
-
-unframed : (nodes : List (Knot Described)) (n : ℕ) → (unwrap_or (slice_get (map element_of nodes) n) no_element).framed ≡ None
-unframed [] n = refl
-unframed (knot ∷ nodes) zero = refl
-unframed (knot ∷ nodes) (suc n) = unframed nodes n
-
-pub is_plain : (inside : Inside) (forest : Forest Described) (root : Option ℕ) → seen_page forest root ≡ inside.tree → IsPlain (inner inside)
-is_plain inside forest root same =
-    subst (λ (it : PageElements). IsPlain (world_of inside inside.names.list it inside.observers)) same (record {
-      top = document_at (world_of inside inside.names.list (seen_page forest root) inside.observers) 0;
-      alone = refl;
-      active = refl;
-      frame = refl;
-      pending = refl;
-      unframed = unframed forest.nodes;
-      intersection_observers = refl;
-      queries = refl;
-      listeners = refl;
-      frame_callbacks = refl;
-      timers = refl;
-      tasks = refl;
-    })
-
--- `top` is the only document
-
-pub only_active : (inside : Inside) (document : ℕ) → nat_eq document 0 ≡ is_active (inner inside) document
-only_active inside zero = refl
-only_active inside (suc document) = grind (arith, tests)
-
-pub viewport_here : (inside : Inside) → viewport_of (inner inside) 0 ≡ seen_size inside.size
+alone_viewport : (tree : Tree) (size : Extent) (root : Option ℕ) → viewport_of (record tree { documents = top_document root ∷ [] }) size 0 ≡ size
 unfolding viewport_of
-viewport_here inside = refl
+alone_viewport tree size root = refl
 
-pub noted_here : (inside : Inside) (document : ℕ) → document < 1
-    → seen_world inside.names.list inside.tree inside.observers (seen_size inside.size) (Some (seen_size inside.size)) inside.clock inside.count
-    ≡ change_document (λ it. record it { noted = Some (viewport_of (inner inside) document) }) document (inner inside)
-noted_here inside zero top = ap (λ (size : Extent). change_document (λ it. record it { noted = Some size }) 0 (inner inside)) (sym (viewport_here inside))
-noted_here inside (suc document) top = absurd (omega arith)
+viewport_here : (tree : Tree) → IsLone tree → (size : Extent) → viewport_of tree size 0 ≡ size
+viewport_here tree lone size = ap (λ documents. viewport_of (record tree { documents = documents }) size 0) lone.documents ∙ alone_viewport tree size ((document_at tree 0).root)
+
+one_document : (tree : Tree) → IsLone tree → (document : ℕ) → document < length tree.documents → document ≡ 0
+one_document tree lone document below = let one : length tree.documents ≡ 1 = ap (λ (documents : List Document). length documents) lone.documents in omega (arith, below, one)
+
+noted_once : (last : Option Extent) (size : Extent) → with_noted 0 size (record { size = size; noted = noted_list last }) ≡ record { size = size; noted = Some size ∷ [] }
+noted_once None size = refl
+noted_once (Some before) size = refl
+
+noted_before : (last : Option Extent) (size : Extent) → noted_size 0 (record { size = size; noted = noted_list last }) ≡ last
+noted_before None size = refl
+noted_before (Some before) size = refl
+
+module _ (inside : Inside) (lone : IsLone inside.tree.tree) (document : ℕ) (there : document < length inside.tree.tree.documents) where
+  top : document ≡ 0
+  top = one_document inside.tree.tree lone document there
+
+  abbrev last : Option Extent
+  last = option_map seen_size inside.noted
+
+  pub noted_here : record (world_of inside) { viewports = record { size = seen_size inside.size; noted = Some (seen_size inside.size) ∷ [] } }
+      ≡ record (world_of inside) { viewports = with_noted document (viewport_of inside.tree.tree (seen_size inside.size) document) (record { size = seen_size inside.size; noted = noted_list last }) }
+  noted_here =
+      ap (λ (it : Viewports). record (world_of inside) { viewports = it })
+      (sym (noted_once last (seen_size inside.size))
+      ∙ ap (λ (size : Extent). with_noted 0 size (record { size = seen_size inside.size; noted = noted_list last })) (sym (viewport_here inside.tree.tree lone (seen_size inside.size)))
+      ∙ ap (λ (n : ℕ). with_noted n (viewport_of inside.tree.tree (seen_size inside.size) n) (record { size = seen_size inside.size; noted = noted_list last })) (sym top))
+
+  pub differs_here : differs_from (seen_size inside.size) last
+      ≡ differs_from (viewport_of inside.tree.tree (seen_size inside.size) document) (noted_size document (record { size = seen_size inside.size; noted = noted_list last }))
+  differs_here =
+      ap (λ (before : Option Extent). differs_from (seen_size inside.size) before) (sym (noted_before last (seen_size inside.size)))
+      ∙ ap (λ (size : Extent). differs_from size (noted_size 0 (record { size = seen_size inside.size; noted = noted_list last }))) (sym (viewport_here inside.tree.tree lone (seen_size inside.size)))
+      ∙ ap (λ (n : ℕ). differs_from (viewport_of inside.tree.tree (seen_size inside.size) n) (noted_size n (record { size = seen_size inside.size; noted = noted_list last }))) (sym top)
 
 -- whether two sizes differ
 
@@ -71,9 +69,10 @@ pub sizes_differ : (last size : Size) → IsNatural last → IsNatural size → 
 sizes_differ last size natural now =
     both (int_eq last.width size.width) (int_eq last.height size.height) _ _ (same_units last.width size.width natural.0.0 now.0.0) (same_units last.height size.height natural.1.0 now.1.0)
 
-pub differs_here : (inside : Inside) (document : ℕ) → document < 1 → (last : Option Size) → inside.noted ≡ last
-    → differs_from (seen_size inside.size) (option_map seen_size last) ≡ differs_from (viewport_of (inner inside) document) (document_at (inner inside) document).noted
-differs_here inside zero top last is =
-    ap (λ (size : Extent). differs_from size (option_map seen_size last)) (sym (viewport_here inside))
-    ∙ ap (λ (it : Option Size). differs_from (viewport_of (inner inside) 0) (option_map seen_size it)) (sym is)
-differs_here inside (suc document) top last is = absurd (omega arith)
+-- `top` is Active
+
+alone_active : (tree : Tree) (root : Option ℕ) → is_active (record tree { documents = top_document root ∷ [] }) 0 ≡ true
+alone_active tree root = refl
+
+pub top_active : (tree : Tree) → IsLone tree → is_active tree 0 ≡ true
+top_active tree lone = ap (λ documents. is_active (record tree { documents = documents }) 0) lone.documents ∙ alone_active tree ((document_at tree 0).root)

@@ -3,22 +3,19 @@ use Rattle.std.proofs.Common.{◌≡◌, ℕ, ◌<◌, ◌≤◌, ◌==◌, Bool
 use Rattle.std.specs.List.{All, AllByRecursion}
 use Rattle.std.proofs.lemmas.List.{length-map}
 use Rattle.std.proofs.lemmas.List.Elements.{All-cons, All-nil}
-use Rattle.px_units.specs.declared.Size.{Size}
-use Rattle.layout_model.specs.Boxes.{Box}
 use Rattle.page_model.specs.World.{Thing, DocumentThing, ElementThing, ResizeObserverThing, IntersectionObserverThing, QueryListThing, Name, Extent, Observation, ResizeObserver}
 use Rattle.page_model.specs.Lookups.{no_resize_observer}
 use Rattle.page_model.specs.Names.{is_same_thing}
-use Rattle.page_model.specs.Ranges.{Counts, counts_of, IsThingIn, AreObserved, IsResizeObserverIn}
+use Rattle.page_model.specs.Ranges.{Counts, IsThingIn}
 use Rattle.built_part.specs.Deliveries.{silent_observer}
-use Rattle.page_tree.specs.Views.{PageElements}
 use Rattle.resize_observer.specs.declared.observation.Observation.{Observation as Held}
 use Rattle.resize_observer.specs.Observations.{seen_observations}
-use Rattle.resize_observer.specs.Observers.{ResizeObservers, observer_at}
+use Rattle.resize_observer.specs.Observers.{HeldObservers, observer_at}
 use Rattle.resize_observer.specs.Reports.{with_last}
 use Rattle.page_state.specs.Telling.{Reported, reporting, reporting_in}
 use Rattle.page_state.specs.Things.{AreIn}
-use Rattle.page_state.specs.Whole.{listed, IsHeld, IsPage}
-use Rattle.page_state.proofs.Parts.{observing_kept}
+use Rattle.page_state.specs.Whole.{counts_with, AreKnown, AreObserved, AreSilent, IsPage}
+use Rattle.page_state.specs.declared.page.Page.TheInside.{Inside}
 
 abbrev first_named : List Name → Option Name
 first_named names = find (λ (it : Name). is_same_thing it.thing (ResizeObserverThing 0)) names
@@ -26,8 +23,8 @@ first_named names = find (λ (it : Name). is_same_thing it.thing (ResizeObserver
 abbrev text_in : Option Name → Option (List ℕ)
 text_in found = option_map (λ (named : Name). named.text) found
 
-abbrev IsSilent : ResizeObserver → Type 0
-IsSilent observer = observer ≡ silent_observer (observer.targets)
+abbrev TargetsBelow : ℕ → List Observation → Type 0
+TargetsBelow elements targets = AllByRecursion (λ (each : Observation). each.target < elements) targets
 
 -- an observer that has a name is there
 
@@ -62,14 +59,14 @@ no_more (observer ∷ made) none = absurd (none (omega arith))
 
 -- the one observer calls no handler, and its targets are those of the tree
 
-only_silent : (made : List ResizeObserver) → 0 < length made → length made ≤ 1 → AllByRecursion IsSilent made → made ≡ silent_observer (unwrap_or (slice_get made 0) no_resize_observer).targets ∷ []
+only_silent : (made : List ResizeObserver) → 0 < length made → length made ≤ 1 → AreSilent made → made ≡ silent_observer (unwrap_or (slice_get made 0) no_resize_observer).targets ∷ []
 only_silent [] some most all = absurd (omega arith)
 only_silent (only ∷ []) some most all = ap (λ (observer : ResizeObserver). observer ∷ []) all.0
 only_silent (only ∷ other ∷ more) some most all = absurd (omega arith)
 
-targets_in : (counts : Counts) (made : List ResizeObserver) → 0 < length made → AllByRecursion (IsResizeObserverIn counts) made → AreObserved counts (unwrap_or (slice_get made 0) no_resize_observer).targets
-targets_in counts [] some all = absurd (omega arith)
-targets_in counts (observer ∷ made) some all = all.0.targets
+targets_in : (elements : ℕ) (made : List ResizeObserver) → 0 < length made → AreObserved made elements → TargetsBelow elements (unwrap_or (slice_get made 0) no_resize_observer).targets
+targets_in elements [] some all = absurd (omega arith)
+targets_in elements (observer ∷ made) some all = all.0
 
 observed_in : (count : ℕ) (observations : List Held) → AllByRecursion (λ (it : Observation). it.target < count) (seen_observations observations) → All (λ (each : Held). each.target.0 < count) observations
 observed_in count [] all = All-nil (λ (each : Held). each.target.0 < count)
@@ -81,71 +78,57 @@ still_in : (count : ℕ) (last : Extent) (is : Bool) (it : Observation) → it.t
 still_in count last true it below = below
 still_in count last false it below = below
 
-last_in : (counts : Counts) (first : Reported) (targets : List Observation) → AreObserved counts targets → AreObserved counts (map (with_last first.serial first.size) targets)
-last_in counts first [] all = tt
-last_in counts first (it ∷ targets) all = (still_in counts.elements first.size (first.serial == it.serial) it all.0, last_in counts first targets all.1)
+last_in : (elements : ℕ) (first : Reported) (targets : List Observation) → TargetsBelow elements targets → TargetsBelow elements (map (with_last first.serial first.size) targets)
+last_in elements first [] all = tt
+last_in elements first (it ∷ targets) all = (still_in elements first.size (first.serial == it.serial) it all.0, last_in elements first targets all.1)
 
-reports_in : (counts : Counts) (reports : List Reported) (targets : List Observation) → AreObserved counts targets → AreObserved counts (reporting reports targets)
-reports_in counts [] targets all = all
-reports_in counts (first ∷ others) targets all = reports_in counts others (map (with_last first.serial first.size) targets) (last_in counts first targets all)
+reports_in : (elements : ℕ) (reports : List Reported) (targets : List Observation) → TargetsBelow elements targets → TargetsBelow elements (reporting reports targets)
+reports_in elements [] targets all = all
+reports_in elements (first ∷ others) targets all = reports_in elements others (map (with_last first.serial first.size) targets) (last_in elements first targets all)
 
-reporting_held : (names : List Name) (tree : PageElements) (reports : List Reported) (made : List ResizeObserver) (it : ResizeObservers) → it.made ≡ made → length made ≡ 1
-    → IsHeld (listed names tree (record it { made = made })) → IsHeld (listed names tree (reporting_in reports (record it { made = made })))
-reporting_held names tree reports [] it is one held = absurd cc
-reporting_held names tree reports (only ∷ []) it is one held = record {
-  handlers = held.handlers;
-  within = record {
-    top = held.within.top;
-    elements = held.within.elements;
-    documents = held.within.documents;
-    names = held.within.names;
-    resize_observers = (
-      record {
-        document = held.within.resize_observers.0.document;
-        handler = held.within.resize_observers.0.handler;
-        targets = reports_in (counts_of held.handlers (listed names tree (record it { made = only ∷ [] }))) reports only.targets held.within.resize_observers.0.targets;
-        active = held.within.resize_observers.0.active;
-        skipped = held.within.resize_observers.0.skipped;
-      },
-      tt,
-    );
-    intersection_observers = held.within.intersection_observers;
-    queries = held.within.queries;
-    listeners = held.within.listeners;
-    frame_callbacks = held.within.frame_callbacks;
-    timers = held.within.timers;
-    tasks = held.within.tasks;
-  };
-}
-reporting_held names tree reports (only ∷ other ∷ more) it is one held = absurd cc
+reporting_observed : (elements : ℕ) (reports : List Reported) (made : List ResizeObserver) → AreObserved made elements
+    → AreObserved (map (λ (observer : ResizeObserver). record observer { targets = reporting reports (observer.targets) }) made) elements
+reporting_observed elements reports [] all = tt
+reporting_observed elements reports (observer ∷ made) all = (reports_in elements reports (observer.targets) all.0, reporting_observed elements reports made all.1)
 
-reporting_silent : (reports : List Reported) (made : List ResizeObserver) → AllByRecursion IsSilent made
-    → AllByRecursion IsSilent (map (λ (observer : ResizeObserver). record observer { targets = reporting reports (observer.targets) }) made)
+reporting_silent : (reports : List Reported) (made : List ResizeObserver) → AreSilent made
+    → AreSilent (map (λ (observer : ResizeObserver). record observer { targets = reporting reports (observer.targets) }) made)
 reporting_silent reports [] all = tt
 reporting_silent reports (observer ∷ made) all =
     (ap (λ (one : ResizeObserver). record one { targets = reporting reports (observer.targets) }) all.0, reporting_silent reports made all.1)
 
 -- of a page
 
-module _ {names : List Name} {tree : PageElements} {boxes : List (Option Box)} {it : ResizeObservers} {size : Size} {noted : Option Size} {begun : ℕ} {flag : Bool} (page : IsPage names tree boxes it size noted begun flag) where
-  pub has_none : (result : Option (List ℕ)) → result ≡ text_in (first_named names) → result ≡ None → it.made ≡ []
-  has_none result is none = no_more it.made (λ some. none_found (first_named names) (sym is ∙ none) (page.named (ResizeObserverThing 0) some))
+module _ (page : Inside) (is : IsPage page) where
+  pub has_none : (result : Option (List ℕ)) → result ≡ text_in (first_named page.names.list) → result ≡ None → page.observers.part.made ≡ []
+  has_none result found none = no_more page.observers.part.made (λ some. none_found (first_named page.names.list) (sym found ∙ none) (is.known.named (ResizeObserverThing 0) some))
 
-  pub has_observer : (result : Option (List ℕ)) (text : List ℕ) → result ≡ text_in (first_named names) → result ≡ Some text → 0 < length it.made
-  has_observer result text is some =
-      observer_there (counts_of page.held.handlers (listed names tree it)) names page.held.within.names (some_found (first_named names) text (sym is ∙ some))
+  pub has_observer : (result : Option (List ℕ)) (text : List ℕ) → result ≡ text_in (first_named page.names.list) → result ≡ Some text → 0 < length page.observers.part.made
+  has_observer result text found some =
+      observer_there (counts_with (length page.tree.tree.elements) (length page.observers.part.made)) page.names.list is.known.there (some_found (first_named page.names.list) text (sym found ∙ some))
 
-  module _ (some : 0 < length it.made) where
-    pub observed_there : (observations : List Held) → seen_observations observations ≡ (observer_at it 0).targets → All (λ (each : Held). each.target.0 < length tree.elements) observations
-    observed_there observations is =
-        let counts = counts_of page.held.handlers (listed names tree it) in
-        observed_in counts.elements observations (subst (AreObserved counts) (sym is) (targets_in counts it.made some page.held.within.resize_observers))
+  module _ (some : 0 < length page.observers.part.made) where
+    pub observed_there : (observations : List Held) → seen_observations observations ≡ (observer_at page.observers 0).targets → All (λ (each : Held). each.target.0 < length page.tree.tree.elements) observations
+    observed_there observations seen =
+        let elements : ℕ = length page.tree.tree.elements in
+        observed_in elements observations (subst (TargetsBelow elements) (sym seen) (targets_in elements page.observers.part.made some is.observed))
 
-    pub is_alone : length it.made ≤ 1 → it.made ≡ silent_observer (observer_at it 0).targets ∷ []
-    is_alone most = only_silent it.made some most page.silent
+    pub is_alone : length page.observers.part.made ≤ 1 → page.observers.part.made ≡ silent_observer (observer_at page.observers 0).targets ∷ []
+    is_alone most = only_silent page.observers.part.made some most is.silent
 
-  pub reported_page : (after : ResizeObservers) (reports : List Reported) → length it.made ≡ 1 → after ≡ reporting_in reports it → IsPage names tree boxes after size noted begun flag
-  reported_page after reports one is =
-      subst (λ (observers : ResizeObservers). IsPage names tree boxes observers size noted begun flag) (sym is)
-      (observing_kept page (reporting_in reports it) page.counted refl refl (length-map it.made (λ (observer : ResizeObserver). record observer { targets = reporting reports (observer.targets) }))
-      (reporting_silent reports it.made page.silent) (reporting_held names tree reports it.made it refl one page.held))
+  pub reported_page : (after : HeldObservers) (reports : List Reported) → after ≡ reporting_in reports page.observers → IsPage (record page { observers = after })
+  reported_page after reports made =
+      let told : ResizeObserver → ResizeObserver = λ observer. record observer { targets = reporting reports (observer.targets) } in
+      let count = length-map page.observers.part.made told in
+      subst (λ (it : HeldObservers). IsPage (record page { observers = it })) (sym made)
+      (record {
+        known = subst (λ (m : ℕ). AreKnown page.names.list (counts_with (length page.tree.tree.elements) m)) (sym count) is.known;
+        elements = is.elements;
+        placed = is.placed;
+        limited = record { observers = is.limited.observers; observations = is.limited.observations };
+        counted = is.counted;
+        observed = reporting_observed (length page.tree.tree.elements) reports page.observers.part.made is.observed;
+        silent = reporting_silent reports page.observers.part.made is.silent;
+        sized = is.sized;
+        noted = is.noted;
+      })

@@ -1,12 +1,14 @@
 -- What the answers of a page's calls say of the steps of the definitions. A refused call leaves the world as it was.
-use Rattle.std.specs.Prelude.{◌≡◌, List, [], ◌∷◌, Result, Ok, Err}
+use Rattle.std.specs.Prelude.{◌≡◌, ◌≤◌, ◌+◌, ℕ, true, List, [], ◌∷◌, length, Result, Ok, Err, IfOk}
 use Rattle.std.specs.List.{AllByRecursion}
 use Rattle.text_io.specs.declared.kinds.ThrowKind.{ThrowKind}
 use Rattle.script_model.specs.TraceLines.{TraceLine}
 use Rattle.page_model.specs.World.{World}
-use Rattle.page_model.specs.Steps.{Step, Did, Threw, Met, Effect as ModelEffect}
-use Rattle.trace_text.specs.Seen.{seen_throw, seen_limit, seen_line}
+use Rattle.page_model.specs.Operands.{Handlers}
+use Rattle.page_model.specs.Steps.{Step, Did, Threw, Met, is_did, Effect as ModelEffect}
+use Rattle.trace_text.specs.Seen.{seen_line}
 use Rattle.trace_text.specs.Ranges.{HasReach}
+use Rattle.page_state.specs.Views.{PageView}
 use Rattle.page_state.specs.declared.answers.Effect.{Effect}
 use Rattle.page_state.specs.declared.answers.Effect.TheVariants.{Nothing, Line}
 use Rattle.page_state.specs.declared.answers.PageFault.{PageFault}
@@ -21,12 +23,12 @@ abbrev pub Finds : {A B : Type 0} → (A → B) → Result A ThrowKind → Step 
 Finds seen (Ok value) step = step ≡ Did (seen value)
 Finds seen (Err kind) step = step ≡ Threw kind
 
--- what a command does, or why it does nothing; want of memory says nothing of the step
+-- what a command does, or why it does nothing. Want of memory comes last: the command would have been done
 abbrev pub Applied : Result Effect PageFault → World → World → Step ModelEffect → Type 0
 Applied (Ok effect) old new step = step ≡ Did (record { world = new; lines = lines_of effect })
 Applied (Err (Throw kind)) old new step = (step ≡ Threw kind) × (new ≡ old)
 Applied (Err (Limit kind)) old new step = (step ≡ Met kind) × (new ≡ old)
-Applied (Err Memory) old new step = new ≡ old
+Applied (Err Memory) old new step = (is_did step ≡ true) × (new ≡ old)
 
 -- the same of a step that takes no memory and writes nothing
 abbrev pub Moved : Result (Unit {0}) PageFault → World → World → Step World → Type 0
@@ -38,3 +40,10 @@ Moved (Err Memory) old new step = ⊥
 -- the lengths of the lines can be written
 abbrev pub ReachesFar : Effect → Type 0
 ReachesFar effect = AllByRecursion HasReach (lines_of effect)
+
+-- what each command promises, where it may make so many resize observers
+pub record Keeps (old new : PageView) (result : Result Effect PageFault) (made : ℕ) (step : Handlers → Step ModelEffect) : Type 0 where
+  pub applied : (handlers : Handlers) → Applied result old.world new.world (step handlers)
+  pub begun : new.begun ≡ old.begun
+  pub observers : length new.world.resize_observers.made ≤ length old.world.resize_observers.made + made
+  pub reach : IfOk result ReachesFar

@@ -3,7 +3,6 @@ pub mod Things
 pub mod Views
 pub mod Faults
 pub mod Answers
-pub mod Making
 pub mod Whole
 pub mod Telling
 pub mod Labels

@@ -2,10 +2,12 @@
 use Rattle.std.specs.Prelude.{ℕ, ◌<◌, List, Option, Some, None}
 use Rattle.std.specs.List.{AllByRecursion}
 use Rattle.element_tree.specs.declared.node.NodeId.{NodeId}
-use Rattle.page_model.specs.World.{Thing as ModelThing, DocumentThing, ElementThing, ResizeObserverThing, Name, World}
+use Rattle.page_model.specs.World.{Thing as ModelThing, DocumentThing, ElementThing, ResizeObserverThing, Name}
 use Rattle.page_model.specs.Operands.{Present, NoEntry, ResizeEntry}
-use Rattle.page_model.specs.Outcome.{opening_world}
 use Rattle.page_model.specs.Ranges.{Counts, IsThingIn}
+use Rattle.block_layout.specs.declared.ItemKind.{ItemKind}
+use Rattle.block_layout.specs.declared.ItemKind.TheVariants.{Block, Image, Frame}
+use Rattle.page_tree.specs.Items.{IsNatural}
 use Rattle.page_tree.specs.declared.page.Container.{Container}
 use Rattle.page_tree.specs.declared.page.Container.TheVariants.{Element as Inside, Document as Top}
 use Rattle.page_state.specs.declared.names.Thing.{Thing}
@@ -19,10 +21,6 @@ seen_thing (ResizeObserver observer) = ResizeObserverThing observer.0
 -- a name with the thing that it stands for
 abbrev pub seen_entry : List ℕ × Thing → Name
 seen_entry entry = record { text = entry.0; thing = seen_thing entry.1 }
-
--- a world with these names, whose other parts are those of the opening one: operands are looked up in names alone
-abbrev pub in_names : List Name → World
-in_names names = record opening_world { names = names }
 
 abbrev pub present_of : Option NodeId → Present
 present_of None = NoEntry
@@ -39,3 +37,9 @@ IsSubject count (Some node) = node.0 < count
 abbrev pub IsContainerBelow : Counts → Container → Type 0
 IsContainerBelow counts (Inside node) = node.0 < counts.elements
 IsContainerBelow counts (Top document) = document < counts.documents
+
+-- no frame is made
+abbrev pub IsMade : ItemKind → Type 0
+IsMade Block = Unit {0}
+IsMade (Image size) = IsNatural size
+IsMade Frame = ⊥

@@ -1,21 +1,19 @@
 -- What a page is seen as: a world, and whether a command was begun and not applied yet.
-use Rattle.std.specs.Prelude.{ℕ, Bool, List, [], ◌∷◌, Option}
-use Rattle.page_model.specs.World.{Extent, Name, Document, World}
-use Rattle.page_model.specs.Lookups.{document_at}
-use Rattle.page_model.specs.Outcome.{opening_world}
-use Rattle.page_tree.specs.Views.{PageElements, placed_in}
-use Rattle.resize_observer.specs.Observers.{ResizeObservers, placed}
+use Rattle.std.specs.Prelude.{Bool, List, [], ◌∷◌, Option, Some, None}
+use Rattle.page_model.specs.World.{Extent, Scrolls, Table, World}
 
 pub record PageView : Type 0 where
   pub world : World
   pub begun : Bool
 
--- the top document as a run opens, with the size of its viewport that was noted last
-abbrev pub top_noted : Option Extent → Document
-top_noted noted = record (document_at opening_world 0) { noted = noted }
+-- the noted sizes where `top` is the only document
+abbrev pub noted_list : Option Extent → List (Option Extent)
+noted_list None = []
+noted_list (Some size) = Some size ∷ []
 
--- the opening world with the lists of a page's parts in place of its own
-abbrev pub seen_world : List Name → PageElements → ResizeObservers → Extent → Option Extent → ℕ → ℕ → World
-seen_world names tree observers size noted clock begun =
-    placed observers
-    (placed_in tree (record opening_world { documents = top_noted noted ∷ []; names = names; size = size; clock = clock; begun = begun }))
+-- parts that no command of this page changes yet: nothing is scrolled or pending, and nothing is in a table
+abbrev pub no_scrolls : Scrolls
+no_scrolls = record { elements = []; documents = []; pending = [] }
+
+abbrev pub no_table : {A : Type 0} → Table A
+no_table = record { given = 0; held = [] }

@@ -1,6 +1,6 @@
 //! What a page's calls answer.
 
-use page_tree::{MakeFault, PlaceFault};
+use page_tree::MakeFault;
 use std::alloc::AllocError;
 use text_io::{LimitKind, ThrowKind};
 use thiserror::Error;
@@ -60,20 +60,6 @@ impl From<MakeFault> for PageFault {
         match fault {
             MakeFault::Limit(kind) => PageFault::Limit(kind),
             MakeFault::Memory => PageFault::Memory,
-        }
-    }
-}
-
-impl From<PlaceFault> for PageFault {
-    ghost use Rattle.std.specs.Prelude.{◌≡◌};
-    ghost use Rattle.page_state.specs.Faults.{misplaced};
-
-    ghost from_gives = { λ given fault. fault ≡ misplaced given };
-
-    fn from(fault: PlaceFault) -> PageFault {
-        match fault {
-            PlaceFault::Throw(kind) => PageFault::Throw(kind),
-            PlaceFault::Limit(kind) => PageFault::Limit(kind),
         }
     }
 }

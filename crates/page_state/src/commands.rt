@@ -1,49 +1,46 @@
 //! Commands that change the viewport, the tree and styles.
 
-ghost use Rattle.std.specs.Prelude.{◌≡◌, length, unsigned_abs, IfOk};
+ghost use Rattle.std.specs.Prelude.{◌≡◌, ◌<◌, length, option_map, unsigned_abs};
+ghost use Rattle.std.specs.Option.{ForSome};
 ghost use Rattle.style_values.specs.Ranges.{IsAllowed};
 ghost use Rattle.style_values.specs.Seen.{seen_declaration};
 ghost use Rattle.script_model.specs.Syntax.{Viewport, MakeBlock, MakeImage, Append, Before, Remove, SetStyle, Grow, Load};
 ghost use Rattle.block_layout.specs.Seen.{seen_kind};
-ghost use Rattle.page_model.specs.Commands.{does};
-ghost use Rattle.page_model.specs.Operands.{Handlers, Present};
-ghost use Rattle.page_tree.specs.Steps.{seen_axis};
+ghost use Rattle.page_model.specs.Commands.{does, making, placing, with_tree};
+ghost use Rattle.page_model.specs.Documents.{removed};
+ghost use Rattle.page_model.specs.Operands.{Present};
+ghost use Rattle.page_tree.specs.Steps.{seen_axis, seen_container};
 ghost use Rattle.script_syntax.specs.Allowed.{IsSize};
 ghost use Rattle.script_syntax.specs.Seen.{operand_of, dimension_of};
-ghost use Rattle.page_state.specs.Answers.{Applied, ReachesFar};
-ghost use Rattle.page_state.specs.Making.{making, IsMade};
-ghost use Rattle.page_state.specs.Things.{present_of, IsSubject};
+ghost use Rattle.element_tree.specs.Links.{number};
+ghost use Rattle.page_state.specs.Answers.{Keeps};
+ghost use Rattle.page_state.specs.Faults.{misplaced};
+ghost use Rattle.page_state.specs.Labels.{IsIn};
+ghost use Rattle.page_state.specs.Things.{present_of, IsMade, IsSubject};
 
 use crate::answers::{Effect, PageFault};
 use crate::names::Thing;
 use crate::page::Page;
 use block_layout::ItemKind;
 use element_tree::NodeId;
-use page_model::numbers_stay_in_range;
+use page_tree::{Container, PlaceFault};
 use px_units::{Px, Size};
 use script_syntax::{Axis, Operand};
 use style_values::Declaration;
 use text_io::Name;
 
+#[tactic(auto, unfolding(page_model::specs::Commands::does))]
 impl Page {
     pub(crate) fn set_viewport(&mut self, size: Size) -> Result<Effect, PageFault>
         requires { IsSize size }
-        ensures applied { (handlers : Handlers) (present : Present) → Applied result self.old.world self.new.world
-            (does handlers self.old.world present (Viewport (unsigned_abs size.width) (unsigned_abs size.height))) }
-        ensures begun { self.new.begun ≡ self.old.begun }
-        ensures observers { length self.new.world.resize_observers ≡ length self.old.world.resize_observers }
-        ensures reach { IfOk result ReachesFar }
+        ensures { (present : Present) → Keeps self.old self.new result 0 (λ handlers. does handlers self.old.world present (Viewport (unsigned_abs size.width) (unsigned_abs size.height))) }
     {
         self.size = size;
         Ok(Effect::Nothing)
     }
 
     pub(crate) fn make_block(&mut self, name: Name, document: Name) -> Result<Effect, PageFault>
-        ensures applied { (handlers : Handlers) (present : Present) → Applied result self.old.world self.new.world
-            (does handlers self.old.world present (MakeBlock name document)) }
-        ensures begun { self.new.begun ≡ self.old.begun }
-        ensures observers { length self.new.world.resize_observers ≡ length self.old.world.resize_observers }
-        ensures reach { IfOk result ReachesFar }
+        ensures { (present : Present) → Keeps self.old self.new result 0 (λ handlers. does handlers self.old.world present (MakeBlock name document)) }
     {
         self.make(name, document, ItemKind::Block)
     }
@@ -55,11 +52,7 @@ impl Page {
         size: Size,
     ) -> Result<Effect, PageFault>
         requires { IsSize size }
-        ensures applied { (handlers : Handlers) (present : Present) → Applied result self.old.world self.new.world
-            (does handlers self.old.world present (MakeImage name document (unsigned_abs size.width) (unsigned_abs size.height))) }
-        ensures begun { self.new.begun ≡ self.old.begun }
-        ensures observers { length self.new.world.resize_observers ≡ length self.old.world.resize_observers }
-        ensures reach { IfOk result ReachesFar }
+        ensures { (present : Present) → Keeps self.old self.new result 0 (λ handlers. does handlers self.old.world present (MakeImage name document (unsigned_abs size.width) (unsigned_abs size.height))) }
     {
         self.make(name, document, ItemKind::Image(size))
     }
@@ -67,16 +60,12 @@ impl Page {
     // The room for the element and its box comes first, then its name, which is the last thing that may be refused.
     fn make(&mut self, name: Name, document: Name, kind: ItemKind) -> Result<Effect, PageFault>
         requires { IsMade kind }
-        ensures applied { Applied result self.old.world self.new.world (making self.old.world name document (seen_kind kind)) }
-        ensures begun { self.new.begun ≡ self.old.begun }
-        ensures observers { length self.new.world.resize_observers ≡ length self.old.world.resize_observers }
-        ensures reach { IfOk result ReachesFar }
+        ensures { Keeps self.old self.new result 0 (λ handlers. making self.old.world name document (seen_kind kind)) }
     {
         self.names.check_free(name)?;
-        let _top = self.names.document(document)?;
+        let _top = self.document(document)?;
         let node = self.tree.reserve()?;
         self.boxes.add(node)?;
-        numbers_stay_in_range();
         self.names.insert(name, Thing::Element(node))?;
         let _node = self.tree.make(name, kind)?;
         Ok(Effect::Nothing)
@@ -88,18 +77,12 @@ impl Page {
         node: Operand,
         subject: Option<NodeId>,
     ) -> Result<Effect, PageFault>
-        requires { IsSubject (length self.old.world.elements) subject }
-        ensures applied { (handlers : Handlers) → Applied result self.old.world self.new.world
-            (does handlers self.old.world (present_of subject) (Append (operand_of parent) (operand_of node))) }
-        ensures begun { self.new.begun ≡ self.old.begun }
-        ensures observers { length self.new.world.resize_observers ≡ length self.old.world.resize_observers }
-        ensures reach { IfOk result ReachesFar }
+        requires { IsSubject (length self.old.world.tree.elements) subject }
+        ensures { Keeps self.old self.new result 0 (λ handlers. does handlers self.old.world (present_of subject) (Append (operand_of parent) (operand_of node))) }
     {
-        numbers_stay_in_range();
-        let container = self.names.container(parent, subject)?;
-        let node = self.names.element(node, subject)?;
-        self.tree.place(container, node, None)?;
-        Ok(Effect::Nothing)
+        let container = self.container(parent, subject)?;
+        let node = self.element(node, subject)?;
+        self.put(container, node, None)
     }
 
     pub(crate) fn insert(
@@ -109,18 +92,31 @@ impl Page {
         sibling: Operand,
         subject: Option<NodeId>,
     ) -> Result<Effect, PageFault>
-        requires { IsSubject (length self.old.world.elements) subject }
-        ensures applied { (handlers : Handlers) → Applied result self.old.world self.new.world
-            (does handlers self.old.world (present_of subject) (Before (operand_of parent) (operand_of node) (operand_of sibling))) }
-        ensures begun { self.new.begun ≡ self.old.begun }
-        ensures observers { length self.new.world.resize_observers ≡ length self.old.world.resize_observers }
-        ensures reach { IfOk result ReachesFar }
+        requires { IsSubject (length self.old.world.tree.elements) subject }
+        ensures { Keeps self.old self.new result 0 (λ handlers. does handlers self.old.world (present_of subject) (Before (operand_of parent) (operand_of node) (operand_of sibling))) }
     {
-        numbers_stay_in_range();
-        let container = self.names.container(parent, subject)?;
-        let node = self.names.element(node, subject)?;
-        let sibling = self.names.element(sibling, subject)?;
-        self.tree.place(container, node, Some(sibling))?;
+        let container = self.container(parent, subject)?;
+        let node = self.element(node, subject)?;
+        let sibling = self.element(sibling, subject)?;
+        self.put(container, node, Some(sibling))
+    }
+
+    // Puts an element somewhere.
+    fn put(
+        &mut self,
+        container: Container,
+        node: NodeId,
+        sibling: Option<NodeId>,
+    ) -> Result<Effect, PageFault>
+        requires container { IsIn self.old.world container }
+        requires node { node.0 < length self.old.world.tree.elements }
+        requires sibling { ForSome sibling (λ s. s.0 < length self.old.world.tree.elements) }
+        ensures { Keeps self.old self.new result 0
+            (λ handlers. with_tree self.old.world (placing (seen_container container) node.0 (option_map number sibling) (self.old.world.tree))) }
+    {
+        if let Err(fault) = self.tree.place(container, node, sibling) {
+            return Err(refused(fault));
+        }
         Ok(Effect::Nothing)
     }
 
@@ -129,17 +125,20 @@ impl Page {
         node: Operand,
         subject: Option<NodeId>,
     ) -> Result<Effect, PageFault>
-        requires { IsSubject (length self.old.world.elements) subject }
-        ensures applied { (handlers : Handlers) → Applied result self.old.world self.new.world
-            (does handlers self.old.world (present_of subject) (Remove (operand_of node))) }
-        ensures begun { self.new.begun ≡ self.old.begun }
-        ensures observers { length self.new.world.resize_observers ≡ length self.old.world.resize_observers }
-        ensures reach { IfOk result ReachesFar }
+        requires { IsSubject (length self.old.world.tree.elements) subject }
+        ensures { Keeps self.old self.new result 0 (λ handlers. does handlers self.old.world (present_of subject) (Remove (operand_of node))) }
     {
-        numbers_stay_in_range();
-        let node = self.names.element(node, subject)?;
-        self.tree.remove(node);
+        let node = self.element(node, subject)?;
+        self.take_out(node);
         Ok(Effect::Nothing)
+    }
+
+    // Takes an element out of where it stands.
+    fn take_out(&mut self, node: NodeId)
+        requires { node.0 < length self.old.world.tree.elements }
+        ensures { self.new ≡ record self.old { world = record (self.old.world) { tree = removed (self.old.world.tree) node.0 } } }
+    {
+        self.tree.remove(node);
     }
 
     pub(crate) fn set(
@@ -149,15 +148,10 @@ impl Page {
         subject: Option<NodeId>,
     ) -> Result<Effect, PageFault>
         requires allowed { IsAllowed declaration }
-        requires subject { IsSubject (length self.old.world.elements) subject }
-        ensures applied { (handlers : Handlers) → Applied result self.old.world self.new.world
-            (does handlers self.old.world (present_of subject) (SetStyle (operand_of node) (seen_declaration declaration))) }
-        ensures begun { self.new.begun ≡ self.old.begun }
-        ensures observers { length self.new.world.resize_observers ≡ length self.old.world.resize_observers }
-        ensures reach { IfOk result ReachesFar }
+        requires subject { IsSubject (length self.old.world.tree.elements) subject }
+        ensures { Keeps self.old self.new result 0 (λ handlers. does handlers self.old.world (present_of subject) (SetStyle (operand_of node) (seen_declaration declaration))) }
     {
-        numbers_stay_in_range();
-        let node = self.names.element(node, subject)?;
+        let node = self.element(node, subject)?;
         self.tree.set(node, declaration);
         Ok(Effect::Nothing)
     }
@@ -169,15 +163,10 @@ impl Page {
         by: Px,
         subject: Option<NodeId>,
     ) -> Result<Effect, PageFault>
-        requires { IsSubject (length self.old.world.elements) subject }
-        ensures applied { (handlers : Handlers) → Applied result self.old.world self.new.world
-            (does handlers self.old.world (present_of subject) (Grow (operand_of node) (dimension_of axis) by.0)) }
-        ensures begun { self.new.begun ≡ self.old.begun }
-        ensures observers { length self.new.world.resize_observers ≡ length self.old.world.resize_observers }
-        ensures reach { IfOk result ReachesFar }
+        requires { IsSubject (length self.old.world.tree.elements) subject }
+        ensures { Keeps self.old self.new result 0 (λ handlers. does handlers self.old.world (present_of subject) (Grow (operand_of node) (dimension_of axis) by.0)) }
     {
-        numbers_stay_in_range();
-        let node = self.names.element(node, subject)?;
+        let node = self.element(node, subject)?;
         self.tree.grow(node, side(axis), by)?;
         Ok(Effect::Nothing)
     }
@@ -189,15 +178,10 @@ impl Page {
         subject: Option<NodeId>,
     ) -> Result<Effect, PageFault>
         requires size { IsSize size }
-        requires subject { IsSubject (length self.old.world.elements) subject }
-        ensures applied { (handlers : Handlers) → Applied result self.old.world self.new.world
-            (does handlers self.old.world (present_of subject) (Load (operand_of node) (unsigned_abs size.width) (unsigned_abs size.height))) }
-        ensures begun { self.new.begun ≡ self.old.begun }
-        ensures observers { length self.new.world.resize_observers ≡ length self.old.world.resize_observers }
-        ensures reach { IfOk result ReachesFar }
+        requires subject { IsSubject (length self.old.world.tree.elements) subject }
+        ensures { Keeps self.old self.new result 0 (λ handlers. does handlers self.old.world (present_of subject) (Load (operand_of node) (unsigned_abs size.width) (unsigned_abs size.height))) }
     {
-        numbers_stay_in_range();
-        let node = self.names.element(node, subject)?;
+        let node = self.element(node, subject)?;
         self.tree.load(node, size)?;
         Ok(Effect::Nothing)
     }
@@ -210,5 +194,15 @@ fn side(axis: Axis) -> page_tree::Axis
     match axis {
         Axis::Width => page_tree::Axis::Width,
         Axis::Height => page_tree::Axis::Height,
+    }
+}
+
+// Why an element isn't put somewhere.
+fn refused(fault: PlaceFault) -> PageFault
+    ensures { result ≡ misplaced fault }
+{
+    match fault {
+        PlaceFault::Throw(kind) => PageFault::Throw(kind),
+        PlaceFault::Limit(kind) => PageFault::Limit(kind),
     }
 }

@@ -3,12 +3,12 @@
 ghost use Rattle.std.specs.Prelude.{◌≡◌, ◌<◌, ◌≤◌, ◌++◌, List, [], ◌∷◌, not, length, map, None, IfOk, OnOk, OnErr};
 ghost use Rattle.std.specs.List.{All};
 ghost use Rattle.block_layout.specs.Held.{held_in};
-ghost use Rattle.page_model.specs.World.{World, Observation as ModelObservation};
+ghost use Rattle.page_model.specs.World.{Extent, Name as ModelName, Observation as ModelObservation};
 ghost use Rattle.page_model.specs.Lookups.{same_extent};
 ghost use Rattle.page_model.specs.Runs.{say};
 ghost use Rattle.page_model.specs.Callbacks.{Script as ModelScript, resize_line};
-ghost use Rattle.page_model.specs.Loop.{resize_loop, size_entry};
-ghost use Rattle.page_tree.specs.Views.{placed_in};
+ghost use Rattle.page_model.specs.Gathering.{sight_in, size_entry};
+ghost use Rattle.page_model.specs.Loop.{resize_loop};
 ghost use Rattle.page_boxes.specs.Ranges.{IsSpan};
 ghost use Rattle.resize_observer.specs.Observations.{seen_size, seen_observation, seen_observations};
 ghost use Rattle.trace_text.specs.Seen.{seen_line};
@@ -39,14 +39,16 @@ impl Page {
         alloc: Global,
         steps: &mut Steps<L>,
     ) -> Result<Vec<TraceLine>, AllocError>
-        requires { length self.old.world.resize_observers ≤ 1 }
+        requires { length self.old.world.resize_observers.made ≤ 1 }
         ensures delivered { IfOk result (λ lines. (script : ModelScript) →
             resize_loop script 0 self.old.world ≡ say (map seen_line lines.items) self.new.world) }
         ensures begun { self.new.begun ≡ self.old.begun }
-        ensures observers { length self.new.world.resize_observers ≡ length self.old.world.resize_observers }
+        ensures observers { length self.new.world.resize_observers.made ≡ length self.old.world.resize_observers.made }
         ensures same { OnErr result (self.new.world ≡ self.old.world) }
         ensures reach { IfOk result (λ lines. All (λ line. HasReach (seen_line line)) lines.items) }
     {
+        // `top` is the only document, as its root element tells.
+        let _root = self.tree.root();
         let observer = ObserverId(0);
         let Some(name) = self.names.name_of(Thing::ResizeObserver(observer)) else {
             return Ok(Vec::new(alloc));
@@ -112,9 +114,9 @@ fn content_rect(corner: Point, content: Size) -> Rect
 
 // The line of an entry: the content rectangle in the padding box, and the size of the border box.
 fn line_of(tree: &PageTree, boxes: &FreshBoxes, observer: Name, each: &Observation) -> TraceLine
-    requires { each.now.target.0 < length tree.now.elements }
-    ensures value { (world : World) → IsShown world tree.now (held_in boxes.now) observer →
-        seen_line result ≡ resize_line (placed_in tree.now world) 0 (size_entry (placed_in tree.now world) (seen_observation each.now)) }
+    requires { each.now.target.0 < length tree.now.tree.elements }
+    ensures value { (names : List ModelName) (size : Extent) → IsShown names size tree.now (held_in boxes.now) observer →
+        seen_line result ≡ resize_line names 0 (size_entry (sight_in tree.now.tree size) (seen_observation each.now)) }
     ensures reach { HasReach (seen_line result) }
 {
     let corner = corner_of(tree, boxes, each.target);
@@ -158,10 +160,10 @@ impl Told {
         observer: Name,
         each: &Observation,
     ) -> Result<(), AllocError>
-        requires target { each.now.target.0 < length tree.now.elements }
+        requires target { each.now.target.0 < length tree.now.tree.elements }
         requires reach { All (λ line. HasReach (seen_line line)) self.old.lines.items }
-        ensures told { OnOk result ((world : World) → IsShown world tree.now (held_in boxes.now) observer → (left : List ModelObservation) →
-            telling (placed_in tree.now world) self.new left ≡ telling (placed_in tree.now world) self.old (seen_observation each.now ∷ left)) }
+        ensures told { OnOk result ((names : List ModelName) (size : Extent) → IsShown names size tree.now (held_in boxes.now) observer → (left : List ModelObservation) →
+            telling names (sight_in tree.now.tree size) self.new left ≡ telling names (sight_in tree.now.tree size) self.old (seen_observation each.now ∷ left)) }
         ensures reach { OnOk result (All (λ line. HasReach (seen_line line)) self.new.lines.items) }
     {
         let size = size_of(tree, boxes, each.target, each.observed);
@@ -196,9 +198,9 @@ fn tell_changed(
     observer: Name,
     observations: &[Observation],
 ) -> Result<Told, AllocError>
-    requires { All (λ each. each.target.0 < length tree.now.elements) observations.now }
-    ensures told { IfOk result (λ told. (world : World) → IsShown world tree.now (held_in boxes.now) observer →
-        telling (placed_in tree.now world) told [] ≡ telling_all (placed_in tree.now world) (seen_observations observations.now)) }
+    requires { All (λ each. each.target.0 < length tree.now.tree.elements) observations.now }
+    ensures told { IfOk result (λ told. (names : List ModelName) (size : Extent) → IsShown names size tree.now (held_in boxes.now) observer →
+        telling names (sight_in tree.now.tree size) told [] ≡ telling_all names (sight_in tree.now.tree size) (seen_observations observations.now)) }
     ensures reach { IfOk result (λ told. All (λ line. HasReach (seen_line line)) told.lines.items) }
 {
     let mut told = Told::new(alloc);
@@ -210,7 +212,7 @@ fn tell_changed(
 
 // Gives the observations their new last reported sizes.
 fn report_all(observers: &mut Observers, observer: ObserverId, reports: &[Report])
-    requires one { length observers.old.made ≡ 1 }
+    requires one { length observers.old.part.made ≡ 1 }
     requires number { observer.0 ≡ 0 }
     ensures { observers.new ≡ reporting_in (map seen_report reports.now) observers.old }
 {

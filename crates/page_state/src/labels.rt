@@ -26,6 +26,8 @@ impl Page {
         requires { IsLabelIn self.now.world of }
         ensures { result ≡ label_text self.now.world of }
     {
+        // `top` is the only document, as its root element tells.
+        let _root = self.tree.root();
         match of {
             Label::Element(node) => self.tree.name_of(node),
             Label::Document(document) => self.document_name(document),

@@ -6,6 +6,7 @@ mod answers;
 mod commands;
 mod delivery;
 mod labels;
+mod lookups;
 mod names;
 mod page;
 mod readings;

@@ -10,7 +10,7 @@ ghost use Rattle.page_model.specs.Ranges.{Counts, IsThingIn};
 ghost use Rattle.page_tree.specs.Steps.{seen_container};
 ghost use Rattle.script_syntax.specs.Seen.{operand_of};
 ghost use Rattle.page_state.specs.Answers.{Finds};
-ghost use Rattle.page_state.specs.Things.{seen_thing, in_names, present_of, AreIn, IsSubject, IsContainerBelow};
+ghost use Rattle.page_state.specs.Things.{seen_thing, present_of, AreIn, IsSubject, IsContainerBelow};
 
 use element_tree::NodeId;
 use indexmap::IndexMap;
@@ -59,7 +59,7 @@ impl Names {
     // What the name stands for.
     #[tactic(auto, using(crate::proofs::Found::found_thing))]
     pub(crate) fn thing_of(&self, name: Name) -> Option<Thing>
-        ensures { option_map seen_thing result ≡ named_thing (in_names self.now.list) name }
+        ensures { option_map seen_thing result ≡ named_thing self.now.list name }
     {
         match self.things.get(&name) {
             Some(thing) => Some(*thing),
@@ -77,7 +77,7 @@ impl Names {
 
     // Gives a name that is free.
     pub(crate) fn insert(&mut self, name: Name, thing: Thing) -> Result<(), AllocError>
-        requires { named_thing (in_names self.old.list) name ≡ None }
+        requires { named_thing self.old.list name ≡ None }
         ensures given { OnOk result (self.new.list ≡ self.old.list ++ record { text = name; thing = seen_thing thing } ∷ []) }
         ensures same { OnErr result (self.new.list ≡ self.old.list) }
         ensures roomy { 0 < self.old.room → IsOk result }
@@ -102,8 +102,8 @@ impl Names {
 
     // A new name has to be free.
     pub(crate) fn check_free(&self, name: Name) -> Result<(), ThrowKind>
-        ensures answer { Finds (λ done. done) result (new_name (in_names self.now.list) name) }
-        ensures free { OnOk result (named_thing (in_names self.now.list) name ≡ None) }
+        ensures answer { Finds (λ done. done) result (new_name self.now.list name) }
+        ensures free { OnOk result (named_thing self.now.list name ≡ None) }
     {
         match self.thing_of(name) {
             Some(_) => Err(ThrowKind::TypeError),
@@ -112,7 +112,7 @@ impl Names {
     }
 
     fn thing_named(&self, name: Name) -> Result<Thing, ThrowKind>
-        ensures answer { Finds seen_thing result (thing_named (in_names self.now.list) name) }
+        ensures answer { Finds seen_thing result (thing_named self.now.list name) }
         ensures held { (counts : Counts) → AreIn counts self.now.list → IfOk result (λ thing. IsThingIn counts (seen_thing thing)) }
     {
         match self.thing_of(name) {
@@ -122,7 +122,7 @@ impl Names {
     }
 
     pub(crate) fn document(&self, name: Name) -> Result<u32, ThrowKind>
-        ensures answer { Finds (λ document. document) result (document_named (in_names self.now.list) name) }
+        ensures answer { Finds (λ document. document) result (document_named self.now.list name) }
         ensures held { (counts : Counts) → AreIn counts self.now.list → IfOk result (λ document. document < counts.documents) }
     {
         match self.thing_named(name) {
@@ -132,7 +132,7 @@ impl Names {
     }
 
     pub(crate) fn observer(&self, name: Name) -> Result<ObserverId, ThrowKind>
-        ensures answer { Finds (λ (observer : ObserverId). observer.0) result (resize_observer_named (in_names self.now.list) name) }
+        ensures answer { Finds (λ (observer : ObserverId). observer.0) result (resize_observer_named self.now.list name) }
         ensures held { (counts : Counts) → AreIn counts self.now.list → IfOk result (λ observer. observer.0 < counts.resize_observers) }
     {
         match self.thing_named(name) {
@@ -143,7 +143,7 @@ impl Names {
 
     // What an operand stands for: `$target` is the target of the present entry.
     fn thing(&self, operand: Operand, subject: Option<NodeId>) -> Result<Thing, ThrowKind>
-        ensures answer { Finds seen_thing result (operand_thing (in_names self.now.list) (present_of subject) (operand_of operand)) }
+        ensures answer { Finds seen_thing result (operand_thing self.now.list (present_of subject) (operand_of operand)) }
         ensures held { (counts : Counts) → AreIn counts self.now.list → IsSubject counts.elements subject → IfOk result (λ thing. IsThingIn counts (seen_thing thing)) }
     {
         match operand {
@@ -160,7 +160,7 @@ impl Names {
         operand: Operand,
         subject: Option<NodeId>,
     ) -> Result<NodeId, ThrowKind>
-        ensures answer { Finds number result (element_meant (in_names self.now.list) (present_of subject) (operand_of operand)) }
+        ensures answer { Finds number result (element_meant self.now.list (present_of subject) (operand_of operand)) }
         ensures held { (counts : Counts) → AreIn counts self.now.list → IsSubject counts.elements subject → IfOk result (λ node. node.0 < counts.elements) }
     {
         match self.thing(operand, subject) {
@@ -174,7 +174,7 @@ impl Names {
         operand: Operand,
         subject: Option<NodeId>,
     ) -> Result<Container, ThrowKind>
-        ensures answer { Finds seen_container result (container_meant (in_names self.now.list) (present_of subject) (operand_of operand)) }
+        ensures answer { Finds seen_container result (container_meant self.now.list (present_of subject) (operand_of operand)) }
         ensures held { (counts : Counts) → AreIn counts self.now.list → IsSubject counts.elements subject → IfOk result (IsContainerBelow counts) }
     {
         match self.thing(operand, subject) {

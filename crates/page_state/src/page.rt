@@ -1,19 +1,17 @@
 //! A page, and how a command is begun and applied.
 
-ghost use Rattle.std.specs.Prelude.{◌≡◌, ◌<◌, ◌≤◌, ◌+◌, cond, IsTrue, Bool, true, false, length, IfOk, OnOk, OnErr};
+ghost use Rattle.std.specs.Prelude.{◌≡◌, ◌<◌, ◌≤◌, ◌+◌, cond, true, false, length, IfOk, OnOk, OnErr};
 ghost use Rattle.script_model.specs.Syntax.{Action};
 ghost use Rattle.script_model.specs.Scripts.{handlers_in};
-ghost use Rattle.page_model.specs.World.{World};
 ghost use Rattle.page_model.specs.Names.{document_text, resize_observer_text};
 ghost use Rattle.page_model.specs.Callbacks.{handler_names};
 ghost use Rattle.page_model.specs.Commands.{begun_in, does};
-ghost use Rattle.page_model.specs.Operands.{Handlers};
 ghost use Rattle.page_model.specs.Outcome.{opening_world};
 ghost use Rattle.page_model.specs.Ticks.{time_set};
 ghost use Rattle.built_part.specs.Built.{is_built, is_observer_made};
 ghost use Rattle.script_syntax.specs.Allowed.{ActionAllowed};
 ghost use Rattle.script_syntax.specs.Seen.{action_of};
-ghost use Rattle.page_state.specs.Answers.{Applied, Moved, ReachesFar};
+ghost use Rattle.page_state.specs.Answers.{Applied, Moved, Keeps, ReachesFar};
 ghost use Rattle.page_state.specs.Things.{present_of, IsSubject};
 
 use crate::answers::{Effect, PageFault};
@@ -66,16 +64,34 @@ pub struct Page {
 }
 
 impl Model for Page {
-    ghost use Rattle.std.specs.Prelude.{option_map};
-    ghost use Rattle.page_boxes.specs.Worlds.{seen_size};
-    ghost use Rattle.page_state.specs.Views.{PageView, seen_world};
+    ghost use Rattle.std.specs.Prelude.{[], option_map};
+    ghost use Rattle.page_boxes.specs.Pages.{seen_size};
+    ghost use Rattle.page_state.specs.Views.{PageView, noted_list, no_scrolls, no_table};
     ghost use Rattle.page_state.specs.Whole.{IsPage};
 
     ghost Value = { PageView };
 
-    ghost view = { λ p. record { world = seen_world p.names.list p.tree p.observers (seen_size p.size) (option_map seen_size p.noted) p.clock p.count; begun = p.begun } };
+    ghost view = { λ p. record {
+      world = record {
+        tree = p.tree.tree;
+        names = p.names.list;
+        viewports = record { size = seen_size p.size; noted = noted_list (option_map seen_size p.noted) };
+        scrolls = no_scrolls;
+        resize_observers = p.observers.part;
+        intersection_observers = record { given = 0; made = [] };
+        notifying = [];
+        queries = [];
+        listeners = no_table;
+        frame_callbacks = no_table;
+        timers = no_table;
+        tasks = [];
+        clock = p.clock;
+        begun = p.count;
+      };
+      begun = p.begun;
+    } };
 
-    ghost invariant = { λ p. IsPage p.names.list p.tree p.boxes p.observers p.size p.noted p.count p.begun };
+    ghost invariant = { IsPage };
 }
 
 impl Page {
@@ -107,6 +123,7 @@ impl Page {
     ///
     /// # Errors
     /// `Limit(Commands)` exactly where 1,000,000 were begun. Nothing is changed then. No memory.
+    #[tactic(auto, unfolding(page_model::specs::Commands::begun_in))]
     pub fn begin_command(&mut self) -> Result<(), PageFault>
         ensures counted { Moved result self.old.world self.new.world (begun_in self.old.world) }
         ensures begun { OnOk result (self.new.begun ≡ true) }
@@ -153,13 +170,13 @@ impl Page {
         requires begun { self.old.begun ≡ true }
         requires allowed { ActionAllowed command.now.what }
         requires built { is_built false (action_of command.now.what) ≡ true }
-        requires subject { IsSubject (length self.old.world.elements) subject }
+        requires subject { IsSubject (length self.old.world.tree.elements) subject }
         ensures applied { Applied result self.old.world self.new.world
             (does (handler_names (handlers_in script.now)) self.old.world (present_of subject) (action_of command.now.what)) }
         ensures begun { self.new.begun ≡ false }
         ensures reach { IfOk result ReachesFar }
-        ensures observers { length self.new.world.resize_observers
-            ≤ length self.old.world.resize_observers + cond (is_observer_made (action_of command.now.what)) 1 0 }
+        ensures observers { length self.new.world.resize_observers.made
+            ≤ length self.old.world.resize_observers.made + cond (is_observer_made (action_of command.now.what)) 1 0 }
     {
         let _handlers = script.items();
         self.begun = false;
@@ -173,17 +190,13 @@ impl Page {
         subject: Option<NodeId>,
         steps: &mut Steps<L>,
     ) -> Result<Effect, PageFault>
-        requires counted { self.old.world.observed < self.old.world.begun }
+        requires counted { self.old.world.resize_observers.given < self.old.world.begun }
         requires flag { self.old.begun ≡ false }
         requires allowed { ActionAllowed what.now }
         requires built { is_built false (action_of what.now) ≡ true }
-        requires subject { IsSubject (length self.old.world.elements) subject }
-        ensures applied { (handlers : Handlers) →
-            Applied result self.old.world self.new.world (does handlers self.old.world (present_of subject) (action_of what.now)) }
-        ensures begun { self.new.begun ≡ false }
-        ensures reach { IfOk result ReachesFar }
-        ensures observers { length self.new.world.resize_observers
-            ≤ length self.old.world.resize_observers + cond (is_observer_made (action_of what.now)) 1 0 }
+        requires subject { IsSubject (length self.old.world.tree.elements) subject }
+        ensures { Keeps self.old self.new result (cond (is_observer_made (action_of what.now)) 1 0)
+            (λ handlers. does handlers self.old.world (present_of subject) (action_of what.now)) }
     {
         match what {
             What::Viewport(size) => self.set_viewport(*size),
@@ -226,16 +239,17 @@ impl Page {
         }
     }
 
+    // `top` is the only document.
     pub(crate) fn document_name(&self, document: u32) -> Name
-        requires { document < length self.now.world.documents }
-        ensures { result ≡ document_text self.now.world document }
+        requires { document ≡ 0 }
+        ensures { result ≡ document_text self.now.world.names document }
     {
         self.names.name_of(Thing::Document(document)).unwrap()
     }
 
     pub(crate) fn observer_name(&self, observer: ObserverId) -> Name
-        requires { observer.0 < length self.now.world.resize_observers }
-        ensures { result ≡ resize_observer_text self.now.world observer.0 }
+        requires { observer.0 < length self.now.world.resize_observers.made }
+        ensures { result ≡ resize_observer_text self.now.world.names observer.0 }
     {
         self.names.name_of(Thing::ResizeObserver(observer)).unwrap()
     }

@@ -1,15 +1,17 @@
 //! What is read of a page. Its boxes are computed anew at each reading.
 
-ghost use Rattle.std.specs.Prelude.{◌≡◌, length, IfOk};
+ghost use Rattle.std.specs.Prelude.{◌≡◌, length};
 ghost use Rattle.script_model.specs.Syntax.{Read};
 ghost use Rattle.page_model.specs.Commands.{does};
-ghost use Rattle.page_model.specs.Operands.{Handlers};
+ghost use Rattle.page_model.specs.Readings.{reading_of};
+ghost use Rattle.trace_text.specs.Seen.{seen_line};
+ghost use Rattle.trace_text.specs.Ranges.{HasReach};
 ghost use Rattle.script_syntax.specs.Seen.{operand_of};
-ghost use Rattle.page_state.specs.Answers.{Applied, ReachesFar};
-ghost use Rattle.page_model.specs.Ranges.{counts_of};
+ghost use Rattle.page_state.specs.Answers.{Keeps};
 ghost use Rattle.page_tree.specs.Steps.{seen_container};
-ghost use Rattle.page_boxes.specs.Worlds.{text_in};
-ghost use Rattle.page_state.specs.Things.{present_of, IsSubject, IsContainerBelow};
+ghost use Rattle.page_boxes.specs.Pages.{text_in};
+ghost use Rattle.page_state.specs.Things.{present_of, IsSubject};
+ghost use Rattle.page_state.specs.Labels.{IsIn};
 
 use crate::answers::{Effect, PageFault};
 use crate::labels::Label;
@@ -23,6 +25,7 @@ use step_count::Steps;
 use text_io::Name;
 use trace_text::TraceLine;
 
+#[tactic(auto, unfolding(page_model::specs::Commands::does))]
 impl Page {
     pub(crate) fn read<L: Ledger>(
         &mut self,
@@ -30,31 +33,38 @@ impl Page {
         subject: Option<NodeId>,
         steps: &mut Steps<L>,
     ) -> Result<Effect, PageFault>
-        requires { IsSubject (length self.old.world.elements) subject }
-        ensures applied { (handlers : Handlers) → Applied result self.old.world self.new.world
-            (does handlers self.old.world (present_of subject) (Read (operand_of target))) }
-        ensures begun { self.new.begun ≡ self.old.begun }
-        ensures observers { length self.new.world.resize_observers ≡ length self.old.world.resize_observers }
-        ensures reach { IfOk result ReachesFar }
+        requires { IsSubject (length self.old.world.tree.elements) subject }
+        ensures { Keeps self.old self.new result 0 (λ handlers. does handlers self.old.world (present_of subject) (Read (operand_of target))) }
     {
-        let container = self.names.container(target, subject)?;
+        let container = self.container(target, subject)?;
+        Ok(Effect::Line(self.reading(container, steps)))
+    }
+
+    // The line of what is read of an element or a document.
+    fn reading<L: Ledger>(&mut self, container: Container, steps: &mut Steps<L>) -> TraceLine
+        requires { IsIn self.old.world container }
+        ensures line { seen_line result
+            ≡ reading_of self.old.world.names self.old.world.tree self.old.world.viewports.size self.old.world.scrolls (seen_container container) }
+        ensures same { self.new ≡ self.old }
+        ensures reach { HasReach (seen_line result) }
+    {
         let target = self.container_name(container);
         refresh(&mut self.boxes, &self.tree, self.size, steps);
         let shown = read(&self.tree, &self.boxes, self.size, container);
-        Ok(Effect::Line(TraceLine::Read {
+        TraceLine::Read {
             target,
             rect: shown.rect,
             scroll: shown.scroll,
-        }))
+        }
     }
 
     fn container_name(&self, container: Container) -> Name
-        requires { IsContainerBelow (counts_of 0 self.now.world) container }
-        ensures { result ≡ text_in self.now.world (seen_container container) }
+        requires { IsIn self.now.world container }
+        ensures { result ≡ text_in self.now.world.names (seen_container container) }
     {
         match container {
             Container::Element(node) => self.label(Label::Element(node)),
-            Container::Document(document) => self.label(Label::Document(document)),
+            Container::Document(document) => self.document_name(document),
         }
     }
 }

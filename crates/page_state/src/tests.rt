@@ -39,8 +39,8 @@ fn applied<L: Ledger>(
     requires one_part { 0 < blank.parts }
     requires allowed { ActionAllowed what }
     requires built { is_built false (action_of what) ≡ true }
-    ensures { length page.new.world.resize_observers
-        ≤ length page.old.world.resize_observers + cond (is_observer_made (action_of what)) 1 0 }
+    ensures { length page.new.world.resize_observers.made
+        ≤ length page.old.world.resize_observers.made + cond (is_observer_made (action_of what)) 1 0 }
 {
     let mut steps = Steps::<L>::new(blank);
     let command = Command { line: 1, what };
@@ -210,8 +210,8 @@ fn a_change_of_the_viewport_is_told_once(rt: HostRuntime) -> Result<(), Fail> {
 fn take(page: &mut Page, script: &Script, what: What) -> Result<(), PageFault>
     requires allowed { ActionAllowed what }
     requires built { is_built false (action_of what) ≡ true }
-    ensures { length page.new.world.resize_observers
-        ≤ length page.old.world.resize_observers + cond (is_observer_made (action_of what)) 1 0 }
+    ensures { length page.new.world.resize_observers.made
+        ≤ length page.old.world.resize_observers.made + cond (is_observer_made (action_of what)) 1 0 }
 {
     match applied::<Brand>(Blank::new(1), page, script, what) {
         Ok(_) => Ok(()),
@@ -227,23 +227,23 @@ fn delivered<L: Ledger>(
     requires name { blank.name ≡ L.name }
     requires parts { blank.parts ≡ L.parts }
     requires one_part { 0 < blank.parts }
-    requires one { length page.old.world.resize_observers ≤ 1 }
-    ensures { length page.new.world.resize_observers ≤ 1 }
+    requires one { length page.old.world.resize_observers.made ≤ 1 }
+    ensures { length page.new.world.resize_observers.made ≤ 1 }
 {
     let mut steps = Steps::<L>::new(blank);
     page.deliver(alloc, &mut steps)
 }
 
 fn deliver(alloc: Global, page: &mut Page) -> Result<Vec<TraceLine>, AllocError>
-    requires { length page.old.world.resize_observers ≤ 1 }
-    ensures { length page.new.world.resize_observers ≤ 1 }
+    requires { length page.old.world.resize_observers.made ≤ 1 }
+    ensures { length page.new.world.resize_observers.made ≤ 1 }
 {
     delivered::<Brand>(Blank::new(1), alloc, page)
 }
 
 // A page whose observer `o` observes its root element `a`.
 fn observed_page(alloc: Global, top: Name, a: Name, o: Name) -> Result<Page, Fail>
-    ensures { IfOk result (λ page. length page.world.resize_observers ≤ 1) }
+    ensures { IfOk result (λ page. length page.world.resize_observers.made ≤ 1) }
 {
     let script = no_handlers(alloc)?;
     let mut page = Page::new(alloc)?;

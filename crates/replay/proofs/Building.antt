@@ -155,15 +155,15 @@ item_once (Tick line time) is = refl
 item_once (Handler line name block end_line) is = refl
 
 -- there is at most one observer, and none before one was asked for
-pub counted_next : (made : Bool) (item : Item) (old new : World) → unbuilt_item made item ≡ None → length (old.resize_observers) ≤ cond made 1 0 → HasMade (made_by item) old new
-    → length (new.resize_observers) ≤ cond (made || made_by item) 1 0
+pub counted_next : (made : Bool) (item : Item) (old new : World) → unbuilt_item made item ≡ None → length (old.resize_observers.made) ≤ cond made 1 0 → HasMade (made_by item) old new
+    → length (new.resize_observers.made) ≤ cond (made || made_by item) 1 0
 counted_next true item old new is counted has =
-    let few : length (new.resize_observers) ≤ length (old.resize_observers) + 0 = subst (λ b. length (new.resize_observers) ≤ length (old.resize_observers) + cond b 1 0) (item_once item is) has in
+    let few : length (new.resize_observers.made) ≤ length (old.resize_observers.made) + 0 = subst (λ b. length (new.resize_observers.made) ≤ length (old.resize_observers.made) + cond b 1 0) (item_once item is) has in
     omega arith
 counted_next false item old new is counted has =
     omega arith
 
-pub at_most_one : (made : Bool) (old : World) → length (old.resize_observers) ≤ cond made 1 0 → length (old.resize_observers) ≤ 1
+pub at_most_one : (made : Bool) (old : World) → length (old.resize_observers.made) ≤ cond made 1 0 → length (old.resize_observers.made) ≤ 1
 at_most_one true old counted = counted
 at_most_one false old counted = omega arith
 

@@ -11,7 +11,6 @@ use Rattle.script_model.specs.TraceText.{line_text}
 use Rattle.page_model.specs.Outcome.{opening_world, run_items}
 use Rattle.page_model.specs.Runs.{Said}
 use Rattle.page_model.specs.World.{World}
-use Rattle.trace_text.specs.Seen.{seen_limit}
 use Rattle.built_part.specs.Outcomes.{Ending, Ended, Faulty, LimitMet, Unbuilt, Outcome, outcome, outcome_read, outcome_run, outcome_said, ending_of, not_built_text, refused_ending}
 use Rattle.built_part.specs.Built.{unbuilt_line}
 use Rattle.replay.specs.Answers.{Answers, Ends, Wrote}

@@ -6,18 +6,17 @@ use Rattle.text_io.specs.Limits.{limit_number}
 use Rattle.script_model.specs.TraceLines as model
 use Rattle.script_model.specs.TraceLines.{TickLine, EventLine, FiredResize, ThrowLine, LimitLine}
 use Rattle.script_model.specs.TraceText.{line_text}
-use Rattle.page_model.specs.Callbacks.{Script, settled, said_by}
-use Rattle.page_model.specs.Lookups.{document_at}
+use Rattle.page_model.specs.Callbacks.{Script, answered, said_by}
 use Rattle.page_model.specs.Names.{document_text}
 use Rattle.page_model.specs.Outcome.{bytes_of}
 use Rattle.page_model.specs.PageBoxes.{viewport_of}
 use Rattle.page_model.specs.Runs as runs
-use Rattle.page_model.specs.Runs.{Said, say, behind, after, follow, caught, caught_flow}
+use Rattle.page_model.specs.Runs.{Said, say, behind, ◌followed_by◌, follow, caught, caught_flow}
 use Rattle.page_model.specs.Steps.{Step, Did, Threw, Met, Effect as ModelEffect}
 use Rattle.page_model.specs.World.{World}
-use Rattle.page_model.specs.Ticks.{differs_from, run_timers, update_rendering, run_tasks, tick}
+use Rattle.page_model.specs.Viewports.{differs_from, noted_size}
+use Rattle.page_model.specs.Ticks.{run_timers, update_rendering, run_tasks, tick}
 use Rattle.built_part.specs.Deliveries.{sized_lines}
-use Rattle.trace_text.specs.Seen.{seen_limit, seen_throw}
 use Rattle.page_state.specs.Answers.{Applied, Moved}
 use Rattle.page_state.specs.declared.answers.PageFault.{PageFault}
 use Rattle.page_state.specs.declared.answers.PageFault.TheVariants.{Throw, Limit, Memory as NoRoom}
@@ -63,7 +62,7 @@ moved_failed NoRoom old new step w = absurd w
 pub applied_failed : (fault : PageFault) (old new : World) (step : Step ModelEffect) → Applied (Err fault) old new step → Failed fault old new step
 applied_failed (Throw kind) old new step w = w
 applied_failed (Limit kind) old new step w = w
-applied_failed NoRoom old new step w = w
+applied_failed NoRoom old new step w = w.1
 
 pub failed_same : {A : Type 0} (fault : PageFault) (old new : World) (step : Step A) → Failed fault old new step → new ≡ old
 failed_same (Throw kind) old new step w = w.1
@@ -71,25 +70,25 @@ failed_same (Limit kind) old new step w = w.1
 failed_same NoRoom old new step w = w
 
 pub refused_says : {A : Type 0} (fault : PageFault) (line : ℕ) (r : Result Flow Stop) (before after : Option (List ℕ)) (f g : ℕ) (old new : World) (step : Step A) (next : A → Said World)
-    → Failed fault old new step → Refused fault line r before after f g → Says r before after f g new (caught (settled line old next step))
-unfolding settled caught caught_flow
+    → Failed fault old new step → Refused fault line r before after f g → Says r before after f g new (caught (answered line old next step))
+unfolding answered caught caught_flow
 refused_says (Throw kind) line r before after f g old new step next failed refused =
-    says_same r before after f g new _ _ (ap (λ s. caught (settled line old next s)) failed.0)
+    says_same r before after f g new _ _ (ap (λ s. caught (answered line old next s)) failed.0)
     (subst (λ (w : World). Says r before after f g new (record { lines = ThrowLine line kind ∷ []; flow = runs.Next; state = w })) failed.1 (refused new))
 refused_says (Limit kind) line r before after f g old new step next failed refused =
-    says_same r before after f g new _ _ (ap (λ s. caught (settled line old next s)) failed.0)
+    says_same r before after f g new _ _ (ap (λ s. caught (answered line old next s)) failed.0)
     (subst (λ (w : World). Says r before after f g new (record { lines = LimitLine kind line (limit_number kind) ∷ []; flow = runs.Limited; state = w })) failed.1 (refused new))
-refused_says NoRoom line r before after f g old new step next failed refused = refused new (caught (settled line old next step))
+refused_says NoRoom line r before after f g old new step next failed refused = refused new (caught (answered line old next step))
 
-pub settled_did : {A : Type 0} (line : ℕ) (world : World) (next : A → Said World) (step : Step A) (value : A) → step ≡ Did value → settled line world next step ≡ next value
-unfolding settled
-settled_did line world next step value is = ap (settled line world next) is
+pub answered_did : {A : Type 0} (line : ℕ) (world : World) (next : A → Said World) (step : Step A) (value : A) → step ≡ Did value → answered line world next step ≡ next value
+unfolding answered
+answered_did line world next step value is = ap (answered line world next) is
 
 -- what a command did
 pub did_says : (line : ℕ) (old new : World) (lines : List model.TraceLine) (step : Step ModelEffect) → step ≡ Did (record { world = new; lines = lines })
-    → caught (settled line old said_by step) ≡ say lines new
-unfolding settled caught caught_flow
-did_says line old new lines step is = ap (λ s. caught (settled line old said_by s)) is
+    → caught (answered line old said_by step) ≡ say lines new
+unfolding answered caught caught_flow
+did_says line old new lines step is = ap (λ s. caught (answered line old said_by s)) is
 
 pub says_nothing : (now : Option (List ℕ)) (f : ℕ) (world : World) → Says (Ok Next) now now f f world (say [] world)
 says_nothing now f world = (subst (λ (t : List ℕ). Appends now now t) (sym bytes_none) (nothing now), refl, refl, refl)
@@ -113,17 +112,17 @@ untold_event stop before after f g changed event lines is first =
 
 -- the same lines by the world that the tick began in
 pub sized_same : {A : Type 0} (r : Result A Stop) (before after : Option (List ℕ)) (f g : ℕ) (world : World) (changed : Bool) (document : List ℕ) (lines : List model.TraceLine)
-    → changed ≡ differs_from (viewport_of world 0) (document_at world 0).noted → document ≡ document_text world 0
+    → changed ≡ differs_from (viewport_of world.tree world.viewports.size 0) (noted_size 0 world.viewports) → document ≡ document_text world.names 0
     → Wrote r before after f g (bytes_of (cond changed (EventLine (FiredResize document) ∷ []) [] ++ lines)) → Wrote r before after f g (bytes_of (sized_lines world ++ lines))
 sized_same r before after f g world changed document lines changed-is document-is w =
-    subst (λ (b : Bool). Wrote r before after f g (bytes_of (cond b (EventLine (FiredResize (document_text world 0)) ∷ []) [] ++ lines))) changed-is
+    subst (λ (b : Bool). Wrote r before after f g (bytes_of (cond b (EventLine (FiredResize (document_text world.names 0)) ∷ []) [] ++ lines))) changed-is
     (subst (λ (text : List ℕ). Wrote r before after f g (bytes_of (cond changed (EventLine (FiredResize text) ∷ []) [] ++ lines))) document-is w)
 
 -- a line that was said first stays first
 abbrev Opens : model.TraceLine → Said World → Type 0
 Opens line said = (more : List model.TraceLine) × (said.lines ≡ line ∷ more)
 
-after-first : (line : model.TraceLine) (rest : World → Said World) (said : Said World) → Opens line said → Opens line (after rest said)
+after-first : (line : model.TraceLine) (rest : World → Said World) (said : Said World) → Opens line said → Opens line (said followed_by rest)
 after-first line rest said first =
     let next = after_more rest said in
     (first.0 ++ next.0, next.1 ∙ ap (λ (l : List model.TraceLine). l ++ next.0) first.1)

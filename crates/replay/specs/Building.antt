@@ -22,4 +22,4 @@ made_by (Handler line name block end_line) = false
 
 -- there are no more resize observers than before, or one more where one is made
 abbrev pub HasMade : Bool → World → World → Type 0
-HasMade makes old new = length (new.resize_observers) ≤ length (old.resize_observers) + cond makes 1 0
+HasMade makes old new = length (new.resize_observers.made) ≤ length (old.resize_observers.made) + cond makes 1 0

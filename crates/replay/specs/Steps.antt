@@ -9,7 +9,6 @@ use Rattle.page_model.specs.World.{World}
 use Rattle.page_model.specs.Outcome.{bytes_of}
 use Rattle.page_model.specs.Runs as runs
 use Rattle.page_model.specs.Runs.{Said}
-use Rattle.trace_text.specs.Seen.{seen_throw, seen_limit}
 use Rattle.page_state.specs.declared.answers.PageFault.{PageFault}
 use Rattle.page_state.specs.declared.answers.PageFault.TheVariants.{Throw, Limit, Memory as NoRoom}
 use Rattle.replay.specs.Answers.{AppendsPart}

@@ -8,7 +8,6 @@ ghost use Rattle.replay.specs.Answers.{Ends, IsTaken};
 ghost use Rattle.replay.specs.Statuses.{is_done};
 
 mod built;
-mod limits;
 mod play;
 mod run;
 mod status;

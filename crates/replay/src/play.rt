@@ -8,7 +8,7 @@ ghost use Rattle.script_syntax.specs.Allowed.{ActionAllowed, ItemAllowed, WhatAl
 ghost use Rattle.script_syntax.specs.Seen.{action_of, item_of, item_at};
 ghost use Rattle.trace_text.specs.Ranges.{HasReach};
 ghost use Rattle.trace_text.specs.Seen.{seen_line};
-ghost use Rattle.page_model.specs.Callbacks.{Script as Handlers, handler_names, settled, said_by};
+ghost use Rattle.page_model.specs.Callbacks.{Script as Handlers, handler_names, answered, said_by};
 ghost use Rattle.page_model.specs.Commands.{does};
 ghost use Rattle.page_model.specs.Operands.{NoEntry};
 ghost use Rattle.page_model.specs.Runs.{caught};
@@ -21,7 +21,6 @@ ghost use Rattle.replay.specs.Building.{HasMade, made_by, unbuilt_item};
 ghost use Rattle.replay.specs.Statuses.{flow_of};
 ghost use Rattle.replay.specs.Steps.{Refused, Says};
 
-use crate::limits::number;
 use crate::status::{Flow, Stop};
 use crate::write::{write_each, write_one};
 use built_part::a_plain_tick_is_its_resize_loop;
@@ -52,7 +51,7 @@ fn refuse<K: Sink>(alloc: Global, line: u32, fault: PageFault, sink: &mut K) -> 
     match fault {
         PageFault::Throw(kind) => say(alloc, &TraceLine::Throw(line, kind), Flow::Next, sink),
         PageFault::Limit(kind) => {
-            let line = TraceLine::Limit(kind, line, number(kind));
+            let line = TraceLine::Limit(kind, line, kind.number());
             say(alloc, &line, Flow::Limited, sink)
         }
         PageFault::Memory => Err(Stop::Memory),
@@ -90,7 +89,7 @@ fn tick<K: Sink, L: Ledger>(
     steps: &mut Steps<L>,
 ) -> Result<Flow, Stop>
     requires time { page.old.world.clock ≡ time }
-    requires observers { length page.old.world.resize_observers ≤ 1 }
+    requires observers { length page.old.world.resize_observers.made ≤ 1 }
     ensures says { (handlers : Handlers) →
         Says result (K.taken sink.old) (K.taken sink.new) (K.faults sink.old) (K.faults sink.new) page.new.world (caught (tick handlers page.old.world)) }
     ensures observers { HasMade false page.old.world page.new.world }
@@ -125,7 +124,7 @@ fn apply<K: Sink, L: Ledger>(
     requires allowed { ActionAllowed command.now.what }
     requires built { is_built false (action_of command.now.what) ≡ true }
     ensures says { Says result (K.taken sink.old) (K.taken sink.new) (K.faults sink.old) (K.faults sink.new) page.new.world
-        (caught (settled command.now.line page.old.world said_by (does (handler_names (handlers_in script.now)) page.old.world NoEntry (action_of command.now.what)))) }
+        (caught (answered command.now.line page.old.world said_by (does (handler_names (handlers_in script.now)) page.old.world NoEntry (action_of command.now.what)))) }
     ensures observers { HasMade (is_observer_made (action_of command.now.what)) page.old.world page.new.world }
 {
     match page.apply(script, command, None, steps) {
@@ -144,9 +143,9 @@ fn set_time<K: Sink, L: Ledger>(
     sink: &mut K,
     steps: &mut Steps<L>,
 ) -> Result<Flow, Stop>
-    requires { length page.old.world.resize_observers ≤ 1 }
+    requires { length page.old.world.resize_observers.made ≤ 1 }
     ensures says { (handlers : Handlers) → Says result (K.taken sink.old) (K.taken sink.new) (K.faults sink.old) (K.faults sink.new) page.new.world
-        (caught (settled line page.old.world (tick handlers) (time_set time page.old.world))) }
+        (caught (answered line page.old.world (tick handlers) (time_set time page.old.world))) }
     ensures observers { HasMade false page.old.world page.new.world }
 {
     match page.set_time(time) {
@@ -166,7 +165,7 @@ fn run_command<K: Sink, L: Ledger>(
 ) -> Result<Flow, Stop>
     requires allowed { WhatAllowed command.now.what }
     requires built { unbuilt_item false (item_at command.now.line command.now.what) ≡ None }
-    requires observers { length page.old.world.resize_observers ≤ 1 }
+    requires observers { length page.old.world.resize_observers.made ≤ 1 }
     ensures says { Says result (K.taken sink.old) (K.taken sink.new) (K.faults sink.old) (K.faults sink.new) page.new.world
         (run_item (handlers_in script.now) (item_at command.now.line command.now.what) page.old.world) }
     ensures observers { HasMade (made_by (item_at command.now.line command.now.what)) page.old.world page.new.world }
@@ -191,7 +190,7 @@ fn step<K: Sink, L: Ledger>(
 ) -> Result<Flow, Stop>
     requires allowed { ItemAllowed item.now }
     requires built { unbuilt_item false (item_of item.now) ≡ None }
-    requires observers { length page.old.world.resize_observers ≤ 1 }
+    requires observers { length page.old.world.resize_observers.made ≤ 1 }
     ensures says { Says result (K.taken sink.old) (K.taken sink.new) (K.faults sink.old) (K.faults sink.new) page.new.world
         (run_item (handlers_in script.now) (item_of item.now) page.old.world) }
     ensures observers { HasMade (made_by (item_of item.now)) page.old.world page.new.world }
@@ -211,7 +210,7 @@ pub fn play<K: Sink, L: Ledger>(
     steps: &mut Steps<L>,
 ) -> Result<Flow, Stop>
     requires built { unbuilt_line script.now ≡ None }
-    requires observers { page.old.world.resize_observers ≡ [] }
+    requires observers { page.old.world.resize_observers.made ≡ [] }
     ensures { Says result (K.taken sink.old) (K.taken sink.new) (K.faults sink.old) (K.faults sink.new) page.new.world (run_items script.now page.old.world) }
 {
     for item in script.items() {

@@ -4,7 +4,6 @@ ghost use Rattle.std.specs.Prelude.{◌≡◌, ◌↔◌, ◌<◌, ◌≤◌, No
 ghost use Rattle.text_io.specs.Streams.{Rose};
 ghost use Rattle.script_model.specs.Reading.{Reading, reading, LimitAt};
 ghost use Rattle.script_syntax.specs.Parsing.{Parses};
-ghost use Rattle.trace_text.specs.Seen.{seen_limit};
 ghost use Rattle.page_model.specs.Outcome.{opening_world};
 ghost use Rattle.built_part.specs.Built.{unbuilt_line};
 ghost use Rattle.built_part.specs.Outcomes.{outcome, outcome_read, outcome_run};
@@ -12,7 +11,6 @@ ghost use Rattle.replay.specs.Answers.{Answers, Ends, IsTaken};
 ghost use Rattle.replay.specs.Statuses.{is_done, status_after, status_of};
 
 use crate::built::unbuilt_line;
-use crate::limits::number;
 use crate::play::play;
 use crate::status::{Flow, Status, Stop};
 use crate::write::{write_not_built, write_one};
@@ -74,7 +72,7 @@ fn meet_limit<K: Sink>(alloc: Global, kind: LimitKind, line: u32, sink: &mut K) 
     ensures page { result.page ≡ None }
     ensures done { is_done result.status ≡ false }
 {
-    let line = TraceLine::Limit(kind, line, number(kind));
+    let line = TraceLine::Limit(kind, line, kind.number());
     conclude(write_one(alloc, &line, sink), Status::Limit)
 }
 

@@ -3,3 +3,4 @@ pub mod Reports
 pub mod Serials
 pub mod Observers
 pub mod Held
+pub mod Answers

@@ -4,6 +4,7 @@ ghost use Rattle.std.specs.Prelude.{◌≡◌, ◌<◌, ◌-◌, ◌^◌, false,
 ghost use Rattle.page_model.specs.Gathering.{is_of};
 ghost use Rattle.page_model.specs.Intersections.{places_from};
 ghost use Rattle.page_model.specs.ResizeObserving.{with_resize_observer, with_resize_target, without_resize_target, without_resize_targets};
+ghost use Rattle.resize_observer.specs.Answers.{Enters};
 ghost use Rattle.resize_observer.specs.Observations.{seen_size, seen_observations};
 ghost use Rattle.resize_observer.specs.Serials.{HasSerials};
 ghost use Rattle.resize_observer.specs.Observers.{observer_at, nth_of, has_room, may_observe, changing, ungathered, gathered_at, list_for, reported_at, inactive};
@@ -91,8 +92,7 @@ impl Observers {
         ensures observer { IfOk result (λ observer. observer.0 ≡ length self.old.part.made) }
         ensures made { OnOk result (self.new ≡ record self.old { part = with_resize_observer document handler (self.old.part) }) }
         ensures same { OnErr result (self.new ≡ self.old) }
-        ensures full { has_room self.old ≡ false → result ≡ Err ObserveFault.Limit }
-        ensures limit { result ≡ Err ObserveFault.Limit → has_room self.old ≡ false }
+        ensures room { Enters result (has_room self.old) }
     {
         let number = self.made.len();
         if number >= self.most_observers as usize {
@@ -121,8 +121,7 @@ impl Observers {
         requires serials { self.old.part.given < 2 ^ 64 - 1 }
         ensures observed { OnOk result (self.new ≡ record self.old { part = with_resize_target observer.0 target.0 observed (self.old.part) }) }
         ensures same { OnErr result (self.new ≡ self.old) }
-        ensures full { may_observe observer.0 target.0 self.old ≡ false → result ≡ Err ObserveFault.Limit }
-        ensures limit { result ≡ Err ObserveFault.Limit → may_observe observer.0 target.0 self.old ≡ false }
+        ensures room { Enters result (may_observe observer.0 target.0 self.old) }
         ensures count { length self.new.part.made ≡ length self.old.part.made }
     {
         if !self.may_observe(observer, target) {

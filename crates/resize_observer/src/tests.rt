@@ -35,8 +35,8 @@ fn apply(
     place: usize,
     step: Step,
 ) -> &'static str
-    requires { observers.old.observed < 2 ^ 32 }
-    ensures { observers.new.observed ≤ observers.old.observed + 1 }
+    requires { observers.old.part.given < 2 ^ 32 }
+    ensures { observers.new.part.given ≤ observers.old.part.given + 1 }
 {
     let Some(observer) = observers.of_document(document, place) else {
         return "None";
@@ -97,7 +97,7 @@ fn lists(
 
 // Of documents 0, 1 and 0, as many as there may be.
 fn three_observers(alloc: Global) -> Result<Observers, ObserveFault>
-    ensures { IfOk result (λ observers. observers.observed ≡ 0) }
+    ensures { IfOk result (λ observers. observers.part.given ≡ 0) }
 {
     let mut observers = Observers::new(alloc, 3, 3);
     observers.make(0, None)?;

@@ -5,5 +5,5 @@ use Rattle.page_state.proofs.delivery.report_all.Given as goal
 
 abbrev pub invariant-loop-each : goal.invariant-loop-each
 invariant-loop-each l =
-    (length l.observers.made ≡ 1)
+    (length l.observers.part.made ≡ 1)
     × (reporting_in (map seen_report (drop l.each-index l.reports)) l.observers ≡ reporting_in (map seen_report l.reports) l.initial.observers)

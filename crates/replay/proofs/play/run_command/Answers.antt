@@ -1,5 +1,5 @@
-use Rattle.std.proofs.Common.{◌≤◌, List, length, sym, subst}
-use Rattle.page_model.specs.World.{ResizeObserver}
+use Rattle.std.proofs.Common.{◌≤◌, length, sym, subst}
+use Rattle.page_model.specs.World.{ResizeObservers}
 use Rattle.replay.proofs.Items.{begun_action, begun_item, begun_same, begun_tick, made_action, made_tick}
 use Rattle.replay.proofs.Saying.{moved_failed, refused_says, says_same}
 use Rattle.replay.proofs.play.run_command.Goals as goal
@@ -11,7 +11,7 @@ returns-in-Err-clause-says g c =
 
 pub set_time-requires : goal.set_time-requires
 set_time-requires g c =
-    subst (λ (observers : List ResizeObserver). length observers ≤ 1) (sym (begun_same _ _ c.in_default.ensures.counted)) c.requires.observers
+    subst (λ (observers : ResizeObservers). length observers.made ≤ 1) (sym (begun_same _ _ c.in_default.ensures.counted)) c.requires.observers
 
 pub returns-in-Tick-clause-says : goal.returns-in-Tick-clause-says
 returns-in-Tick-clause-says g c =

@@ -11,4 +11,4 @@ pub unwrap-requires : goal.unwrap-requires
 unwrap-requires c =
     subst (λ (it : Option (List ℕ)). IsSome it) (sym c.name_of.ensures)
     (some_named (find (λ (it : Name). is_same_thing it.thing (ResizeObserverThing c.args.observer.0)) c.self.inside.names.list)
-    (c.self.invariant.named (ResizeObserverThing c.args.observer.0) (subst (λ (v : PageView). c.args.observer.0 < length v.world.resize_observers) (sym c.self.view_is) c.requires)))
+    (c.self.invariant.known.named (ResizeObserverThing c.args.observer.0) (subst (λ (v : PageView). c.args.observer.0 < length v.world.resize_observers.made) (sym c.self.view_is) c.requires)))

@@ -1,36 +1,18 @@
--- What is removed.
-use Rattle.std.proofs.Common.{ap, sym}
-use Rattle.std.proofs.lemmas.Result.{err_from_is_err_and}
-use Rattle.page_model.specs.World.{World}
-use Rattle.page_model.specs.Commands.{does}
-use Rattle.page_model.specs.Ranges.{counts_of}
-use Rattle.page_model.specs.Steps.{becomes}
-use Rattle.page_tree.specs.Views.{PageElements, placed_in}
-use Rattle.page_state.specs.Things.{present_of}
-use Rattle.page_state.specs.Whole.{listed}
-use Rattle.page_state.proofs.Inside.{inner, base, exit_throws, exit_done, subject_inside, subject_in, tree_held}
-use Rattle.page_state.proofs.Parts.{edited}
-use Rattle.script_model.specs.Syntax.{Remove}
+-- An element is taken out of where it stands.
+use Rattle.std.proofs.Common.{length, ap, sym, ◌∙◌, arith}
 use Rattle.script_syntax.specs.Seen.{operand_of}
-use Rattle.page_state.proofs.Doing.{removes, remove_throws}
+use Rattle.page_model.specs.Steps.{becomes}
+use Rattle.page_state.specs.Things.{present_of}
+use Rattle.page_state.specs.Views.{PageView}
+use Rattle.page_state.proofs.Doing.{removes}
 use Rattle.page_state.proofs.page.Page.remove.Goals as goal
 
-pub returns-in_err-node-clause-applied : goal.returns-in_err-node-clause-applied
-returns-in_err-node-clause-applied c = λ handlers.
-    let p = err_from_is_err_and c.from_residual.result c.from_residual.ensures.1 in
-    exit_throws c.self.inside c.args.self.now c.self.view_is c.from_residual.result p.0 c.in_err-node.field-0.0 (λ (world : World). does handlers world (present_of c.args.subject) (Remove (operand_of c.args.node))) p.1 p.2
-    (remove_throws handlers (inner c.self.inside) (present_of c.args.subject) _ (operand_of c.args.node) c.in_err-node.ensures.answer)
-
-pub remove-requires : goal.remove-requires
-remove-requires c = c.in_ok-node.ensures.held (counts_of c.self.invariant.held.handlers (listed c.self.inside.names.list c.self.inside.tree c.self.inside.observers)) c.self.invariant.held.within.names (subject_inside c.self.inside c.args.self.now c.self.view_is c.args.subject c.requires)
-
-pub invariant_of-self : goal.invariant_of-self
-invariant_of-self c =
-    edited c.self.invariant c.remove.new.self (ap (λ (it : PageElements). it.names) c.remove.ensures.rest) c.remove.ensures.count
-    (tree_held c.numbers_stay_in_range.ensures c.self.inside c.remove.new.self (present_of c.args.subject) (Remove (operand_of c.args.node)) (subject_in (inner c.self.inside) c.args.subject (subject_inside c.self.inside c.args.self.now c.self.view_is c.args.subject c.requires))
-    (λ handlers. removes handlers (inner c.self.inside) (present_of c.args.subject) (becomes (placed_in c.remove.new.self (base c.self.inside))) (operand_of c.args.node) c.in_ok-node.node.0 c.in_ok-node.ensures.answer (ap becomes (sym (c.remove.ensures.done (base c.self.inside))))) c.self.invariant.held)
-
-pub returns-clause-applied : goal.returns-clause-applied
-returns-clause-applied c = λ handlers.
-    exit_done c.self.inside c.args.self.now c.self.view_is (becomes (placed_in c.remove.new.self (base c.self.inside))) (λ (world : World). does handlers world (present_of c.args.subject) (Remove (operand_of c.args.node)))
-    (removes handlers (inner c.self.inside) (present_of c.args.subject) (becomes (placed_in c.remove.new.self (base c.self.inside))) (operand_of c.args.node) c.in_ok-node.node.0 c.in_ok-node.ensures.answer (ap becomes (sym (c.remove.ensures.done (base c.self.inside)))))
+pub returns : goal.returns
+returns c = record {
+  applied = λ handlers.
+      removes handlers c.args.self.now.world (present_of c.args.subject) (operand_of c.args.node) c.in_ok-node.node.0 c.in_ok-node.ensures.answer
+      ∙ ap (λ (v : PageView). becomes v.world) (sym c.take_out.ensures);
+  begun = ap (λ (v : PageView). v.begun) c.take_out.ensures;
+  observers = let same = ap (λ (v : PageView). length v.world.resize_observers.made) c.take_out.ensures in omega (arith, same);
+  reach = tt;
+}

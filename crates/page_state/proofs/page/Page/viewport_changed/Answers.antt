@@ -1,29 +1,32 @@
 -- The size of the viewport is noted.
-use Rattle.std.proofs.Common.{◌≡◌, ◌<◌, Some, None, length, sym, ◌∙◌, subst}
-use Rattle.page_model.specs.Lookups.{document_at, change_document}
+use Rattle.std.proofs.Common.{◌≡◌, ◌<◌, Option, length, sym, ap, ◌∙◌, subst}
+use Rattle.px_units.specs.declared.Size.{Size}
 use Rattle.page_model.specs.PageBoxes.{viewport_of}
-use Rattle.page_model.specs.Ticks.{differs_from}
-use Rattle.page_boxes.specs.Worlds.{seen_size}
-use Rattle.page_state.specs.Views.{PageView, seen_world}
-use Rattle.page_state.proofs.Inside.{inner}
+use Rattle.page_model.specs.Viewports.{noted_size, with_noted, differs_from}
+use Rattle.page_boxes.specs.Pages.{seen_size}
+use Rattle.std.proofs.Common.{option_map}
+use Rattle.page_state.specs.Views.{PageView}
 use Rattle.page_state.proofs.Ticking.{sizes_differ, differs_here, noted_here}
 use Rattle.page_state.proofs.page.Page.viewport_changed.Goals.{in-None, in-Some}
 use Rattle.page_state.proofs.page.Page.viewport_changed.Goals as goal
 
 pub returns-clause-value : goal.returns-clause-value
 returns-clause-value g c =
-    let top : c.args.document < 1 = subst (λ (v : PageView). c.args.document < length v.world.documents) (sym c.self.view_is) c.requires in
-    let value : c.match-before.result ≡ differs_from (viewport_of (inner c.self.inside) c.args.document) (document_at (inner c.self.inside) c.args.document).noted =
+    let p = c.self.inside in
+    let there : c.args.document < length p.tree.tree.documents = subst (λ (v : PageView). c.args.document < length v.world.tree.documents) (sym c.self.view_is) c.requires in
+    let value : c.match-before.result ≡ differs_from (seen_size p.size) (option_map seen_size p.noted) =
     elim c.match-before.branch [
-      | in-None w ↦ w.result-is ∙ differs_here c.self.inside c.args.document top None w.in-None.is
+      | in-None w ↦ w.result-is ∙ ap (λ (last : Option Size). differs_from (seen_size p.size) (option_map seen_size last)) (sym w.in-None.is)
       | in-Some w ↦ w.result-is ∙ (w.ne.ensures
-          ∙ (sizes_differ w.in-Some.size c.self.inside.size (c.self.invariant.noted w.in-Some.size w.in-Some.is) c.self.invariant.sized
-          ∙ differs_here c.self.inside c.args.document top (Some w.in-Some.size) w.in-Some.is))
+          ∙ (sizes_differ w.in-Some.size p.size (c.self.invariant.noted w.in-Some.size w.in-Some.is) c.self.invariant.sized
+          ∙ ap (λ (last : Option Size). differs_from (seen_size p.size) (option_map seen_size last)) (sym w.in-Some.is)))
     ] in
-    subst (λ (v : PageView). c.match-before.result ≡ differs_from (viewport_of v.world c.args.document) (document_at v.world c.args.document).noted) c.self.view_is value
+    subst (λ (v : PageView). c.match-before.result ≡ differs_from (viewport_of v.world.tree v.world.viewports.size c.args.document) (noted_size c.args.document v.world.viewports)) c.self.view_is
+    (value ∙ differs_here p c.root-root.ensures.lone c.args.document there)
 
 pub returns-clause-noted : goal.returns-clause-noted
 returns-clause-noted g c =
-    subst (λ (v : PageView). seen_world c.self.inside.names.list c.self.inside.tree c.self.inside.observers (seen_size c.self.inside.size) (Some (seen_size c.self.inside.size)) c.self.inside.clock c.self.inside.count
-    ≡ change_document (λ it. record it { noted = Some (viewport_of v.world c.args.document) }) c.args.document v.world) c.self.view_is
-    (noted_here c.self.inside c.args.document (subst (λ (v : PageView). c.args.document < length v.world.documents) (sym c.self.view_is) c.requires))
+    let p = c.self.inside in
+    let there : c.args.document < length p.tree.tree.documents = subst (λ (v : PageView). c.args.document < length v.world.tree.documents) (sym c.self.view_is) c.requires in
+    noted_here p c.root-root.ensures.lone c.args.document there
+    ∙ ap (λ (v : PageView). record (v.world) { viewports = with_noted c.args.document (viewport_of (v.world.tree) (v.world.viewports.size) c.args.document) (v.world.viewports) }) c.self.view_is
