@@ -180,7 +180,7 @@ module _ (w : World) where
         (repeat-once
         (λ (turn : Turn Broadcast). is_active (turn.state.world.tree) 0 && nat_lt (turn.place) (length (turn.state.world.resize_observers.made)))
         (λ (turn : Turn Broadcast). lifted (at_place (suc turn.place)) (deliver_some script 0 (turn.place) (turn.state) (due_at 0 (turn.place) (turn.state.world.resize_observers))))
-        299999999
+        99999999999
         (at_place 0 (started targets (first ∷ others)))
         (at_place 1 (turned targets (first ∷ others)))
         (map (resize_line (w.names) 0) (map (size_entry (sight_of w)) (first ∷ others)))
@@ -208,7 +208,7 @@ module _ (w : World) where
         repeat-not goes_on (round script 0) most_steps (observing targets [] []) (and-false (is_active (w.tree) 0) false refl)
         ∙ ap (λ these. silent (observing these [] [])) (sym (same-map targets))
     loop-by targets (first ∷ others) is =
-        repeat-once goes_on (round script 0) 299999999 (observing targets (first ∷ others) []) (observing (map (reported (sight_of w) (first ∷ others)) targets) [] []) (told_lines w (map (size_entry (sight_of w)) (first ∷ others)))
+        repeat-once goes_on (round script 0) 99999999999 (observing targets (first ∷ others) []) (observing (map (reported (sight_of w) (first ∷ others)) targets) [] []) (told_lines w (map (size_entry (sight_of w)) (first ∷ others)))
         (ap (λ active. active && true) here)
         (round-once targets first others is)
         (and-false (is_active (w.tree) 0) false refl)
