@@ -3,7 +3,7 @@ use Rattle.std.proofs.Common.{◌≡◌, ℕ, ◌+◌, ◌<◌, ◌∙◌, ap, r
 use Rattle.std.proofs.lemmas.List.{map_push}
 use Rattle.std.proofs.lemmas.Option.{get_or_from_slice_get, slice_get_within, unwrap_or-slice_get}
 use Rattle.std.specs.Prelude.{Bool, true, false, cond, ◌==◌, ◌||◌, List, [], ◌∷◌, ◌++◌, All, map, slice_get, Some}
-use Rattle.std.specs.List.{list_any}
+use Rattle.std.specs.List.{list_any, AllByRecursion}
 use Rattle.std.proofs.lemmas.Bool.{eqb-true}
 use Rattle.std.proofs.lemmas.List.Elements.{All-head, All-tail, All-get_or}
 use Rattle.page_model.specs.World.{Extent, Observation, ResizeObserver}
@@ -16,7 +16,7 @@ use Rattle.resize_observer.specs.Reports.{with_last}
 use Rattle.resize_observer.specs.Serials.{Subject, IsNumbered, AreNumbered, HasSerials}
 use Rattle.resize_observer.proofs.Reports.{same_subject}
 use Rattle.resize_observer.specs.Observers.{HeldObservers, observer_at, changing, reported_at}
-use Rattle.depth_gather.specs.Entries.{as_size, as_entry}
+use Rattle.depth_gather.specs.Entries.{as_size, as_entry, HasLengths}
 use Rattle.depth_gather.specs.Deliveries.{active_at, entries_in}
 use Rattle.depth_gather.specs.declared.entries.ResizeEntry.{ResizeEntry}
 use Rattle.depth_gather.proofs.Gatherings.{changing_twice, changing_same, changing_none, at_changing, one_more, target_read}
@@ -130,3 +130,7 @@ entries_more sight items place none before after entry within pushed is so_far =
     ∙ ap (λ (these : List ResizeEntry). these ++ made x ∷ []) so_far
     ∙ sym (map_push made (take place (seen_observations items)) x)
     ∙ ap (entries_in sight) (sym (one_more (seen_observations items) place x (target_read items (seen_observations items) place none refl within)))
+
+pub lengths_more : (entries : List ResizeEntry) (last : ResizeEntry) → AllByRecursion HasLengths entries → HasLengths last → AllByRecursion HasLengths (entries ++ last ∷ [])
+lengths_more [] last all is = (is, tt)
+lengths_more (first ∷ others) last all is = (all.0, lengths_more others last all.1 is)

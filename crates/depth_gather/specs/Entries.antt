@@ -1,5 +1,5 @@
 -- The entries of a delivery (Resize Observer, 2.3 and 3.4: ResizeObserverEntry).
-use Rattle.std.specs.Prelude.{pos, unsigned_abs}
+use Rattle.std.specs.Prelude.{ℤ, pos, ◌≤ℤ◌, unsigned_abs}
 use Rattle.px_units.specs.declared.Size.{Size}
 use Rattle.px_units.specs.declared.Point.{Point}
 use Rattle.page_model.specs.World.{Extent}
@@ -36,3 +36,16 @@ as_entry entry = record {
   border = as_size entry.border;
   depth = entry.depth;
 }
+
+-- a length from 0 to 2 ^ 48 units, so that two of them together lie below 2 ^ 50
+abbrev pub IsLength : ℤ → Type 0
+IsLength units = (pos 0 ≤ℤ units) × (units ≤ℤ pos 281474976710656)
+
+-- the lengths of an entry
+pub record HasLengths (entry : ResizeEntry) : Type 0 where
+  pub left : IsLength entry.corner.left
+  pub top : IsLength entry.corner.top
+  pub width : IsLength entry.content.width
+  pub height : IsLength entry.content.height
+  pub border_width : IsLength entry.border.width
+  pub border_height : IsLength entry.border.height

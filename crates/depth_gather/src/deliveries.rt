@@ -1,10 +1,11 @@
 //! Deliveries: what each observer is told at its turn.
 
 ghost use Rattle.std.specs.Prelude.{◌≡◌, ◌<◌, None, Some, map, fold, length, option_map, IfOk, OnOk, OnErr, IfSome};
+ghost use Rattle.std.specs.List.{AllByRecursion};
 ghost use Rattle.page_model.specs.Loop.{shallower};
 ghost use Rattle.resize_observer.specs.Observations.{seen_observations};
 ghost use Rattle.page_model.specs.Gathering.{without_active};
-ghost use Rattle.depth_gather.specs.Entries.{seen_entry};
+ghost use Rattle.depth_gather.specs.Entries.{seen_entry, HasLengths};
 ghost use Rattle.depth_gather.specs.Deliveries.{turn_from, turn_of, active_at, entries_in, reporting, reporting_turn};
 
 use crate::observation::entry_of;
@@ -41,6 +42,7 @@ pub fn next_delivery<Z: Sizes>(
     ensures same { OnErr result (observers.new ≡ observers.old) }
     ensures made { IfOk result (λ next. IfSome next (λ it. it.observer.0 < length observers.old.part.made)) }
     ensures some { IfOk result (λ next. IfSome next (λ it. 0 < length it.entries)) }
+    ensures lengths { IfOk result (λ next. IfSome next (λ it. AllByRecursion HasLengths it.entries)) }
     ensures count { length observers.new.part.made ≡ length observers.old.part.made }
 {
     let Some(found) = next_turn(observers, document, place) else {
@@ -61,7 +63,8 @@ fn entries_of<Z: Sizes>(
     active: &[Observation],
     sizes: &Z,
 ) -> Result<Vec<ResizeEntry>, AllocError>
-    ensures { IfOk result (λ entries. entries.items ≡ entries_in (Z.sight sizes.now) (seen_observations active.now)) }
+    ensures value { IfOk result (λ entries. entries.items ≡ entries_in (Z.sight sizes.now) (seen_observations active.now)) }
+    ensures lengths { IfOk result (λ entries. AllByRecursion HasLengths entries.items) }
 {
     let mut entries = Vec::new(alloc);
     for observation in active {

@@ -4,7 +4,7 @@ ghost use Rattle.std.specs.Prelude.{◌≡◌};
 ghost use Rattle.page_model.specs.Gathering.{has_changed, size_entry};
 ghost use Rattle.page_model.specs.Lookups.{same_extent};
 ghost use Rattle.resize_observer.specs.Observations.{seen_size, seen_observation};
-ghost use Rattle.depth_gather.specs.Entries.{as_entry};
+ghost use Rattle.depth_gather.specs.Entries.{as_entry, HasLengths};
 
 use crate::{ResizeEntry, Sizes};
 use px_units::{BoxKind, Size};
@@ -28,7 +28,8 @@ pub(crate) fn has_changed<Z: Sizes>(sizes: &Z, observation: &Observation) -> boo
 
 // The entry of an observation (Resize Observer, 3.4: create and populate a ResizeObserverEntry).
 pub(crate) fn entry_of<Z: Sizes>(sizes: &Z, observation: &Observation) -> ResizeEntry
-    ensures { result ≡ as_entry (size_entry (Z.sight sizes.now) (seen_observation observation.now)) }
+    ensures value { result ≡ as_entry (size_entry (Z.sight sizes.now) (seen_observation observation.now)) }
+    ensures lengths { HasLengths result }
 {
     let target = observation.target;
     ResizeEntry {

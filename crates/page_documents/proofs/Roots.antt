@@ -28,7 +28,7 @@ module _ (at : ℕ → Node) (parent : ℕ → Option ℕ) (same : (n : ℕ) →
   path_length (suc high) n = ap suc (above_length high ((at n).parent) (path_length high) ∙ ap (above (depth_up (suc high) parent)) (same n))
 
 module _ {P : Type 0} (carried : P → Carried) (forest : Forest P) (documents : List Document) (is : IsForest forest.most_depth forest.nodes) where
-  shallow : (n : ℕ) → depth_of (nodes_of (seen_tree carried forest documents)) n ≤ 65536
+  pub shallow : (n : ℕ) → depth_of (nodes_of (seen_tree carried forest documents)) n ≤ 65536
   unfolding depth_of path_of
   shallow n =
       subst (λ k. k ≤ 65536)

@@ -1,9 +1,15 @@
 -- How documents and their frames belong together (HTML, 7.3: content navigables; DOM, 4.4 and 4.5: node documents).
-use Rattle.std.specs.Prelude.{◌≡◌, ℕ, ◌<◌, true, length, Some, None}
+use Rattle.std.specs.Prelude.{◌≡◌, ℕ, ◌<◌, ◌≤◌, true, length, Some, None}
+use Rattle.layout_model.specs.Nodes.{IsShallow}
 use Rattle.page_model.specs.World.{Tree}
-use Rattle.page_model.specs.Lookups.{element_at, document_at}
-use Rattle.page_model.specs.Documents.{first_of_list, is_active, stands_in_active}
+use Rattle.page_model.specs.Lookups.{element_at, document_at, is_listed}
+use Rattle.page_model.specs.Documents.{first_of_list, frame_levels, is_active, is_number, nodes_of, stands_in_active}
 use Rattle.page_documents.specs.Paths.{path_to}
+
+-- the elements make trees: each is a child of its parent and of nothing else, and no tree has more levels than are looked at
+pub record MakeTrees (tree : Tree) : Type 0 where
+  pub children : (parent n : ℕ) → is_listed n (element_at tree parent).children ≡ is_number (element_at tree n).parent parent
+  pub shallow : IsShallow (nodes_of tree)
 
 -- a root element has no parent and belongs to one document
 pub record IsRootOf (tree : Tree) (document n : ℕ) : Type 0 where
@@ -19,9 +25,18 @@ pub record HaveOwners (tree : Tree) : Type 0 where
   pub roots : (document n : ℕ) → (document_at tree document).root ≡ Some n → IsRootOf tree document n
   pub owned : (n parent : ℕ) → (element_at tree n).parent ≡ Some parent → (element_at tree n).document ≡ (element_at tree parent).document
 
+-- the top document is Active and in no frame
+pub record IsTopmost (tree : Tree) : Type 0 where
+  pub active : is_active tree 0 ≡ true
+  pub unframed : (document_at tree 0).frame ≡ None
+
 -- besides, each Active document but the top one has its frame in the tree of an Active document, and from each of them the way
--- from frame to frame leads up to the top one
+-- from frame to frame leads up to the top one. So no Active document is in a frame of an element that stands nowhere, and
+-- documents in frames of one another aren't Active. There are no more documents than frames are followed in a row
 pub record AreFramed (tree : Tree) : Type 0 where
+  pub trees : MakeTrees tree
   pub owners : HaveOwners tree
+  pub top : IsTopmost tree
+  pub few : length tree.documents ≤ frame_levels
   pub shown : (document n : ℕ) → is_active tree document ≡ true → (document_at tree document).frame ≡ Some n → stands_in_active tree n ≡ true
   pub leads : (document : ℕ) → is_active tree document ≡ true → first_of_list (path_to tree document) ≡ Some 0

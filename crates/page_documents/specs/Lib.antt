@@ -4,4 +4,5 @@ pub mod Held
 pub mod Walks
 pub mod Paths
 pub mod Frames
+pub mod Places
 pub mod Adoption

@@ -1,6 +1,7 @@
 //! Adoption of a subtree, and whether an element is shown.
 
 ghost use Rattle.std.specs.Prelude.{◌≡◌, ◌<◌, List, [], length};
+ghost use Rattle.element_tree.specs.Forest.{IsForest};
 ghost use Rattle.element_tree.specs.Edits.{with_nodes};
 ghost use Rattle.page_model.specs.World.{Document};
 ghost use Rattle.page_model.specs.Lookups.{change_each};
@@ -44,6 +45,7 @@ fn top_of<P: Owned>(tree: &Tree<P>, node: NodeId) -> NodeId
     requires { node.0 < length tree.now.nodes }
     ensures value { result.0 ≡ root_of (seen_tree P.carried tree.now []) node.0 }
     ensures known { result.0 < length tree.now.nodes }
+    ensures forest { IsForest tree.now.most_depth tree.now.nodes }
 {
     let mut at = node;
     while let Some(parent) = tree.parent(at) {
@@ -73,7 +75,8 @@ pub(crate) fn tree_document<P: Owned>(
     node: NodeId,
 ) -> Option<u32>
     requires { node.0 < length tree.now.nodes }
-    ensures { result ≡ tree_document (seen_tree P.carried tree.now entries.now) node.0 }
+    ensures value { result ≡ tree_document (seen_tree P.carried tree.now entries.now) node.0 }
+    ensures forest { IsForest tree.now.most_depth tree.now.nodes }
 {
     if !is_root_element(entries, tree, top_of(tree, node)) {
         return None;
@@ -84,7 +87,8 @@ pub(crate) fn tree_document<P: Owned>(
 // Whether an element stands in the tree of an Active document.
 pub(crate) fn stands_in_active<P: Owned>(entries: &[Entry], tree: &Tree<P>, node: NodeId) -> bool
     requires { node.0 < length tree.now.nodes }
-    ensures { result ≡ stands_in_active (seen_tree P.carried tree.now entries.now) node.0 }
+    ensures value { result ≡ stands_in_active (seen_tree P.carried tree.now entries.now) node.0 }
+    ensures forest { IsForest tree.now.most_depth tree.now.nodes }
 {
     match tree_document(entries, tree, node) {
         Some(document) => is_in(entries, document, DocumentState::Active),

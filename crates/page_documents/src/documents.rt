@@ -1,18 +1,19 @@
 //! The documents of a page.
 
-ghost use Rattle.std.specs.Prelude.{◌≡◌, ◌≢◌, ℕ, ◌<◌, ◌≤◌, ◌+◌, ◌++◌, ◌∷◌, [], length, option_map, Some, None, IfOk, OnOk, OnErr, Ok, Err, IsSome, true, false, nat_lt};
+ghost use Rattle.std.specs.Prelude.{◌≡◌, ◌≢◌, ℕ, Option, ◌<◌, ◌≤◌, ◌+◌, ◌++◌, ◌∷◌, [], length, option_map, Some, None, IfOk, OnOk, OnErr, Ok, Err, IsSome, true, false, nat_lt};
 ghost use Rattle.smallvec.specs.SmallVec.{small_vec_len};
 ghost use Rattle.element_tree.specs.Links.{number};
-ghost use Rattle.page_model.specs.World.{Active, Dead};
+ghost use Rattle.page_model.specs.World.{Active, Dead, Tree as TreeModel};
 ghost use Rattle.page_model.specs.Lookups.{change_at, change_each, entry_or, no_document};
 ghost use Rattle.page_model.specs.Edits.{new_document};
-ghost use Rattle.page_model.specs.Documents.{is_active_state, documents_inside, active_documents, adopted, shown, first_of_list, is_active, tree_document};
+ghost use Rattle.page_model.specs.Documents.{Container, document_of_container, is_active_state, documents_inside, active_documents, adopted, shown, first_of_list, is_active, tree_document};
 ghost use Rattle.page_documents.specs.States.{seen_state, is_in, put_in};
 ghost use Rattle.page_documents.specs.Seen.{seen_tree};
 ghost use Rattle.page_documents.specs.Held.{has_room, changing, ending, opening};
 ghost use Rattle.page_documents.specs.Walks.{marked_in};
 ghost use Rattle.page_documents.specs.Paths.{holder_of, way_down, path_to};
 ghost use Rattle.page_documents.specs.Frames.{AreFramed};
+ghost use Rattle.page_documents.specs.Places.{IsTakenOut, IsPutIn};
 ghost use Rattle.page_documents.specs.Adoption.{adopted_in};
 
 use crate::adoption::{adopt, stands_in_active, tree_document};
@@ -137,7 +138,9 @@ impl Documents {
     /// the subtree become Dead for good, with those inside. It may be called before or after the element is taken out.
     pub fn left<P: Owned>(&mut self, tree: &Tree<P>, node: NodeId, document: u32)
         requires { node.0 < length tree.now.nodes }
-        ensures { self.new ≡ ending (is_active (seen_tree P.carried tree.now self.old.held) document) (seen_tree P.carried tree.now self.old.held) node.0 self.old }
+        ensures ended { self.new ≡ ending (is_active (seen_tree P.carried tree.now self.old.held) document) (seen_tree P.carried tree.now self.old.held) node.0 self.old }
+        ensures framed { (before : TreeModel) → AreFramed before → IsTakenOut before (seen_tree P.carried tree.now self.old.held) node.0 document →
+            AreFramed (seen_tree P.carried tree.now self.new.held) }
     {
         if is_in(self.held.as_slice(), document, DocumentState::Active) {
             self.change_inside(tree, node, DocumentState::Active, DocumentState::Dead);
@@ -152,6 +155,9 @@ impl Documents {
         ensures adopted { tree.new ≡ adopted_in P.carried P.adopted document node.0 tree.old }
         ensures inserted { seen_tree P.carried tree.new self.new.held ≡ shown (adopted (seen_tree P.carried tree.old self.old.held) document node.0) node.0 }
         ensures shown { self.new ≡ opening (seen_tree P.carried tree.new self.old.held) node.0 self.old }
+        ensures framed { (before : TreeModel) (container : Container) (sibling : Option ℕ) → AreFramed before →
+            IsPutIn before (seen_tree P.carried tree.old self.old.held) container node.0 sibling → document_of_container before container ≡ document →
+            AreFramed (seen_tree P.carried tree.new self.new.held) }
     {
         adopt(tree, node, document);
         if stands_in_active(self.held.as_slice(), tree, node) {

@@ -16,5 +16,8 @@ mod tests;
 pub use documents::Documents;
 pub use entry::DocumentState;
 pub use fault::DocumentFault;
-pub use laws::removing_keeps_owners;
+pub use laws::{
+    making_elements_keeps_frames, making_frames_keeps_frames, placing_keeps_frames,
+    removing_keeps_frames, styles_keep_frames, the_opening_tree_is_framed,
+};
 pub use owned::Owned;

@@ -19,26 +19,30 @@ use Rattle.page_model.specs.Intersections.{Settled, is_news, settled, settled_ob
 use Rattle.page_model.specs.Loop.{gather, emptied}
 use Rattle.page_model.specs.Ranges.{Counts, counts_of, IsScrollIn, IsResizeObserverIn, IsIntersectionObserverIn, AreObserved, IsTaskIn, IsInRange}
 use Rattle.page_laws.specs.Successors.{IsSuccessor}
+use Rattle.page_laws.specs.Bounds.{AreTasksWithin}
 use Rattle.page_laws.proofs.Lists.{IsKept, all-add, all-append, all-filter, all-mapped, put-within, changed, changed-each, mapped}
 use Rattle.page_laws.proofs.Ranges.{with-scrolls, resize-in, intersection-in, queries-in}
 use Rattle.page_laws.proofs.Parts.{resize-changed, no-queue-kept}
 use Rattle.page_laws.proofs.InRange.{frame-callbacks-in, timers-in, tasks-in, viewports-in}
 use Rattle.page_laws.proofs.Successors.{still, alike}
+use Rattle.page_laws.proofs.Waiting.{tasks-alike, taken-within, unmarked-within, marked-within}
 
 pub record IsNext (before after : World) : Type 0 where
   pub successor : IsSuccessor before after
   pub within : (handlers : ℕ) → IsInRange handlers before → IsInRange handlers after
   pub observers : length after.resize_observers.made ≡ length before.resize_observers.made
   pub queries : length after.queries ≡ length before.queries
+  pub tasks : AreTasksWithin before → AreTasksWithin after
 
 pub same-next : (world : World) → IsNext world world
-same-next world = record { successor = still world; within = λ handlers within. within; observers = refl; queries = refl }
+same-next world = record { successor = still world; within = λ handlers within. within; observers = refl; queries = refl; tasks = λ within. within }
 
 pub then-next : {first second third : World} → IsNext first second → IsNext second third → IsNext first third
 then-next {first = first} {third = third} one two = record {
   successor = chained (one.successor) (two.successor);
   observers = two.observers ∙ one.observers;
   queries = two.queries ∙ one.queries;
+  tasks = λ within. two.tasks (one.tasks within);
   within = λ handlers within. two.within handlers (one.within handlers within);
 }
   where
@@ -64,6 +68,7 @@ active-in tree document is = active-place (tree.documents) document is
 module _ (world : World) where
   pub timer-next : (serial : ℕ) → IsNext world (record world { timers = timer_taken serial (world.timers) })
   timer-next serial = record {
+    tasks = tasks-alike world _ refl refl refl;
     successor = alike world _ refl refl refl refl;
     observers = refl;
     queries = refl;
@@ -72,6 +77,7 @@ module _ (world : World) where
 
   pub frame-next : (serial : ℕ) → IsNext world (record world { frame_callbacks = frame_callback_taken serial (world.frame_callbacks) })
   frame-next serial = record {
+    tasks = tasks-alike world _ refl refl refl;
     successor = alike world _ refl refl refl refl;
     observers = refl;
     queries = refl;
@@ -81,6 +87,7 @@ module _ (world : World) where
   pub noted-next : (document : ℕ) (size : Extent) → document < length world.tree.documents →
       IsNext world (record world { viewports = with_noted document size (world.viewports) })
   noted-next document size is = record {
+    tasks = tasks-alike world _ refl refl refl;
     successor = alike world _ refl refl refl refl;
     observers = refl;
     queries = refl;
@@ -90,6 +97,7 @@ module _ (world : World) where
 
   pub pending-next : (document : ℕ) → IsNext world (record world { scrolls = without_pending document (world.scrolls) })
   pending-next document = record {
+    tasks = tasks-alike world _ refl refl refl;
     successor = alike world _ refl refl refl refl;
     observers = refl;
     queries = refl;
@@ -107,6 +115,7 @@ module _ (world : World) where
 
   pub matched-next : (matched : Bool) (query : ℕ) → IsNext world (record world { queries = with_state matched query (world.queries) })
   matched-next matched query = record {
+    tasks = tasks-alike world _ refl refl refl;
     successor = alike world _ refl refl refl refl;
     observers = refl;
     queries = (changed (λ (list : QueryList). ⊤) (λ it. record it { matched = matched }) (λ it is. is) query (world.queries)).same;
@@ -117,6 +126,7 @@ module _ (world : World) where
 
   pub tasks-next : (task : Task) (others : List Task) → world.tasks ≡ task ∷ others → IsNext world (record world { tasks = others })
   tasks-next task others are = record {
+    tasks = taken-within world task others are;
     successor = alike world _ refl refl refl refl;
     observers = refl;
     queries = refl;
@@ -124,24 +134,31 @@ module _ (world : World) where
         tasks-in handlers world within others (subst (λ (tasks : List Task). AllByRecursion (IsTaskIn (counts_of handlers world)) tasks) are within.tasks).1;
   }
 
-  flags-next : (flags : List Bool) → length flags ≡ length world.notifying → IsNext world (record world { notifying = flags })
-  flags-next flags same = record {
+  -- a notify task is taken off, and its document isn't marked any more
+  pub unnotified-next : (document : ℕ) (others : List Task) → world.tasks ≡ Notify document ∷ others →
+      IsNext world (record world { tasks = others; notifying = without_notifying document (world.notifying) })
+  unnotified-next document others are = record {
+    tasks = unmarked-within world document others are;
     successor = alike world _ refl refl refl refl;
     observers = refl;
     queries = refl;
-    within = λ handlers within. flags-in handlers within (let most : length world.notifying ≤ length world.tree.documents = within.notifying in omega arith);
+    within = λ handlers within.
+        let same : length (without_notifying document (world.notifying)) ≡ length world.notifying =
+        (changed (λ (flag : Bool). ⊤) (λ flag. false) (λ flag is. is) document (world.notifying)).same in
+        let most : length world.notifying ≤ length world.tree.documents = within.notifying in
+        flags-in handlers ((tasks-next (Notify document) others are).within handlers within) (omega arith);
   }
     where
-      flags-in : (handlers : ℕ) → IsInRange handlers world → length flags ≤ length world.tree.documents →
-          IsInRange handlers (record world { notifying = flags })
+      flags-in : (handlers : ℕ) → IsInRange handlers (record world { tasks = others }) →
+          length (without_notifying document (world.notifying)) ≤ length world.tree.documents →
+          IsInRange handlers (record world { tasks = others; notifying = without_notifying document (world.notifying) })
       flags-in handlers within fits = search
 
-  pub unnotified-next : (document : ℕ) → IsNext world (record world { notifying = without_notifying document (world.notifying) })
-  unnotified-next document = flags-next _ (changed (λ (flag : Bool). ⊤) (λ flag. false) (λ flag is. is) document (world.notifying)).same
-
-  pub notified-next : (document : ℕ) (already : Bool) → document < length world.tree.documents → IsNext world (with_notify_task document already world)
-  notified-next document true is = same-next world
-  notified-next document false is = record {
+  pub notified-next : (document : ℕ) (already : Bool) → is_notifying document (world.notifying) ≡ already → document < length world.tree.documents →
+      IsNext world (with_notify_task document already world)
+  notified-next document true marked is = same-next world
+  notified-next document false free is = record {
+    tasks = marked-within world document is free;
     successor = alike world _ refl refl refl refl;
     observers = refl;
     queries = refl;
@@ -160,6 +177,7 @@ module _ (world : World) where
   pub resize-next : (after : ResizeObservers) → ((counts : Counts) → IsKept (IsResizeObserverIn counts) world.resize_observers.made after.made) →
       IsNext world (record world { resize_observers = after })
   resize-next after kept = record {
+    tasks = tasks-alike world _ refl refl refl;
     successor = alike world _ refl refl refl refl;
     observers = (kept (counts_of 0 world)).same;
     queries = refl;
@@ -170,6 +188,7 @@ module _ (world : World) where
       ((counts : Counts) → IsKept (IsIntersectionObserverIn counts) world.intersection_observers.made after.made) →
       IsNext world (record world { intersection_observers = after })
   intersection-next after kept = record {
+    tasks = tasks-alike world _ refl refl refl;
     successor = alike world _ refl refl refl refl;
     observers = refl;
     queries = refl;
@@ -286,5 +305,7 @@ update-next document world is =
     by_test : (it : IntersectionObservers) → IsNext world (record world { intersection_observers = it }) → (test : Bool) →
         IsNext world (cond test (with_notify_task document (is_notifying document (world.notifying)) (record world { intersection_observers = it }))
         (record world { intersection_observers = it }))
-    by_test it first true = then-next first (notified-next (record world { intersection_observers = it }) document (is_notifying document (world.notifying)) is)
+    by_test it first true =
+        then-next first
+        (notified-next (record world { intersection_observers = it }) document (is_notifying document (world.notifying)) refl is)
     by_test it first false = first

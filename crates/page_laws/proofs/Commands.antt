@@ -33,15 +33,15 @@ listeners-step : (world : World) (step : Step (Table Listener)) → OnDid (with_
 unfolding with_listeners
 listeners-step world step = search (bind, did, alike) depth 9
 
-placing-next : (container : Container) (n : ℕ) (sibling : Option ℕ) (tree : Tree) → OnDid (placing container n sibling tree) (IsTreeNext tree)
+pub placing-next : (container : Container) (n : ℕ) (sibling : Option ℕ) (tree : Tree) → OnDid (placing container n sibling tree) (IsTreeNext tree)
 unfolding placing
 placing-next container n sibling tree = search (both, did, inserted-next) depth 9
 
-growing-next : (dimension : Dimension) (n : ℕ) (by : ℤ) (tree : Tree) → OnDid (growing dimension n by tree) (IsTreeNext tree)
+pub growing-next : (dimension : Dimension) (n : ℕ) (by : ℤ) (tree : Tree) → OnDid (growing dimension n by tree) (IsTreeNext tree)
 unfolding growing
 growing-next dimension n by tree = search (bind, did, element-changed) depth 9
 
-loading-next : (n width height : ℕ) (tree : Tree) → OnDid (loading n width height tree) (IsTreeNext tree)
+pub loading-next : (n width height : ℕ) (tree : Tree) → OnDid (loading n width height tree) (IsTreeNext tree)
 unfolding loading
 loading-next n width height tree = search (both, did, element-changed) depth 9
 

@@ -17,10 +17,10 @@ use Rattle.page_laws.proofs.Lists.{changed}
 
 -- parents after changes
 
-abbrev parent_in : List Element → ℕ → Option ℕ
+abbrev pub parent_in : List Element → ℕ → Option ℕ
 parent_in xs m = (unwrap_or (slice_get xs m) no_element).parent
 
-parent-kept : (change : Element → Element) → ((it : Element) → (change it).parent ≡ it.parent) → (place m : ℕ) (xs : List Element) →
+pub parent-kept : (change : Element → Element) → ((it : Element) → (change it).parent ≡ it.parent) → (place m : ℕ) (xs : List Element) →
     parent_in (change_at change place xs) m ≡ parent_in xs m
 parent-kept change same place m [] = refl
 parent-kept change same zero zero (x ∷ xs) = same x
@@ -28,7 +28,7 @@ parent-kept change same zero (suc m) (x ∷ xs) = refl
 parent-kept change same (suc place) zero (x ∷ xs) = refl
 parent-kept change same (suc place) (suc m) (x ∷ xs) = parent-kept change same place m xs
 
-parent-kept_each : (change : Element → Element) → ((it : Element) → (change it).parent ≡ it.parent) → (places : List ℕ) (m : ℕ) (xs : List Element) →
+pub parent-kept_each : (change : Element → Element) → ((it : Element) → (change it).parent ≡ it.parent) → (places : List ℕ) (m : ℕ) (xs : List Element) →
     parent_in (change_each change places xs) m ≡ parent_in xs m
 parent-kept_each change same [] m xs = refl
 parent-kept_each change same (place ∷ places) m xs = parent-kept_each change same places m (change_at change place xs) ∙ parent-kept change same place m xs
@@ -57,7 +57,7 @@ length-unlinked tree n None = refl
 length-unlinked tree n (Some (InElement parent)) = length-change_at _ parent (change_at loses n (tree.elements)) ∙ length-change_at loses n (tree.elements)
 length-unlinked tree n (Some (InDocument document)) = refl
 
-parent-unlinked : (tree : Tree) (n m : ℕ) (container : Option Container) → m ≢ n →
+pub parent-unlinked : (tree : Tree) (n m : ℕ) (container : Option Container) → m ≢ n →
     parent_in (unlinked tree n container).elements m ≡ parent_in (tree.elements) m
 parent-unlinked tree n m None other = refl
 parent-unlinked tree n m (Some (InElement parent)) other =
@@ -83,7 +83,7 @@ module _ (tree : Tree) (parent n : ℕ) (sibling : Option ℕ) where
       ∙ parent-kept (λ element. record element { children = placed_before n (sibling_meant tree (InElement parent) n sibling) (element.children) })
       (λ it. refl) parent m (change_at gains n (apart.elements))
 
-  parent-elsewhere : (m : ℕ) → m ≢ n → (nodes_of (inserted tree (InElement parent) n sibling) m).parent ≡ (nodes_of tree m).parent
+  pub parent-elsewhere : (m : ℕ) → m ≢ n → (nodes_of (inserted tree (InElement parent) n sibling) m).parent ≡ (nodes_of tree m).parent
   unfolding removed
   parent-elsewhere m other = parent-inserted m ∙ parent-other gains n m (apart.elements) other ∙ parent-unlinked tree n m (container_of tree n) other
 
@@ -96,7 +96,7 @@ module _ (tree : Tree) (parent n : ℕ) (sibling : Option ℕ) where
 
 -- paths
 
-or-false : (a b : Bool) → (a || b) ≡ false → (a ≡ false) × (b ≡ false)
+pub or-false : (a b : Bool) → (a || b) ≡ false → (a ≡ false) × (b ≡ false)
 or-false true b none = absurd (true≢false none)
 or-false false b none = (refl, none)
 

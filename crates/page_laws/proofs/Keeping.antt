@@ -1,9 +1,10 @@
 -- What every command and every change of a tick keeps is kept by callbacks, ticks and whole runs.
 use Rattle.std.proofs.Common.{◌≡◌, refl}
-use Rattle.std.specs.Prelude.{ℕ, zero, suc, ◌&&◌, ◌==◌, not, map, Bool, true, false, nat_lt, List, [], ◌∷◌, length, Option, Some, None}
+use Rattle.std.specs.Prelude.{ℕ, zero, suc, ◌<◌, ◌&&◌, ◌==◌, not, map, Bool, true, false, nat_lt, List, [], ◌∷◌, length, Option, Some, None}
 use Rattle.std.specs.List.{AllByRecursion}
 use Rattle.text_io.specs.declared.kinds.EventKind.{EventKind}
 use Rattle.text_io.specs.declared.kinds.EventKind.TheVariants as events
+use Rattle.text_io.specs.declared.kinds.LimitKind.TheVariants as limits
 use Rattle.script_model.specs.Syntax.{Action, Command, Simple, Each, When, Block, NoMore, Then}
 use Rattle.script_model.specs.TraceLines.{FiredEvent, FiredResize, FiredScroll, FiredChange, FiredError, EventLine, TimerLine, FrameLine, TaskLine, TickLine}
 use Rattle.page_model.specs.World.{World, Entry, EventTarget, ElementTarget, DocumentTarget, WindowTarget, QueryTarget, Observation, Task, Notify, Posted, Timer, FrameCallback}
@@ -29,7 +30,7 @@ use Rattle.page_model.specs.Intersections.{is_same_bool, watchers, take_queue, n
 use Rattle.page_model.specs.Loop.{Broadcast, gather, deliver_some, broadcast, round, round_ended, report_skipped, resize_loop}
 use Rattle.page_model.specs.Ticks.{line_while_active, scrolled_text, event_target_of, intersection_steps, run_timers, run_timer, resize_steps, scroll_steps, evaluated, evaluate, media_steps, frame_steps, run_frame_callback, update_rendering, run_task, run_first, run_tasks, tick}
 use Rattle.page_laws.specs.Successors.{OnDid}
-use Rattle.page_laws.proofs.Steps.{both, did, on_did-all}
+use Rattle.page_laws.proofs.Steps.{did, on_did-all, room-then}
 use Rattle.page_laws.proofs.Changes.{IsNext, active-in, timer-next, frame-next, noted-next, pending-next, matched-next, tasks-next, unnotified-next, queue-next, emptied-next, reported-next, gather-next, update-next}
 
 -- folds of steps -----------------------------------------------------------------------------------------------------------
@@ -89,13 +90,31 @@ by_place-keeps {S = S} P count goes_on step each s here =
 
 -- what is kept -------------------------------------------------------------------------------------------------------------
 
+abbrev pub counted : World → World
+counted world = record world { begun = suc world.begun }
+
+-- `P` of a world in a callback, `In` of each of the entries that it was handed: a command keeps `P`, once it was counted
+pub record IsCarried (script : Script) (P : World → Type 0) (In : Present → Type 0) : Type 0 where
+  pub begun : (world : World) → world.begun < 1000000 → P world → P (counted world)
+  pub does : (world : World) (present : Present) (action : Action) → In present → world.begun < 1000000 → P world →
+      OnDid (does (handler_names script) (counted world) present action) (λ effect. P (effect.world))
+  pub none : In NoEntry
+
+-- the same where counting a command doesn't matter to `P`
+pub carried-by : (script : Script) (P : World → Type 0) (In : Present → Type 0) →
+    ((world : World) → world.begun < 1000000 → P world → P (counted world)) →
+    ((world : World) (present : Present) (action : Action) → In present → P world →
+    OnDid (does (handler_names script) world present action) (λ effect. P (effect.world))) → In NoEntry → IsCarried script P In
+carried-by script P In begun each none = record {
+  begun = begun;
+  does = λ world present action is room here. each (counted world) present action is (begun world room here);
+  none = none;
+}
+
 -- `P k` of a world in a callback that was handed entries when there were k elements, `In k` of each of these entries
 pub record IsKept (script : Script) (P : ℕ → World → Type 0) (In : ℕ → Present → Type 0) : Type 0 where
   pub next : (k : ℕ) (before now : World) → IsNext before now → P k before → P k now
-  pub begun : (k : ℕ) (world : World) → P k world → P k (record world { begun = suc world.begun })
-  pub does : (k : ℕ) (world : World) (present : Present) (action : Action) → In k present → P k world →
-      OnDid (does (handler_names script) world present action) (λ effect. P k (effect.world))
-  pub none : (k : ℕ) → In k NoEntry
+  pub carried : (k : ℕ) → IsCarried script (P k) (In k)
   pub entered : (k : ℕ) (world : World) → P k world → P (length world.tree.elements) world
   pub left : (k : ℕ) (before now : World) → P k before → P (length before.tree.elements) now → P k now
   pub due : (k : ℕ) (world : World) (document observer : ℕ) → P k world →
@@ -104,77 +123,83 @@ pub record IsKept (script : Script) (P : ℕ → World → Type 0) (In : ℕ →
       AllByRecursion (λ (each : Entry). In (length world.tree.elements) (IntersectionEntry (each.target) (each.finding.meets)))
       (intersection_observer_at (world.intersection_observers) observer).queue
 
+-- within a callback
+
+pub answered-keeps : {A : Type 0} (P : World → Type 0) (line : ℕ) (world : World) (next : A → Said World) (step : Step A) → P world →
+    OnDid step (λ value. P (next value).state) → P (answered line world next step).state
+unfolding answered OnDid
+answered-keeps P line world next (Did value) here there = there
+answered-keeps P line world next (Threw exception) here there = here
+answered-keeps P line world next (Met limit) here there = here
+
+pub caught-keeps : (P : World → Type 0) (said : Said World) → P said.state → P (caught said).state
+unfolding caught
+caught-keeps P said here = here
+
+pub once_begun-keeps : (P : World → Type 0) (line : ℕ) (world : World) (run : World → Said World) → P world →
+    (world.begun < 1000000 → P (run (counted world)).state) → P (once_begun line world run).state
+unfolding once_begun begun_in
+once_begun-keeps P line world run here each =
+    answered-keeps P line world run (begun_in world) here
+    (room-then limits.Commands (world.begun) 1000000 _ _ (λ room. did (counted world) _ (each room)))
+
+module _ (script : Script) (P : World → Type 0) (In : Present → Type 0) (carried : IsCarried script P In) where
+  module _ (entries : List Present) (are : AllByRecursion In entries) where
+    mutual
+      unfolding run_command
+
+      pub command-keeps : (command : Command) (present : Present) (world : World) → In present → P world →
+          P (run_command script entries command present world).state
+      command-keeps (Simple line action) present world is here =
+          once_begun-keeps P line world _ here λ room.
+          answered-keeps P line (counted world) said_by _ (carried.begun world room here) (carried.does world present action is room here)
+      command-keeps (Each line block end_line) present world is here =
+          once_begun-keeps P line world _ here λ room.
+          all_of-keeps P In (run_block script entries block) entries are (λ each now in_range. block-keeps block each now in_range) (counted world)
+          (carried.begun world room here)
+      command-keeps (When line condition block end_line) present world is here =
+          once_begun-keeps P line world _ here λ room.
+          let held : P (counted world) = carried.begun world room here in
+          answered-keeps P line (counted world) _ (holds (counted world) present condition) held
+          (on_did-all (holds (counted world) present condition) _
+          (λ answer. only_if-keeps P (run_block script entries block present) (counted world) answer (λ now. block-keeps block present now is) held))
+
+      pub block-keeps : (block : Block) (present : Present) (world : World) → In present → P world →
+          P (run_block script entries block present world).state
+      block-keeps NoMore present world is here = here
+      block-keeps (Then command others) present world is here =
+          then-keeps P (run_command script entries command present world) (run_block script entries others present)
+          (command-keeps command present world is here) (λ now. block-keeps others present now is)
+
+  handler-keeps : (handed : Entries) → AllByRecursion In (presents handed) → (handler : Option ℕ) (world : World) → P world →
+      P (run_handler script handed handler world).state
+  handler-keeps handed are None world here = here
+  handler-keeps handed are (Some handler) world here =
+      caught-keeps P (run_block script (presents handed) (handler_block script handler) NoEntry world)
+      (block-keeps (presents handed) are (handler_block script handler) NoEntry world carried.none here)
+
+  pub called-keeps : (document : ℕ) (handler : Option ℕ) (handed : Entries) (world : World) → AllByRecursion In (presents handed) → P world →
+      P (call script document handler handed world).state
+  unfolding call
+  called-keeps document handler handed world are here =
+      only_if-keeps P (λ now. say (entry_lines (now.names) handed) now followed_by run_handler script handed handler) world
+      (is_active (world.tree) document)
+      (λ now held. then-keeps P (say (entry_lines (now.names) handed) now) (run_handler script handed handler) held (handler-keeps handed are handler))
+      here
+
+-- around callbacks
+
 module _ (script : Script) (P : ℕ → World → Type 0) (In : ℕ → Present → Type 0) (kept : IsKept script P In) where
-  -- within a callback
-
-  module _ (k : ℕ) where
-    pub answered-keeps : {A : Type 0} (line : ℕ) (world : World) (next : A → Said World) (step : Step A) → P k world →
-        OnDid step (λ value. P k (next value).state) → P k (answered line world next step).state
-    unfolding answered OnDid
-    answered-keeps line world next (Did value) here there = there
-    answered-keeps line world next (Threw exception) here there = here
-    answered-keeps line world next (Met limit) here there = here
-
-    pub once_begun-keeps : (line : ℕ) (world : World) (run : World → Said World) → P k world → ((now : World) → P k now → P k (run now).state) →
-        P k (once_begun line world run).state
-    unfolding once_begun begun_in
-    once_begun-keeps line world run here each = answered-keeps line world run (begun_in world) here (both _ _ _ (did _ _ (each _ (kept.begun k world here))))
-
-    module _ (entries : List Present) (are : AllByRecursion (In k) entries) where
-      mutual
-        unfolding run_command
-
-        pub command-keeps : (command : Command) (present : Present) (world : World) → In k present → P k world →
-            P k (run_command script entries command present world).state
-        command-keeps (Simple line action) present world is here =
-            once_begun-keeps line world _ here λ begun held. answered-keeps line begun said_by _ held (kept.does k begun present action is held)
-        command-keeps (Each line block end_line) present world is here =
-            once_begun-keeps line world _ here λ begun held.
-            all_of-keeps (P k) (In k) (run_block script entries block) entries are (λ each now in_range. block-keeps block each now in_range) begun held
-        command-keeps (When line condition block end_line) present world is here =
-            once_begun-keeps line world _ here λ begun held.
-            answered-keeps line begun _ (holds begun present condition) held
-            (on_did-all (holds begun present condition) _
-            (λ answer. only_if-keeps (P k) (run_block script entries block present) begun answer (λ now. block-keeps block present now is) held))
-
-        pub block-keeps : (block : Block) (present : Present) (world : World) → In k present → P k world →
-            P k (run_block script entries block present world).state
-        block-keeps NoMore present world is here = here
-        block-keeps (Then command others) present world is here =
-            then-keeps (P k) (run_command script entries command present world) (run_block script entries others present)
-            (command-keeps command present world is here) (λ now. block-keeps others present now is)
-
-    pub caught-keeps : (said : Said World) → P k said.state → P k (caught said).state
-    unfolding caught
-    caught-keeps said here = here
-
-    handler-keeps : (handed : Entries) → AllByRecursion (In k) (presents handed) → (handler : Option ℕ) (world : World) → P k world →
-        P k (run_handler script handed handler world).state
-    handler-keeps handed are None world here = here
-    handler-keeps handed are (Some handler) world here =
-        caught-keeps (run_block script (presents handed) (handler_block script handler) NoEntry world)
-        (block-keeps (presents handed) are (handler_block script handler) NoEntry world (kept.none k) here)
-
-    pub called-keeps : (document : ℕ) (handler : Option ℕ) (handed : Entries) (world : World) → AllByRecursion (In k) (presents handed) → P k world →
-        P k (call script document handler handed world).state
-    unfolding call
-    called-keeps document handler handed world are here =
-        only_if-keeps (P k) (λ now. say (entry_lines (now.names) handed) now followed_by run_handler script handed handler) world
-        (is_active (world.tree) document)
-        (λ now held. then-keeps (P k) (say (entry_lines (now.names) handed) now) (run_handler script handed handler) held (handler-keeps handed are handler))
-        here
-
-  -- around callbacks
-
   module _ (k : ℕ) where
     -- a callback with entries of the world that it is called in, or of one with as many elements
     entries-keep : (document : ℕ) (handler : Option ℕ) (handed : Entries) (world : World) →
         AllByRecursion (In (length world.tree.elements)) (presents handed) → P k world → P k (call script document handler handed world).state
     entries-keep document handler handed world are here =
-        kept.left k world _ here (called-keeps (length world.tree.elements) document handler handed world are (kept.entered k world here))
+        kept.left k world _ here
+        (called-keeps script _ _ (kept.carried (length world.tree.elements)) document handler handed world are (kept.entered k world here))
 
     call-keeps : (document : ℕ) (handler : Option ℕ) (world : World) → P k world → P k (call script document handler NoEntries world).state
-    call-keeps document handler world here = called-keeps k document handler NoEntries world tt here
+    call-keeps document handler world here = called-keeps script _ _ (kept.carried k) document handler NoEntries world tt here
 
     invoke-keeps : (target : EventTarget) (event : EventKind) (world : World) → P k world → P k (invoke script target event world).state
     unfolding invoke
@@ -228,16 +253,18 @@ module _ (script : Script) (P : ℕ → World → Type 0) (In : ℕ → Present 
         all-cut count [] all = tt
         all-cut count (x ∷ xs) all = (all.0, all-cut count xs (all.1))
 
-    notify-keeps : (document : ℕ) (world : World) → P k world → P k (notify script document world).state
+    -- the first task, once it was taken off
+    notify-keeps : (document : ℕ) (others : List Task) (world : World) → world.tasks ≡ Notify document ∷ others → P k world →
+        P k (notify script document (record world { tasks = others })).state
     unfolding notify
-    notify-keeps document world here =
-        only_if-keeps (P k) (notify_watchers script document) world (is_active (world.tree) document)
-        (λ now held. for_each-keeps (P k) (notify_watcher script) (watchers (now.tree) document (now.intersection_observers))
+    notify-keeps document others world are here =
+        where-keeps (P k) (notify_watchers script document) (record world { tasks = others }) (is_active (world.tree) document)
+        (λ is. for_each-keeps (P k) (notify_watcher script) (watchers (world.tree) document (world.intersection_observers))
         (λ observer each there. queue-keeps (intersection_observer_at (each.intersection_observers) observer).queue observer each
         (kept.queued k each observer there) there)
-        (record now { notifying = without_notifying document (now.notifying) })
-        (kept.next k now _ (unnotified-next now document) held))
-        here
+        (record world { tasks = others; notifying = without_notifying document (world.notifying) })
+        (kept.next k world _ (unnotified-next world document others are) here))
+        (kept.next k world _ (tasks-next world (Notify document) others are) here)
 
     -- the resize loop
 
@@ -265,7 +292,7 @@ module _ (script : Script) (P : ℕ → World → Type 0) (In : ℕ → Present 
     due-keeps document observer so_far held =
         some-keeps document observer so_far (due_at document observer (so_far.world.resize_observers)) (kept.due k (so_far.world) document observer held) held
 
-    broadcast-keeps : (document : ℕ) (world : World) → P k world → P k (broadcast script document world).state.world
+    pub broadcast-keeps : (document : ℕ) (world : World) → P k world → P k (broadcast script document world).state.world
     unfolding broadcast
     broadcast-keeps document world here =
         by_place-keeps (λ (so_far : Broadcast). P k (so_far.world))
@@ -276,7 +303,7 @@ module _ (script : Script) (P : ℕ → World → Type 0) (In : ℕ → Present 
         (record { world = world; shallowest = None })
         here
 
-    round-keeps : (document : ℕ) (world : World) → P k world → P k (round script document world).state
+    pub round-keeps : (document : ℕ) (world : World) → P k world → P k (round script document world).state
     round-keeps document world here =
         then-keeps (λ (so_far : Broadcast). P k (so_far.world)) (broadcast script document world) _
         (broadcast-keeps document world here)
@@ -411,19 +438,19 @@ module _ (script : Script) (P : ℕ → World → Type 0) (In : ℕ → Present 
 
     -- tasks and ticks
 
-    task-keeps : (task : Task) (world : World) → P k world → P k (run_task script task world).state
-    task-keeps (Notify document) world here = notify-keeps document world here
-    task-keeps (Posted document handler) world here =
+    posted-keeps : (document handler : ℕ) (world : World) → P k world → P k (run_task script (Posted document handler) world).state
+    posted-keeps document handler world here =
         then-keeps (P k)
         (say (line_while_active (world.tree) document (TaskLine (document_text (world.names) document) (handler_text script handler))) world)
         (call script document (Some handler) NoEntries)
         here
         (call-keeps document (Some handler))
 
-    first-keeps : (tasks : List Task) (world : World) → world.tasks ≡ tasks → P k world → P k (run_first script tasks world).state
+    pub first-keeps : (tasks : List Task) (world : World) → world.tasks ≡ tasks → P k world → P k (run_first script tasks world).state
     first-keeps [] world are here = here
-    first-keeps (task ∷ others) world are here =
-        task-keeps task (record world { tasks = others }) (kept.next k world (record world { tasks = others }) (tasks-next world task others are) here)
+    first-keeps (Notify document ∷ others) world are here = notify-keeps document others world are here
+    first-keeps (Posted document handler ∷ others) world are here =
+        posted-keeps document handler (record world { tasks = others }) (kept.next k world _ (tasks-next world (Posted document handler) others are) here)
 
     tasks-keep : (world : World) → P k world → P k (run_tasks script world).state
     unfolding run_tasks

@@ -19,7 +19,7 @@ use Rattle.page_laws.specs.Successors.{IsSuccessor}
 use Rattle.page_laws.specs.Later.{IsLater}
 use Rattle.page_laws.proofs.Steps.{on_did-map}
 use Rattle.page_laws.proofs.Commands.{does-next}
-use Rattle.page_laws.proofs.Keeping.{IsKept, command-keeps, called-keeps, tick-keeps}
+use Rattle.page_laws.proofs.Keeping.{counted, IsCarried, carried-by, IsKept, command-keeps, called-keeps, tick-keeps}
 use Rattle.page_laws.proofs.WholeRuns.{run_tick-keeps, items-keep}
 
 pub all-so : {A : Type 0} (xs : List A) → AllByRecursion (λ (x : A). ⊤) xs
@@ -27,14 +27,18 @@ all-so [] = tt
 all-so (x ∷ xs) = (tt, all-so xs)
 
 -- what goes over from a world to each successor of it
+successor-carried : (script : Script) (P : World → Type 0) → ((before now : World) → IsSuccessor before now → P before → P now) →
+    ((world : World) → P world → P (counted world)) → IsCarried script P (λ (present : Present). ⊤)
+successor-carried script P goes_over begun =
+    carried-by script P (λ (present : Present). ⊤) (λ world room here. begun world here)
+    (λ world present action is here. on_did-map (does (handler_names script) world present action) _ _
+    (λ effect next. goes_over world (effect.world) next here) (does-next (handler_names script) world present action)) tt
+
 successor-kept : (script : Script) (P : World → Type 0) → ((before now : World) → IsSuccessor before now → P before → P now) →
-    ((world : World) → P world → P (record world { begun = suc world.begun })) → IsKept script (λ (k : ℕ). P) (λ (k : ℕ) (present : Present). ⊤)
+    ((world : World) → P world → P (counted world)) → IsKept script (λ (k : ℕ). P) (λ (k : ℕ) (present : Present). ⊤)
 successor-kept script P goes_over begun = record {
   next = λ k before now next here. goes_over before now (next.successor) here;
-  begun = λ k world here. begun world here;
-  does = λ k world present action is here. on_did-map (does (handler_names script) world present action) _ _
-      (λ effect next. goes_over world (effect.world) next here) (does-next (handler_names script) world present action);
-  none = λ k. tt;
+  carried = λ k. successor-carried script P goes_over begun;
   entered = λ k world here. here;
   left = λ k before now here there. there;
   due = λ k world document observer here. all-so _;
@@ -75,12 +79,12 @@ later-timed first time world later is = record {
 pub command-later : (script : Script) (entries : List Present) (command : Command) (present : Present) (world : World) →
     IsLater world (run_command script entries command present world).state
 command-later script entries command present world =
-    command-keeps script _ _ (later-kept script world) 0 entries (all-so entries) command present world tt (self world)
+    command-keeps script _ _ ((later-kept script world).carried 0) entries (all-so entries) command present world tt (self world)
 
 pub call-later : (script : Script) (document : ℕ) (handler : Option ℕ) (handed : Entries) (world : World) →
     IsLater world (call script document handler handed world).state
 call-later script document handler handed world =
-    called-keeps script _ _ (later-kept script world) 0 document handler handed world (all-so (presents handed)) (self world)
+    called-keeps script _ _ ((later-kept script world).carried 0) document handler handed world (all-so (presents handed)) (self world)
 
 pub tick-later : (script : Script) (line time : ℕ) (world : World) → IsLater world (run_tick script line time world).state
 tick-later script line time world = run_tick-keeps script _ _ (later-kept script world) 0 (later-timed world) line time world (self world)

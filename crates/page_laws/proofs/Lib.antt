@@ -1,21 +1,22 @@
-mod Lists
-mod Steps
-mod Ranges
-mod Trees
-mod Made
-mod Parts
-mod InRange
-mod Successors
-mod Commands
-mod Readings
-mod Depths
-mod Changes
-mod Keeping
-mod WholeRuns
-mod Later
-mod RunsInRange
-mod Targets
-mod Quiet
-mod Places
-mod Limits
-mod Turns
+pub mod Lists
+pub mod Steps
+pub mod Ranges
+pub mod Trees
+pub mod Made
+pub mod Parts
+pub mod InRange
+pub mod Successors
+pub mod Commands
+pub mod Readings
+pub mod Depths
+pub mod Changes
+pub mod Waiting
+pub mod Keeping
+pub mod WholeRuns
+pub mod Later
+pub mod RunsInRange
+pub mod Targets
+pub mod Quiet
+pub mod Places
+pub mod Limits
+pub mod Turns

@@ -6,19 +6,18 @@ use Rattle.script_model.specs.Syntax.{Command, Item}
 use Rattle.script_model.specs.Scripts.{handlers_in}
 use Rattle.page_model.specs.World.{Observation, ResizeObserver, Entry, IntersectionObserver, World}
 use Rattle.page_model.specs.Lookups.{no_resize_observer, no_intersection_observer, resize_observer_at}
-use Rattle.page_model.specs.Steps.{Step, Did, Threw, Met}
 use Rattle.page_model.specs.Operands.{Present, NoEntry, ResizeEntry, IntersectionEntry}
 use Rattle.page_model.specs.Commands.{does}
 use Rattle.page_model.specs.Gathering.{is_of}
 use Rattle.page_model.specs.Callbacks.{Script, Entries, handler_names, presents, run_command, call}
-use Rattle.page_model.specs.Ticks.{tick}
+use Rattle.page_model.specs.Ticks.{run_first, tick}
 use Rattle.page_model.specs.Outcome.{opening_world, run_item, run_items}
 use Rattle.page_model.specs.Ranges.{Counts, AreObserved, IsResizeObserverIn, IsIntersectionObserverIn, IsInRange, IsPresentIn}
-use Rattle.page_laws.specs.Successors.{OnDid}
 use Rattle.page_laws.proofs.Lists.{all-map}
+use Rattle.page_laws.proofs.Steps.{on_did-with}
 use Rattle.page_laws.proofs.InRange.{does-in}
 use Rattle.page_laws.proofs.Commands.{does-next}
-use Rattle.page_laws.proofs.Keeping.{IsKept, command-keeps, called-keeps, tick-keeps}
+use Rattle.page_laws.proofs.Keeping.{counted, carried-by, IsKept, command-keeps, called-keeps, first-keeps, tick-keeps}
 use Rattle.page_laws.proofs.WholeRuns.{item-keeps, items-keep}
 
 -- a world in range, with so many elements at least
@@ -41,13 +40,6 @@ entry-in : (world : World) (present : Present) → IsPresentIn world present →
 entry-in world NoEntry is = tt
 entry-in world (ResizeEntry target) is = is
 entry-in world (IntersectionEntry target meets) is = is
-
-on_did-with : {A : Type 0} (step : Step A) (One Two Both : A → Type 0) → ((value : A) → One value → Two value → Both value) → OnDid step One →
-    OnDid step Two → OnDid step Both
-unfolding OnDid
-on_did-with (Did value) One Two Both each one two = each value one two
-on_did-with (Threw exception) One Two Both each one two = tt
-on_did-with (Met limit) One Two Both each one two = tt
 
 -- the lists that callbacks are handed entries of
 
@@ -73,13 +65,13 @@ running-kept script = record {
     within = next.within (length (handler_names script)) (running.within);
     most = omega (arith, next.successor.elements, running.most);
   };
-  begun = λ k world running. record { within = counted world (running.within); most = running.most };
-  does = λ k world present action is running.
+  carried = λ k. carried-by script _ _
+      (λ world room running. record { within = counted-in world (running.within); most = running.most })
+      (λ world present action is running.
       on_did-with (does (handler_names script) world present action) _ _ (λ effect. IsRunning (length (handler_names script)) k (effect.world))
       (λ effect within next. record { within = within; most = omega (arith, next.elements, running.most) })
       (does-in (handler_names script) world (running.within) present action (present-in (length (handler_names script)) k world present running is))
-      (does-next (handler_names script) world present action);
-  none = λ k. tt;
+      (does-next (handler_names script) world present action)) tt;
   entered = λ k world running. record { within = running.within; most = omega arith };
   left = λ k before now running after. record { within = after.within; most = omega (arith, running.most, after.most) };
   due = λ k world document observer running.
@@ -88,9 +80,8 @@ running-kept script = record {
   queued = λ k world observer running. queue-in _ (world.intersection_observers.made) observer running.within.intersection_observers;
 }
   where
-    counted : (world : World) → IsInRange (length (handler_names script)) world →
-        IsInRange (length (handler_names script)) (record world { begun = suc world.begun })
-    counted world within = search
+    counted-in : (world : World) → IsInRange (length (handler_names script)) world → IsInRange (length (handler_names script)) (counted world)
+    counted-in world within = search
 
 timed : (handlers time : ℕ) (world : World) → IsInRange handlers world → IsInRange handlers (record world { clock = time })
 timed handlers time world within = search
@@ -111,7 +102,7 @@ module _ (script : Script) (world : World) (within : IsInRange (length script) w
       IsInRange (length script) (run_command script entries command present world).state
   command-in entries command present are is =
       ends script (length world.tree.elements) _
-      (command-keeps script _ IsEntryIn (running-kept script) (length world.tree.elements) entries
+      (command-keeps script _ _ ((running-kept script).carried (length world.tree.elements)) entries
       (all-map (IsPresentIn world) (IsEntryIn (length world.tree.elements)) (entry-in world) entries are) command present world
       (entry-in world present is) (begins script world within))
 
@@ -119,8 +110,13 @@ module _ (script : Script) (world : World) (within : IsInRange (length script) w
       IsInRange (length script) (call script document handler handed world).state
   call-in document handler handed are =
       ends script (length world.tree.elements) _
-      (called-keeps script _ IsEntryIn (running-kept script) (length world.tree.elements) document handler handed world
+      (called-keeps script _ _ ((running-kept script).carried (length world.tree.elements)) document handler handed world
       (all-map (IsPresentIn world) (IsEntryIn (length world.tree.elements)) (entry-in world) (presents handed) are) (begins script world within))
+
+  pub first-in : IsInRange (length script) (run_first script (world.tasks) world).state
+  first-in =
+      ends script (length world.tree.elements) _ (first-keeps script _ IsEntryIn (running-kept script) (length world.tree.elements) (world.tasks) world refl
+      (begins script world within))
 
   pub tick-in : IsInRange (length script) (tick script world).state
   tick-in =

@@ -139,14 +139,16 @@ more-documents wanted (x ∷ xs) ys (suc document) come = more-documents wanted 
 -- no element is taken out, and documents don't go back
 pub record IsTreeNext (before after : Tree) : Type 0 where
   pub elements : length before.elements ≤ length after.elements
+  pub documents : length after.documents ≡ length before.documents
   pub states : (wanted : DocumentState) (document : ℕ) → IsTrue (came_to wanted before document) → IsTrue (came_to wanted after document)
 
 same-tree : (tree : Tree) → IsTreeNext tree tree
-same-tree tree = record { elements = omega arith; states = λ wanted document come. come }
+same-tree tree = record { elements = omega arith; documents = refl; states = λ wanted document come. come }
 
 on : {first second third : Tree} → IsTreeNext first second → IsTreeNext second third → IsTreeNext first third
 on one two = record {
   elements = omega (arith, one.elements, two.elements);
+  documents = two.documents ∙ one.documents;
   states = λ wanted document come. two.states wanted document (one.states wanted document come);
 }
 
@@ -155,6 +157,7 @@ element-changed change n tree = record {
   elements =
       let same : length (change_at change n (tree.elements)) ≡ length tree.elements =
       (changed (λ (it : Element). ⊤) change (λ it is. is) n (tree.elements)).same in omega arith;
+  documents = refl;
   states = λ wanted document come. come;
 }
 
@@ -162,14 +165,23 @@ document-changed : (change : Document → Document) → ((it : Document) → (ch
     IsTreeNext tree (change_document change place tree)
 document-changed change same place tree = record {
   elements = omega arith;
+  documents = (changed (λ (it : Document). ⊤) change (λ it is. is) place (tree.documents)).same;
   states = λ wanted document come. state-kept change same wanted place document (tree.documents) ∙ come;
 }
 
 dying : (places : List ℕ) (tree : Tree) → IsTreeNext tree (with_state Dead places tree)
-dying places tree = record { elements = omega arith; states = λ wanted document come. dying-each wanted document places (tree.documents) come }
+dying places tree = record {
+  elements = omega arith;
+  documents = (changed-each (λ (it : Document). ⊤) (into Dead) (λ it is. is) places (tree.documents)).same;
+  states = λ wanted document come. dying-each wanted document places (tree.documents) come;
+}
 
 waking : (places : List ℕ) (tree : Tree) → AllAlive (tree.documents) places → IsTreeNext tree (with_state Active places tree)
-waking places tree alive = record { elements = omega arith; states = λ wanted document come. waking-each wanted document places (tree.documents) alive come }
+waking places tree alive = record {
+  elements = omega arith;
+  documents = (changed-each (λ (it : Document). ⊤) (into Active) (λ it is. is) places (tree.documents)).same;
+  states = λ wanted document come. waking-each wanted document places (tree.documents) alive come;
+}
 
 unlinked-next : (tree : Tree) (n : ℕ) (container : Option Container) → IsTreeNext tree (unlinked tree n container)
 unlinked-next tree n None = same-tree tree
@@ -193,6 +205,7 @@ adopted-next tree document n = record {
       let same : length (adopted tree document n).elements ≡ length tree.elements =
       (changed-each (λ (it : Element). ⊤) (λ it. record it { document = document }) (λ it is. is) (inclusive_descendants tree n) (tree.elements)).same in
       omega arith;
+  documents = refl;
   states = λ wanted document come. come;
 }
 

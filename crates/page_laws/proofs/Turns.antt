@@ -8,12 +8,14 @@ use Rattle.page_model.specs.Documents.{is_active}
 use Rattle.page_model.specs.Operands.{Present}
 use Rattle.page_model.specs.Gathering.{due_at}
 use Rattle.page_model.specs.Callbacks.{Script, Entries, handler_names, presents, run_command, call}
-use Rattle.page_model.specs.Loop.{Broadcast, broadcast, deliver_some}
-use Rattle.page_model.specs.Ticks.{evaluate, media_steps, tick}
+use Rattle.page_model.specs.Loop.{Broadcast, gather, broadcast, deliver_some, round}
+use Rattle.page_model.specs.Ticks.{evaluate, media_steps, run_first, tick}
 use Rattle.page_model.specs.Outcome.{opening_world, run_item, run_items}
 use Rattle.page_laws.specs.Bounds.{IsWithinLimits, places_up_to}
-use Rattle.page_laws.proofs.Limits.{as-many, does-within}
-use Rattle.page_laws.proofs.Keeping.{IsKept, evaluate-keeps, due-keeps, command-keeps, called-keeps, tick-keeps}
+use Rattle.page_laws.proofs.Waiting.{tasks-alike, few-tasks}
+use Rattle.page_laws.proofs.Changes.{gather-next}
+use Rattle.page_laws.proofs.Limits.{as-many, counted-within, does-within}
+use Rattle.page_laws.proofs.Keeping.{IsCarried, carried-by, IsKept, evaluate-keeps, due-keeps, command-keeps, called-keeps, broadcast-keeps, round-keeps, first-keeps, tick-keeps}
 use Rattle.page_laws.proofs.WholeRuns.{item-keeps, items-keep}
 use Rattle.page_laws.proofs.Later.{all-so}
 use Rattle.page_laws.proofs.Places.{same-places}
@@ -24,12 +26,15 @@ Within k world = IsWithinLimits world
 abbrev Any : ℕ → Present → Type 0
 Any k present = ⊤
 
+limits-carried : (script : Script) → IsCarried script IsWithinLimits (λ (present : Present). ⊤)
+limits-carried script =
+    carried-by script IsWithinLimits (λ (present : Present). ⊤) (λ world room here. counted-within world here room)
+    (λ world present action is here. does-within world here (handler_names script) present action) tt
+
 limits-kept : (script : Script) → IsKept script Within Any
 limits-kept script = record {
-  next = λ k before now next here. as-many before here now next.observers next.queries;
-  begun = λ k world here. as-many world here _ refl refl;
-  does = λ k world present action is here. does-within world here (handler_names script) present action;
-  none = λ k. tt;
+  next = λ k before now next here. as-many before here now next.observers next.queries next.successor.begun next.tasks;
+  carried = λ k. limits-carried script;
   entered = λ k world here. here;
   left = λ k before now here there. there;
   due = λ k world document observer here. all-so _;
@@ -37,18 +42,35 @@ limits-kept script = record {
 }
 
 timed : (time : ℕ) (world : World) → IsWithinLimits world → nat_lt time world.clock ≡ false → IsWithinLimits (record world { clock = time })
-timed time world here is = as-many world here _ refl refl
+timed time world here is = as-many world here _ refl refl refl (tasks-alike world _ refl refl refl)
 
 pub opening-within : IsWithinLimits opening_world
-opening-within = record { resize_observers = omega arith; queries = omega arith }
+opening-within = record {
+  resize_observers = omega arith;
+  queries = omega arith;
+  commands = omega arith;
+  tasks = record { documents = omega arith; marks = omega arith; posted = omega arith; notifying = omega arith };
+}
 
 module _ (script : Script) (world : World) (within : IsWithinLimits world) where
   pub command-within : (entries : List Present) (command : Command) (present : Present) →
       IsWithinLimits (run_command script entries command present world).state
-  command-within entries command present = command-keeps script Within Any (limits-kept script) 0 entries (all-so entries) command present world tt within
+  command-within entries command present = command-keeps script _ _ (limits-carried script) entries (all-so entries) command present world tt within
 
   pub call-within : (document : ℕ) (handler : Option ℕ) (handed : Entries) → IsWithinLimits (call script document handler handed world).state
-  call-within document handler handed = called-keeps script Within Any (limits-kept script) 0 document handler handed world (all-so (presents handed)) within
+  call-within document handler handed = called-keeps script _ _ (limits-carried script) document handler handed world (all-so (presents handed)) within
+
+  pub gather-within : (document depth : ℕ) → IsWithinLimits (gather document depth world)
+  gather-within document depth = (limits-kept script).next 0 world _ (gather-next document depth world) within
+
+  pub broadcast-within : (document : ℕ) → IsWithinLimits (broadcast script document world).state.world
+  broadcast-within document = broadcast-keeps script Within Any (limits-kept script) 0 document world within
+
+  pub round-within : (document : ℕ) → IsWithinLimits (round script document world).state
+  round-within document = round-keeps script Within Any (limits-kept script) 0 document world within
+
+  pub first-within : IsWithinLimits (run_first script (world.tasks) world).state
+  first-within = first-keeps script Within Any (limits-kept script) 0 (world.tasks) world refl within
 
   pub tick-within : IsWithinLimits (tick script world).state
   tick-within = tick-keeps script Within Any (limits-kept script) 0 world within
@@ -83,3 +105,6 @@ module _ (script : Script) (world : World) (within : IsWithinLimits world) where
 
 pub items-within : (items : List Item) → IsWithinLimits (run_items items opening_world).state
 items-within items = items-keep items Within Any (limits-kept (handlers_in items)) 0 timed opening_world opening-within
+
+pub tasks-few : (world : World) → IsWithinLimits world → length world.tasks ≤ 4160
+tasks-few world within = few-tasks world (within.tasks)

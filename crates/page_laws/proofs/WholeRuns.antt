@@ -12,7 +12,7 @@ use Rattle.page_model.specs.Ticks.{time_set, tick}
 use Rattle.page_model.specs.Outcome.{run_tick, run_item, run_items}
 use Rattle.page_laws.specs.Successors.{OnDid}
 use Rattle.page_laws.proofs.Steps.{on_did-map}
-use Rattle.page_laws.proofs.Keeping.{IsKept, for_each-keeps, answered-keeps, once_begun-keeps, command-keeps, caught-keeps, tick-keeps}
+use Rattle.page_laws.proofs.Keeping.{counted, IsKept, for_each-keeps, answered-keeps, once_begun-keeps, command-keeps, caught-keeps, tick-keeps}
 
 -- a time that isn't before the clock is set
 pub time-kept : (P : World → Type 0) (world : World) (time : ℕ) → (nat_lt time world.clock ≡ false → P (record world { clock = time })) →
@@ -28,16 +28,18 @@ module _ (script : Script) (P : ℕ → World → Type 0) (In : ℕ → Present 
     (timed : (time : ℕ) (world : World) → P k world → nat_lt time world.clock ≡ false → P k (record world { clock = time })) where
   pub run_tick-keeps : (line time : ℕ) (world : World) → P k world → P k (run_tick script line time world).state
   run_tick-keeps line time world here =
-      once_begun-keeps script P In kept k line world _ here λ begun held.
-      answered-keeps script P In kept k line begun (tick script) (time_set time begun) held
-      (on_did-map (time_set time begun) (P k) _ (tick-keeps script P In kept k) (time-kept (P k) begun time (timed time begun held)))
+      once_begun-keeps (P k) line world _ here λ room.
+      let held : P k (counted world) = (kept.carried k).begun world room here in
+      answered-keeps (P k) line (counted world) (tick script) (time_set time (counted world)) held
+      (on_did-map (time_set time (counted world)) (P k) _ (tick-keeps script P In kept k) (time-kept (P k) (counted world) time
+      (timed time (counted world) held)))
 
   pub item-keeps : (item : Item) (world : World) → P k world → P k (run_item script item world).state
   unfolding run_item
   item-keeps (Outside command) world here =
-      caught-keeps script P In kept k (run_command script [] command NoEntry world)
-      (command-keeps script P In kept k [] tt command NoEntry world (kept.none k) here)
-  item-keeps (Tick line time) world here = caught-keeps script P In kept k (run_tick script line time world) (run_tick-keeps line time world here)
+      caught-keeps (P k) (run_command script [] command NoEntry world)
+      (command-keeps script _ _ (kept.carried k) [] tt command NoEntry world (kept.carried k).none here)
+  item-keeps (Tick line time) world here = caught-keeps (P k) (run_tick script line time world) (run_tick-keeps line time world here)
   item-keeps (Handler line name block end_line) world here = here
 
 pub items-keep : (items : List Item) (P : ℕ → World → Type 0) (In : ℕ → Present → Type 0) (kept : IsKept (handlers_in items) P In) (k : ℕ) →

@@ -1,14 +1,28 @@
--- That no loop over a list by place is cut off by the bound that its recursion has.
-use Rattle.std.specs.Prelude.{ℕ, suc, ◌≤◌, ◌&&◌, nat_lt, Bool, length}
+-- Limits that every world of a run keeps, and that no loop over a list by place is cut off by the bound that its recursion has.
+use Rattle.std.specs.Prelude.{ℕ, suc, ◌≤◌, ◌&&◌, nat_lt, Bool, not, List, length, count_by}
 use Rattle.text_io.specs.Limits.{limit_number}
 use Rattle.text_io.specs.declared.kinds.LimitKind.TheVariants as limits
-use Rattle.page_model.specs.World.{World}
+use Rattle.page_model.specs.World.{Task, World}
+use Rattle.page_model.specs.Tasks.{is_posted, posted_tasks}
 use Rattle.page_model.specs.Runs.{Said, at_place, lifted, repeat}
 
--- as many of the things that a tick goes over by place as the limits allow
+-- the notify tasks that wait
+abbrev pub notify_tasks : List Task → ℕ
+notify_tasks tasks = count_by (λ task. not (is_posted task)) tasks
+
+-- the posted tasks that wait are as many as the limit allows, and a notify task waits for no document that isn't marked
+pub record AreTasksWithin (world : World) : Type 0 where
+  pub documents : length world.tree.documents ≤ limit_number limits.Documents
+  pub marks : length world.notifying ≤ limit_number limits.Documents
+  pub posted : posted_tasks world.tasks ≤ limit_number limits.Tasks
+  pub notifying : notify_tasks world.tasks ≤ count_by (λ marked. marked) world.notifying
+
+-- as many of the things that a tick goes over by place as the limits allow, as many commands begun and as many tasks
 pub record IsWithinLimits (world : World) : Type 0 where
   pub resize_observers : length world.resize_observers.made ≤ limit_number limits.ResizeObservers
   pub queries : length world.queries ≤ limit_number limits.Queries
+  pub commands : world.begun ≤ limit_number limits.Commands
+  pub tasks : AreTasksWithin world
 
 -- `by_place` with another bound on its turns
 unfoldable pub places_up_to : {S : Type 0} → ℕ → (S → ℕ) → (S → Bool) → (ℕ → S → Said S) → S → Said S

@@ -10,6 +10,6 @@ pub use pages::{
     numbers_stay_in_range, readings_change_nothing,
 };
 pub use runs::{
-    runs_stay_in_range, runs_take_nothing_back, the_clock_stands_in_a_tick,
+    limits_are_kept, runs_stay_in_range, runs_take_nothing_back, the_clock_stands_in_a_tick,
     ticks_of_a_quiet_page_say_nothing_more, turns_by_place_are_never_cut_off,
 };

@@ -11,13 +11,13 @@ ghost use Rattle.page_model.specs.Operands.{Present};
 ghost use Rattle.page_model.specs.Ranges.{IsInRange, IsPresentIn};
 ghost use Rattle.page_model.specs.Documents.{is_active};
 ghost use Rattle.page_model.specs.Gathering.{due_at};
-ghost use Rattle.page_model.specs.Loop.{Broadcast, broadcast, deliver_some};
+ghost use Rattle.page_model.specs.Loop.{Broadcast, gather, broadcast, deliver_some, round};
 ghost use Rattle.page_laws.specs.Bounds.{IsWithinLimits, places_up_to};
 ghost use Rattle.page_laws.specs.Later.{IsLater};
 ghost use Rattle.page_laws.specs.Quiet.{IsQuiet};
 ghost use Rattle.page_model.specs.Runs.{Thrown};
 ghost use Rattle.page_model.specs.Callbacks.{Script, Entries, presents, run_command, call};
-ghost use Rattle.page_model.specs.Ticks.{evaluate, media_steps, tick};
+ghost use Rattle.page_model.specs.Ticks.{evaluate, media_steps, run_first, tick};
 ghost use Rattle.page_model.specs.Outcome.{opening_world, run_item, run_items, run_tick};
 
 /// Nothing in a run takes back what was before: not a command with its block, not a callback, not a tick, and not the
@@ -60,18 +60,30 @@ pub fn ticks_of_a_quiet_page_say_nothing_more()
     ensures quiet { (script : Script) (world : World) → IsQuiet world → IsQuiet (tick script world).state }
 {}
 
-/// No loop over a list by place, that of the query lists and that of the resize observers, is cut off by the bound of its
-/// recursion: with any bound from 4,096 on it comes to the same, while callbacks go on to make more. For the limits on both lists
-/// are kept over whole runs.
-pub fn turns_by_place_are_never_cut_off()
+/// The limits on resize observers, query lists, commands begun, documents and tasks are kept over whole runs: by commands and callbacks, by
+/// gatherings, broadcasts and rounds of a resize loop, by each task, and by ticks and items. A notify task waits for marked documents alone, so
+/// at most 4,160 tasks wait.
+pub fn limits_are_kept()
     ensures opening { IsWithinLimits opening_world }
     ensures commands { (script : Script) (world : World) → IsWithinLimits world → (entries : List Present) (command : Command) (present : Present) →
         IsWithinLimits (run_command script entries command present world).state }
     ensures callbacks { (script : Script) (world : World) → IsWithinLimits world → (document : ℕ) (handler : Option ℕ) (handed : Entries) →
         IsWithinLimits (call script document handler handed world).state }
+    ensures gatherings { (script : Script) (world : World) → IsWithinLimits world → (document depth : ℕ) →
+        IsWithinLimits (gather document depth world) }
+    ensures broadcasts { (script : Script) (world : World) → IsWithinLimits world → (document : ℕ) →
+        IsWithinLimits (broadcast script document world).state.world }
+    ensures rounds { (script : Script) (world : World) → IsWithinLimits world → (document : ℕ) → IsWithinLimits (round script document world).state }
+    ensures tasks { (script : Script) (world : World) → IsWithinLimits world → IsWithinLimits (run_first script (world.tasks) world).state }
     ensures ticks { (script : Script) (world : World) → IsWithinLimits world → IsWithinLimits (tick script world).state }
     ensures items { (script : Script) (world : World) → IsWithinLimits world → (item : Item) → IsWithinLimits (run_item script item world).state }
     ensures scripts { (items : List Item) → IsWithinLimits (run_items items opening_world).state }
+    ensures waiting { (world : World) → IsWithinLimits world → length world.tasks ≤ 4160 }
+{}
+
+/// No loop over a list by place, that of the query lists and that of the resize observers, is cut off by the bound of its
+/// recursion: with any bound from 4,096 on it comes to the same, while callbacks go on to make more.
+pub fn turns_by_place_are_never_cut_off()
     ensures query_lists { (script : Script) (world : World) → IsWithinLimits world → (document most : ℕ) → 4096 ≤ most →
         media_steps script document world ≡ places_up_to most (λ now. length (now.queries)) (λ now. is_active (now.tree) document)
         (evaluate script document) world }

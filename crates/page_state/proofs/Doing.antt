@@ -1,6 +1,6 @@
 -- What commands come to once their operands are found.
-use Rattle.std.proofs.Common.{◌≡◌, ℕ, [], ◌∷◌, Some, None, Result, Ok, Err, refl, ap, sym, subst, arith}
-use Rattle.script_model.specs.Syntax.{Operand, Append, Before, Remove, Read}
+use Rattle.std.proofs.Common.{◌≡◌, ℕ, List, [], ◌∷◌, Some, None, Result, Ok, Err, refl, ap, sym, subst}
+use Rattle.script_model.specs.Syntax.{Operand, Append, Before, Remove, Read, Say}
 use Rattle.page_model.specs.World.{Tree, World}
 use Rattle.page_model.specs.Documents.{Container, removed}
 use Rattle.page_model.specs.Operands.{Handlers, Present, element_meant, container_meant}
@@ -12,13 +12,16 @@ use Rattle.page_tree.specs.declared.faults.PlaceFault.TheVariants as place
 use Rattle.page_tree.specs.Faults.{refusal}
 use Rattle.page_tree.specs.Views.{PageElements}
 use Rattle.page_state.specs.declared.answers.Effect.{Effect}
-use Rattle.page_state.specs.declared.answers.Effect.TheVariants.{Nothing}
+use Rattle.page_state.specs.declared.answers.Effect.TheVariants.{Nothing, Line}
+use Rattle.trace_text.specs.declared.TraceLine.TheVariants as trace
+use Rattle.page_model.specs.Gathering.{gathering, sight_of}
+use Rattle.page_model.specs.Loop.{gather}
 use Rattle.page_state.specs.Faults.{misplaced}
 use Rattle.page_state.specs.declared.page.Page.TheInside.{Inside}
-use Rattle.page_state.proofs.Inside.{world_of}
+use Rattle.page_state.specs.Worlds.{world_of}
 use Rattle.page_state.specs.declared.answers.PageFault.{PageFault}
 use Rattle.page_state.specs.Views.{PageView}
-use Rattle.page_state.specs.Answers.{Applied, Keeps}
+use Rattle.page_state.specs.Answers.{Applied, Keeps, Kept}
 
 module _ (handlers : Handlers) (world : World) (present : Present) where
   module _ (node : Operand) (n : ℕ) (found : element_meant world.names present node ≡ Did n) where
@@ -42,13 +45,24 @@ module _ (handlers : Handlers) (world : World) (present : Present) where
   unfolding does
   reads of container there = λ i. there i >>= λ (within : Container). writes (reading_of (world.names) (world.tree) (world.viewports.size) (world.scrolls) within ∷ []) world
 
+-- what holds whatever handlers there are holds with these
+pub kept_at : {old new : PageView} {result : Result Effect PageFault} {step : Handlers → Step ModelEffect} (handlers : Handlers) → Keeps old new result step → Kept old new result (step handlers)
+kept_at handlers keeps = record { applied = keeps.applied handlers; begun = keeps.begun; reach = keeps.reach }
+
+pub says : (handlers : Handlers) (view : PageView) (present : Present) (word : List ℕ) → Kept view view (Ok (Line (trace.Say word))) (does handlers view.world present (Say word))
+unfolding does
+says handlers view present word = record { applied = refl; begun = refl; reach = (tt, tt) }
+
+pub gathers : (document depth : ℕ) (world : World) → record world { resize_observers = gathering (sight_of world) document depth (world.resize_observers) } ≡ gather document depth world
+unfolding gather
+gathers document depth world = refl
+
 -- the same step said otherwise
-pub keeps_by : {old new : PageView} {result : Result Effect PageFault} {made : ℕ} {step step' : Handlers → Step ModelEffect} → Keeps old new result made step → ((handlers : Handlers) → step' handlers ≡ step handlers)
-    → Keeps old new result made step'
+pub keeps_by : {old new : PageView} {result : Result Effect PageFault} {step step' : Handlers → Step ModelEffect} → Keeps old new result step → ((handlers : Handlers) → step' handlers ≡ step handlers)
+    → Keeps old new result step'
 keeps_by {old} {new} {result} keeps same = record {
   applied = λ handlers. subst (Applied result old.world new.world) (sym (same handlers)) (keeps.applied handlers);
   begun = keeps.begun;
-  observers = keeps.observers;
   reach = keeps.reach;
 }
 
@@ -68,18 +82,17 @@ module _ (inside : Inside) (now : PageView) (view_is : record { world = world_of
   then_is = record { world = world_of (record inside { tree = after }); begun = inside.begun }
 
   pub edit_refused : (result : PageFault) (fault : PlaceFault) → result ≡ misplaced fault → step (inside.tree.tree) ≡ refusal fault → after ≡ inside.tree
-      → Keeps now then_is (Err result) 0 (λ handlers. with_tree now.world (step now.world.tree))
+      → Keeps now then_is (Err result) (λ handlers. with_tree now.world (step now.world.tree))
   edit_refused result fault is e same =
-      subst (λ (it : PageFault). Keeps now then_is (Err it) 0 (λ handlers. with_tree now.world (step now.world.tree))) (sym is)
-      (subst (λ (v : PageView). Keeps v then_is (Err (misplaced fault)) 0 (λ handlers. with_tree v.world (step v.world.tree))) view_is
+      subst (λ (it : PageFault). Keeps now then_is (Err it) (λ handlers. with_tree now.world (step now.world.tree))) (sym is)
+      (subst (λ (v : PageView). Keeps v then_is (Err (misplaced fault)) (λ handlers. with_tree v.world (step v.world.tree))) view_is
       (record {
         applied = λ handlers. refused_so fault (world_of inside) (world_of (record inside { tree = after })) (step (inside.tree.tree)) e (ap (λ (it : PageElements). world_of (record inside { tree = it })) same);
         begun = refl;
-        observers = omega arith;
         reach = tt;
       }))
 
-  pub edit_done : step (inside.tree.tree) ≡ Did (after.tree) → Keeps now then_is (Ok Nothing) 0 (λ handlers. with_tree now.world (step now.world.tree))
+  pub edit_done : step (inside.tree.tree) ≡ Did (after.tree) → Keeps now then_is (Ok Nothing) (λ handlers. with_tree now.world (step now.world.tree))
   edit_done e =
-      subst (λ (v : PageView). Keeps v then_is (Ok Nothing) 0 (λ handlers. with_tree v.world (step v.world.tree))) view_is
-      (record { applied = λ handlers. done_so (world_of inside) (step (inside.tree.tree)) (after.tree) e; begun = refl; observers = omega arith; reach = tt })
+      subst (λ (v : PageView). Keeps v then_is (Ok Nothing) (λ handlers. with_tree v.world (step v.world.tree))) view_is
+      (record { applied = λ handlers. done_so (world_of inside) (step (inside.tree.tree)) (after.tree) e; begun = refl; reach = tt })

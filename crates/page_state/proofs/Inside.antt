@@ -1,68 +1,54 @@
--- The world that a page's parts are, and what is found in it.
-use Rattle.std.proofs.Common.{◌≡◌, ℕ, zero, suc, ◌<◌, ◌≤◌, ◌+◌, ◌==◌, Bool, true, false, not, cond, List, [], ◌∷◌, ◌++◌, Option, None, Result, Ok, Err, IfOk, length, ◌-◌, replicate, option_map, sym, subst, ap, refl, ◌∙◌, arith, length-append}
+-- What a page keeps true once a part of it was changed.
+use Rattle.std.proofs.Common.{◌≡◌, ℕ, zero, suc, ◌<◌, ◌≤◌, ◌+◌, List, [], ◌∷◌, ◌++◌, Option, None, Result, Ok, Err, IfOk, length, ◌-◌, replicate, sym, subst, ap, refl, ◌∙◌, arith, length-append}
+use Rattle.std.specs.Prelude.{slice_get}
 use Rattle.std.proofs.lemmas.List.{length-replicate}
 use Rattle.std.specs.List.{AllByRecursion}
-use Rattle.px_units.specs.declared.BoxKind.{BoxKind}
 use Rattle.layout_model.specs.Boxes.{Box}
 use Rattle.text_io.specs.declared.kinds.ThrowKind.{ThrowKind}
-use Rattle.page_model.specs.World.{ElementThing, ResizeObserverThing, Name, Observation, ResizeObserver, World}
-use Rattle.page_model.specs.Lookups.{no_extent, change_at}
-use Rattle.page_model.specs.ResizeObserving.{with_resize_observer, without_observed, with_resize_target}
+use Rattle.page_model.specs.World.{ElementThing, ResizeObserverThing, QueryListThing, Name, World}
+use Rattle.page_model.specs.ResizeObserving.{with_resize_observer}
 use Rattle.block_layout.specs.Held.{with_place}
-use Rattle.built_part.specs.Deliveries.{silent_observer}
 use Rattle.resize_observer.specs.Observers.{HeldObservers}
-use Rattle.page_state.specs.Known.{KnownNames}
 use Rattle.page_tree.specs.declared.page.Container.{Container}
 use Rattle.page_tree.specs.declared.page.Container.TheVariants.{Element, Document}
 use Rattle.page_tree.specs.Views.{PageElements}
-use Rattle.page_boxes.specs.Pages.{seen_size}
+use Rattle.page_state.specs.Known.{KnownNames}
 use Rattle.page_state.specs.Things.{IsContainerBelow}
 use Rattle.page_state.specs.Labels.{IsIn}
-use Rattle.page_state.specs.Views.{noted_list, no_scrolls, no_table}
-use Rattle.page_state.specs.Whole.{counts_with, AreKnown, AreElementNames, IsCounted, IsPage, AreSilent, AreObserved}
+use Rattle.page_state.specs.Whole.{AreKnown, AreElementNames, AreAsked, IsPage}
+use Rattle.page_state.specs.Worlds.{world_of, counts_in}
 use Rattle.page_state.specs.declared.page.Page.TheInside.{Inside}
-use Rattle.page_state.proofs.Parts.{known_element, known_observer, names_edited, names_made, names_watched, observed_more}
+use Rattle.page_state.specs.declared.queries.QueryList.{QueryList}
+use Rattle.page_state.proofs.Parts.{known_more, names_made, names_more, next_element, next_observer, next_query}
 
--- a page's world
-abbrev pub world_of : Inside → World
-world_of p = record {
-  tree = p.tree.tree;
-  names = p.names.list;
-  viewports = record { size = seen_size p.size; noted = noted_list (option_map seen_size p.noted) };
-  scrolls = no_scrolls;
-  resize_observers = p.observers.part;
-  intersection_observers = record { given = 0; made = [] };
-  notifying = [];
-  queries = [];
-  listeners = no_table;
-  frame_callbacks = no_table;
-  timers = no_table;
-  tasks = [];
-  clock = p.clock;
-  begun = p.count;
-}
+pub container_in : (inside : Inside) (found : Result Container ThrowKind) → IfOk found (IsContainerBelow (counts_in inside)) → IfOk found (λ container. IsIn (world_of inside) container)
+container_in inside (Ok (Element node)) below = below
+container_in inside (Ok (Document document)) below = omega (arith, below)
+container_in inside (Err kind) below = tt
 
 pub only_top : (found : Result ℕ ThrowKind) → IfOk found (λ document. document < 1) → IfOk found (λ document. document ≡ 0)
 only_top (Ok document) below = omega (arith, below)
 only_top (Err kind) below = tt
 
-pub container_in : (observers : ℕ) (world : World) (found : Result Container ThrowKind) → IfOk found (IsContainerBelow (counts_with (length world.tree.elements) observers)) → IfOk found (λ container. IsIn world container)
-container_in observers world (Ok (Element node)) below = below
-container_in observers world (Ok (Document document)) below = omega (arith, below)
-container_in observers world (Err kind) below = tt
-
 -- the tree is edited, with as many elements as before
 pub edited : (page : Inside) (after : PageElements) → IsPage page → after.names ≡ page.tree.names → length after.tree.elements ≡ length page.tree.tree.elements → IsPage (record page { tree = after })
 edited page after is kept count = record {
-  known = subst (λ (n : ℕ). AreKnown page.names.list (counts_with n (length page.observers.part.made))) (sym count) is.known;
-  elements = names_edited page.names.list page.tree after is.elements kept count;
+  known = subst (λ (n : ℕ). AreKnown page.names.list (record (counts_in page) { elements = n })) (sym count) is.known;
+  elements = record {
+    count = ap (λ (it : List (List ℕ)). length it) kept ∙ (is.elements.count ∙ sym count);
+    each = λ n below. ap (λ (it : List (List ℕ)). slice_get it n) kept ∙ is.elements.each n (subst (λ (most : ℕ). n < most) count below);
+  };
   placed = subst (λ (n : ℕ). n ≤ length page.boxes) (sym count) is.placed;
   limited = is.limited;
-  counted = is.counted;
-  observed = subst (λ (n : ℕ). AreObserved page.observers.part.made n) (sym count) is.observed;
-  silent = is.silent;
+  observations = is.observations;
+  listeners = is.listeners;
+  frame_callbacks = is.frame_callbacks;
+  timers = is.timers;
+  unscrolled = is.unscrolled;
+  asked = is.asked;
   sized = is.sized;
   noted = is.noted;
+  time = is.time;
 }
 
 -- an element is made, last, with its name and its place
@@ -72,129 +58,92 @@ pub enlarged : (page : Inside) (names : KnownNames) (after : PageElements) (plac
     → IsPage (record page { names = names; tree = after; boxes = places })
 enlarged page names after places text n is given number last count room =
     let elements : ℕ = length page.tree.tree.elements in
-    let observers : ℕ = length page.observers.part.made in
     let list : List Name = page.names.list ++ record { text = text; thing = ElementThing elements } ∷ [] in
     let listed : names.list ≡ list = given ∙ ap (λ (m : ℕ). page.names.list ++ record { text = text; thing = ElementThing m } ∷ []) number in
     record {
-      known = subst (λ (it : List Name). AreKnown it (counts_with (length after.tree.elements) observers)) (sym listed)
-          (subst (λ (m : ℕ). AreKnown list (counts_with m observers)) (sym count) (known_element page.names.list text elements observers is.known));
-      elements = subst (λ (it : List Name). AreElementNames it after) (sym listed) (names_made page.names.list page.tree after is.elements observers is.known text last count);
+      known = subst (λ (it : List Name). AreKnown it (record (counts_in page) { elements = length after.tree.elements })) (sym listed)
+          (subst (λ (m : ℕ). AreKnown list (record (counts_in page) { elements = m })) (sym count)
+          (known_more page.names.list text (ElementThing elements) (counts_in page) (record (counts_in page) { elements = elements + 1 }) (next_element (counts_in page)) is.known));
+      elements = subst (λ (it : List Name). AreElementNames it after) (sym listed) (names_made page.names.list page.tree after is.elements (counts_in page) refl is.known text last count);
       placed = subst (λ (m : ℕ). m ≤ length places) (sym count) room;
       limited = is.limited;
-      counted = is.counted;
-      observed = subst (λ (m : ℕ). AreObserved page.observers.part.made m) (sym count) (observed_more page.observers.part.made elements (elements + 1) (omega arith) is.observed);
-      silent = is.silent;
+      observations = is.observations;
+      listeners = is.listeners;
+      frame_callbacks = is.frame_callbacks;
+      timers = is.timers;
+      unscrolled = is.unscrolled;
+      asked = is.asked;
       sized = is.sized;
       noted = is.noted;
+      time = is.time;
     }
-
--- resize observers that call no handler
-
-silent_more : (made : List ResizeObserver) (last : ResizeObserver) → AreSilent made → last ≡ silent_observer last.targets → AreSilent (made ++ last ∷ [])
-silent_more [] last all is = (is, tt)
-silent_more (observer ∷ made) last all is = (all.0, silent_more made last all.1 is)
-
-none_observed : (made : List ResizeObserver) (last : ResizeObserver) (elements : ℕ) → last.targets ≡ [] → AreObserved made elements → AreObserved (made ++ last ∷ []) elements
-none_observed [] last elements none all = (subst (λ (targets : List Observation). AllByRecursion (λ (each : Observation). each.target < elements) targets) (sym none) tt, tt)
-none_observed (observer ∷ made) last elements none all = (all.0, none_observed made last elements none all.1)
 
 one_longer : {A : Type 0} (xs : List A) (x : A) → length (xs ++ x ∷ []) ≡ length xs + 1
 one_longer [] x = refl
 one_longer (first ∷ xs) x = ap suc (one_longer xs x) ∙ omega arith
 
--- one is made, last, with its name
-pub watched_page : (page : Inside) (names : KnownNames) (after : HeldObservers) (text : List ℕ) (document n : ℕ) → IsPage page → document ≡ 0
+-- a resize observer is made, last, with its name
+pub watched_page : (page : Inside) (names : KnownNames) (after : HeldObservers) (text : List ℕ) (document n : ℕ) (handler : Option ℕ) → IsPage page
     → names.list ≡ page.names.list ++ record { text = text; thing = ResizeObserverThing n } ∷ [] → n ≡ length page.observers.part.made
-    → after ≡ record (page.observers) { part = with_resize_observer document None (page.observers.part) } → IsPage (record page { names = names; observers = after })
-watched_page page names after text document n is top given number made =
-    let elements : ℕ = length page.tree.tree.elements in
+    → after ≡ record (page.observers) { part = with_resize_observer document handler (page.observers.part) } → IsPage (record page { names = names; observers = after })
+watched_page page names after text document n handler is given number made =
     let observers : ℕ = length page.observers.part.made in
+    let thing = ResizeObserverThing observers in
     let list : List Name = page.names.list ++ record { text = text; thing = ResizeObserverThing observers } ∷ [] in
     let listed : names.list ≡ list = given ∙ ap (λ (m : ℕ). page.names.list ++ record { text = text; thing = ResizeObserverThing m } ∷ []) number in
-    let new : HeldObservers = record (page.observers) { part = with_resize_observer 0 None (page.observers.part) } in
-    let after_is : after ≡ new = made ∙ ap (λ (d : ℕ). record (page.observers) { part = with_resize_observer d None (page.observers.part) }) top in
-    subst (λ (it : HeldObservers). IsPage (record page { names = names; observers = it })) (sym after_is)
+    let new : HeldObservers = record (page.observers) { part = with_resize_observer document handler (page.observers.part) } in
+    let count : length new.part.made ≡ observers + 1 = one_longer page.observers.part.made _ in
+    subst (λ (it : HeldObservers). IsPage (record page { names = names; observers = it })) (sym made)
     (record {
-      known = subst (λ (it : List Name). AreKnown it (counts_with elements (length new.part.made))) (sym listed)
-          (subst (λ (m : ℕ). AreKnown list (counts_with elements m)) (sym (one_longer page.observers.part.made (silent_observer []))) (known_observer page.names.list text elements observers is.known));
-      elements = subst (λ (it : List Name). AreElementNames it page.tree) (sym listed) (names_watched page.names.list page.tree elements observers text refl is.known is.elements);
+      known = subst (λ (it : List Name). AreKnown it (record (counts_in page) { resize_observers = length new.part.made })) (sym listed)
+          (subst (λ (m : ℕ). AreKnown list (record (counts_in page) { resize_observers = m })) (sym count)
+          (known_more page.names.list text thing (counts_in page) (record (counts_in page) { resize_observers = observers + 1 }) (next_observer (counts_in page)) is.known));
+      elements = subst (λ (it : List Name). AreElementNames it page.tree) (sym listed) (names_more page.names.list page.tree (counts_in page) _ refl is.known is.elements);
       placed = is.placed;
-      limited = record { observers = is.limited.observers; observations = is.limited.observations };
-      counted = is.counted;
-      observed = none_observed page.observers.part.made (silent_observer []) elements refl is.observed;
-      silent = silent_more page.observers.part.made (silent_observer []) is.silent refl;
+      limited = record { observers = is.limited.observers; observations = is.limited.observations; listeners = is.limited.listeners; frame_callbacks = is.limited.frame_callbacks; timers = is.limited.timers; tasks = is.limited.tasks };
+      observations = is.observations;
+      listeners = is.listeners;
+      frame_callbacks = is.frame_callbacks;
+      timers = is.timers;
+      unscrolled = is.unscrolled;
+      asked = is.asked;
       sized = is.sized;
       noted = is.noted;
+      time = is.time;
     })
 
--- other targets
+all_asked : (queries : List QueryList) (last : QueryList) → AllByRecursion (λ (it : QueryList). it.document < 1) queries → last.document < 1
+    → AllByRecursion (λ (it : QueryList). it.document < 1) (queries ++ last ∷ [])
+all_asked [] last all is = (is, tt)
+all_asked (first ∷ others) last all is = (all.0, all_asked others last all.1 is)
 
-silent_changed : (change : List Observation → List Observation) (observer : ℕ) (made : List ResizeObserver) → AreSilent made
-    → AreSilent (change_at (λ (it : ResizeObserver). record it { targets = change (it.targets) }) observer made)
-silent_changed change observer [] all = tt
-silent_changed change zero (it ∷ made) all = (ap (λ (one : ResizeObserver). record one { targets = change (one.targets) }) all.0, all.1)
-silent_changed change (suc observer) (it ∷ made) all = (all.0, silent_changed change observer made all.1)
+-- the facts on query lists once one is made, last, with its name
+module _ (page : Inside) (names : KnownNames) (queries : List QueryList) (text : List ℕ) (last : QueryList) (n : ℕ) (is : IsPage page)
+    (given : names.list ≡ page.names.list ++ record { text = text; thing = QueryListThing n } ∷ []) (number : n ≡ length page.queries.items)
+    (made : queries ≡ page.queries.items ++ last ∷ []) where
+  abbrev list : List Name
+  list = page.names.list ++ record { text = text; thing = QueryListThing (length page.queries.items) } ∷ []
 
-abbrev TargetsBelow : ℕ → List Observation → Type 0
-TargetsBelow elements targets = AllByRecursion (λ (each : Observation). each.target < elements) targets
+  listed : names.list ≡ list
+  listed = given ∙ ap (λ (m : ℕ). page.names.list ++ record { text = text; thing = QueryListThing m } ∷ []) number
 
-observed_changed : (change : List Observation → List Observation) (elements : ℕ) → ((targets : List Observation) → TargetsBelow elements targets → TargetsBelow elements (change targets)) → (observer : ℕ) (made : List ResizeObserver)
-    → AreObserved made elements → AreObserved (change_at (λ (it : ResizeObserver). record it { targets = change (it.targets) }) observer made) elements
-observed_changed change elements keeps observer [] all = tt
-observed_changed change elements keeps zero (it ∷ made) all = (keeps (it.targets) all.0, all.1)
-observed_changed change elements keeps (suc observer) (it ∷ made) all = (all.0, observed_changed change elements keeps observer made all.1)
+  more : length queries ≡ length page.queries.items + 1
+  more = ap (λ (it : List QueryList). length it) made ∙ one_longer page.queries.items last
 
-as_many : {A : Type 0} (change : A → A) (place : ℕ) (xs : List A) → length (change_at change place xs) ≡ length xs
-as_many change place [] = refl
-as_many change zero (x ∷ xs) = refl
-as_many change (suc place) (x ∷ xs) = ap suc (as_many change place xs)
+  pub query_known : AreKnown names.list (record (counts_in page) { queries = length queries })
+  query_known =
+      subst (λ (it : List Name). AreKnown it (record (counts_in page) { queries = length queries })) (sym listed)
+      (subst (λ (m : ℕ). AreKnown list (record (counts_in page) { queries = m })) (sym more)
+      (known_more page.names.list text (QueryListThing (length page.queries.items)) (counts_in page) (record (counts_in page) { queries = length page.queries.items + 1 }) (next_query (counts_in page)) is.known))
 
-kept_below : (elements : ℕ) (keeps : Bool) (x : Observation) (xs : List Observation) → x.target < elements → TargetsBelow elements xs → TargetsBelow elements (cond keeps (x ∷ xs) xs)
-kept_below elements true x xs is all = (is, all)
-kept_below elements false x xs is all = all
+  pub query_elements : AreElementNames names.list page.tree
+  query_elements = subst (λ (it : List Name). AreElementNames it page.tree) (sym listed) (names_more page.names.list page.tree (counts_in page) _ refl is.known is.elements)
 
-still_below : (elements n : ℕ) (targets : List Observation) → TargetsBelow elements targets → TargetsBelow elements (without_observed n targets)
-still_below elements n [] all = tt
-still_below elements n (x ∷ xs) all = kept_below elements (not (x.target == n)) x (without_observed n xs) all.0 (still_below elements n xs all.1)
-
-more_below : (elements : ℕ) (targets : List Observation) (last : Observation) → last.target < elements → TargetsBelow elements targets → TargetsBelow elements (targets ++ last ∷ [])
-more_below elements [] last is all = (is, tt)
-more_below elements (x ∷ xs) last is all = (all.0, more_below elements xs last is all.1)
-
-pub observing_page : (page : Inside) (after : HeldObservers) (observer n : ℕ) (observed : BoxKind) → IsPage page → page.begun ≡ false → page.observers.part.given < page.count → n < length page.tree.tree.elements
-    → after ≡ record (page.observers) { part = with_resize_target observer n observed (page.observers.part) } → IsPage (record page { observers = after })
-observing_page page after observer n observed is flag below there made =
-    let elements : ℕ = length page.tree.tree.elements in
-    let change : List Observation → List Observation = λ targets. without_observed n targets ++ record { serial = page.observers.part.given; target = n; observed = observed; last = no_extent } ∷ [] in
-    let count = as_many (λ (it : ResizeObserver). record it { targets = change (it.targets) }) observer page.observers.part.made in
-    let limited = is.counted.limited in
-    subst (λ (it : HeldObservers). IsPage (record page { observers = it })) (sym made)
-    (record {
-      known = subst (λ (m : ℕ). AreKnown page.names.list (counts_with elements m)) (sym count) is.known;
-      elements = is.elements;
-      placed = is.placed;
-      limited = record { observers = is.limited.observers; observations = is.limited.observations };
-      counted = subst (λ (b : Bool). IsCounted (suc page.observers.part.given) page.count b) (sym flag) (record { given = omega (arith, below); limited = limited });
-      observed = observed_changed change elements (λ targets all. more_below elements (without_observed n targets) _ there (still_below elements n targets all)) observer page.observers.part.made is.observed;
-      silent = silent_changed change observer page.observers.part.made is.silent;
-      sized = is.sized;
-      noted = is.noted;
-    })
-
--- the places of boxes, and the count
-
-pub replaced : (page : Inside) (places : List (Option Box)) → IsPage page → length page.boxes ≤ length places → IsPage (record page { boxes = places })
-replaced page places is more = record {
-  known = is.known;
-  elements = is.elements;
-  placed = let placed = is.placed in omega (arith, placed, more);
-  limited = is.limited;
-  counted = is.counted;
-  observed = is.observed;
-  silent = is.silent;
-  sized = is.sized;
-  noted = is.noted;
-}
+  pub query_asked : last.document < 1 → length page.queries.items < 4096 → AreAsked queries
+  query_asked of few = record {
+    documents = subst (λ (it : List QueryList). AllByRecursion (λ (each : QueryList). each.document < 1) it) (sym made) (all_asked page.queries.items last is.asked.documents of);
+    few = omega (arith, few, more);
+  }
 
 -- a new element has its place
 

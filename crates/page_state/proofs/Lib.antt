@@ -3,10 +3,11 @@ mod Finding
 mod Found
 mod Parts
 mod Inside
-mod Counting
 mod Doing
-mod Telling
-mod Reporting
-mod Delivered
-mod Watched
-mod Ticking
+mod Top
+mod Handlers
+mod QueryLists
+mod Missing
+mod Nobody
+mod Asking
+mod Opening

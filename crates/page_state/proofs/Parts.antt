@@ -1,16 +1,15 @@
 -- What a page keeps true, once a part of it was changed.
 use Rattle.std.proofs.Common.{◌≡◌, ℕ, zero, suc, ◌+◌, ◌<◌, ◌≤◌, ℤ, pos, ◌≤ℤ◌, Bool, true, false, List, [], ◌∷◌, ◌++◌, Option, Some, length, find, is_some, slice_get, unwrap_or, option_map, ◌==◌, refl, sym, ap, ◌∙◌, subst, arith, tests}
-use Rattle.std.specs.List.{AllByRecursion}
 use Rattle.std.proofs.lemmas.Int.{ints}
 use Rattle.px_units.specs.declared.Size.{Size}
-use Rattle.page_model.specs.World.{Thing, DocumentThing, ElementThing, ResizeObserverThing, IntersectionObserverThing, QueryListThing, Name, Observation, ResizeObserver}
+use Rattle.page_model.specs.World.{Thing, DocumentThing, ElementThing, ResizeObserverThing, IntersectionObserverThing, QueryListThing, Name}
 use Rattle.page_model.specs.Names.{is_same_thing, element_text}
-use Rattle.page_model.specs.Ranges.{IsThingIn}
+use Rattle.page_model.specs.Ranges.{Counts, IsThingIn}
 use Rattle.script_syntax.specs.Allowed.{IsSize}
 use Rattle.page_tree.specs.Items.{IsNatural}
 use Rattle.page_tree.specs.Views.{PageElements}
 use Rattle.page_state.specs.Things.{AreIn}
-use Rattle.page_state.specs.Whole.{counts_with, AreKnown, AreElementNames, AreObserved}
+use Rattle.page_state.specs.Whole.{AreKnown, AreElementNames}
 use Rattle.page_state.proofs.Found.{find_kept, find_last, find_some, element_absent}
 
 abbrev tests_for : Thing → Name → Bool
@@ -34,56 +33,90 @@ is_itself n = grind (arith, tests)
 same_number : (m n : ℕ) → (m == n) ≡ true → m ≡ n
 same_number m n same = grind (arith, tests)
 
--- things that there are more of
+-- one more thing of its kind
 
-more_things : (elements observers elements' observers' : ℕ) → elements ≤ elements' → observers ≤ observers' → (thing : Thing)
-    → IsThingIn (counts_with elements observers) thing → IsThingIn (counts_with elements' observers') thing
-more_things elements observers elements' observers' e o (DocumentThing document) is = is
-more_things elements observers elements' observers' e o (ElementThing n) is = omega (arith, is, e)
-more_things elements observers elements' observers' e o (ResizeObserverThing n) is = omega (arith, is, o)
-more_things elements observers elements' observers' e o (IntersectionObserverThing n) is = is
-more_things elements observers elements' observers' e o (QueryListThing n) is = is
+pub record IsNext (thing : Thing) (counts counts' : Counts) : Type 0 where
+  pub there : IsThingIn counts' thing
+  pub others : (other : Thing) → IsThingIn counts' other → is_same_thing thing other ≡ false → IsThingIn counts other
+  pub more : (other : Thing) → IsThingIn counts other → IsThingIn counts' other
 
-more_in : (elements observers elements' observers' : ℕ) → elements ≤ elements' → observers ≤ observers' → (names : List Name) (last : Name)
-    → AreIn (counts_with elements observers) names → IsThingIn (counts_with elements' observers') (last.thing) → AreIn (counts_with elements' observers') (names ++ last ∷ [])
-more_in elements observers elements' observers' e o [] last all is = (is, tt)
-more_in elements observers elements' observers' e o (named ∷ names) last all is =
-    (more_things elements observers elements' observers' e o (named.thing) (all.0), more_in elements observers elements' observers' e o names last (all.1) is)
+more_in : (counts counts' : Counts) → ((other : Thing) → IsThingIn counts other → IsThingIn counts' other) → (names : List Name) (last : Name)
+    → AreIn counts names → IsThingIn counts' (last.thing) → AreIn counts' (names ++ last ∷ [])
+more_in counts counts' more [] last all is = (is, tt)
+more_in counts counts' more (named ∷ names) last all is = (more (named.thing) (all.0), more_in counts counts' more names last (all.1) is)
 
-module _ (names : List Name) (text : List ℕ) (elements observers : ℕ) (known : AreKnown names (counts_with elements observers)) where
-  abbrev last_element : Name
-  last_element = record { text = text; thing = ElementThing elements }
+module _ (names : List Name) (text : List ℕ) (thing : Thing) (counts counts' : Counts) (next : IsNext thing counts counts') (known : AreKnown names counts) where
+  by_test : (other : Thing) → IsThingIn counts' other → (same : Bool) → is_same_thing thing other ≡ same
+      → is_some (find (tests_for other) (names ++ record { text = text; thing = thing } ∷ [])) ≡ true
+  by_test other is true same = find_some (tests_for other) names (record { text = text; thing = thing }) same
+  by_test other is false same = still_named names (record { text = text; thing = thing }) other (known.named other (next.others other is same))
 
-  abbrev last_observer : Name
-  last_observer = record { text = text; thing = ResizeObserverThing observers }
+  pub known_more : AreKnown (names ++ record { text = text; thing = thing } ∷ []) counts'
+  known_more = record {
+    there = more_in counts counts' next.more names (record { text = text; thing = thing }) known.there next.there;
+    named = λ other is. by_test other is (is_same_thing thing other) refl;
+  }
 
-  by_number : (last : Name) (n m : ℕ) (thing : Thing) → is_same_thing last.thing thing ≡ (n == m) → m < n + 1 → (m < n → is_some (find (tests_for thing) names) ≡ true)
-      → is_some (find (tests_for thing) (names ++ last ∷ [])) ≡ true
-  by_number last n m thing same below each = by (n == m) refl
-    where
-      by : (is : Bool) → (n == m) ≡ is → is_some (find (tests_for thing) (names ++ last ∷ [])) ≡ true
-      by true is = find_some (tests_for thing) names last (same ∙ is)
-      by false is = still_named names last thing (each (lower m n is below))
+module _ (counts : Counts) where
+  abbrev one_element : Counts
+  one_element = record counts { elements = counts.elements + 1 }
 
-  element_named : (thing : Thing) → IsThingIn (counts_with (elements + 1) observers) thing → is_some (find (tests_for thing) (names ++ last_element ∷ [])) ≡ true
-  element_named (DocumentThing document) is = still_named names last_element (DocumentThing document) (known.named (DocumentThing document) is)
-  element_named (ElementThing m) is = by_number last_element elements m (ElementThing m) refl is (known.named (ElementThing m))
-  element_named (ResizeObserverThing m) is = still_named names last_element (ResizeObserverThing m) (known.named (ResizeObserverThing m) is)
-  element_named (IntersectionObserverThing m) is = absurd (omega arith)
-  element_named (QueryListThing m) is = absurd (omega arith)
+  abbrev one_observer : Counts
+  one_observer = record counts { resize_observers = counts.resize_observers + 1 }
 
-  observer_named : (thing : Thing) → IsThingIn (counts_with elements (observers + 1)) thing → is_some (find (tests_for thing) (names ++ last_observer ∷ [])) ≡ true
-  observer_named (DocumentThing document) is = still_named names last_observer (DocumentThing document) (known.named (DocumentThing document) is)
-  observer_named (ElementThing m) is = still_named names last_observer (ElementThing m) (known.named (ElementThing m) is)
-  observer_named (ResizeObserverThing m) is = by_number last_observer observers m (ResizeObserverThing m) refl is (known.named (ResizeObserverThing m))
-  observer_named (IntersectionObserverThing m) is = absurd (omega arith)
-  observer_named (QueryListThing m) is = absurd (omega arith)
+  abbrev one_query : Counts
+  one_query = record counts { queries = counts.queries + 1 }
 
-  pub known_element : AreKnown (names ++ record { text = text; thing = ElementThing elements } ∷ []) (counts_with (elements + 1) observers)
-  known_element = record { there = more_in elements observers (elements + 1) observers (omega arith) (omega arith) names last_element known.there (omega arith); named = element_named }
+  other_elements : (other : Thing) → IsThingIn one_element other → is_same_thing (ElementThing counts.elements) other ≡ false → IsThingIn counts other
+  other_elements (ElementThing n) is same = lower n counts.elements same is
+  other_elements (DocumentThing n) is same = is
+  other_elements (ResizeObserverThing n) is same = is
+  other_elements (IntersectionObserverThing n) is same = is
+  other_elements (QueryListThing n) is same = is
 
-  pub known_observer : AreKnown (names ++ record { text = text; thing = ResizeObserverThing observers } ∷ []) (counts_with elements (observers + 1))
-  known_observer = record { there = more_in elements observers elements (observers + 1) (omega arith) (omega arith) names last_observer known.there (omega arith); named = observer_named }
+  more_elements : (other : Thing) → IsThingIn counts other → IsThingIn one_element other
+  more_elements (ElementThing n) is = omega (arith, is)
+  more_elements (DocumentThing n) is = is
+  more_elements (ResizeObserverThing n) is = is
+  more_elements (IntersectionObserverThing n) is = is
+  more_elements (QueryListThing n) is = is
+
+  pub next_element : IsNext (ElementThing counts.elements) counts one_element
+  next_element = record { there = omega arith; others = other_elements; more = more_elements }
+
+  other_observers : (other : Thing) → IsThingIn one_observer other → is_same_thing (ResizeObserverThing counts.resize_observers) other ≡ false → IsThingIn counts other
+  other_observers (ResizeObserverThing n) is same = lower n counts.resize_observers same is
+  other_observers (DocumentThing n) is same = is
+  other_observers (ElementThing n) is same = is
+  other_observers (IntersectionObserverThing n) is same = is
+  other_observers (QueryListThing n) is same = is
+
+  more_observers : (other : Thing) → IsThingIn counts other → IsThingIn one_observer other
+  more_observers (ResizeObserverThing n) is = omega (arith, is)
+  more_observers (DocumentThing n) is = is
+  more_observers (ElementThing n) is = is
+  more_observers (IntersectionObserverThing n) is = is
+  more_observers (QueryListThing n) is = is
+
+  pub next_observer : IsNext (ResizeObserverThing counts.resize_observers) counts one_observer
+  next_observer = record { there = omega arith; others = other_observers; more = more_observers }
+
+  other_queries : (other : Thing) → IsThingIn one_query other → is_same_thing (QueryListThing counts.queries) other ≡ false → IsThingIn counts other
+  other_queries (QueryListThing n) is same = lower n counts.queries same is
+  other_queries (DocumentThing n) is same = is
+  other_queries (ElementThing n) is same = is
+  other_queries (ResizeObserverThing n) is same = is
+  other_queries (IntersectionObserverThing n) is same = is
+
+  more_queries : (other : Thing) → IsThingIn counts other → IsThingIn one_query other
+  more_queries (QueryListThing n) is = omega (arith, is)
+  more_queries (DocumentThing n) is = is
+  more_queries (ElementThing n) is = is
+  more_queries (ResizeObserverThing n) is = is
+  more_queries (IntersectionObserverThing n) is = is
+
+  pub next_query : IsNext (QueryListThing counts.queries) counts one_query
+  next_query = record { there = omega arith; others = other_queries; more = more_queries }
 
 -- the names that the tree has
 
@@ -107,7 +140,7 @@ module _ (names : List Name) (tree after : PageElements) (same : AreElementNames
     each = λ n below. ap (λ (it : List (List ℕ)). slice_get it n) kept ∙ same.each n (subst (λ (most : ℕ). n < most) count below);
   }
 
-  module _ (observers : ℕ) (known : AreKnown names (counts_with (length tree.tree.elements) observers)) (text : List ℕ) where
+  module _ (counts : Counts) (is-count : counts.elements ≡ length tree.tree.elements) (known : AreKnown names counts) (text : List ℕ) where
     abbrev last : Name
     last = record { text = text; thing = ElementThing (length tree.tree.elements) }
 
@@ -115,7 +148,7 @@ module _ (names : List Name) (tree after : PageElements) (same : AreElementNames
     last_text =
         ap (λ (found : Option Name). unwrap_or (option_map (λ (it : Name). it.text) found) [])
         (find_last (tests_for (ElementThing (length tree.tree.elements))) names last (is_itself (length tree.tree.elements))
-        (element_absent (counts_with (length tree.tree.elements) observers) names (length tree.tree.elements) (omega arith) known.there))
+        (element_absent counts names (length tree.tree.elements) (omega (arith, is-count)) known.there))
 
     each_name : (n : ℕ) → n < length tree.tree.elements + 1 → slice_get (tree.names ++ text ∷ []) n ≡ Some (element_text (names ++ last ∷ []) n)
     each_name n below = by (length tree.tree.elements == n) refl
@@ -129,7 +162,7 @@ module _ (names : List Name) (tree after : PageElements) (same : AreElementNames
         by false is =
             let inside : n < length tree.tree.elements = lower n (length tree.tree.elements) is below in
             get_kept tree.names (text ∷ []) n (element_text names n) (same.each n inside)
-            ∙ ap Some (sym (same_text names last n (known.named (ElementThing n) inside)))
+            ∙ ap Some (sym (same_text names last n (known.named (ElementThing n) (omega (arith, inside, is-count)))))
 
     pub names_made : after.names ≡ tree.names ++ text ∷ [] → length after.tree.elements ≡ length tree.tree.elements + 1
         → AreElementNames (names ++ record { text = text; thing = ElementThing (length tree.tree.elements) } ∷ []) after
@@ -138,23 +171,12 @@ module _ (names : List Name) (tree after : PageElements) (same : AreElementNames
       each = λ n below. ap (λ (it : List (List ℕ)). slice_get it n) more ∙ each_name n (subst (λ (most : ℕ). n < most) count below);
     }
 
-pub names_watched : (names : List Name) (tree : PageElements) (elements observers : ℕ) (text : List ℕ) → elements ≡ length tree.tree.elements → AreKnown names (counts_with elements observers) → AreElementNames names tree
-    → AreElementNames (names ++ record { text = text; thing = ResizeObserverThing observers } ∷ []) tree
-names_watched names tree elements observers text all known same = record {
+pub names_more : (names : List Name) (tree : PageElements) (counts : Counts) (last : Name) → counts.elements ≡ length tree.tree.elements → AreKnown names counts → AreElementNames names tree
+    → AreElementNames (names ++ last ∷ []) tree
+names_more names tree counts last all known same = record {
   count = same.count;
-  each = λ n below. same.each n below
-      ∙ ap Some (sym (same_text names (record { text = text; thing = ResizeObserverThing observers }) n (known.named (ElementThing n) (subst (λ (most : ℕ). n < most) (sym all) below))));
+  each = λ n below. same.each n below ∙ ap Some (sym (same_text names last n (known.named (ElementThing n) (omega (arith, below, all)))));
 }
-
--- observed elements
-
-more_observed : (targets : List Observation) (elements elements' : ℕ) → elements ≤ elements' → AllByRecursion (λ (each : Observation). each.target < elements) targets → AllByRecursion (λ (each : Observation). each.target < elements') targets
-more_observed [] elements elements' more all = tt
-more_observed (it ∷ targets) elements elements' more all = (omega (arith, all.0, more), more_observed targets elements elements' more (all.1))
-
-pub observed_more : (made : List ResizeObserver) (elements elements' : ℕ) → elements ≤ elements' → AreObserved made elements → AreObserved made elements'
-observed_more [] elements elements' more all = tt
-observed_more (observer ∷ made) elements elements' more all = (more_observed observer.targets elements elements' more (all.0), observed_more made elements elements' more (all.1))
 
 natural_units : (units : ℤ) → pos 0 ≤ℤ units → units ≤ℤ pos 64000000 → units ≤ℤ pos 2147483647
 natural_units units low high = omega (arith, ints)

@@ -1,5 +1,5 @@
 -- What the answers of a page's calls say of the steps of the definitions. A refused call leaves the world as it was.
-use Rattle.std.specs.Prelude.{◌≡◌, ◌≤◌, ◌+◌, ℕ, true, List, [], ◌∷◌, length, Result, Ok, Err, IfOk}
+use Rattle.std.specs.Prelude.{◌≡◌, true, List, [], ◌∷◌, Result, Ok, Err, IfOk}
 use Rattle.std.specs.List.{AllByRecursion}
 use Rattle.text_io.specs.declared.kinds.ThrowKind.{ThrowKind}
 use Rattle.script_model.specs.TraceLines.{TraceLine}
@@ -41,9 +41,14 @@ Moved (Err Memory) old new step = ⊥
 abbrev pub ReachesFar : Effect → Type 0
 ReachesFar effect = AllByRecursion HasReach (lines_of effect)
 
--- what each command promises, where it may make so many resize observers
-pub record Keeps (old new : PageView) (result : Result Effect PageFault) (made : ℕ) (step : Handlers → Step ModelEffect) : Type 0 where
+-- what each command promises, which does this step
+pub record Kept (old new : PageView) (result : Result Effect PageFault) (step : Step ModelEffect) : Type 0 where
+  pub applied : Applied result old.world new.world step
+  pub begun : new.begun ≡ old.begun
+  pub reach : IfOk result ReachesFar
+
+-- the same of a command that calls no handler, so that it does the same whatever handlers there are
+pub record Keeps (old new : PageView) (result : Result Effect PageFault) (step : Handlers → Step ModelEffect) : Type 0 where
   pub applied : (handlers : Handlers) → Applied result old.world new.world (step handlers)
   pub begun : new.begun ≡ old.begun
-  pub observers : length new.world.resize_observers.made ≤ length old.world.resize_observers.made + made
   pub reach : IfOk result ReachesFar

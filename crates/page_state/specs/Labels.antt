@@ -1,22 +1,51 @@
--- The names of what there is in a page.
-use Rattle.std.specs.Prelude.{◌≡◌, ℕ, ◌<◌, List, length}
-use Rattle.page_model.specs.World.{World}
-use Rattle.page_model.specs.Names.{element_text, document_text, resize_observer_text}
+-- The names of what there is in a page, and whose it is.
+use Rattle.std.specs.Prelude.{◌≡◌, ℕ, ◌<◌, List, length, Option, None}
+use Rattle.page_model.specs.World.{World, EventTarget as ModelTarget, ElementTarget, DocumentTarget, WindowTarget, QueryTarget}
+use Rattle.page_model.specs.Lookups.{resize_observer_at}
+use Rattle.page_model.specs.Names.{element_text, document_text, resize_observer_text, query_list_text}
+use Rattle.page_model.specs.Callbacks.{document_of_target}
+use Rattle.event_tables.specs.Seen.{seen_target}
 use Rattle.page_tree.specs.declared.page.Container.{Container}
 use Rattle.page_tree.specs.declared.page.Container.TheVariants.{Element as Inside, Document as Top}
 use Rattle.page_state.specs.declared.labels.Label.{Label}
-use Rattle.page_state.specs.declared.labels.Label.TheVariants.{Element, Document, Observer}
+use Rattle.page_state.specs.declared.labels.Label.TheVariants.{Target, Observer}
+
+-- a window has its document's name
+abbrev pub target_text : World → ModelTarget → List ℕ
+target_text world (ElementTarget n) = element_text world.names n
+target_text world (DocumentTarget document) = document_text world.names document
+target_text world (WindowTarget document) = document_text world.names document
+target_text world (QueryTarget query) = query_list_text world.names query
 
 abbrev pub label_text : World → Label → List ℕ
-label_text world (Element node) = element_text world.names node.0
-label_text world (Document document) = document_text world.names document
+label_text world (Target target) = target_text world (seen_target target)
 label_text world (Observer observer) = resize_observer_text world.names observer.0
+
+abbrev pub IsTargetIn : World → ModelTarget → Type 0
+IsTargetIn world (ElementTarget n) = n < length world.tree.elements
+IsTargetIn world (DocumentTarget document) = document < length world.tree.documents
+IsTargetIn world (WindowTarget document) = document < length world.tree.documents
+IsTargetIn world (QueryTarget query) = query < length world.queries
 
 -- there is such a thing
 abbrev pub IsLabelIn : World → Label → Type 0
-IsLabelIn world (Element node) = node.0 < length world.tree.elements
-IsLabelIn world (Document document) = document < length world.tree.documents
+IsLabelIn world (Target target) = IsTargetIn world (seen_target target)
 IsLabelIn world (Observer observer) = observer.0 < length world.resize_observers.made
+
+-- an observer that is asked for its callback is there
+abbrev pub IsCallerIn : World → Label → Type 0
+IsCallerIn world (Target target) = Unit {0}
+IsCallerIn world (Observer observer) = observer.0 < length world.resize_observers.made
+
+-- the document that decides whether its callbacks are called
+abbrev pub label_document : World → Label → ℕ
+label_document world (Target target) = document_of_target world (seen_target target)
+label_document world (Observer observer) = (resize_observer_at world.resize_observers observer.0).document
+
+-- an observer's handler, if it has one
+abbrev pub label_handler : World → Label → Option ℕ
+label_handler world (Target target) = None
+label_handler world (Observer observer) = (resize_observer_at world.resize_observers observer.0).handler
 
 -- where an element can be put: `top` is the only document
 abbrev pub IsIn : World → Container → Type 0

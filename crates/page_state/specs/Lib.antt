@@ -1,8 +1,11 @@
 pub mod Known
 pub mod Things
+pub mod Queries
 pub mod Views
+pub mod Worlds
 pub mod Faults
 pub mod Answers
+pub mod Applied
 pub mod Whole
-pub mod Telling
 pub mod Labels
+pub mod Rounds

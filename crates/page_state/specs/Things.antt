@@ -1,9 +1,9 @@
 -- What names stand for on a page, and the entry that a command is run for.
-use Rattle.std.specs.Prelude.{ℕ, ◌<◌, List, Option, Some, None}
+use Rattle.std.specs.Prelude.{ℕ, ◌<◌, Bool, List, Option, Some, None}
 use Rattle.std.specs.List.{AllByRecursion}
 use Rattle.element_tree.specs.declared.node.NodeId.{NodeId}
-use Rattle.page_model.specs.World.{Thing as ModelThing, DocumentThing, ElementThing, ResizeObserverThing, Name}
-use Rattle.page_model.specs.Operands.{Present, NoEntry, ResizeEntry}
+use Rattle.page_model.specs.World.{Thing as ModelThing, DocumentThing, ElementThing, ResizeObserverThing, QueryListThing, Name}
+use Rattle.page_model.specs.Operands.{Present, NoEntry, ResizeEntry, IntersectionEntry}
 use Rattle.page_model.specs.Ranges.{Counts, IsThingIn}
 use Rattle.block_layout.specs.declared.ItemKind.{ItemKind}
 use Rattle.block_layout.specs.declared.ItemKind.TheVariants.{Block, Image, Frame}
@@ -11,12 +11,13 @@ use Rattle.page_tree.specs.Items.{IsNatural}
 use Rattle.page_tree.specs.declared.page.Container.{Container}
 use Rattle.page_tree.specs.declared.page.Container.TheVariants.{Element as Inside, Document as Top}
 use Rattle.page_state.specs.declared.names.Thing.{Thing}
-use Rattle.page_state.specs.declared.names.Thing.TheVariants.{Document, Element, ResizeObserver}
+use Rattle.page_state.specs.declared.names.Thing.TheVariants.{Document, Element, ResizeObserver, QueryList}
 
 abbrev pub seen_thing : Thing → ModelThing
 seen_thing (Document document) = DocumentThing document
 seen_thing (Element node) = ElementThing node.0
 seen_thing (ResizeObserver observer) = ResizeObserverThing observer.0
+seen_thing (QueryList query) = QueryListThing query
 
 -- a name with the thing that it stands for
 abbrev pub seen_entry : List ℕ × Thing → Name
@@ -25,6 +26,12 @@ seen_entry entry = record { text = entry.0; thing = seen_thing entry.1 }
 abbrev pub present_of : Option NodeId → Present
 present_of None = NoEntry
 present_of (Some node) = ResizeEntry node.0
+
+-- the same with whether an entry of an intersection observer is intersecting
+abbrev pub present_with : Option NodeId → Option Bool → Present
+present_with None meets = NoEntry
+present_with (Some node) None = ResizeEntry node.0
+present_with (Some node) (Some meets) = IntersectionEntry node.0 meets
 
 -- each name stands for something that there is
 abbrev pub AreIn : Counts → List Name → Type 0

@@ -1,24 +1,23 @@
 -- What a page keeps true of its parts: one fact for each part that has one, and one for each two parts that go together.
-use Rattle.std.specs.Prelude.{◌≡◌, ℕ, ◌+◌, ◌<◌, ◌≤◌, Bool, true, cond, is_some, find, slice_get, List, length, Option, Some}
+use Rattle.std.specs.Prelude.{◌≡◌, ℕ, ◌+◌, ◌≤◌, ◌<◌, Bool, true, cond, is_some, find, slice_get, List, length, Option, Some}
 use Rattle.std.specs.List.{AllByRecursion}
 use Rattle.std.specs.Option.{ForSome}
 use Rattle.layout_model.specs.Boxes.{Box}
 use Rattle.text_io.specs.declared.kinds.LimitKind.TheVariants as limits
 use Rattle.text_io.specs.Limits.{limit_number}
-use Rattle.page_model.specs.World.{Thing, Name, Observation, ResizeObserver}
+use Rattle.page_model.specs.World.{Thing, Name, Listener, FrameCallback, Timer}
 use Rattle.page_model.specs.Names.{is_same_thing, element_text}
 use Rattle.page_model.specs.Ranges.{Counts, IsThingIn}
-use Rattle.built_part.specs.Deliveries.{silent_observer}
+use Rattle.event_tables.specs.Tables.{Bounded}
+use Rattle.event_tables.specs.Tasks.{WaitingTasks}
+use Rattle.resize_observer.specs.Observers.{HeldObservers}
 use Rattle.page_tree.specs.Items.{IsNatural}
 use Rattle.page_tree.specs.Views.{PageElements}
-use Rattle.resize_observer.specs.Observers.{HeldObservers}
+use Rattle.scrolling.specs.Held.{unscrolled}
 use Rattle.page_state.specs.Things.{AreIn}
+use Rattle.page_state.specs.Worlds.{counts_in}
 use Rattle.page_state.specs.declared.page.Page.TheInside.{Inside}
-
--- so many elements and resize observers, and the document `top`
-abbrev pub counts_with : ℕ → ℕ → Counts
-counts_with elements observers =
-    record { elements = elements; documents = 1; resize_observers = observers; intersection_observers = 0; queries = 0; handlers = 0 }
+use Rattle.page_state.specs.declared.queries.QueryList.{QueryList}
 
 -- names and things: each name stands for something that there is, and each thing that there is has a name
 pub record AreKnown (names : List Name) (counts : Counts) : Type 0 where
@@ -34,31 +33,37 @@ pub record AreElementNames (names : List Name) (tree : PageElements) : Type 0 wh
 abbrev pub ArePlaced : List (Option Box) → PageElements → Type 0
 ArePlaced boxes tree = length tree.tree.elements ≤ length boxes
 
--- the observers have the limits of a page
-pub record AreLimited (it : HeldObservers) : Type 0 where
-  pub observers : it.most_observers ≡ limit_number limits.ResizeObservers
-  pub observations : it.most_observations ≡ limit_number limits.ResizeObservations
+-- the parts have the limits of a page
+pub record AreLimited (watching : HeldObservers) (hearing : Bounded Listener) (requested : Bounded FrameCallback) (set : Bounded Timer) (waiting : WaitingTasks) : Type 0 where
+  pub observers : watching.most_observers ≡ limit_number limits.ResizeObservers
+  pub observations : watching.most_observations ≡ limit_number limits.ResizeObservations
+  pub listeners : hearing.most ≡ limit_number limits.Listeners
+  pub frame_callbacks : requested.most ≡ limit_number limits.FrameCallbacks
+  pub timers : set.most ≡ limit_number limits.Timers
+  pub tasks : waiting.most ≡ limit_number limits.Tasks
 
--- observers and tree: each observed element is there
-abbrev pub AreObserved : List ResizeObserver → ℕ → Type 0
-AreObserved made elements = AllByRecursion (λ (observer : ResizeObserver). AllByRecursion (λ (each : Observation). each.target < elements) observer.targets) made
-
--- each observer is one of `top` that calls no handler, and nothing is gathered between two calls
-abbrev pub AreSilent : List ResizeObserver → Type 0
-AreSilent made = AllByRecursion (λ (observer : ResizeObserver). observer ≡ silent_observer (observer.targets)) made
-
--- a serial number is given by a command, and a command that was begun may give one yet
+-- a serial number of a table is given by a command, and a command that was begun may give one yet
 pub record IsCounted (serials begun : ℕ) (flag : Bool) : Type 0 where
   pub given : serials + cond flag 1 0 ≤ begun
   pub limited : begun ≤ limit_number limits.Commands
 
+-- the query lists are of `top`, and no more than a page may have
+pub record AreAsked (queries : List QueryList) : Type 0 where
+  pub documents : AllByRecursion (λ (it : QueryList). it.document < 1) queries
+  pub few : length queries ≤ limit_number limits.Queries
+
+-- besides, no command scrolls yet
 pub record IsPage (page : Inside) : Type 0 where
-  pub known : AreKnown page.names.list (counts_with (length page.tree.tree.elements) (length page.observers.part.made))
+  pub known : AreKnown page.names.list (counts_in page)
   pub elements : AreElementNames page.names.list page.tree
   pub placed : ArePlaced page.boxes page.tree
-  pub limited : AreLimited page.observers
-  pub counted : IsCounted page.observers.part.given page.count page.begun
-  pub observed : AreObserved page.observers.part.made (length page.tree.tree.elements)
-  pub silent : AreSilent page.observers.part.made
+  pub limited : AreLimited page.observers page.listeners page.frame_callbacks page.timers page.tasks
+  pub observations : IsCounted page.observers.part.given page.count page.begun
+  pub listeners : IsCounted page.listeners.part.given page.count page.begun
+  pub frame_callbacks : IsCounted page.frame_callbacks.part.given page.count page.begun
+  pub timers : IsCounted page.timers.part.given page.count page.begun
+  pub unscrolled : page.scrolls ≡ unscrolled
+  pub asked : AreAsked page.queries.items
   pub sized : IsNatural page.size
   pub noted : ForSome page.noted IsNatural
+  pub time : page.clock ≤ 1000000000000

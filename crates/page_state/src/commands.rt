@@ -33,14 +33,14 @@ use text_io::Name;
 impl Page {
     pub(crate) fn set_viewport(&mut self, size: Size) -> Result<Effect, PageFault>
         requires { IsSize size }
-        ensures { (present : Present) → Keeps self.old self.new result 0 (λ handlers. does handlers self.old.world present (Viewport (unsigned_abs size.width) (unsigned_abs size.height))) }
+        ensures { (present : Present) → Keeps self.old self.new result (λ handlers. does handlers self.old.world present (Viewport (unsigned_abs size.width) (unsigned_abs size.height))) }
     {
         self.size = size;
         Ok(Effect::Nothing)
     }
 
     pub(crate) fn make_block(&mut self, name: Name, document: Name) -> Result<Effect, PageFault>
-        ensures { (present : Present) → Keeps self.old self.new result 0 (λ handlers. does handlers self.old.world present (MakeBlock name document)) }
+        ensures { (present : Present) → Keeps self.old self.new result (λ handlers. does handlers self.old.world present (MakeBlock name document)) }
     {
         self.make(name, document, ItemKind::Block)
     }
@@ -52,7 +52,7 @@ impl Page {
         size: Size,
     ) -> Result<Effect, PageFault>
         requires { IsSize size }
-        ensures { (present : Present) → Keeps self.old self.new result 0 (λ handlers. does handlers self.old.world present (MakeImage name document (unsigned_abs size.width) (unsigned_abs size.height))) }
+        ensures { (present : Present) → Keeps self.old self.new result (λ handlers. does handlers self.old.world present (MakeImage name document (unsigned_abs size.width) (unsigned_abs size.height))) }
     {
         self.make(name, document, ItemKind::Image(size))
     }
@@ -60,7 +60,7 @@ impl Page {
     // The room for the element and its box comes first, then its name, which is the last thing that may be refused.
     fn make(&mut self, name: Name, document: Name, kind: ItemKind) -> Result<Effect, PageFault>
         requires { IsMade kind }
-        ensures { Keeps self.old self.new result 0 (λ handlers. making self.old.world name document (seen_kind kind)) }
+        ensures { Keeps self.old self.new result (λ handlers. making self.old.world name document (seen_kind kind)) }
     {
         self.names.check_free(name)?;
         let _top = self.document(document)?;
@@ -78,7 +78,7 @@ impl Page {
         subject: Option<NodeId>,
     ) -> Result<Effect, PageFault>
         requires { IsSubject (length self.old.world.tree.elements) subject }
-        ensures { Keeps self.old self.new result 0 (λ handlers. does handlers self.old.world (present_of subject) (Append (operand_of parent) (operand_of node))) }
+        ensures { Keeps self.old self.new result (λ handlers. does handlers self.old.world (present_of subject) (Append (operand_of parent) (operand_of node))) }
     {
         let container = self.container(parent, subject)?;
         let node = self.element(node, subject)?;
@@ -93,7 +93,7 @@ impl Page {
         subject: Option<NodeId>,
     ) -> Result<Effect, PageFault>
         requires { IsSubject (length self.old.world.tree.elements) subject }
-        ensures { Keeps self.old self.new result 0 (λ handlers. does handlers self.old.world (present_of subject) (Before (operand_of parent) (operand_of node) (operand_of sibling))) }
+        ensures { Keeps self.old self.new result (λ handlers. does handlers self.old.world (present_of subject) (Before (operand_of parent) (operand_of node) (operand_of sibling))) }
     {
         let container = self.container(parent, subject)?;
         let node = self.element(node, subject)?;
@@ -111,7 +111,7 @@ impl Page {
         requires container { IsIn self.old.world container }
         requires node { node.0 < length self.old.world.tree.elements }
         requires sibling { ForSome sibling (λ s. s.0 < length self.old.world.tree.elements) }
-        ensures { Keeps self.old self.new result 0
+        ensures { Keeps self.old self.new result
             (λ handlers. with_tree self.old.world (placing (seen_container container) node.0 (option_map number sibling) (self.old.world.tree))) }
     {
         if let Err(fault) = self.tree.place(container, node, sibling) {
@@ -126,7 +126,7 @@ impl Page {
         subject: Option<NodeId>,
     ) -> Result<Effect, PageFault>
         requires { IsSubject (length self.old.world.tree.elements) subject }
-        ensures { Keeps self.old self.new result 0 (λ handlers. does handlers self.old.world (present_of subject) (Remove (operand_of node))) }
+        ensures { Keeps self.old self.new result (λ handlers. does handlers self.old.world (present_of subject) (Remove (operand_of node))) }
     {
         let node = self.element(node, subject)?;
         self.take_out(node);
@@ -149,7 +149,7 @@ impl Page {
     ) -> Result<Effect, PageFault>
         requires allowed { IsAllowed declaration }
         requires subject { IsSubject (length self.old.world.tree.elements) subject }
-        ensures { Keeps self.old self.new result 0 (λ handlers. does handlers self.old.world (present_of subject) (SetStyle (operand_of node) (seen_declaration declaration))) }
+        ensures { Keeps self.old self.new result (λ handlers. does handlers self.old.world (present_of subject) (SetStyle (operand_of node) (seen_declaration declaration))) }
     {
         let node = self.element(node, subject)?;
         self.tree.set(node, declaration);
@@ -164,7 +164,7 @@ impl Page {
         subject: Option<NodeId>,
     ) -> Result<Effect, PageFault>
         requires { IsSubject (length self.old.world.tree.elements) subject }
-        ensures { Keeps self.old self.new result 0 (λ handlers. does handlers self.old.world (present_of subject) (Grow (operand_of node) (dimension_of axis) by.0)) }
+        ensures { Keeps self.old self.new result (λ handlers. does handlers self.old.world (present_of subject) (Grow (operand_of node) (dimension_of axis) by.0)) }
     {
         let node = self.element(node, subject)?;
         self.tree.grow(node, side(axis), by)?;
@@ -179,7 +179,7 @@ impl Page {
     ) -> Result<Effect, PageFault>
         requires size { IsSize size }
         requires subject { IsSubject (length self.old.world.tree.elements) subject }
-        ensures { Keeps self.old self.new result 0 (λ handlers. does handlers self.old.world (present_of subject) (Load (operand_of node) (unsigned_abs size.width) (unsigned_abs size.height))) }
+        ensures { Keeps self.old self.new result (λ handlers. does handlers self.old.world (present_of subject) (Load (operand_of node) (unsigned_abs size.width) (unsigned_abs size.height))) }
     {
         let node = self.element(node, subject)?;
         self.tree.load(node, size)?;

@@ -1,37 +1,60 @@
-//! The names of what trace lines tell of.
+//! The names of what trace lines tell of, and whose it is.
 
-ghost use Rattle.std.specs.Prelude.{◌≡◌};
-ghost use Rattle.page_state.specs.Labels.{label_text, IsLabelIn};
+ghost use Rattle.std.specs.Prelude.{◌≡◌, option_map};
+ghost use Rattle.page_state.specs.Labels.{label_text, label_document, label_handler, IsLabelIn, IsCallerIn};
 
-use crate::names::Thing;
 use crate::page::Page;
-use element_tree::NodeId;
+use event_tables::{EventTarget, HandlerId};
 use resize_observer::ObserverId;
 use text_io::Name;
 
 /// What has a name in a page.
 #[derive(Clone, Copy, Debug, PartialEq, Eq)]
 pub enum Label {
-    /// An element.
-    Element(NodeId),
-    /// A document; `top` is number 0.
-    Document(u32),
+    /// What events are fired at: an element, a document or its window, or a media query list.
+    Target(EventTarget),
     /// A resize observer.
     Observer(ObserverId),
 }
 
 impl Page {
-    /// The name that a thing of this page was given.
+    /// The name that a thing of this page was given; a window has its document's.
     pub fn label(&self, of: Label) -> Name
         requires { IsLabelIn self.now.world of }
         ensures { result ≡ label_text self.now.world of }
     {
-        // `top` is the only document, as its root element tells.
+        match of {
+            Label::Target(EventTarget::Node(node)) => self.tree.name_of(node),
+            Label::Target(EventTarget::Document(document) | EventTarget::Window(document)) => {
+                self.document_name(document)
+            }
+            Label::Target(EventTarget::Query(query)) => self.query_list_name(query),
+            Label::Observer(observer) => self.observer_name(observer),
+        }
+    }
+
+    /// The document that decides whether the callbacks of a thing are called, and an observer's handler if it has one; what
+    /// events are fired at has none of its own. `top` for a query list that isn't there.
+    pub fn callback_of(&self, of: Label) -> (u32, Option<HandlerId>)
+        requires { IsCallerIn self.now.world of }
+        ensures document { result.0 ≡ label_document self.now.world of }
+        ensures handler { option_map (λ handler. handler.0) result.1 ≡ label_handler self.now.world of }
+    {
+        // Each element is one of `top`, as its root element tells.
         let _root = self.tree.root();
         match of {
-            Label::Element(node) => self.tree.name_of(node),
-            Label::Document(document) => self.document_name(document),
-            Label::Observer(observer) => self.observer_name(observer),
+            Label::Target(EventTarget::Node(_)) => (0, None),
+            Label::Target(EventTarget::Document(document) | EventTarget::Window(document)) => {
+                (document, None)
+            }
+            Label::Target(EventTarget::Query(query)) => match self.queries.get(query as usize) {
+                Some(list) => (list.document, None),
+                None => (0, None),
+            },
+            Label::Observer(observer) => {
+                let handler = self.observers.handler(observer);
+                (self.observers.document(observer), handler.map(HandlerId))
+            }
         }
     }
 }

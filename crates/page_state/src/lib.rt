@@ -1,20 +1,23 @@
-//! The state of a page, and its commands: its names, the tree of its elements, its resize observers and its boxes. A
-//! contract sees a page as the world of the definitions. Lengths are in units of 1/64 CSS pixel.
+//! The state of a page, and its commands: its names, the tree of its elements, its resize observers, query lists and event
+//! tables, and its boxes. A contract sees a page as the world of the definitions. Lengths are in units of 1/64 CSS pixel.
 #![tactic(auto)]
 
 mod answers;
+mod callbacks;
 mod commands;
-mod delivery;
+mod conditions;
 mod labels;
 mod lookups;
 mod names;
 mod page;
+mod queries;
 mod readings;
 mod resize;
-#[cfg(test)]
-mod tests;
+mod rounds;
+mod tables;
 mod ticks;
 
 pub use answers::{Effect, PageFault};
 pub use labels::Label;
 pub use page::Page;
+pub use queries::Change;

@@ -2,27 +2,35 @@
 
 ghost use Rattle.std.specs.Prelude.{◌≡◌, ◌<◌, length, IfOk};
 ghost use Rattle.element_tree.specs.Links.{number};
-ghost use Rattle.page_model.specs.Operands.{document_named, element_meant, container_meant, resize_observer_named};
+ghost use Rattle.page_model.specs.Operands.{document_named, element_meant, container_meant, resize_observer_named, query_list_named, event_target_meant, handler_named, handler_given};
+ghost use Rattle.page_model.specs.Callbacks.{handler_names};
 ghost use Rattle.page_tree.specs.Steps.{seen_container};
+ghost use Rattle.event_tables.specs.Seen.{seen_target};
+ghost use Rattle.script_model.specs.Scripts.{handlers_in};
 ghost use Rattle.page_state.specs.Labels.{IsIn};
 ghost use Rattle.resize_observer.specs.declared.observation.ObserverId.{ObserverId};
-ghost use Rattle.script_syntax.specs.Seen.{operand_of};
+ghost use Rattle.event_tables.specs.declared.events.HandlerId.{HandlerId};
+ghost use Rattle.script_syntax.specs.Seen.{operand_of, aim_of};
 ghost use Rattle.page_state.specs.Answers.{Finds};
 ghost use Rattle.page_state.specs.Things.{present_of, IsSubject};
 
 use crate::page::Page;
 use element_tree::NodeId;
+use event_tables::{EventTarget, HandlerId};
 use page_tree::Container;
 use resize_observer::ObserverId;
-use script_syntax::Operand;
+use script_syntax::{Aim, Operand, Script};
 use text_io::{Name, ThrowKind};
 
 impl Page {
     // A document: `top` is the only one.
     pub(crate) fn document(&self, name: Name) -> Result<u32, ThrowKind>
         ensures answer { Finds (λ document. document) result (document_named self.now.world.names name) }
+        ensures there { IfOk result (λ document. document < length self.now.world.tree.documents) }
         ensures top { IfOk result (λ document. document ≡ 0) }
     {
+        // As its root element tells.
+        let _root = self.tree.root();
         self.names.document(name)
     }
 
@@ -55,5 +63,46 @@ impl Page {
         ensures there { IfOk result (λ observer. observer.0 < length self.now.world.resize_observers.made) }
     {
         self.names.observer(name)
+    }
+
+    pub(crate) fn query_list(&self, name: Name) -> Result<u32, ThrowKind>
+        ensures answer { Finds (λ query. query) result (query_list_named self.now.world.names name) }
+        ensures there { IfOk result (λ query. query < length self.now.world.queries) }
+    {
+        self.names.query_list(name)
+    }
+
+    pub(crate) fn event_target(
+        &self,
+        aim: Aim,
+        subject: Option<NodeId>,
+    ) -> Result<EventTarget, ThrowKind>
+        requires { IsSubject (length self.now.world.tree.elements) subject }
+        ensures { Finds seen_target result (event_target_meant self.now.world.names (present_of subject) (aim_of aim)) }
+    {
+        self.names.event_target(aim, subject)
+    }
+}
+
+// The handler of a name.
+pub(crate) fn handler_named(script: &Script, name: Name) -> Result<HandlerId, ThrowKind>
+    ensures { Finds (λ (handler : HandlerId). handler.0) result (handler_named (handler_names (handlers_in script.now)) name) }
+{
+    match script.handler_named(name) {
+        Some(number) => Ok(HandlerId(number)),
+        None => Err(ThrowKind::ReferenceError),
+    }
+}
+
+// An observer's handler, where one is named.
+pub(crate) fn handler_given(script: &Script, name: Option<Name>) -> Result<Option<u32>, ThrowKind>
+    ensures { Finds (λ handler. handler) result (handler_given (handler_names (handlers_in script.now)) name) }
+{
+    let Some(name) = name else {
+        return Ok(None);
+    };
+    match handler_named(script, name) {
+        Ok(handler) => Ok(Some(handler.0)),
+        Err(kind) => Err(kind),
     }
 }

@@ -5,18 +5,20 @@ ghost use Rattle.std.specs.List.{AllByRecursion};
 ghost use Rattle.element_tree.specs.Links.{number};
 ghost use Rattle.page_model.specs.World.{Name as ModelName};
 ghost use Rattle.page_model.specs.Names.{named_thing, is_same_thing};
-ghost use Rattle.page_model.specs.Operands.{new_name, thing_named, as_document, as_element, as_container, as_resize_observer, operand_thing, document_named, element_meant, container_meant, resize_observer_named};
-ghost use Rattle.page_model.specs.Ranges.{Counts, IsThingIn};
+ghost use Rattle.page_model.specs.Operands.{new_name, thing_named, as_document, as_element, as_container, as_resize_observer, as_query_list, as_event_target, operand_thing, document_named, element_meant, container_meant, resize_observer_named, query_list_named, event_target_meant};
+ghost use Rattle.page_model.specs.Ranges.{Counts, IsThingIn, IsEventTargetIn};
 ghost use Rattle.page_tree.specs.Steps.{seen_container};
-ghost use Rattle.script_syntax.specs.Seen.{operand_of};
+ghost use Rattle.event_tables.specs.Seen.{seen_target};
+ghost use Rattle.script_syntax.specs.Seen.{operand_of, aim_of};
 ghost use Rattle.page_state.specs.Answers.{Finds};
 ghost use Rattle.page_state.specs.Things.{seen_thing, present_of, AreIn, IsSubject, IsContainerBelow};
 
 use element_tree::NodeId;
+use event_tables::EventTarget;
 use indexmap::IndexMap;
 use page_tree::Container;
 use resize_observer::ObserverId;
-use script_syntax::Operand;
+use script_syntax::{Aim, Operand};
 use std::alloc::{AllocError, Global};
 use std::marker::Model;
 use text_io::{Name, ThrowKind};
@@ -27,6 +29,7 @@ pub(crate) enum Thing {
     Document(u32),
     Element(NodeId),
     ResizeObserver(ObserverId),
+    QueryList(u32),
 }
 
 /// The names in the order in which they were given.
@@ -141,6 +144,16 @@ impl Names {
         }
     }
 
+    pub(crate) fn query_list(&self, name: Name) -> Result<u32, ThrowKind>
+        ensures answer { Finds (λ query. query) result (query_list_named self.now.list name) }
+        ensures held { (counts : Counts) → AreIn counts self.now.list → IfOk result (λ query. query < counts.queries) }
+    {
+        match self.thing_named(name) {
+            Ok(thing) => as_query_list(thing),
+            Err(kind) => Err(kind),
+        }
+    }
+
     // What an operand stands for: `$target` is the target of the present entry.
     fn thing(&self, operand: Operand, subject: Option<NodeId>) -> Result<Thing, ThrowKind>
         ensures answer { Finds seen_thing result (operand_thing self.now.list (present_of subject) (operand_of operand)) }
@@ -182,6 +195,27 @@ impl Names {
             Err(kind) => Err(kind),
         }
     }
+
+    // What an event can be fired at.
+    pub(crate) fn event_target(
+        &self,
+        aim: Aim,
+        subject: Option<NodeId>,
+    ) -> Result<EventTarget, ThrowKind>
+        ensures answer { Finds seen_target result (event_target_meant self.now.list (present_of subject) (aim_of aim)) }
+        ensures held { (counts : Counts) → AreIn counts self.now.list → IsSubject counts.elements subject → IfOk result (λ target. IsEventTargetIn counts (seen_target target)) }
+    {
+        match aim {
+            Aim::Plain(operand) => match self.thing(operand, subject) {
+                Ok(thing) => as_event_target(thing),
+                Err(kind) => Err(kind),
+            },
+            Aim::Window(document) => match self.document(document) {
+                Ok(document) => Ok(EventTarget::Window(document)),
+                Err(kind) => Err(kind),
+            },
+        }
+    }
 }
 
 fn is_same(a: Thing, b: Thing) -> bool
@@ -191,6 +225,7 @@ fn is_same(a: Thing, b: Thing) -> bool
         (Thing::Document(one), Thing::Document(other)) => one == other,
         (Thing::Element(one), Thing::Element(other)) => one.0 == other.0,
         (Thing::ResizeObserver(one), Thing::ResizeObserver(other)) => one.0 == other.0,
+        (Thing::QueryList(one), Thing::QueryList(other)) => one == other,
         _ => false,
     }
 }
@@ -201,7 +236,9 @@ fn as_document(thing: Thing) -> Result<u32, ThrowKind>
 {
     match thing {
         Thing::Document(document) => Ok(document),
-        Thing::Element(_) | Thing::ResizeObserver(_) => Err(ThrowKind::TypeError),
+        Thing::Element(_) | Thing::ResizeObserver(_) | Thing::QueryList(_) => {
+            Err(ThrowKind::TypeError)
+        }
     }
 }
 
@@ -211,7 +248,7 @@ fn as_observer(thing: Thing) -> Result<ObserverId, ThrowKind>
 {
     match thing {
         Thing::ResizeObserver(observer) => Ok(observer),
-        Thing::Document(_) | Thing::Element(_) => Err(ThrowKind::TypeError),
+        Thing::Document(_) | Thing::Element(_) | Thing::QueryList(_) => Err(ThrowKind::TypeError),
     }
 }
 
@@ -221,7 +258,9 @@ fn as_element(thing: Thing) -> Result<NodeId, ThrowKind>
 {
     match thing {
         Thing::Element(node) => Ok(node),
-        Thing::Document(_) | Thing::ResizeObserver(_) => Err(ThrowKind::TypeError),
+        Thing::Document(_) | Thing::ResizeObserver(_) | Thing::QueryList(_) => {
+            Err(ThrowKind::TypeError)
+        }
     }
 }
 
@@ -232,6 +271,30 @@ fn as_container(thing: Thing) -> Result<Container, ThrowKind>
     match thing {
         Thing::Element(node) => Ok(Container::Element(node)),
         Thing::Document(document) => Ok(Container::Document(document)),
+        Thing::ResizeObserver(_) | Thing::QueryList(_) => Err(ThrowKind::TypeError),
+    }
+}
+
+fn as_query_list(thing: Thing) -> Result<u32, ThrowKind>
+    ensures answer { Finds (λ query. query) result (as_query_list (seen_thing thing)) }
+    ensures held { (counts : Counts) → IsThingIn counts (seen_thing thing) → IfOk result (λ query. query < counts.queries) }
+{
+    match thing {
+        Thing::QueryList(query) => Ok(query),
+        Thing::Document(_) | Thing::Element(_) | Thing::ResizeObserver(_) => {
+            Err(ThrowKind::TypeError)
+        }
+    }
+}
+
+fn as_event_target(thing: Thing) -> Result<EventTarget, ThrowKind>
+    ensures answer { Finds seen_target result (as_event_target (seen_thing thing)) }
+    ensures held { (counts : Counts) → IsThingIn counts (seen_thing thing) → IfOk result (λ target. IsEventTargetIn counts (seen_target target)) }
+{
+    match thing {
+        Thing::Element(node) => Ok(EventTarget::Node(node)),
+        Thing::Document(document) => Ok(EventTarget::Document(document)),
+        Thing::QueryList(query) => Ok(EventTarget::Query(query)),
         Thing::ResizeObserver(_) => Err(ThrowKind::TypeError),
     }
 }

@@ -1,32 +1,38 @@
 //! A page, and how a command is begun and applied.
 
-ghost use Rattle.std.specs.Prelude.{◌≡◌, ◌<◌, ◌≤◌, ◌+◌, cond, true, false, length, IfOk, OnOk, OnErr};
-ghost use Rattle.script_model.specs.Syntax.{Action};
+ghost use Rattle.std.specs.Prelude.{◌≡◌, ◌<◌, ◌≤◌, true, false, length, IfOk, OnOk, OnErr};
 ghost use Rattle.script_model.specs.Scripts.{handlers_in};
-ghost use Rattle.page_model.specs.Names.{document_text, resize_observer_text};
+ghost use Rattle.page_model.specs.Names.{document_text, resize_observer_text, query_list_text};
 ghost use Rattle.page_model.specs.Callbacks.{handler_names};
 ghost use Rattle.page_model.specs.Commands.{begun_in, does};
 ghost use Rattle.page_model.specs.Outcome.{opening_world};
+ghost use Rattle.page_model.specs.PageBoxes.{viewport_of};
 ghost use Rattle.page_model.specs.Ticks.{time_set};
-ghost use Rattle.built_part.specs.Built.{is_built, is_observer_made};
-ghost use Rattle.script_syntax.specs.Allowed.{ActionAllowed};
+ghost use Rattle.page_boxes.specs.Pages.{seen_size};
+ghost use Rattle.page_tree.specs.Items.{IsNatural};
+ghost use Rattle.script_syntax.specs.Allowed.{ActionAllowed, IsTime};
 ghost use Rattle.script_syntax.specs.Seen.{action_of};
-ghost use Rattle.page_state.specs.Answers.{Applied, Moved, Keeps, ReachesFar};
+ghost use Rattle.page_state.specs.Answers.{Applied, Moved, Kept, ReachesFar};
+ghost use Rattle.page_state.specs.Applied.{is_applied};
 ghost use Rattle.page_state.specs.Things.{present_of, IsSubject};
 
 use crate::answers::{Effect, PageFault};
 use crate::names::{Names, Thing};
-use block_layout::{FreshBoxes, ItemKind};
+use crate::queries::QueryList;
+use block_layout::FreshBoxes;
 use element_tree::NodeId;
+use event_tables::{FrameCallbacks, Listeners, Tasks, Timers};
 use page_tree::PageTree;
 use px_units::Size;
 use resize_observer::{ObserverId, Observers};
 use script_syntax::{Command, Script, What};
+use scrolling::Scrolls;
 use std::alloc::{AllocError, Global};
 use std::marker::Model;
 use std::sync::ledger::Ledger;
 use step_count::Steps;
 use text_io::{LimitKind, Name, ThrowKind};
+use trace_text::TraceLine;
 
 /// As many commands as may be begun.
 const MOST_COMMANDS: u32 = 1_000_000;
@@ -36,6 +42,9 @@ const MOST_OBSERVERS: u32 = 4096;
 
 /// As many resize observations as these may hold, in all.
 const MOST_OBSERVATIONS: u32 = 50_000;
+
+/// As many listeners, frame callbacks and timers as may be held, and posted tasks as may wait.
+const MOST_CALLBACKS: u32 = 4096;
 
 /// The viewport at first: 800 by 600 pixels.
 const FIRST_SIZE: Size = Size {
@@ -55,6 +64,12 @@ pub struct Page {
     // A place for each element, whose room is made with it.
     pub(crate) boxes: FreshBoxes,
     pub(crate) observers: Observers,
+    pub(crate) scrolls: Scrolls,
+    pub(crate) queries: Vec<QueryList>,
+    pub(crate) listeners: Listeners,
+    pub(crate) frame_callbacks: FrameCallbacks,
+    pub(crate) timers: Timers,
+    pub(crate) tasks: Tasks,
     pub(crate) size: Size,
     // The size of the viewport at the last resize steps.
     pub(crate) noted: Option<Size>,
@@ -64,32 +79,13 @@ pub struct Page {
 }
 
 impl Model for Page {
-    ghost use Rattle.std.specs.Prelude.{[], option_map};
-    ghost use Rattle.page_boxes.specs.Pages.{seen_size};
-    ghost use Rattle.page_state.specs.Views.{PageView, noted_list, no_scrolls, no_table};
+    ghost use Rattle.page_state.specs.Views.{PageView};
+    ghost use Rattle.page_state.specs.Worlds.{world_of};
     ghost use Rattle.page_state.specs.Whole.{IsPage};
 
     ghost Value = { PageView };
 
-    ghost view = { λ p. record {
-      world = record {
-        tree = p.tree.tree;
-        names = p.names.list;
-        viewports = record { size = seen_size p.size; noted = noted_list (option_map seen_size p.noted) };
-        scrolls = no_scrolls;
-        resize_observers = p.observers.part;
-        intersection_observers = record { given = 0; made = [] };
-        notifying = [];
-        queries = [];
-        listeners = no_table;
-        frame_callbacks = no_table;
-        timers = no_table;
-        tasks = [];
-        clock = p.clock;
-        begun = p.count;
-      };
-      begun = p.begun;
-    } };
+    ghost view = { λ p. record { world = world_of p; begun = p.begun } };
 
     ghost invariant = { IsPage };
 }
@@ -111,6 +107,12 @@ impl Page {
             tree: PageTree::new(alloc),
             boxes: FreshBoxes::new(alloc),
             observers: Observers::new(alloc, MOST_OBSERVERS, MOST_OBSERVATIONS),
+            scrolls: Scrolls::new(alloc),
+            queries: Vec::new(alloc),
+            listeners: Listeners::new(alloc, MOST_CALLBACKS),
+            frame_callbacks: FrameCallbacks::new(alloc, MOST_CALLBACKS),
+            timers: Timers::new(alloc, MOST_CALLBACKS),
+            tasks: Tasks::new(alloc, MOST_CALLBACKS),
             size: FIRST_SIZE,
             noted: None,
             clock: 0,
@@ -137,11 +139,12 @@ impl Page {
         Ok(())
     }
 
-    /// Sets the clock, in milliseconds.
+    /// Sets the clock, in milliseconds, to a time of at most 1,000,000,000,000.
     ///
     /// # Errors
     /// `Throw(RangeError)` exactly where the time is less than the clock's. Nothing is changed then. No memory.
     pub fn set_time(&mut self, time: u64) -> Result<(), PageFault>
+        requires { IsTime time }
         ensures set { Moved result self.old.world self.new.world (time_set time self.old.world) }
         ensures begun { self.new.begun ≡ self.old.begun }
         ensures same { OnErr result (self.new ≡ self.old) }
@@ -153,10 +156,9 @@ impl Page {
         Ok(())
     }
 
-    /// Applies a command that was begun and stands outside blocks: what it does is in the definition of commands, for
-    /// the target of the present entry if there is one. `viewport`, `block`, `image`, `append`, `before`, `remove`, `set`,
-    /// `grow`, `load`, `read`, `ro-observe`, and `ro` without a handler are built. Only `ro` makes a resize observer, and not
-    /// more than one.
+    /// Applies a command that was begun: what it does is in the definition of commands, for the target of the present
+    /// entry if there is one. All are built but those of frames, of scrolling and of intersection observers; `tick`, `each`
+    /// and `when` aren't applied.
     ///
     /// # Errors
     /// `Throw` and `Limit` exactly where the definition says so, and `Memory`. The world is then as it was.
@@ -169,34 +171,35 @@ impl Page {
     ) -> Result<Effect, PageFault>
         requires begun { self.old.begun ≡ true }
         requires allowed { ActionAllowed command.now.what }
-        requires built { is_built false (action_of command.now.what) ≡ true }
+        requires built { is_applied (action_of command.now.what) ≡ true }
         requires subject { IsSubject (length self.old.world.tree.elements) subject }
         ensures applied { Applied result self.old.world self.new.world
             (does (handler_names (handlers_in script.now)) self.old.world (present_of subject) (action_of command.now.what)) }
         ensures begun { self.new.begun ≡ false }
         ensures reach { IfOk result ReachesFar }
-        ensures observers { length self.new.world.resize_observers.made
-            ≤ length self.old.world.resize_observers.made + cond (is_observer_made (action_of command.now.what)) 1 0 }
     {
-        let _handlers = script.items();
         self.begun = false;
-        self.act(&command.what, subject, steps)
+        self.act(script, &command.what, subject, steps)
     }
 
-    // Applies a command that was counted.
+    // Applies a command that was counted, so that each table may give one serial number more.
+    #[tactic(auto, using(crate::proofs::Doing::kept_at))]
     fn act<L: Ledger>(
         &mut self,
+        script: &Script,
         what: &What,
         subject: Option<NodeId>,
         steps: &mut Steps<L>,
     ) -> Result<Effect, PageFault>
-        requires counted { self.old.world.resize_observers.given < self.old.world.begun }
         requires flag { self.old.begun ≡ false }
+        requires observations { self.old.world.resize_observers.given < self.old.world.begun }
+        requires listeners { self.old.world.listeners.given < self.old.world.begun }
+        requires frame_callbacks { self.old.world.frame_callbacks.given < self.old.world.begun }
+        requires timers { self.old.world.timers.given < self.old.world.begun }
         requires allowed { ActionAllowed what.now }
-        requires built { is_built false (action_of what.now) ≡ true }
+        requires built { is_applied (action_of what.now) ≡ true }
         requires subject { IsSubject (length self.old.world.tree.elements) subject }
-        ensures { Keeps self.old self.new result (cond (is_observer_made (action_of what.now)) 1 0)
-            (λ handlers. does handlers self.old.world (present_of subject) (action_of what.now)) }
+        ensures { Kept self.old self.new result (does (handler_names (handlers_in script.now)) self.old.world (present_of subject) (action_of what.now)) }
     {
         match what {
             What::Viewport(size) => self.set_viewport(*size),
@@ -208,42 +211,53 @@ impl Page {
             What::Set(node, declaration) => self.set(*node, *declaration, subject),
             What::Grow(node, axis, by) => self.grow(*node, *axis, *by, subject),
             What::Load(node, size) => self.load(*node, *size, subject),
-            What::Ro(name, document, None) => self.make_observer(*name, *document),
+            What::Ro(name, document, handler) => {
+                self.make_observer(script, *name, *document, *handler)
+            }
             What::RoObserve(observer, node, observed) => {
                 self.observe(*observer, *node, *observed, subject)
             }
+            What::RoUnobserve(observer, node) => self.unobserve(*observer, *node, subject),
+            What::RoDisconnect(observer) => self.disconnect(*observer),
+            What::Listen(aim, event, handler) => {
+                self.listen(script, *aim, *event, *handler, subject)
+            }
+            What::Unlisten(aim, event, handler) => {
+                self.unlisten(script, *aim, *event, *handler, subject)
+            }
+            What::Media(name, document, query) => self.make_query_list(*name, *document, query),
+            What::Raf(document, key, handler) => {
+                self.request_frame(script, *document, *key, *handler)
+            }
+            What::CancelRaf(document, key) => self.cancel_frame(*document, *key),
+            What::Timer(document, key, delay, handler) => {
+                self.set_timer(script, *document, *key, *delay, *handler)
+            }
+            What::ClearTimer(document, key) => self.clear_timer(*document, *key),
+            What::Post(document, handler) => self.post(script, *document, *handler),
+            What::Say(word) => Ok(Effect::Line(TraceLine::Say(*word))),
             What::Read(node) => self.read(*node, subject, steps),
             What::Frame(_, _, _)
-            | What::Ro(_, _, Some(_))
-            | What::RoUnobserve(_, _)
-            | What::RoDisconnect(_)
             | What::Io(_)
             | What::IoObserve(_, _)
             | What::IoUnobserve(_, _)
             | What::IoDisconnect(_)
             | What::IoTake(_)
-            | What::Listen(_, _, _)
-            | What::Unlisten(_, _, _)
-            | What::Media(_, _, _)
             | What::Scroll(_, _)
             | What::ScrollBy(_, _)
-            | What::Raf(_, _, _)
-            | What::CancelRaf(_, _)
-            | What::Timer(_, _, _, _)
-            | What::ClearTimer(_, _)
-            | What::Post(_, _)
-            | What::Say(_)
             | What::Each(_)
             | What::When(_, _)
-            | What::Tick(_) => Ok(Effect::Nothing),
+            | What::Tick(_) => unreachable!(),
         }
     }
 
-    // `top` is the only document.
+    // The name of a document: `top` is the only one.
     pub(crate) fn document_name(&self, document: u32) -> Name
-        requires { document ≡ 0 }
+        requires { document < length self.now.world.tree.documents }
         ensures { result ≡ document_text self.now.world.names document }
     {
+        // As its root element tells.
+        let _root = self.tree.root();
         self.names.name_of(Thing::Document(document)).unwrap()
     }
 
@@ -252,5 +266,22 @@ impl Page {
         ensures { result ≡ resize_observer_text self.now.world.names observer.0 }
     {
         self.names.name_of(Thing::ResizeObserver(observer)).unwrap()
+    }
+
+    pub(crate) fn query_list_name(&self, query: u32) -> Name
+        requires { query < length self.now.world.queries }
+        ensures { result ≡ query_list_text self.now.world.names query }
+    {
+        self.names.name_of(Thing::QueryList(query)).unwrap()
+    }
+
+    // The size of the viewport of a document: `top` is the only one, as its root element tells.
+    pub(crate) fn viewport(&self, document: u32) -> Size
+        requires { document < length self.now.world.tree.documents }
+        ensures value { seen_size result ≡ viewport_of self.now.world.tree self.now.world.viewports.size document }
+        ensures natural { IsNatural result }
+    {
+        let _root = self.tree.root();
+        self.size
     }
 }

@@ -14,7 +14,6 @@ ghost use Rattle.page_state.specs.Things.{present_of, IsSubject};
 ghost use Rattle.page_state.specs.Labels.{IsIn};
 
 use crate::answers::{Effect, PageFault};
-use crate::labels::Label;
 use crate::page::Page;
 use element_tree::NodeId;
 use page_boxes::{read, refresh};
@@ -34,7 +33,7 @@ impl Page {
         steps: &mut Steps<L>,
     ) -> Result<Effect, PageFault>
         requires { IsSubject (length self.old.world.tree.elements) subject }
-        ensures { Keeps self.old self.new result 0 (λ handlers. does handlers self.old.world (present_of subject) (Read (operand_of target))) }
+        ensures { Keeps self.old self.new result (λ handlers. does handlers self.old.world (present_of subject) (Read (operand_of target))) }
     {
         let container = self.container(target, subject)?;
         Ok(Effect::Line(self.reading(container, steps)))
@@ -62,8 +61,10 @@ impl Page {
         requires { IsIn self.now.world container }
         ensures { result ≡ text_in self.now.world.names (seen_container container) }
     {
+        // As its root element tells.
+        let _root = self.tree.root();
         match container {
-            Container::Element(node) => self.label(Label::Element(node)),
+            Container::Element(node) => self.tree.name_of(node),
             Container::Document(document) => self.document_name(document),
         }
     }

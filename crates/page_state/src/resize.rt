@@ -1,34 +1,44 @@
-//! Resize observers of a page (Resize Observer, 2).
+//! Commands on the resize observers of a page (Resize Observer, 2).
 
-ghost use Rattle.std.specs.Prelude.{◌≡◌, ◌<◌, false, None, length};
-ghost use Rattle.script_model.specs.Syntax.{MakeResizeObserver, ObserveResize};
+ghost use Rattle.std.specs.Prelude.{◌≡◌, ◌<◌, false, length};
+ghost use Rattle.script_model.specs.Scripts.{handlers_in};
+ghost use Rattle.script_model.specs.Syntax.{MakeResizeObserver, ObserveResize, UnobserveResize, DisconnectResize};
+ghost use Rattle.page_model.specs.Callbacks.{handler_names};
 ghost use Rattle.page_model.specs.Commands.{does};
 ghost use Rattle.page_model.specs.Operands.{Present};
 ghost use Rattle.script_syntax.specs.Seen.{operand_of};
-ghost use Rattle.page_state.specs.Answers.{Keeps};
+ghost use Rattle.page_state.specs.Answers.{Keeps, Kept};
 ghost use Rattle.page_state.specs.Things.{present_of, IsSubject};
 
 use crate::answers::{Effect, PageFault};
+use crate::lookups::handler_given;
 use crate::names::Thing;
 use crate::page::Page;
 use element_tree::NodeId;
 use px_units::BoxKind;
 use resize_observer::ObserveFault;
-use script_syntax::Operand;
+use script_syntax::{Operand, Script};
 use text_io::{LimitKind, Name};
 
 #[tactic(auto, unfolding(page_model::specs::Commands::does))]
 impl Page {
-    pub(crate) fn make_observer(&mut self, name: Name, document: Name) -> Result<Effect, PageFault>
-        ensures { (present : Present) → Keeps self.old self.new result 1 (λ handlers. does handlers self.old.world present (MakeResizeObserver name document None)) }
+    pub(crate) fn make_observer(
+        &mut self,
+        script: &Script,
+        name: Name,
+        document: Name,
+        handler: Option<Name>,
+    ) -> Result<Effect, PageFault>
+        ensures { (present : Present) → Kept self.old self.new result (does (handler_names (handlers_in script.now)) self.old.world present (MakeResizeObserver name document handler)) }
     {
         self.names.check_free(name)?;
         let document = self.document(document)?;
+        let handler = handler_given(script, handler)?;
         if self.observers.is_full() {
             return Err(PageFault::Limit(LimitKind::ResizeObservers));
         }
         self.names.reserve()?;
-        let observer = match self.observers.make(document, None) {
+        let observer = match self.observers.make(document, handler) {
             Ok(observer) => observer,
             Err(ObserveFault::Limit) => return Err(PageFault::Limit(LimitKind::ResizeObservers)),
             Err(ObserveFault::Memory) => return Err(PageFault::Memory),
@@ -47,7 +57,7 @@ impl Page {
         requires counted { self.old.world.resize_observers.given < self.old.world.begun }
         requires flag { self.old.begun ≡ false }
         requires subject { IsSubject (length self.old.world.tree.elements) subject }
-        ensures { Keeps self.old self.new result 0 (λ handlers. does handlers self.old.world (present_of subject) (ObserveResize observer (operand_of node) observed)) }
+        ensures { Keeps self.old self.new result (λ handlers. does handlers self.old.world (present_of subject) (ObserveResize observer (operand_of node) observed)) }
     {
         let observer = self.observer(observer)?;
         let node = self.element(node, subject)?;
@@ -58,6 +68,29 @@ impl Page {
             }
             Err(ObserveFault::Memory) => return Err(PageFault::Memory),
         }
+        Ok(Effect::Nothing)
+    }
+
+    pub(crate) fn unobserve(
+        &mut self,
+        observer: Name,
+        node: Operand,
+        subject: Option<NodeId>,
+    ) -> Result<Effect, PageFault>
+        requires { IsSubject (length self.old.world.tree.elements) subject }
+        ensures { Keeps self.old self.new result (λ handlers. does handlers self.old.world (present_of subject) (UnobserveResize observer (operand_of node))) }
+    {
+        let observer = self.observer(observer)?;
+        let node = self.element(node, subject)?;
+        self.observers.unobserve(observer, node);
+        Ok(Effect::Nothing)
+    }
+
+    pub(crate) fn disconnect(&mut self, observer: Name) -> Result<Effect, PageFault>
+        ensures { (present : Present) → Keeps self.old self.new result (λ handlers. does handlers self.old.world present (DisconnectResize observer)) }
+    {
+        let observer = self.observer(observer)?;
+        self.observers.disconnect(observer);
         Ok(Effect::Nothing)
     }
 }

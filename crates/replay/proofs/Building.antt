@@ -1,202 +1,158 @@
--- The items of a script one after another: all are built.
-use Rattle.std.proofs.Common.{◌≡◌, ◌<◌, get_or, drop, ℕ, ◌+◌, ◌≤◌, List, [], ◌∷◌, refl, ap, sym, subst, ◌∙◌, arith, length}
-use Rattle.std.proofs.lemmas.List.{at_drop_more, at_drop_all}
-use Rattle.std.specs.Prelude.{map, Bool, true, false, cond, ◌||◌, Option, Some, None}
-use Rattle.script_model.specs.Syntax.{Action, Item, Outside, Tick, Handler, Simple, Each, When, Viewport, MakeBlock, MakeImage, MakeFrame, Append, Before, Remove, SetStyle, Grow, Load, MakeResizeObserver, ObserveResize, UnobserveResize, DisconnectResize, MakeIntersectionObserver, ObserveIntersection, UnobserveIntersection, DisconnectIntersection, TakeIntersections, Listen, Unlisten, MakeQueryList, ScrollTo, ScrollBy, RequestFrame, CancelFrame, SetTimer, ClearTimer, Post, Say, Read}
-use Rattle.script_syntax.specs.Seen.{item_of}
-use Rattle.script_syntax.specs.declared.commands.Item.{Item as CodeItem}
-use Rattle.page_model.specs.World.{World}
-use Rattle.built_part.specs.Built.{is_built, is_observer_made, unbuilt_from, unbuilt_line}
-use Rattle.replay.specs.Building.{HasMade, made_by, unbuilt_item}
+-- What is built, a command and an item at a time, and what follows where all is.
+use Rattle.std.proofs.Common.{◌≡◌, ℕ, ◌+◌, ◌<◌, ◌≤◌, zero, suc, List, [], ◌∷◌, length, get_or, drop, map, Bool, true, false, refl, ap, sym, ◌∙◌, arith}
+use Rattle.std.proofs.lemmas.List.{drop_more, drop_all}
+use Rattle.std.specs.Prelude.{Option, Some, None, cond, ◌&&◌}
+use Rattle.script_model.specs.Syntax as model
+use Rattle.script_model.specs.Syntax.{Simple, Each, When, Block, NoMore, Then, Outside, Tick, Handler}
+use Rattle.script_model.specs.Scripts.{handlers_in}
+use Rattle.script_syntax.specs.Seen.{action_of, command_at, command_of, block_of, item_at, item_of, command_size, block_size}
+use Rattle.script_syntax.specs.declared.operands.Condition.{Condition}
+use Rattle.script_syntax.specs.declared.commands.Body.{Body}
+use Rattle.script_syntax.specs.declared.commands.Command.{Command}
+use Rattle.script_syntax.specs.declared.commands.Item.{Item}
+use Rattle.script_syntax.specs.declared.commands.What.{What}
+use Rattle.script_syntax.specs.declared.commands.What.TheVariants as what
+use Rattle.page_state.specs.Applied.{is_applied}
+use Rattle.handlers.specs.Blocks.{is_run, are_run, is_worded, AreRun}
+use Rattle.replay.specs.Building.{first_line, unbuilt_command, unbuilt_block, unbuilt_item, unbuilt_line}
 
-some-none : (line : ℕ) → Some line ≡ None → ⊥
-some-none line is = cc
+-- commands by what they are -----------------------------------------------------------------------------------------------
 
-none-some : (line : ℕ) → None ≡ Some line → ⊥
-none-some line is = cc
+pub simple_is : (line : ℕ) (command : What) → ((body : Body) → command ≡ what.Each body → ⊥)
+    → ((condition : Condition) (body : Body) → command ≡ what.When condition body → ⊥) → command_at line command ≡ Simple line (action_of command)
+simple_is line (what.Each body) each whens = absurd (each body refl)
+simple_is line (what.When condition body) each whens = absurd (whens condition body refl)
+simple_is line other each whens = refl
 
-false-true : false ≡ true → ⊥
-false-true is = cc
+-- one that isn't `tick` stands outside as a command
+pub outside_at : (line : ℕ) (command : What) → ((time : ℕ) → command ≡ what.Tick time → ⊥) → item_at line command ≡ Outside (command_at line command)
+outside_at line (what.Tick time) ticks = absurd (ticks time refl)
+outside_at line other ticks = refl
 
-or-false : (b : Bool) → b ≡ (b || false)
-or-false true = refl
-or-false false = refl
+pub each_unbuilt : (line : ℕ) (command : What) (body : Body) → command ≡ what.Each body → unbuilt_block body.commands ≡ unbuilt_command (command_at line command)
+unfolding unbuilt_command
+each_unbuilt line command body is = ap (λ it. unbuilt_command (command_at line it)) (sym is)
 
-by-pass : (b : Bool) (line : ℕ) (rest : Option ℕ) → cond b None (Some line) ≡ None → cond b rest (Some line) ≡ rest
-by-pass true line rest is = refl
-by-pass false line rest is = absurd (some-none line is)
+pub when_unbuilt : (line : ℕ) (command : What) (condition : Condition) (body : Body) → command ≡ what.When condition body
+    → unbuilt_block body.commands ≡ unbuilt_command (command_at line command)
+unfolding unbuilt_command
+when_unbuilt line command condition body is = ap (λ it. unbuilt_command (command_at line it)) (sym is)
 
-by-stop : (b : Bool) (line found : ℕ) (rest : Option ℕ) → cond b None (Some line) ≡ Some found → cond b rest (Some line) ≡ Some found
-by-stop true line found rest is = absurd (none-some found is)
-by-stop false line found rest is = is
+pub simple_unbuilt : (line : ℕ) (command : What) → command_at line command ≡ Simple line (action_of command)
+    → cond (is_applied (action_of command) && is_worded (action_of command)) None (Some line) ≡ unbuilt_command (command_at line command)
+unfolding unbuilt_command is_run
+simple_unbuilt line command simple = ap unbuilt_command (sym simple)
 
-by-none : (b : Bool) (line : ℕ) (rest : Option ℕ) → cond b rest (Some line) ≡ None → cond b None (Some line) ≡ None
-by-none true line rest is = refl
-by-none false line rest is = is
+-- blocks ------------------------------------------------------------------------------------------------------------------
 
-by-true : (b : Bool) (line : ℕ) → cond b None (Some line) ≡ None → b ≡ true
-by-true true line is = refl
-by-true false line is = absurd (some-none line is)
+module _ (commands : List Command) (i : ℕ) (command : Command) (within : i < length commands) (is : command ≡ get_or commands i command) where
+  more-is : block_of (drop i commands) ≡ Then (command_of command) (block_of (drop (i + 1) commands))
+  more-is = ap block_of (drop_more commands i command within) ∙ ap (λ it. Then (command_of it) (block_of (drop (i + 1) commands))) (sym is)
 
-pub pass : (item : Item) (items : List Item) (made : Bool) → unbuilt_item made item ≡ None → unbuilt_from (item ∷ items) made ≡ unbuilt_from items (made || made_by item)
-unfolding unbuilt_from
-pass (Outside (Simple line action)) items made is = by-pass (is_built made action) line (unbuilt_from items (made || is_observer_made action)) is
-pass (Outside (Each line block end_line)) items made is = absurd (some-none line is)
-pass (Outside (When line condition block end_line)) items made is = absurd (some-none line is)
-pass (Tick line time) items made is = ap (unbuilt_from items) (or-false made)
-pass (Handler line name block end_line) items made is = absurd (some-none line is)
+  unbuilt-more : unbuilt_block (block_of (drop i commands)) ≡ first_line (unbuilt_command (command_of command)) (unbuilt_block (block_of (drop (i + 1) commands)))
+  unfolding unbuilt_block
+  unbuilt-more = ap unbuilt_block more-is
 
-pub stop : (item : Item) (items : List Item) (made : Bool) (found : ℕ) → unbuilt_item made item ≡ Some found → unbuilt_from (item ∷ items) made ≡ Some found
-unfolding unbuilt_from
-stop (Outside (Simple line action)) items made found is = by-stop (is_built made action) line found (unbuilt_from items (made || is_observer_made action)) is
-stop (Outside (Each line block end_line)) items made found is = is
-stop (Outside (When line condition block end_line)) items made found is = is
-stop (Tick line time) items made found is = absurd (none-some found is)
-stop (Handler line name block end_line) items made found is = is
+  pub stops_at : (line : ℕ) → unbuilt_command (command_of command) ≡ Some line → unbuilt_block (block_of (drop i commands)) ≡ Some line
+  stops_at line found = unbuilt-more ∙ ap (λ (it : Option ℕ). first_line it (unbuilt_block (block_of (drop (i + 1) commands)))) found
 
-pub built_first : (item : Item) (items : List Item) (made : Bool) → unbuilt_from (item ∷ items) made ≡ None → unbuilt_item made item ≡ None
-unfolding unbuilt_from
-built_first (Outside (Simple line action)) items made is = by-none (is_built made action) line (unbuilt_from items (made || is_observer_made action)) is
-built_first (Outside (Each line block end_line)) items made is = is
-built_first (Outside (When line condition block end_line)) items made is = is
-built_first (Tick line time) items made is = refl
-built_first (Handler line name block end_line) items made is = is
+  pub passes_at : unbuilt_command (command_of command) ≡ None → unbuilt_block (block_of (drop i commands)) ≡ unbuilt_block (block_of (drop (i + 1) commands))
+  passes_at built = unbuilt-more ∙ ap (λ (it : Option ℕ). first_line it (unbuilt_block (block_of (drop (i + 1) commands)))) built
 
-pub built_none : (made : Bool) → unbuilt_from [] made ≡ None
-unfolding unbuilt_from
-built_none made = refl
+pub none_left : (commands : List Command) (i : ℕ) → length commands ≤ i → unbuilt_block (block_of (drop i commands)) ≡ None
+unfolding unbuilt_block
+none_left commands i past = ap (λ rest. unbuilt_block (block_of rest)) (drop_all i commands past)
 
-pub built_line : (items : List Item) → unbuilt_from items false ≡ unbuilt_line items
+-- sizes
+
+pub each_size : (line : ℕ) (command : What) (body : Body) → command ≡ what.Each body → command_size (command_at line command) ≡ block_size body.commands + 1
+unfolding command_size
+each_size line command body is = ap (λ it. command_size (command_at line it)) is
+
+pub when_size : (line : ℕ) (command : What) (condition : Condition) (body : Body) → command ≡ what.When condition body
+    → command_size (command_at line command) ≡ block_size body.commands + 1
+unfolding command_size
+when_size line command condition body is = ap (λ it. command_size (command_at line it)) is
+
+size-at : (commands : List Command) (i : ℕ) (d : Command) → i < length commands → command_size (command_of (get_or commands i d)) ≤ block_size (block_of commands)
+unfolding block_size
+size-at [] i d within = absurd (omega arith)
+size-at (c ∷ cs) zero d within = omega arith
+size-at (c ∷ cs) (suc i) d within = let rest = size-at cs i d (omega (arith, within)) in omega (arith, rest)
+
+pub size_within : (commands : List Command) (i : ℕ) (d command : Command) → i < length commands → command ≡ get_or commands i d
+    → command_size (command_of command) ≤ block_size (block_of commands)
+size_within commands i d command within is =
+    let same : command_size (command_of command) ≡ command_size (command_of (get_or commands i d)) = ap (λ c. command_size (command_of c)) is in
+    omega (arith, size-at commands i d within)
+
+-- items -------------------------------------------------------------------------------------------------------------------
+
+first-none : (first other : Option ℕ) → first_line first other ≡ None → (first ≡ None) × (other ≡ None)
+first-none None other none = (refl, none)
+first-none (Some line) other none = absurd cc
+
+module _ (items : List Item) (i : ℕ) (item : Item) (within : i < length items) (is : item ≡ get_or items i item) where
+  line-more : unbuilt_line (map item_of (drop i items)) ≡ first_line (unbuilt_item (item_of item)) (unbuilt_line (map item_of (drop (i + 1) items)))
+  unfolding unbuilt_line
+  line-more =
+      ap (λ rest. unbuilt_line (map item_of rest)) (drop_more items i item within)
+      ∙ ap (λ it. first_line (unbuilt_item (item_of it)) (unbuilt_line (map item_of (drop (i + 1) items)))) (sym is)
+
+  pub item_stops : (line : ℕ) → unbuilt_item (item_of item) ≡ Some line → unbuilt_line (map item_of (drop i items)) ≡ Some line
+  item_stops line found = line-more ∙ ap (λ (it : Option ℕ). first_line it (unbuilt_line (map item_of (drop (i + 1) items)))) found
+
+  pub item_passes : unbuilt_item (item_of item) ≡ None → unbuilt_line (map item_of (drop i items)) ≡ unbuilt_line (map item_of (drop (i + 1) items))
+  item_passes built = line-more ∙ ap (λ (it : Option ℕ). first_line it (unbuilt_line (map item_of (drop (i + 1) items)))) built
+
+  -- where all from here on is built, so is this item, and those behind it
+  both-built : unbuilt_line (map item_of (drop i items)) ≡ None → (unbuilt_item (item_of item) ≡ None) × (unbuilt_line (map item_of (drop (i + 1) items)) ≡ None)
+  both-built built = first-none _ _ (sym line-more ∙ built)
+
+  pub item_built : unbuilt_line (map item_of (drop i items)) ≡ None → unbuilt_item (item_of item) ≡ None
+  item_built built = (both-built built).0
+
+  pub others_built : unbuilt_line (map item_of (drop i items)) ≡ None → unbuilt_line (map item_of (drop (i + 1) items)) ≡ None
+  others_built built = (both-built built).1
+
+pub no_item_left : (items : List Item) (i : ℕ) → length items ≤ i → unbuilt_line (map item_of (drop i items)) ≡ None
 unfolding unbuilt_line
-built_line items = refl
+no_item_left items i past = ap (λ rest. unbuilt_line (map item_of rest)) (drop_all i items past)
 
--- what is built where an observer was asked for is built
-pub built_anew : (made : Bool) (action : Action) → is_built made action ≡ true → is_built false action ≡ true
-built_anew made (Viewport width height) is = is
-built_anew made (MakeBlock name document) is = is
-built_anew made (MakeImage name document width height) is = is
-built_anew made (MakeFrame name document inside) is = is
-built_anew made (Append parent node) is = is
-built_anew made (Before parent node sibling) is = is
-built_anew made (Remove node) is = is
-built_anew made (SetStyle node declaration) is = is
-built_anew made (Grow node dimension by) is = is
-built_anew made (Load node width height) is = is
-built_anew made (MakeResizeObserver name document None) is = refl
-built_anew made (MakeResizeObserver name document (Some handler)) is = is
-built_anew made (ObserveResize observer node observed) is = is
-built_anew made (UnobserveResize observer node) is = is
-built_anew made (DisconnectResize observer) is = is
-built_anew made (MakeIntersectionObserver making) is = is
-built_anew made (ObserveIntersection observer node) is = is
-built_anew made (UnobserveIntersection observer node) is = is
-built_anew made (DisconnectIntersection observer) is = is
-built_anew made (TakeIntersections observer) is = is
-built_anew made (Listen aim event handler) is = is
-built_anew made (Unlisten aim event handler) is = is
-built_anew made (MakeQueryList name document query) is = is
-built_anew made (ScrollTo node left top) is = is
-built_anew made (ScrollBy node left top) is = is
-built_anew made (RequestFrame document key handler) is = is
-built_anew made (CancelFrame document key) is = is
-built_anew made (SetTimer document key delay handler) is = is
-built_anew made (ClearTimer document key) is = is
-built_anew made (Post document handler) is = is
-built_anew made (Say word) is = is
-built_anew made (Read node) is = is
+-- what is built can be run ------------------------------------------------------------------------------------------------
 
--- it asks for no second one
-pub made_once : (action : Action) → is_built true action ≡ true → is_observer_made action ≡ false
-made_once (Viewport width height) is = refl
-made_once (MakeBlock name document) is = refl
-made_once (MakeImage name document width height) is = refl
-made_once (MakeFrame name document inside) is = refl
-made_once (Append parent node) is = refl
-made_once (Before parent node sibling) is = refl
-made_once (Remove node) is = refl
-made_once (SetStyle node declaration) is = refl
-made_once (Grow node dimension by) is = refl
-made_once (Load node width height) is = refl
-made_once (MakeResizeObserver name document None) is = absurd (false-true is)
-made_once (MakeResizeObserver name document (Some handler)) is = absurd (false-true is)
-made_once (ObserveResize observer node observed) is = refl
-made_once (UnobserveResize observer node) is = refl
-made_once (DisconnectResize observer) is = refl
-made_once (MakeIntersectionObserver making) is = refl
-made_once (ObserveIntersection observer node) is = refl
-made_once (UnobserveIntersection observer node) is = refl
-made_once (DisconnectIntersection observer) is = refl
-made_once (TakeIntersections observer) is = refl
-made_once (Listen aim event handler) is = refl
-made_once (Unlisten aim event handler) is = refl
-made_once (MakeQueryList name document query) is = refl
-made_once (ScrollTo node left top) is = refl
-made_once (ScrollBy node left top) is = refl
-made_once (RequestFrame document key handler) is = refl
-made_once (CancelFrame document key) is = refl
-made_once (SetTimer document key delay handler) is = refl
-made_once (ClearTimer document key) is = refl
-made_once (Post document handler) is = refl
-made_once (Say word) is = refl
-made_once (Read node) is = refl
+cond-none : (is : Bool) (line : ℕ) → cond is None (Some line) ≡ None → is ≡ true
+cond-none true line none = refl
+cond-none false line none = absurd cc
 
-pub item_anew : (made : Bool) (item : Item) → unbuilt_item made item ≡ None → unbuilt_item false item ≡ None
-item_anew made (Outside (Simple line action)) is = ap (λ b. cond b None (Some line)) (built_anew made action (by-true (is_built made action) line is))
-item_anew made (Outside (Each line block end_line)) is = is
-item_anew made (Outside (When line condition block end_line)) is = is
-item_anew made (Tick line time) is = is
-item_anew made (Handler line name block end_line) is = is
+and-true : (a b : Bool) → a ≡ true → b ≡ true → (a && b) ≡ true
+and-true true b first second = second
+and-true false b first second = absurd cc
 
-item_once : (item : Item) → unbuilt_item true item ≡ None → made_by item ≡ false
-item_once (Outside (Simple line action)) is = made_once action (by-true (is_built true action) line is)
-item_once (Outside (Each line block end_line)) is = refl
-item_once (Outside (When line condition block end_line)) is = refl
-item_once (Tick line time) is = refl
-item_once (Handler line name block end_line) is = refl
+mutual
+  unfolding unbuilt_command unbuilt_block is_run are_run
 
--- there is at most one observer, and none before one was asked for
-pub counted_next : (made : Bool) (item : Item) (old new : World) → unbuilt_item made item ≡ None → length (old.resize_observers.made) ≤ cond made 1 0 → HasMade (made_by item) old new
-    → length (new.resize_observers.made) ≤ cond (made || made_by item) 1 0
-counted_next true item old new is counted has =
-    let few : length (new.resize_observers.made) ≤ length (old.resize_observers.made) + 0 = subst (λ b. length (new.resize_observers.made) ≤ length (old.resize_observers.made) + cond b 1 0) (item_once item is) has in
-    omega arith
-counted_next false item old new is counted has =
-    omega arith
+  pub built_runs : (command : model.Command) → unbuilt_command command ≡ None → is_run command ≡ true
+  built_runs (Simple line action) built = cond-none _ line built
+  built_runs (Each line block end_line) built = block-runs block built
+  built_runs (When line condition block end_line) built = block-runs block built
 
-pub at_most_one : (made : Bool) (old : World) → length (old.resize_observers.made) ≤ cond made 1 0 → length (old.resize_observers.made) ≤ 1
-at_most_one true old counted = counted
-at_most_one false old counted = omega arith
+  block-runs : (block : Block) → unbuilt_block block ≡ None → are_run block ≡ true
+  block-runs NoMore built = refl
+  block-runs (Then command others) built =
+      let both = first-none (unbuilt_command command) (unbuilt_block others) built in
+      and-true _ _ (built_runs command both.0) (block-runs others both.1)
 
--- as the code finds whether an observer was asked for
-pub or_made : (made by now : Bool) → made ≡ true → now ≡ made → (made || by) ≡ now
-or_made true by now is same = sym same
-or_made false by now is same = absurd (false-true is)
+-- a command outside that isn't `tick`
+pub outside_runs : (line : ℕ) (command : What) → ((time : ℕ) → command ≡ what.Tick time → ⊥) → unbuilt_item (item_at line command) ≡ None → is_run (command_at line command) ≡ true
+outside_runs line command ticks built = built_runs (command_at line command) (sym (ap unbuilt_item (outside_at line command ticks)) ∙ built)
 
-pub or_makes : (made by now : Bool) → made ≡ false → now ≡ by → (made || by) ≡ now
-or_makes true by now is same = absurd (false-true (sym is))
-or_makes false by now is same = sym same
-
--- the items of the code
-
-module _ (items : List CodeItem) (i : ℕ) (it : CodeItem) (made : Bool) where
-  abbrev others : List Item
-  others = map item_of (drop (i + 1) items)
-
-  here : i < length items → it ≡ get_or items i it → unbuilt_from (map item_of (drop i items)) made ≡ unbuilt_from (item_of it ∷ others) made
-  here within is =
-      at_drop_more (λ (left : List CodeItem). unbuilt_from (map item_of left) made) items i it within
-      ∙ ap (λ (first : CodeItem). unbuilt_from (item_of first ∷ others) made) (sym is)
-
-  pub unbuilt_next : (now : Bool) → i < length items → it ≡ get_or items i it → unbuilt_item made (item_of it) ≡ None → (made || made_by (item_of it)) ≡ now
-      → unbuilt_from (map item_of (drop i items)) made ≡ unbuilt_from others now
-  unbuilt_next now within is built or = here within is ∙ pass (item_of it) others made built ∙ ap (unbuilt_from others) or
-
-  pub built_here : i < length items → it ≡ get_or items i it → unbuilt_from (map item_of (drop i items)) made ≡ None → unbuilt_item made (item_of it) ≡ None
-  built_here within is built = built_first (item_of it) others made (sym (here within is) ∙ built)
-
-  pub unbuilt_here : (line : ℕ) → i < length items → it ≡ get_or items i it → unbuilt_item made (item_of it) ≡ Some line
-      → unbuilt_from (map item_of (drop i items)) made ≡ Some line
-  unbuilt_here line within is found = here within is ∙ stop (item_of it) others made line found
-
-pub unbuilt_end : (items : List CodeItem) (i : ℕ) (made : Bool) → length items ≤ i → unbuilt_from (map item_of (drop i items)) made ≡ None
-unbuilt_end items i made past = at_drop_all (λ (left : List CodeItem). unbuilt_from (map item_of left) made) items i past ∙ built_none made
+-- all handlers of a script
+pub handlers_run : (items : List model.Item) → unbuilt_line items ≡ None → AreRun (handlers_in items)
+unfolding unbuilt_line handlers_in
+handlers_run [] built = tt
+handlers_run (Outside command ∷ items) built = handlers_run items (first-none (unbuilt_command command) (unbuilt_line items) built).1
+handlers_run (Tick line time ∷ items) built = handlers_run items built
+handlers_run (Handler line name block end_line ∷ items) built =
+    let both = first-none (unbuilt_block block) (unbuilt_line items) built in
+    (block-runs block both.0, handlers_run items both.1)

@@ -1,9 +1,4 @@
-pub mod Writes
-pub mod Lines
-pub mod Saying
-pub mod Items
-pub mod Building
-pub mod Following
-pub mod Endings
-pub mod Playing
-pub mod Taking
+mod Building
+mod Playing
+mod Endings
+mod Taking

@@ -1,80 +1,64 @@
--- The items of a script as the code goes over them.
-use Rattle.std.proofs.Common.{◌≡◌, ◌<◌, ◌≤◌, ◌∙◌, ap, sym, subst, refl, arith, get_or, drop, ℕ, ◌+◌, List, [], length, Option}
-use Rattle.std.proofs.lemmas.List.{at_drop_more, at_drop_all}
-use Rattle.std.specs.Prelude.{map, Bool, false, ◌||◌, None, cond}
-use Rattle.script_model.specs.Scripts.{handlers_in}
-use Rattle.script_model.specs.Syntax.{Item}
-use Rattle.script_syntax.specs.Seen.{item_of}
-use Rattle.script_syntax.specs.declared.commands.Item.{Item as CodeItem}
-use Rattle.page_model.specs.Callbacks.{Script}
-use Rattle.page_model.specs.Outcome.{run_item, run_items}
-use Rattle.page_model.specs.Runs.{Said, silent, ◌followed_by◌, for_each}
+-- The items of a script, run one after another.
+use Rattle.std.proofs.Common.{◌≡◌, ℕ, List, map, refl, ap, sym, subst, ◌∙◌}
+use Rattle.std.specs.Prelude.{Result, Option, Ok, Err, None, IfOk, []}
+use Rattle.script_model.specs.Syntax as model
+use Rattle.script_model.specs.Syntax.{Outside, Tick, Handler}
+use Rattle.script_model.specs.Scripts.{handlers_in, NamedBlock}
+use Rattle.script_syntax.specs.Seen.{command_at, item_at, item_of}
+use Rattle.script_syntax.specs.declared.commands.Item.{Item}
+use Rattle.script_syntax.specs.declared.commands.What.{What}
+use Rattle.script_syntax.specs.declared.commands.What.TheVariants as what
+use Rattle.page_model.specs.Callbacks.{run_command}
+use Rattle.page_model.specs.Operands.{NoEntry}
+use Rattle.page_model.specs.Outcome.{opening_world, run_item, run_items, run_tick}
+use Rattle.page_model.specs.Runs.{caught, for_each, silent}
 use Rattle.page_model.specs.World.{World}
-use Rattle.built_part.specs.Built.{unbuilt_from, unbuilt_line}
-use Rattle.replay.specs.Building.{HasMade, made_by, unbuilt_item}
-use Rattle.replay.proofs.Building.{built_here, built_line, unbuilt_next, item_anew, counted_next, at_most_one}
-use Rattle.replay.proofs.Following.{Following, following_first}
+use Rattle.page_laws.proofs.RunsInRange.{item-in, opening-in}
+use Rattle.page_laws.proofs.Turns.{item-within, opening-within}
+use Rattle.frame_update.specs.Ready.{IsReady}
+use Rattle.trace_runs.specs.Flows.{goes_on}
+use Rattle.trace_runs.specs.Runs.{Runs}
+use Rattle.trace_runs.specs.declared.faults.RunFault.{RunFault}
+use Rattle.trace_runs.proofs.Loops.{each_mapped}
+use Rattle.replay.specs.Building.{unbuilt_line}
+use Rattle.replay.proofs.Building.{handlers_run, outside_at}
 
--- the items from a place on
+-- one item
+module _ (script : List NamedBlock) (world : World) where
+  pub outside_is : (line : ℕ) (command : What) → ((time : ℕ) → command ≡ what.Tick time → ⊥)
+      → caught (run_command script [] (command_at line command) NoEntry world) ≡ run_item script (item_at line command) world
+  unfolding run_item
+  outside_is line command ticks = ap (λ item. run_item script item world) (sym (outside_at line command ticks))
 
-abbrev pub rest_from : Script → List CodeItem → ℕ → World → Said World
-rest_from handlers items i world = for_each (run_item handlers) (map item_of (drop i items)) world
+  pub tick_is : (line time : ℕ) (command : What) → command ≡ what.Tick time → caught (run_tick script line time world) ≡ run_item script (item_at line command) world
+  unfolding run_item
+  tick_is line time command is = ap (λ it. run_item script (item_at line it) world) (sym is)
 
-pub rest_first : (now : Option (List ℕ)) (script : List Item) (items : List CodeItem) (world : World) → map item_of items ≡ script
-    → Following now now (run_items script world) (rest_from (handlers_in script) items 0 world)
+  pub handler_is : (line : ℕ) (name : List ℕ) (block : model.Block) (end_line : ℕ) → silent world ≡ run_item script (Handler line name block end_line) world
+  unfolding run_item
+  handler_is line name block end_line = refl
+
+-- a page is ready for the next item
+pub ready_behind : {A : Type 0} (script : List model.Item) (item : model.Item) (before after : World) (result : Result A RunFault) {taken taken_after : Option (List ℕ)} {f g : ℕ}
+    → IsReady script before → Runs goes_on (λ _. after) result taken taken_after f g (run_item (handlers_in script) item before) → IfOk result (λ _. IsReady script after)
+ready_behind script item before after (Ok done) ready run =
+    subst (IsReady script) run.ended.state_is
+    (record {
+      range = item-in (handlers_in script) item before ready.range;
+      limits = item-within (handlers_in script) before ready.limits item;
+      built = ready.built;
+    })
+ready_behind script item before after (Err fault) ready run = tt
+
+-- and for the first one
+pub opening_ready : (script : List model.Item) (world : World) → world ≡ opening_world → unbuilt_line script ≡ None → IsReady script world
+opening_ready script world opening built =
+    subst (IsReady script) (sym opening) (record { range = opening-in _; limits = opening-within; built = handlers_run script built })
+
+-- the items of the program
+pub items_are : (items : List Item) (script : List model.Item) (world : World) → map item_of items ≡ script
+    → run_items script world ≡ for_each (λ (item : Item). run_item (handlers_in script) (item_of item)) items world
 unfolding run_items
-rest_first now script items world is =
-    subst (λ (these : List Item). Following now now (run_items script world) (for_each (run_item (handlers_in script)) these world)) (sym is) (following_first now (run_items script world))
-
-rest_next : (handlers : Script) (items : List CodeItem) (i : ℕ) (it : CodeItem) (world : World) → i < length items → it ≡ get_or items i it
-    → rest_from handlers items i world ≡ run_item handlers (item_of it) world followed_by rest_from handlers items (i + 1)
-unfolding for_each
-rest_next handlers items i it world within is =
-    at_drop_more (λ (left : List CodeItem). for_each (run_item handlers) (map item_of left) world) items i it within
-    ∙ ap (λ (first : CodeItem). run_item handlers (item_of first) world followed_by rest_from handlers items (i + 1)) (sym is)
-
-rest_none : (handlers : Script) (items : List CodeItem) (i : ℕ) (world : World) → length items ≤ i → rest_from handlers items i world ≡ silent world
-unfolding for_each
-rest_none handlers items i world past = at_drop_all (λ (left : List CodeItem). for_each (run_item handlers) (map item_of left) world) items i past
-
-pub following_next : (before now : Option (List ℕ)) (whole : Said World) (handlers : Script) (items : List CodeItem) (i : ℕ) (it : CodeItem) (world : World) → i < length items → it ≡ get_or items i it
-    → Following before now whole (rest_from handlers items i world) → Following before now whole (run_item handlers (item_of it) world followed_by rest_from handlers items (i + 1))
-following_next before now whole handlers items i it world within is here =
-    subst (λ (rest : Said World). Following before now whole rest) (rest_next handlers items i it world within is) here
-
-pub following_last : (before now : Option (List ℕ)) (whole : Said World) (handlers : Script) (items : List CodeItem) (i : ℕ) (world : World) → length items ≤ i
-    → Following before now whole (rest_from handlers items i world) → Following before now whole (silent world)
-following_last before now whole handlers items i world past here =
-    subst (λ (rest : Said World). Following before now whole rest) (rest_none handlers items i world past) here
-
--- the items from a place on are built, and one observer was asked for or none
-pub record Playing (items : List CodeItem) (i : ℕ) (world : World) : Type 0 where
-  pub made : Bool
-  pub built : unbuilt_from (map item_of (drop i items)) made ≡ None
-  pub counted : length world.resize_observers.made ≤ cond made 1 0
-
-pub playing_first : (script : List Item) (items : List CodeItem) (world : World) → map item_of items ≡ script → unbuilt_line script ≡ None → world.resize_observers.made ≡ []
-    → Playing items 0 world
-playing_first script items world is built none = record {
-  made = false;
-  built = ap (λ (these : List Item). unbuilt_from these false) is ∙ built_line script ∙ built;
-  counted = let empty : length world.resize_observers.made ≡ 0 = ap length none in omega arith;
-}
-
-pub playing_built : (items : List CodeItem) (i : ℕ) (it : CodeItem) (world : World) → i < length items → it ≡ get_or items i it → Playing items i world
-    → unbuilt_item false (item_of it) ≡ None
-playing_built items i it world within is playing =
-    item_anew playing.made (item_of it) (built_here items i it playing.made within is playing.built)
-
-pub playing_few : (items : List CodeItem) (i : ℕ) (world : World) → Playing items i world → length world.resize_observers.made ≤ 1
-playing_few items i world playing = at_most_one playing.made world playing.counted
-
-pub playing_next : (items : List CodeItem) (i : ℕ) (it : CodeItem) (old new : World) → i < length items → it ≡ get_or items i it → HasMade (made_by (item_of it)) old new
-    → Playing items i old → Playing items (i + 1) new
-playing_next items i it old new within is made playing =
-    let built = built_here items i it playing.made within is playing.built in
-    record {
-      made = playing.made || made_by (item_of it);
-      built = sym (unbuilt_next items i it playing.made _ within is built refl) ∙ playing.built;
-      counted = counted_next playing.made (item_of it) old new built playing.counted made;
-    }
+items_are items script world is =
+    ap (λ (it : List model.Item). for_each (run_item (handlers_in script)) it world) (sym is)
+    ∙ sym (each_mapped (run_item (handlers_in script)) item_of items world)

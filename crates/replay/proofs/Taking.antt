@@ -6,7 +6,7 @@ use Rattle.text_io.specs.Streams.{PassesLimit}
 use Rattle.text_io.specs.declared.kinds.LimitKind.TheVariants as limits
 use Rattle.script_model.specs.Lexing.{lexed}
 use Rattle.script_model.specs.Reading.{LimitAt, reading, read_lexed, last_line}
-use Rattle.built_part.specs.Outcomes.{outcome, outcome_read}
+use Rattle.replay.specs.Outcomes.{outcome, outcome_read}
 use Rattle.replay.specs.Answers.{Answers, Ends, IsTaken}
 use Rattle.replay.specs.declared.status.Status.{Status}
 use Rattle.replay.specs.declared.status.Status.TheVariants.{Done, Syntax, Limit, NotBuilt, NoMemory, ReadFault, WriteFault, Usage}

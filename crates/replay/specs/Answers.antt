@@ -1,25 +1,10 @@
 -- What a run answers and writes.
-use Rattle.std.specs.Prelude.{◌≡◌, ℕ, List, [], ◌++◌, drop, Option, Some, Result, Ok, Err}
+use Rattle.std.specs.Prelude.{◌≡◌, ℕ, List, [], drop, Option, Some}
 use Rattle.std.specs.Io.KnownBytes.{Appends}
-use Rattle.text_io.specs.Streams.{Rose}
-use Rattle.built_part.specs.Outcomes.{Outcome, Ended, Faulty, LimitMet, Unbuilt}
+use Rattle.trace_runs.specs.Writes.{AppendsPart, FailsWithin}
+use Rattle.replay.specs.Outcomes.{Outcome, Ended, Faulty, LimitMet, Unbuilt}
 use Rattle.replay.specs.declared.status.Status.{Status}
 use Rattle.replay.specs.declared.status.Status.TheVariants.{Done, Syntax, Limit, NotBuilt, NoMemory, ReadFault, WriteFault, Usage}
-use Rattle.replay.specs.declared.status.Stop.{Stop}
-use Rattle.replay.specs.declared.status.Stop.TheVariants.{Memory, Write}
-
--- known bytes grow by a first part of a text
-pub record AppendsPart (before after : Option (List ℕ)) (text : List ℕ) : Type 0 where
-  pub part : List ℕ
-  pub rest : List ℕ
-  pub whole : text ≡ part ++ rest
-  pub written : Appends before after part
-
--- a text was written, and no write failed, or a first part of it was, and the reason stands
-abbrev pub Wrote : {A : Type 0} → Result A Stop → Option (List ℕ) → Option (List ℕ) → ℕ → ℕ → List ℕ → Type 0
-Wrote (Ok value) before after faults faults_after text = Appends before after text × (faults_after ≡ faults)
-Wrote (Err Memory) before after faults faults_after text = AppendsPart before after text
-Wrote (Err Write) before after faults faults_after text = AppendsPart before after text × Rose faults faults_after
 
 -- what each status says of the outcome of a text that was read, and of what was written then; a read that failed comes
 -- before
@@ -29,7 +14,7 @@ Answers Syntax outcome before after faults faults_after = (outcome.ending ≡ Fa
 Answers Limit outcome before after faults faults_after = (outcome.ending ≡ LimitMet) × Appends before after (outcome.text)
 Answers NotBuilt outcome before after faults faults_after = (outcome.ending ≡ Unbuilt) × Appends before after (outcome.text)
 Answers NoMemory outcome before after faults faults_after = AppendsPart before after (outcome.text)
-Answers WriteFault outcome before after faults faults_after = AppendsPart before after (outcome.text) × Rose faults faults_after
+Answers WriteFault outcome before after faults faults_after = FailsWithin before after faults faults_after (outcome.text)
 Answers ReadFault outcome before after faults faults_after = ⊥
 Answers Usage outcome before after faults faults_after = ⊥
 

@@ -1,25 +1,33 @@
--- What is built of one item of a script.
-use Rattle.std.specs.Prelude.{ℕ, ◌+◌, ◌≤◌, Bool, false, cond, length, Option, Some, None}
-use Rattle.script_model.specs.Syntax.{Simple, Each, When, Item, Outside, Tick, Handler}
-use Rattle.page_model.specs.World.{World}
-use Rattle.built_part.specs.Built.{is_built, is_observer_made}
+-- Which scripts the program runs so far: those all of whose commands a page applies, in handlers and blocks too. What is built
+-- when is this project's own.
+use Rattle.std.specs.Prelude.{ℕ, cond, List, [], ◌∷◌, Option, Some, None}
+use Rattle.script_model.specs.Syntax.{Command, Simple, Each, When, Block, NoMore, Then, Item, Outside, Tick, Handler}
+use Rattle.handlers.specs.Blocks.{is_run}
 
--- the line of an item that isn't built, none where it is
-abbrev pub unbuilt_item : Bool → Item → Option ℕ
-unbuilt_item made (Outside (Simple line action)) = cond (is_built made action) None (Some line)
-unbuilt_item made (Outside (Each line block end_line)) = Some line
-unbuilt_item made (Outside (When line condition block end_line)) = Some line
-unbuilt_item made (Tick line time) = None
-unbuilt_item made (Handler line name block end_line) = Some line
+-- the first of two lines, if there is one
+abbrev pub first_line : Option ℕ → Option ℕ → Option ℕ
+first_line None other = other
+first_line (Some line) other = Some line
 
--- whether an item asks for an observer
-abbrev pub made_by : Item → Bool
-made_by (Outside (Simple line action)) = is_observer_made action
-made_by (Outside (Each line block end_line)) = false
-made_by (Outside (When line condition block end_line)) = false
-made_by (Tick line time) = false
-made_by (Handler line name block end_line) = false
+-- the line of the first command that isn't built, none where all are
+unfoldable mutual
+  unfolding is_run
 
--- there are no more resize observers than before, or one more where one is made
-abbrev pub HasMade : Bool → World → World → Type 0
-HasMade makes old new = length (new.resize_observers.made) ≤ length (old.resize_observers.made) + cond makes 1 0
+  pub unbuilt_command : Command → Option ℕ
+  unbuilt_command (Simple line action) = cond (is_run (Simple line action)) None (Some line)
+  unbuilt_command (Each line block end_line) = unbuilt_block block
+  unbuilt_command (When line condition block end_line) = unbuilt_block block
+
+  pub unbuilt_block : Block → Option ℕ
+  unbuilt_block NoMore = None
+  unbuilt_block (Then command others) = first_line (unbuilt_command command) (unbuilt_block others)
+
+abbrev pub unbuilt_item : Item → Option ℕ
+unbuilt_item (Outside command) = unbuilt_command command
+unbuilt_item (Tick line time) = None
+unbuilt_item (Handler line name block end_line) = unbuilt_block block
+
+unfoldable pub unbuilt_line : List Item → Option ℕ
+unfolding unbuilt_command unbuilt_block
+unbuilt_line [] = None
+unbuilt_line (item ∷ items) = first_line (unbuilt_item item) (unbuilt_line items)

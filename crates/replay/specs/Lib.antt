@@ -1,4 +1,4 @@
+pub mod Building
+pub mod Outcomes
 pub mod Statuses
 pub mod Answers
-pub mod Building
-pub mod Steps

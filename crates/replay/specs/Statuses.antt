@@ -1,13 +1,10 @@
 -- Exit statuses, and which ending of an outcome each status is.
 use Rattle.std.specs.Prelude.{ℕ, Bool, true, false, Result, Ok, Err}
-use Rattle.page_model.specs.Runs as runs
-use Rattle.built_part.specs.Outcomes.{Ending, Ended, Faulty, LimitMet, Unbuilt}
+use Rattle.trace_runs.specs.declared.faults.RunFault.{RunFault}
+use Rattle.trace_runs.specs.declared.faults.RunFault.TheVariants as fault
+use Rattle.replay.specs.Outcomes.{Ending, Ended, Faulty, LimitMet, Unbuilt}
 use Rattle.replay.specs.declared.status.Status.{Status}
 use Rattle.replay.specs.declared.status.Status.TheVariants.{Done, Syntax, Limit, NotBuilt, NoMemory, ReadFault, WriteFault, Usage}
-use Rattle.replay.specs.declared.status.Stop.{Stop}
-use Rattle.replay.specs.declared.status.Stop.TheVariants.{Memory, Write}
-use Rattle.replay.specs.declared.status.Flow.{Flow}
-use Rattle.replay.specs.declared.status.Flow.TheVariants.{Next, Limited}
 
 -- the exit status of the program
 abbrev pub code_of : Status → ℕ
@@ -36,15 +33,12 @@ status_at Faulty = Syntax
 status_at LimitMet = Limit
 status_at Unbuilt = NotBuilt
 
-abbrev pub status_of : Stop → Status
-status_of Memory = NoMemory
-status_of Write = WriteFault
+abbrev pub status_of : RunFault → Status
+status_of (fault.Limit kind line) = Limit
+status_of fault.Memory = NoMemory
+status_of fault.WriteFault = WriteFault
 
--- the status where all was written, else that of the reason
-abbrev pub status_after : {A : Type 0} → Result A Stop → Status → Status
+-- the status where all was written, else that of the fault
+abbrev pub status_after : {A : Type 0} → Result A RunFault → Status → Status
 status_after (Ok done) status = status
-status_after (Err stop) status = status_of stop
-
-abbrev pub flow_of : Flow → runs.Flow
-flow_of Next = runs.Next
-flow_of Limited = runs.Limited
+status_after (Err fault) status = status_of fault

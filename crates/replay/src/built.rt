@@ -1,95 +1,97 @@
 //! Which scripts are built so far.
 
-ghost use Rattle.std.specs.Prelude.{◌≡◌, Bool, map};
-ghost use Rattle.script_syntax.specs.Seen.{action_of, item_of, item_at};
-ghost use Rattle.built_part.specs.Built.{is_built, is_observer_made, unbuilt_line};
-ghost use Rattle.replay.specs.Building.{unbuilt_item, made_by};
+ghost use Rattle.std.specs.Prelude.{◌≡◌, ◌&&◌, cond, map, None, Some};
+ghost use Rattle.handlers.specs.Blocks.{is_worded};
+ghost use Rattle.page_state.specs.Applied.{is_applied};
+ghost use Rattle.script_syntax.specs.Seen.{action_of, command_of, item_at, item_of};
+ghost use Rattle.replay.specs.Building.{unbuilt_block, unbuilt_command, unbuilt_item, unbuilt_line};
 
-use script_syntax::{Item, What};
+use script_syntax::{Command, CommandList, Item, What};
 
-fn is_built(made: bool, what: &What) -> bool
-    ensures { result ≡ is_built made (action_of what.now) }
+// Whether a command without a block is built. A `tick` stands in no block.
+fn is_built(what: &What) -> bool
+    ensures { result ≡ is_applied (action_of what.now) && is_worded (action_of what.now) }
 {
     match what {
-        What::Viewport(_)
-        | What::Block(_, _)
-        | What::Image(_, _, _)
-        | What::Append(_, _)
-        | What::Before(_, _, _)
-        | What::Remove(_)
-        | What::Set(_, _)
-        | What::Grow(_, _, _)
-        | What::Load(_, _)
-        | What::RoObserve(_, _, _)
-        | What::Read(_) => true,
-        What::Ro(_, _, None) => !made,
-        What::Ro(_, _, Some(_))
-        | What::Frame(_, _, _)
-        | What::RoUnobserve(_, _)
-        | What::RoDisconnect(_)
+        What::Frame(_, _, _)
         | What::Io(_)
         | What::IoObserve(_, _)
         | What::IoUnobserve(_, _)
         | What::IoDisconnect(_)
         | What::IoTake(_)
-        | What::Listen(_, _, _)
-        | What::Unlisten(_, _, _)
-        | What::Media(_, _, _)
         | What::Scroll(_, _)
         | What::ScrollBy(_, _)
-        | What::Raf(_, _, _)
-        | What::CancelRaf(_, _)
-        | What::Timer(_, _, _, _)
-        | What::ClearTimer(_, _)
-        | What::Post(_, _)
-        | What::Say(_)
         | What::Each(_)
         | What::When(_, _)
         | What::Tick(_) => false,
+        What::Say(word) => !word.bytes().is_empty(),
+        _ => true,
     }
 }
 
-// The line of an item that isn't built, where an observer was asked for before or not.
-fn unbuilt_item(made: bool, item: &Item) -> Option<u32>
-    ensures { result ≡ unbuilt_item made (item_of item.now) }
+// The line of a command without a block, where it isn't built.
+fn unbuilt_action(what: &What, line: u32) -> Option<u32>
+    ensures { result ≡ cond (is_applied (action_of what.now) && is_worded (action_of what.now)) None (Some line) }
+{
+    if is_built(what) {
+        return None;
+    }
+    Some(line)
+}
+
+// The line of the first command that isn't built, of a command and those in its block.
+#[cycle(built)]
+fn unbuilt_command(command: &Command) -> Option<u32>
+    ensures { result ≡ unbuilt_command (command_of command.now) }
+{
+    match &command.what {
+        What::Each(body) => unbuilt_block(&body.commands),
+        What::When(_, body) => unbuilt_block(&body.commands),
+        what => unbuilt_action(what, command.line),
+    }
+}
+
+#[cycle(built)]
+fn unbuilt_block(block: &CommandList) -> Option<u32>
+    ensures { result ≡ unbuilt_block block.now }
+{
+    for command in block.commands() {
+        match unbuilt_command(command) {
+            None => {}
+            Some(line) => return Some(line),
+        }
+    }
+    None
+}
+
+// The same of a command outside handlers, where a `tick` may stand.
+fn unbuilt_outside(command: &Command) -> Option<u32>
+    ensures { result ≡ unbuilt_item (item_at command.now.line command.now.what) }
+{
+    match &command.what {
+        What::Tick(_) => None,
+        _ => unbuilt_command(command),
+    }
+}
+
+fn unbuilt_item(item: &Item) -> Option<u32>
+    ensures { result ≡ unbuilt_item (item_of item.now) }
 {
     match item {
-        Item::Handler { line, .. } => Some(*line),
-        Item::Command(command) => match command.what {
-            What::Tick(_) => None,
-            _ => {
-                if is_built(made, &command.what) {
-                    None
-                } else {
-                    Some(command.line)
-                }
-            }
-        },
+        Item::Handler { commands, .. } => unbuilt_block(commands),
+        Item::Command(command) => unbuilt_outside(command),
     }
 }
 
-fn makes_observer(item: &Item) -> bool
-    ensures { result ≡ made_by (item_of item.now) }
-{
-    match item {
-        Item::Handler { .. } => false,
-        Item::Command(command) => match command.what {
-            What::Ro(_, _, _) => true,
-            _ => false,
-        },
-    }
-}
-
-/// The line of the first thing that isn't built, none where all is.
+/// The line of the first command of a script that isn't built, none where all are.
 pub fn unbuilt_line(items: &[Item]) -> Option<u32>
     ensures { result ≡ unbuilt_line (map item_of items.now) }
 {
-    let mut made = false;
     for item in items {
-        if let Some(line) = unbuilt_item(made, item) {
-            return Some(line);
+        match unbuilt_item(item) {
+            None => {}
+            Some(line) => return Some(line),
         }
-        made = made || makes_observer(item);
     }
     None
 }

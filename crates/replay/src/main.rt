@@ -3,7 +3,7 @@
 
 ghost use Rattle.std.specs.Prelude.{◌≡◌, ◌↔◌, ◌<◌, length, is_some, IfSome};
 ghost use Rattle.text_io.specs.Streams.{Rose};
-ghost use Rattle.built_part.specs.Outcomes.{outcome};
+ghost use Rattle.replay.specs.Outcomes.{outcome};
 ghost use Rattle.replay.specs.Answers.{Ends, IsTaken};
 ghost use Rattle.replay.specs.Statuses.{is_done};
 

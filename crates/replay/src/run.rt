@@ -1,19 +1,22 @@
 //! The top call.
 
-ghost use Rattle.std.specs.Prelude.{◌≡◌, ◌↔◌, ◌<◌, ◌≤◌, None, Err, length, is_some, false, IfSome, Some, []};
+ghost use Rattle.std.specs.Prelude.{◌≡◌, ◌↔◌, ◌<◌, ◌≤◌, None, Err, length, is_some, false, IfSome, Some, [], ◌∷◌};
 ghost use Rattle.text_io.specs.Streams.{Rose};
+ghost use Rattle.text_io.specs.Limits.{limit_number};
+ghost use Rattle.script_model.specs.TraceLines.{LimitLine};
 ghost use Rattle.script_model.specs.Reading.{Reading, reading, LimitAt};
 ghost use Rattle.script_syntax.specs.Parsing.{Parses};
-ghost use Rattle.page_model.specs.Outcome.{opening_world};
-ghost use Rattle.built_part.specs.Built.{unbuilt_line};
-ghost use Rattle.built_part.specs.Outcomes.{outcome, outcome_read, outcome_run};
+ghost use Rattle.page_model.specs.Outcome.{bytes_of, opening_world};
+ghost use Rattle.trace_runs.specs.Writes.{Wrote};
+ghost use Rattle.replay.specs.Building.{unbuilt_line};
+ghost use Rattle.replay.specs.Outcomes.{outcome, outcome_read, outcome_run};
 ghost use Rattle.replay.specs.Answers.{Answers, Ends, IsTaken};
 ghost use Rattle.replay.specs.Statuses.{is_done, status_after, status_of};
 
 use crate::built::unbuilt_line;
 use crate::play::play;
-use crate::status::{Flow, Status, Stop};
-use crate::write::{write_not_built, write_one};
+use crate::status::Status;
+use crate::write::write_not_built;
 use page_state::Page;
 use script_lexer::Lexer;
 use script_syntax::{ParseFault, Script, parse};
@@ -21,6 +24,7 @@ use std::alloc::Global;
 use std::sync::ledger::Ledger;
 use step_count::Steps;
 use text_io::{LimitKind, Sink, Source, TextFault, read_all};
+use trace_runs::{RunFault, write_one};
 use trace_text::TraceLine;
 
 /// The most bytes of a script.
@@ -44,26 +48,40 @@ fn without_page(status: Status) -> Report
     Report { status, page: None }
 }
 
-fn stopped(stop: Stop) -> Report
-    ensures report { result ≡ record { status = status_of stop; page = None } }
+fn stopped(fault: RunFault) -> Report
+    ensures report { result ≡ record { status = status_of fault; page = None } }
     ensures done { is_done result.status ≡ false }
 {
-    match stop {
-        Stop::Memory => without_page(Status::NoMemory),
-        Stop::Write => without_page(Status::WriteFault),
+    match fault {
+        RunFault::Limit { .. } => without_page(Status::Limit),
+        RunFault::Memory => without_page(Status::NoMemory),
+        RunFault::WriteFault => without_page(Status::WriteFault),
     }
 }
 
 // The end of a run whose whole text is one line.
-fn conclude(wrote: Result<(), Stop>, status: Status) -> Report
+fn conclude(wrote: Result<(), RunFault>, status: Status) -> Report
     requires { is_done status ≡ false }
     ensures report { result ≡ record { status = status_after wrote status; page = None } }
     ensures done { is_done result.status ≡ false }
 {
     match wrote {
         Ok(()) => without_page(status),
-        Err(stop) => stopped(stop),
+        Err(fault) => stopped(fault),
     }
+}
+
+fn write_limit<K: Sink>(
+    alloc: Global,
+    kind: LimitKind,
+    line: u32,
+    sink: &mut K,
+) -> Result<(), RunFault>
+    ensures { Wrote result (K.taken sink.old) (K.taken sink.new) (K.faults sink.old) (K.faults sink.new)
+        (bytes_of (LimitLine kind line (limit_number kind) ∷ [])) }
+{
+    let line = TraceLine::Limit(kind, line, kind.number());
+    write_one(alloc, &line, sink)
 }
 
 // A limit that was met while the text was read.
@@ -72,8 +90,7 @@ fn meet_limit<K: Sink>(alloc: Global, kind: LimitKind, line: u32, sink: &mut K) 
     ensures page { result.page ≡ None }
     ensures done { is_done result.status ≡ false }
 {
-    let line = TraceLine::Limit(kind, line, kind.number());
-    conclude(write_one(alloc, &line, sink), Status::Limit)
+    conclude(write_limit(alloc, kind, line, sink), Status::Limit)
 }
 
 fn parse_text(alloc: Global, text: &[u8]) -> Result<Script, ParseFault>
@@ -106,6 +123,53 @@ fn refuse_text<K: Sink>(alloc: Global, fault: ParseFault, sink: &mut K) -> Repor
     }
 }
 
+// A script all of which is built, on a page that was just made.
+fn run_on<K: Sink, L: Ledger>(
+    alloc: Global,
+    mut page: Page,
+    script: &Script,
+    sink: &mut K,
+    steps: &mut Steps<L>,
+) -> Report
+    requires opening { page.world ≡ opening_world }
+    requires built { unbuilt_line script.now ≡ None }
+    ensures answers { Answers result.status (outcome_run (unbuilt_line script.now) script.now)
+        (K.taken sink.old) (K.taken sink.new) (K.faults sink.old) (K.faults sink.new) }
+    ensures page { is_some result.page ≡ is_done result.status }
+    ensures world { IfSome result.page (λ page. page.world ≡ (outcome_run (unbuilt_line script.now) script.now).world) }
+{
+    match play(alloc, &mut page, script, sink, steps) {
+        Ok(()) => Report {
+            status: Status::Done,
+            page: Some(page),
+        },
+        Err(RunFault::Limit { kind, line }) => {
+            conclude(write_limit(alloc, kind, line, sink), Status::Limit)
+        }
+        Err(RunFault::Memory) => without_page(Status::NoMemory),
+        Err(RunFault::WriteFault) => without_page(Status::WriteFault),
+    }
+}
+
+// A script all of which is built.
+fn run_built<K: Sink, L: Ledger>(
+    alloc: Global,
+    script: &Script,
+    sink: &mut K,
+    steps: &mut Steps<L>,
+) -> Report
+    requires built { unbuilt_line script.now ≡ None }
+    ensures answers { Answers result.status (outcome_run (unbuilt_line script.now) script.now)
+        (K.taken sink.old) (K.taken sink.new) (K.faults sink.old) (K.faults sink.new) }
+    ensures page { is_some result.page ≡ is_done result.status }
+    ensures world { IfSome result.page (λ page. page.world ≡ (outcome_run (unbuilt_line script.now) script.now).world) }
+{
+    match Page::new(alloc) {
+        Ok(page) => run_on(alloc, page, script, sink, steps),
+        Err(_) => without_page(Status::NoMemory),
+    }
+}
+
 // A script, where all of it is built.
 fn run_script<K: Sink, L: Ledger>(
     alloc: Global,
@@ -118,19 +182,9 @@ fn run_script<K: Sink, L: Ledger>(
     ensures page { is_some result.page ≡ is_done result.status }
     ensures world { IfSome result.page (λ page. page.world ≡ (outcome_run (unbuilt_line script.now) script.now).world) }
 {
-    if let Some(line) = unbuilt_line(script.items()) {
-        return conclude(write_not_built(alloc, line, sink), Status::NotBuilt);
-    }
-    let Ok(mut page) = Page::new(alloc) else {
-        return without_page(Status::NoMemory);
-    };
-    match play(alloc, &mut page, script, sink, steps) {
-        Ok(Flow::Next) => Report {
-            status: Status::Done,
-            page: Some(page),
-        },
-        Ok(Flow::Limited) => without_page(Status::Limit),
-        Err(stop) => stopped(stop),
+    match unbuilt_line(script.items()) {
+        None => run_built(alloc, script, sink, steps),
+        Some(line) => conclude(write_not_built(alloc, line, sink), Status::NotBuilt),
     }
 }
 

@@ -41,17 +41,3 @@ impl Status {
         }
     }
 }
-
-/// Why a run ended early.
-#[derive(Clone, Copy, Debug, PartialEq, Eq)]
-pub enum Stop {
-    Memory,
-    Write,
-}
-
-/// Whether the next item of a script follows, or a limit ended the run.
-#[derive(Clone, Copy, Debug, PartialEq, Eq)]
-pub enum Flow {
-    Next,
-    Limited,
-}

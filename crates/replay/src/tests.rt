@@ -40,6 +40,28 @@ const VIEWPORT: &str = "script 1\ntick 0\nviewport 500px 600px\ntick 16\ntick 32
 
 const VIEWPORT_TOLD: &str = "tick 0\ntick 16\nevent resize @top\ntick 32\n";
 
+// What waits for a tick, in the order in which it is called: timers, a resized viewport, a query list, frame callbacks, tasks. A
+// throw ends its handler alone.
+const CALLBACKS: &str =
+    "script 1\nhandler ht\nsay timer\nraf top f hf\nraf top f hf\nsay after\nend\nhandler hf\nsay frame\npost top hp\nend\nhandler hr\nsay resized\nunlisten @top resize hr\nend\nhandler hp\nsay task\nend\nhandler hm\nsay media\nend\nmedia m top (min-width: 600px)\nlisten m change hm\nlisten @top resize hr\ntimer top k 10 ht\ntimer top j 5 hp\ntick 0\nviewport 500px 600px\ntick 10\nviewport 700px 600px\ntick 20\n";
+
+const CALLBACKS_TOLD: &str =
+    "tick 0\ntick 10\ntimer top j\nsay task\ntimer top k\nsay timer\nthrow 5 TypeError\nevent resize @top\nsay resized\nevent change m false\nsay media\nframe top f\nsay frame\ntask top hp\nsay task\ntick 20\nevent resize @top\nevent change m true\nsay media\n";
+
+// A handler makes its target less wide, twice, so that an observation is left over each time.
+const SHRINKING: &str =
+    "script 1\nhandler shrink\neach\nwhen wider $target 100px\ngrow $target width -150px\nend\nwhen not attached $target\nsay away\nend\nend\nend\nhandler late\nsay late\nend\nblock r top\nappend top r\nblock b top\nappend r b\nset b width 300px\nro o top shrink\nro-observe o b content\nlisten @top error late\ntick 0\ntick 16\nremove b\ntick 32\n";
+
+const SHRINKING_TOLD: &str =
+    "tick 0\nresize o b rect 0 0 300 0 border 300 0\nround top 2\nevent error @top ResizeObserver loop completed with undelivered notifications.\nsay late\ntick 16\nresize o b rect 0 0 150 0 border 150 0\nround top 2\nevent error @top ResizeObserver loop completed with undelivered notifications.\nsay late\ntick 32\nresize o b rect 0 0 0 0 border 0 0\nsay away\nround top 1\n";
+
+// Two observers, of which one's handler changes what the other observes and its own target.
+const TWO_OBSERVERS: &str =
+    "script 1\nhandler deeper\nset c width 40px\nset r width 90px\nend\nblock r top\nappend top r\nblock c top\nappend r c\nset r height 10px\nset c height 5px\nro o top deeper\nro-observe o r content\nro p top -\nro-observe p c border\ntick 0\nro-unobserve o r\nset r width 80px\ntick 1\nro-disconnect p\nset c width 20px\ntick 2\n";
+
+const TWO_OBSERVERS_TOLD: &str =
+    "tick 0\nresize o r rect 0 0 800 10 border 800 10\nresize p c rect 0 0 40 5 border 40 5\nround top 1\nevent error @top ResizeObserver loop completed with undelivered notifications.\ntick 1\ntick 2\n";
+
 fn numbers(alloc: Global, number: Option<u64>) -> Result<Vec<u64>, AllocError> {
     let mut numbers = Vec::new(alloc);
     if let Some(number) = number {
@@ -103,15 +125,18 @@ fn scripts_give_their_traces(rt: HostRuntime) -> Result<(), Fail> {
         ("", Status::Syntax, "syntax 1 1\n"),
         ("script 1\nro-observe o", Status::Syntax, "syntax 2 13\n"),
         (
-            "script 1\nhandler h\nsay hello\nend\n",
+            "script 1\nhandler h\nwhen attached r\nscroll top 1px 1px\nend\nend\n",
             Status::NotBuilt,
-            "not-built 2\n",
+            "not-built 4\n",
         ),
         (PAGE, Status::Done, TOLD),
         (HIDDEN, Status::Done, HIDDEN_TOLD),
         (PERCENT, Status::Done, PERCENT_TOLD),
         (EDITS, Status::Done, EDITS_TOLD),
         (VIEWPORT, Status::Done, VIEWPORT_TOLD),
+        (CALLBACKS, Status::Done, CALLBACKS_TOLD),
+        (SHRINKING, Status::Done, SHRINKING_TOLD),
+        (TWO_OBSERVERS, Status::Done, TWO_OBSERVERS_TOLD),
     ] {
         expect(&rt, rt.alloc(), text, WHOLE, status, told)?;
     }

@@ -25,7 +25,7 @@ loop-place-preserved g c = record {
       let same = ap (λ (active : List Observation). length active) (active_kept sight c.loop-place.place (c.args.observer.0) c.args.observers.now c.loop-place.observers c.loop-place.invariant.so_far c.requires) in
       reporting_more sight c.loop-place.place (c.args.observer.0) c.args.observers.now c.loop-place.observers c.report.new.self c.active.result.now _ c.size_now-size.result
       c.loop-place.invariant.so_far c.requires c.loop-place.invariant.serials c.active.ensures.value
-      (omega (arith, same, c.active.ensures.count, c.loop-place.invariant.end, c.loop-place-test.true)) c.size_now-size.ensures c.report.ensures.reported;
+      (omega (arith, same, c.active.ensures.count, c.loop-place.invariant.end, c.loop-place-test.true)) c.size_now-size.ensures.value c.report.ensures.reported;
   count = c.report.ensures.count ∙ c.loop-place.invariant.count;
   end = c.loop-place.invariant.end;
   serials = c.loop-place.invariant.serials;

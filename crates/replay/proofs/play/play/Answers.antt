@@ -1,39 +1,40 @@
-use Rattle.std.proofs.Common.{◌∙◌, refl}
-use Rattle.replay.proofs.Following.{following_end, following_limited, following_more, following_stopped}
-use Rattle.replay.proofs.Playing.{following_last, following_next, playing_built, playing_first, playing_next, rest_first}
+use Rattle.std.proofs.Common.{arith, ap, refl, ◌∙◌}
+use Rattle.trace_runs.proofs.Following.{begin, rest_same, go_on, end_cut, done}
+use Rattle.trace_runs.proofs.Loops.{each_more, each_none}
+use Rattle.replay.specs.Building.{unbuilt_line}
+use Rattle.replay.proofs.Building.{item_built, others_built}
+use Rattle.replay.proofs.Playing.{items_are}
 use Rattle.replay.proofs.play.play.Goals as goal
 
 pub loop-item-init : goal.loop-item-init
-loop-item-init g c = record {
-  following = rest_first _ _ c.items-item-items.result.now _ c.items-item-items.ensures.value;
-  same = refl;
-  playing = playing_first _ c.items-item-items.result.now _ c.items-item-items.ensures.value c.requires.built c.requires.observers;
-}
+loop-item-init g c =
+    record {
+      following = rest_same (items_are c.items-item-items.result.now _ _ c.items-item-items.ensures.value) begin;
+      ready = c.requires.ready;
+      built = ap unbuilt_line c.items-item-items.ensures.value ∙ c.requires.built;
+    }
 
-pub step-requires-clause-built : goal.step-requires-clause-built
-step-requires-clause-built g c = playing_built c.items-item-items.result.now _ _ c.loop-item.page.world c.loop-item-test.true c.item-item.is c.loop-item.invariant.playing
+pub run_item-requires-clause-built : goal.run_item-requires-clause-built
+run_item-requires-clause-built g c =
+    item_built c.items-item-items.result.now c.loop-item.item-index _ (omega arith) c.item-item.is c.loop-item.invariant.built
 
-pub returns-in-Ok-Limited : goal.returns-in-Ok-Limited
-returns-in-Ok-Limited g c =
-    following_limited _ _ _ _ _ _ _ _ _ c.step.new.page.world
-    (following_next _ _ _ _ c.items-item-items.result.now _ _ _ c.loop-item-test.true c.item-item.is c.loop-item.invariant.following) c.loop-item.invariant.same
-    (rw c.in-Ok-Limited.field-0-is at c.in-Ok-Limited.ensures.says)
+pub loop-item-preserved : goal.loop-item-preserved
+loop-item-preserved g c =
+    record {
+      following =
+          go_on _ refl
+          (rest_same (each_more _ c.items-item-items.result.now c.loop-item.item-index _ _ (omega arith) c.item-item.is) c.loop-item.invariant.following)
+          c.in-Ok.ensures.says;
+      ready = c.in-Ok.ensures.ready;
+      built = others_built c.items-item-items.result.now c.loop-item.item-index _ (omega arith) c.item-item.is c.loop-item.invariant.built;
+    }
 
 pub returns-in-Err : goal.returns-in-Err
 returns-in-Err g c =
-    following_stopped c.in-Err.stop _ _ _ _ _ _ _ _ _ c.step.new.page.world c.step.new.page.world
-    (following_next _ _ _ _ c.items-item-items.result.now _ _ _ c.loop-item-test.true c.item-item.is c.loop-item.invariant.following) c.loop-item.invariant.same c.in-Err.ensures.says
-
-pub loop-item-preserved : goal.loop-item-preserved
-loop-item-preserved g c = record {
-  following =
-      following_more _ _ _ _ _ _ _ _ c.step.new.page.world
-      (following_next _ _ _ _ c.items-item-items.result.now _ _ _ c.loop-item-test.true c.item-item.is c.loop-item.invariant.following)
-      (rw c.in-Ok-Next.field-0-is at c.in-Ok-Next.ensures.says);
-  same = c.in-Ok-Next.ensures.says.1 ∙ c.loop-item.invariant.same;
-  playing = playing_next c.items-item-items.result.now _ _ c.loop-item.page.world c.step.new.page.world c.loop-item-test.true c.item-item.is c.in-Ok-Next.ensures.observers c.loop-item.invariant.playing;
-}
+    end_cut c.in-Err.fault _
+    (rest_same (each_more _ c.items-item-items.result.now c.loop-item.item-index _ _ (omega arith) c.item-item.is) c.loop-item.invariant.following)
+    c.in-Err.ensures.says
 
 pub returns : goal.returns
 returns g c =
-    following_end _ _ _ _ _ _ (following_last _ _ _ _ c.items-item-items.result.now _ _ c.loop-item-test.false c.loop-item.invariant.following) c.loop-item.invariant.same
+    done refl (rest_same (each_none _ c.items-item-items.result.now c.loop-item.item-index _ (omega arith)) c.loop-item.invariant.following)

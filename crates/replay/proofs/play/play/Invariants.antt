@@ -1,14 +1,21 @@
-use Rattle.std.proofs.Common.{◌≡◌}
+use Rattle.std.proofs.Common.{◌≡◌, drop, map}
+use Rattle.std.specs.Prelude.{None}
 use Rattle.script_model.specs.Scripts.{handlers_in}
-use Rattle.page_model.specs.Outcome.{run_items}
-use Rattle.replay.proofs.Following.{Following}
-use Rattle.replay.proofs.Playing.{Playing, rest_from}
+use Rattle.script_syntax.specs.Seen.{item_of}
+use Rattle.script_syntax.specs.declared.commands.Item.{Item}
+use Rattle.page_model.specs.Outcome.{run_item, run_items}
+use Rattle.page_model.specs.Runs.{for_each}
+use Rattle.trace_runs.proofs.Following.{Following}
+use Rattle.frame_update.specs.Ready.{IsReady}
+use Rattle.replay.specs.Building.{unbuilt_line}
 use Rattle.replay.proofs.play.play.Given as goal
 
--- the lines so far were written, no write failed, the others are those of the page as it is, and all is built
+-- the items up to here were run, and those from here on are to be run
 abbrev pub invariant-loop-item : goal.invariant-loop-item
 invariant-loop-item g l = record {
-  following : Following (g.K.Sink.taken l.fn.sink) (g.K.Sink.taken l.sink) (run_items l.script l.fn.page.world) (rest_from (handlers_in l.script) l.item-items l.item-index l.page.world);
-  same : g.K.Sink.faults l.sink ≡ g.K.Sink.faults l.fn.sink;
-  playing : Playing l.item-items l.item-index l.page.world;
+  following : Following (g.K.Sink.taken l.fn.sink) (g.K.Sink.taken l.sink) (g.K.Sink.faults l.fn.sink) (g.K.Sink.faults l.sink)
+      (run_items l.script l.fn.page.world)
+      (for_each (λ (item : Item). run_item (handlers_in l.script) (item_of item)) (drop l.item-index l.item-items) l.page.world);
+  ready : IsReady l.script l.page.world;
+  built : unbuilt_line (map item_of (drop l.item-index l.item-items)) ≡ None;
 }

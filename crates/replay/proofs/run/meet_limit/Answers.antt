@@ -2,4 +2,4 @@ use Rattle.replay.proofs.Endings.{limit_answers}
 use Rattle.replay.proofs.run.meet_limit.Goals as goal
 
 pub returns-clause-answers : goal.returns-clause-answers
-returns-clause-answers g c = rw c.conclude.ensures.report (limit_answers c.write_one.result c.args.kind _ _ _ _ _ _ c.number.ensures c.write_one.ensures)
+returns-clause-answers g c = rw c.conclude.ensures.report (limit_answers c.write_limit.result c.args.kind _ _ _ _ _ c.write_limit.ensures)

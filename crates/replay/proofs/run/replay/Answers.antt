@@ -1,6 +1,6 @@
 use Rattle.std.proofs.Common.{◌≡◌, subst}
 use Rattle.std.specs.Prelude.{IfSome}
-use Rattle.built_part.specs.Outcomes.{Outcome}
+use Rattle.replay.specs.Outcomes.{Outcome}
 use Rattle.replay.proofs.Endings.{answers_same, read_outcome, script_outcome}
 use Rattle.replay.proofs.run.replay.Goals as goal
 

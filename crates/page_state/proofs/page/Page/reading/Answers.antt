@@ -1,19 +1,20 @@
 -- The line of what is read.
-use Rattle.std.proofs.Common.{ℕ, List, ap, refl, sym, ◌∙◌}
+use Rattle.std.proofs.Common.{ℕ, List, ap, refl, sym, subst, ◌∙◌}
 use Rattle.script_model.specs.TraceLines.{ReadLine}
 use Rattle.page_model.specs.World.{ScrolledElement, ScrolledDocument}
 use Rattle.page_model.specs.Readings.{reading_of}
 use Rattle.page_boxes.specs.Pages.{AreUnscrolled}
 use Rattle.page_tree.specs.Steps.{seen_container}
-use Rattle.page_state.specs.Views.{PageView, no_scrolls}
+use Rattle.scrolling.specs.Held.{unscrolled}
+use Rattle.page_state.specs.Views.{PageView}
 use Rattle.page_state.proofs.page.Page.reading.Goals as goal
 
-unscrolled : AreUnscrolled no_scrolls
-unscrolled (ScrolledElement n) = refl
-unscrolled (ScrolledDocument document) = refl
+are_unscrolled : AreUnscrolled unscrolled
+are_unscrolled (ScrolledElement n) = refl
+are_unscrolled (ScrolledDocument document) = refl
 
 pub returns-clause-line : goal.returns-clause-line
 returns-clause-line g c =
     ap (λ (it : List ℕ). ReadLine it c.read-shown.result.rect c.read-shown.result.scroll) c.container_name-target.ensures
-    ∙ sym (c.read-shown.ensures.value c.args.self.now.world.names no_scrolls c.refresh.ensures.fresh unscrolled)
+    ∙ sym (c.read-shown.ensures.value c.args.self.now.world.names c.self.inside.scrolls c.refresh.ensures.fresh (subst AreUnscrolled (sym c.self.invariant.unscrolled) are_unscrolled))
     ∙ ap (λ (page : PageView). reading_of c.args.self.now.world.names page.world.tree page.world.viewports.size page.world.scrolls (seen_container c.args.container)) c.self.view_is

@@ -1,13 +1,9 @@
--- The tree has as many elements as before.
+-- The element is taken out.
 use Rattle.std.proofs.Common.{ap, ◌∙◌}
 use Rattle.page_model.specs.Documents.{removed}
-use Rattle.page_tree.specs.Views.{PageElements}
 use Rattle.page_state.specs.Views.{PageView}
-use Rattle.page_state.proofs.Inside.{world_of, edited}
+use Rattle.page_state.specs.Worlds.{world_of}
 use Rattle.page_state.proofs.page.Page.take_out.Goals as goal
-
-pub invariant_of-self : goal.invariant_of-self
-invariant_of-self c = edited c.self.inside c.remove.new.self c.self.invariant (ap (λ (it : PageElements). it.names) c.remove.ensures.rest) c.remove.ensures.count
 
 pub returns : goal.returns
 returns c =

@@ -6,7 +6,7 @@ use Rattle.page_model.specs.Viewports.{noted_size, with_noted, differs_from}
 use Rattle.page_boxes.specs.Pages.{seen_size}
 use Rattle.std.proofs.Common.{option_map}
 use Rattle.page_state.specs.Views.{PageView}
-use Rattle.page_state.proofs.Ticking.{sizes_differ, differs_here, noted_here}
+use Rattle.page_state.proofs.Top.{sizes_differ, differs_here, noted_here}
 use Rattle.page_state.proofs.page.Page.viewport_changed.Goals.{in-None, in-Some}
 use Rattle.page_state.proofs.page.Page.viewport_changed.Goals as goal
 

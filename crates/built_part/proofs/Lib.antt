@@ -1,5 +1,0 @@
-mod Pointwise
-pub mod Plain
-pub mod Delivering
-pub mod PlainTicks
-mod Replayed

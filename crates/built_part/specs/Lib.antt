@@ -1,3 +1,0 @@
-pub mod Built
-pub mod Outcomes
-pub mod Deliveries

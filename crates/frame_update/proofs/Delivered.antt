@@ -1,0 +1,60 @@
+-- What a delivery hands to a callback.
+use Rattle.std.proofs.Common.{◌≤◌, arith}
+use Rattle.std.proofs.lemmas.Int.{ints}
+use Rattle.std.specs.Prelude.{ℕ, ◌+◌, ◌<◌, ℤ, pos, negsuc, ◌≤ℤ◌, ◌-ℤ◌, unsigned_abs, List, length, map}
+use Rattle.std.specs.List.{AllByRecursion}
+use Rattle.px_units.specs.Rects.{InReach}
+use Rattle.trace_text.specs.Ranges.{HasReach}
+use Rattle.page_model.specs.World.{World, Name}
+use Rattle.page_model.specs.Gathering.{SizeEntry}
+use Rattle.page_model.specs.Operands.{ResizeEntry as Present}
+use Rattle.page_model.specs.Ranges.{IsPresentIn}
+use Rattle.page_model.specs.Callbacks.{SizeEntries, resize_line}
+use Rattle.page_laws.proofs.Lists.{all-mapped}
+use Rattle.depth_gather.specs.Entries.{seen_entry, IsLength, HasLengths}
+use Rattle.depth_gather.specs.declared.entries.ResizeEntry.{ResizeEntry}
+use Rattle.handlers.specs.Entries.{AreHanded}
+use Rattle.frame_update.specs.Turns.{AreEntriesIn}
+
+most : (units : ℤ) → IsLength units → unsigned_abs units ≤ 281474976710656
+most (pos units) is = let high : pos units ≤ℤ pos 281474976710656 = is.1 in omega (arith, ints)
+most (negsuc units) is = let low : pos 0 ≤ℤ negsuc units = is.0 in omega (arith, ints)
+
+reaches : (units : ℕ) → units ≤ 562949953421312 → InReach (pos units)
+reaches units few = record { low = omega (arith, ints); high = omega (arith, ints) }
+
+across-reaches : (left width : ℕ) → width ≤ 562949953421312 → InReach (pos (left + width) -ℤ pos left)
+across-reaches left width few = record { low = omega (arith, ints); high = omega (arith, ints) }
+
+line-reaches : (names : List Name) (observer : ℕ) (entry : ResizeEntry) → HasLengths entry → HasReach (resize_line names observer (seen_entry entry))
+line-reaches names observer entry has =
+    let left : unsigned_abs entry.corner.left ≤ 281474976710656 = most entry.corner.left has.left in
+    let top : unsigned_abs entry.corner.top ≤ 281474976710656 = most entry.corner.top has.top in
+    let width : unsigned_abs entry.content.width ≤ 281474976710656 = most entry.content.width has.width in
+    let height : unsigned_abs entry.content.height ≤ 281474976710656 = most entry.content.height has.height in
+    let border_width : unsigned_abs entry.border.width ≤ 281474976710656 = most entry.border.width has.border_width in
+    let border_height : unsigned_abs entry.border.height ≤ 281474976710656 = most entry.border.height has.border_height in (
+      record {
+        edges = record {
+          left = reaches (unsigned_abs entry.corner.left) (omega (arith, left));
+          top = reaches (unsigned_abs entry.corner.top) (omega (arith, top));
+          right = reaches (unsigned_abs entry.corner.left + unsigned_abs entry.content.width) (omega (arith, left, width));
+          bottom = reaches (unsigned_abs entry.corner.top + unsigned_abs entry.content.height) (omega (arith, top, height));
+        };
+        width = across-reaches (unsigned_abs entry.corner.left) (unsigned_abs entry.content.width) (omega (arith, width));
+        height = across-reaches (unsigned_abs entry.corner.top) (unsigned_abs entry.content.height) (omega (arith, height));
+      },
+      record { width = reaches (unsigned_abs entry.border.width) (omega (arith, border_width)); height = reaches (unsigned_abs entry.border.height) (omega (arith, border_height)) },
+    )
+
+pub are_handed : (world : World) (observer : ℕ) (entries : List ResizeEntry) → observer < length world.resize_observers.made → AreEntriesIn world entries → AllByRecursion HasLengths entries
+    → AreHanded world (SizeEntries observer (map seen_entry entries))
+are_handed world observer entries made targets lengths = record {
+  caller = made;
+  targets =
+      all-mapped (λ (entry : SizeEntry). entry.target < length world.tree.elements) (IsPresentIn world) (λ entry. Present (entry.target)) (λ entry is. is) (map seen_entry entries)
+      (all-mapped (λ (entry : ResizeEntry). entry.target.0 < length world.tree.elements) (λ (entry : SizeEntry). entry.target < length world.tree.elements) seen_entry (λ entry is. is) entries targets);
+  reach =
+      all-mapped (λ (entry : SizeEntry). HasReach (resize_line (world.names) observer entry)) HasReach (resize_line (world.names) observer) (λ entry is. is) (map seen_entry entries)
+      (all-mapped HasLengths (λ (entry : SizeEntry). HasReach (resize_line (world.names) observer entry)) seen_entry (line-reaches (world.names) observer) entries lengths);
+}

@@ -1,0 +1,21 @@
+pub mod Ready
+pub mod Stopped
+pub mod Called
+pub mod Handed
+pub mod DueTimers
+pub mod FrameTurns
+pub mod QueuedTasks
+pub mod Named
+pub mod Rendering
+pub mod Ticking
+pub mod Listening
+pub mod Firing
+pub mod Evaluating
+pub mod Scrolling
+pub mod Resizing
+mod Observers
+mod Delivered
+mod Turns
+mod Broadcasts
+mod RoundEnds
+mod RoundLoops

@@ -1,0 +1,179 @@
+-- A tick that is begun, its time and its parts.
+use Rattle.std.proofs.Common.{◌≡◌, ◌∙◌, ℕ, suc, ◌<◌, Bool, true, false, List, [], ◌∷◌, length, Option, refl, ap, sym, subst, ltb-true}
+use Rattle.std.specs.Prelude.{nat_lt, cond, Result, Ok, Err, IfOk}
+use Rattle.text_io.specs.Limits.{limit_number}
+use Rattle.text_io.specs.declared.kinds.LimitKind.TheVariants as limits
+use Rattle.text_io.specs.declared.kinds.ThrowKind.{ThrowKind}
+use Rattle.text_io.specs.declared.kinds.ThrowKind.TheVariants.{RangeError}
+use Rattle.script_model.specs.Syntax.{Item}
+use Rattle.script_model.specs.Scripts.{handlers_in}
+use Rattle.script_model.specs.TraceLines.{TickLine, ThrowLine}
+use Rattle.page_model.specs.Callbacks.{Script, answered}
+use Rattle.page_model.specs.Commands.{begun_in}
+use Rattle.page_model.specs.Outcome.{bytes_of, run_tick}
+use Rattle.page_model.specs.Ranges.{IsInRange}
+use Rattle.page_model.specs.Runs.{Said, Next, say, ◌followed_by◌, caught, caught_flow}
+use Rattle.page_model.specs.Steps.{Step, Did, Threw, ◌>>◌, met_unless}
+use Rattle.page_model.specs.Ticks.{run_tasks, run_timers, tick, time_set, update_rendering}
+use Rattle.page_model.specs.World.{World}
+use Rattle.page_laws.proofs.Limits.{as-many, counted-within}
+use Rattle.page_laws.proofs.Waiting.{tasks-alike}
+use Rattle.page_state.specs.Answers.{Moved}
+use Rattle.page_state.specs.Views.{PageView}
+use Rattle.page_state.specs.declared.answers.PageFault.{PageFault}
+use Rattle.page_state.specs.declared.answers.PageFault.TheVariants.{Throw, Limit, Memory}
+use Rattle.trace_runs.specs.declared.faults.RunFault.{RunFault}
+use Rattle.trace_runs.specs.declared.faults.RunFault.TheVariants as faults
+use Rattle.trace_runs.specs.Flows.{goes_on}
+use Rattle.trace_runs.specs.Runs.{Runs}
+use Rattle.trace_runs.specs.Writes.{Wrote}
+use Rattle.trace_runs.proofs.Answered.{answered_did, answered_threw, met_run, once_begun_is}
+use Rattle.trace_runs.proofs.Following.{cut_run, then_run}
+use Rattle.trace_runs.proofs.Runs.{caught_cut, lines_run, run_same, say_run}
+use Rattle.frame_update.specs.Answers.{Refused, IsLeft}
+use Rattle.frame_update.specs.Ready.{IsReady}
+
+-- a page stays ready once a command was begun and once the clock was set ---------------------------------------------------------
+
+begun-in : (handlers : ℕ) (world : World) → IsInRange handlers world → IsInRange handlers (record world { begun = suc world.begun })
+begun-in handlers world within = search
+
+timed-in : (handlers time : ℕ) (world : World) → IsInRange handlers world → IsInRange handlers (record world { clock = time })
+timed-in handlers time world within = search
+
+begun-did : (old new : World) (room_left : Bool) → nat_lt old.begun (limit_number limits.Commands) ≡ room_left
+    → met_unless room_left limits.Commands >> Did (record old { begun = suc old.begun }) ≡ Did new
+    → (old.begun < limit_number limits.Commands) × (record old { begun = suc old.begun } ≡ new)
+unfolding ◌>>◌
+begun-did old new true room is = (ltb-true _ _ room, cc)
+begun-did old new false room is = absurd (cc)
+
+begun_did : (old new : World) → begun_in old ≡ Did new → (old.begun < limit_number limits.Commands) × (record old { begun = suc old.begun } ≡ new)
+unfolding begun_in
+begun_did old new is = begun-did old new (nat_lt old.begun (limit_number limits.Commands)) refl is
+
+pub begun_ready : (script : List Item) (old new : World) → begun_in old ≡ Did new → IsReady script old → IsReady script new
+begun_ready script old new is ready =
+    let did : (old.begun < limit_number limits.Commands) × (record old { begun = suc old.begun } ≡ new) = begun_did old new is in
+    subst (IsReady script) did.1
+    (record { range = begun-in (length (handlers_in script)) old ready.range; limits = counted-within old ready.limits did.0; built = ready.built })
+
+timed-did : (time : ℕ) (old new : World) (early : Bool) → cond early (Threw RangeError) (Did (record old { clock = time })) ≡ Did new → record old { clock = time } ≡ new
+timed-did time old new true is = absurd (cc)
+timed-did time old new false is = cc
+
+timed_did : (time : ℕ) (old new : World) → time_set time old ≡ Did new → record old { clock = time } ≡ new
+timed_did time old new is = timed-did time old new (nat_lt time old.clock) is
+
+pub timed_ready : (script : List Item) (time : ℕ) (old new : World) → time_set time old ≡ Did new → IsReady script old → IsReady script new
+timed_ready script time old new is ready =
+    subst (IsReady script) (timed_did time old new is)
+    (record {
+      range = timed-in (length (handlers_in script)) time old ready.range;
+      limits = as-many old ready.limits (record old { clock = time }) refl refl refl (tasks-alike old (record old { clock = time }) refl refl refl);
+      built = ready.built;
+    })
+
+pub clock_is : (time : ℕ) (old new : World) → time_set time old ≡ Did new → new.clock ≡ time
+clock_is time old new is = sym (ap (λ (world : World). world.clock) (timed_did time old new is))
+
+-- and as it is where a call was refused
+pub ready_same : {A : Type 0} (script : List Item) (result : Result A RunFault) (old new : PageView) → new ≡ old → IsReady script (old.world) → IfOk result (λ _. IsReady script (new.world))
+ready_same script (Ok value) old new same ready = subst (λ (page : PageView). IsReady script (page.world)) (sym same) ready
+ready_same script (Err fault) old new same ready = tt
+
+-- what is said ---------------------------------------------------------------------------------------------------------------------
+
+-- nothing is thrown out of a run that goes on
+pub caught_run : {A S : Type 0} {state : A → S} (result : Result A RunFault) {before after : Option (List ℕ)} {f g : ℕ} {said : Said S}
+    → Runs goes_on state result before after f g said → Runs goes_on state result before after f g (caught said)
+unfolding caught caught_flow
+caught_run (Ok value) run = record {
+  ended = record { written = run.ended.written; unfailed = run.ended.unfailed; flow_is = ap caught_flow run.ended.flow_is; state_is = run.ended.state_is };
+  cut_off = tt;
+}
+caught_run (Err fault) run = caught_cut fault run
+
+caught-throw : (line : ℕ) (kind : ThrowKind) (old : World) (next : World → Said World) (step : Step World) → step ≡ Threw kind
+    → say (ThrowLine line kind ∷ []) old ≡ caught (answered line old next step)
+unfolding caught caught_flow
+caught-throw line kind old next step is = sym (ap caught (answered_threw line old next is))
+
+left-run : {A : Type 0} {state : A → World} (fault : RunFault) (result : Result A RunFault) (before after : Option (List ℕ)) (f g : ℕ) (said : Said World)
+    → IsLeft fault result before after f g → Runs goes_on state (Err fault) before before f f said → Runs goes_on state result before after f g said
+left-run {state = state} fault result before after f g said left run =
+    subst (λ (it : Result _ RunFault). Runs goes_on state it before after f g said) (sym left.0)
+    (subst (λ (now : Option (List ℕ)). Runs goes_on state (Err fault) before now f g said) (sym left.1)
+    (subst (λ (now : ℕ). Runs goes_on state (Err fault) before before f now said) (sym left.2) run))
+
+-- a call that was refused
+pub refused_run : {A : Type 0} (fault : PageFault) (line : ℕ) (result : Result A RunFault) (before after : Option (List ℕ)) (f g : ℕ) (old new : World) (step : Step World)
+    (next : World → Said World) → Moved (Err fault) old new step → Refused fault line result before after f g
+    → Runs goes_on (λ (_ : A). new) result before after f g (caught (answered line old next step))
+refused_run (Throw kind) line result before after f g old new step next moved refused =
+    run_same (caught-throw line kind old next step moved.0)
+    (lines_run result {said = say (ThrowLine line kind ∷ []) old} refused (λ value. refl) (λ value. sym moved.1))
+refused_run (Limit kind) line result before after f g old new step next moved refused =
+    left-run (faults.Limit kind line) result before after f g _ refused (caught_cut {flow = λ (_ : Unit {0}). Next} {state = λ (_ : Unit {0}). old} (faults.Limit kind line) (met_run line old next moved.0))
+refused_run Memory line result before after f g old new step next moved refused = absurd moved
+
+module _ (script : Script) (line time : ℕ) (old : World) where
+  abbrev pub begun_run : World → Said World
+  begun_run begun = answered line begun (tick script) (time_set time begun)
+
+  -- it isn't begun
+  pub unbegun_is : caught (answered line old begun_run (begun_in old)) ≡ caught (run_tick script line time old)
+  unbegun_is = ap caught (once_begun_is line old begun_run)
+
+  module _ (begun : World) (is : begun_in old ≡ Did begun) where
+    -- it is begun
+    pub begun_is : caught (begun_run begun) ≡ caught (run_tick script line time old)
+    begun_is = ap caught (sym (answered_did line old begun_run is)) ∙ unbegun_is
+
+    -- its time is set
+    pub timed_is : (timed : World) → time_set time begun ≡ Did timed → caught (tick script timed) ≡ caught (run_tick script line time old)
+    timed_is timed set = ap caught (sym (answered_did line begun (tick script) set)) ∙ begun_is
+
+-- the parts of a tick --------------------------------------------------------------------------------------------------------------
+
+module _ (script : Script) (time : ℕ) (world : World) (clock : world.clock ≡ time) where
+  tick-is : (say (TickLine time ∷ []) world followed_by run_timers script followed_by update_rendering script followed_by run_tasks script) ≡ tick script world
+  unfolding tick
+  tick-is = ap (λ (now : ℕ). say (TickLine now ∷ []) world followed_by run_timers script followed_by update_rendering script followed_by run_tasks script) (sym clock)
+
+  module _ {before : Option (List ℕ)} {f : ℕ} where
+    -- the writing of its line was cut off
+    pub tick_unsaid : {B : Type 0} {state : B → World} (fault : RunFault) {after : Option (List ℕ)} {g : ℕ} → Wrote {A = Unit {0}} (Err fault) before after f g (bytes_of (TickLine time ∷ []))
+        → Runs goes_on state (Err fault) before after f g (tick script world)
+    tick_unsaid fault wrote =
+        run_same tick-is
+        (cut_run {flow = λ (_ : Unit {0}). Next} {state = λ (_ : Unit {0}). world} fault (run_tasks script)
+        (cut_run {flow = λ (_ : Unit {0}). Next} {state = λ (_ : Unit {0}). world} fault (update_rendering script) (cut_run fault (run_timers script) (say_run {A = Unit {0}} (Err fault) wrote))))
+
+    module _ {said : Option (List ℕ)} {fs : ℕ} (wrote : Wrote {A = Unit {0}} (Ok tt) before said f fs (bytes_of (TickLine time ∷ []))) where
+      timers-run : {A : Type 0} {state : A → World} (result : Result A RunFault) {after : Option (List ℕ)} {g : ℕ} → Runs goes_on state result said after fs g (run_timers script world)
+          → Runs goes_on state result before after f g (say (TickLine time ∷ []) world followed_by run_timers script)
+      timers-run result run = then_run result (run_timers script) refl (say_run (Ok (tt {0})) wrote) run
+
+      -- the timers were cut off
+      pub tick_timers_cut : {A B : Type 0} {left : A → World} {state : B → World} (fault : RunFault) {after : Option (List ℕ)} {g : ℕ}
+          → Runs goes_on left (Err fault) said after fs g (run_timers script world) → Runs goes_on state (Err fault) before after f g (tick script world)
+      tick_timers_cut {A = A} {left = left} fault run =
+          run_same tick-is
+          (cut_run {flow = λ (_ : A). Next} {state = left} fault (run_tasks script) (cut_run fault (update_rendering script) (timers-run (Err fault) run)))
+
+      module _ {A : Type 0} {value : A} {timed : World} {ran : Option (List ℕ)} {fr : ℕ} (timers : Runs goes_on (λ (_ : A). timed) (Ok value) said ran fs fr (run_timers script world)) where
+        update-run : {B : Type 0} {state : B → World} (result : Result B RunFault) {after : Option (List ℕ)} {g : ℕ} → Runs goes_on state result ran after fr g (update_rendering script timed)
+            → Runs goes_on state result before after f g (say (TickLine time ∷ []) world followed_by run_timers script followed_by update_rendering script)
+        update-run result run = then_run result (update_rendering script) refl (timers-run (Ok value) timers) run
+
+        -- the update was cut off
+        pub tick_update_cut : {B C : Type 0} {flow : B → World} {state : C → World} (fault : RunFault) {after : Option (List ℕ)} {g : ℕ}
+            → Runs goes_on flow (Err fault) ran after fr g (update_rendering script timed) → Runs goes_on state (Err fault) before after f g (tick script world)
+        tick_update_cut fault run = run_same tick-is (cut_run fault (run_tasks script) (update-run (Err fault) run))
+
+        -- all were run
+        pub tick_run : {B C : Type 0} {shown : B} {updated : World} {state : C → World} (result : Result C RunFault) {mid after : Option (List ℕ)} {fm g : ℕ}
+            → Runs goes_on (λ (_ : B). updated) (Ok shown) ran mid fr fm (update_rendering script timed) → Runs goes_on state result mid after fm g (run_tasks script updated)
+            → Runs goes_on state result before after f g (tick script world)
+        tick_run {shown = shown} result update tasks = run_same tick-is (then_run result (run_tasks script) refl (update-run (Ok shown) update) tasks)

@@ -1,0 +1,18 @@
+use Rattle.std.proofs.Common.{refl, sym}
+use Rattle.text_io.specs.declared.kinds.EventKind.TheVariants as events
+use Rattle.script_model.specs.Scripts.{handlers_in}
+use Rattle.script_model.specs.TraceLines.{FiredScroll}
+use Rattle.page_model.specs.Callbacks.{fire}
+use Rattle.page_model.specs.Ticks.{event_target_of, scrolled_text}
+use Rattle.scrolling.specs.Seen.{seen_target}
+use Rattle.trace_runs.proofs.Runs.{only_if_false, run_same, silent_run}
+use Rattle.frame_update.proofs.steps.scroll_step.Goals as goal
+
+pub returns-then-not-is_active-clause-says : goal.returns-then-not-is_active-clause-says
+returns-then-not-is_active-clause-says g c =
+    run_same
+    (sym
+    (only_if_false
+    (λ now. fire (handlers_in c.args.script.now) (FiredScroll (scrolled_text (now.names) (seen_target c.args.target))) (event_target_of (seen_target c.args.target)) events.Scroll now)
+    c.args.page.now.world (sym c.if-not-is_active.ensures)))
+    (silent_run refl)

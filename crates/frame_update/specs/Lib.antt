@@ -1,0 +1,5 @@
+pub mod Ready
+pub mod Turns
+pub mod Parts
+pub mod Waiting
+pub mod Answers

@@ -1,0 +1,15 @@
+-- What a tick asks of a page and a script, and what it leaves.
+use Rattle.std.specs.Prelude.{List, length}
+use Rattle.script_model.specs.Syntax.{Item}
+use Rattle.script_model.specs.Scripts.{handlers_in}
+use Rattle.page_model.specs.World.{World}
+use Rattle.page_model.specs.Ranges.{IsInRange}
+use Rattle.page_laws.specs.Bounds.{IsWithinLimits}
+use Rattle.handlers.specs.Blocks.{AreRun}
+
+-- each number in the world is that of something, the limits on what is gone over by place are kept, and all commands of the
+-- script's handlers are built
+pub record IsReady (script : List Item) (world : World) : Type 0 where
+  pub range : IsInRange (length (handlers_in script)) world
+  pub limits : IsWithinLimits world
+  pub built : AreRun (handlers_in script)

@@ -1,0 +1,19 @@
+-- Turns of a broadcast (Resize Observer, 3.4).
+use Rattle.std.specs.Prelude.{ℕ, ◌<◌, min, List, length, Option, None, Some}
+use Rattle.std.specs.List.{AllByRecursion}
+use Rattle.page_model.specs.World.{World}
+use Rattle.page_model.specs.Loop.{Broadcast}
+use Rattle.depth_gather.specs.declared.entries.ResizeEntry.{ResizeEntry}
+
+-- a broadcast in a world with the least depth of the entries so far
+abbrev pub broadcast_at : Option ℕ → World → Broadcast
+broadcast_at least world = record { world = world; shallowest = least }
+
+-- the least of the depths so far, if there is one, and a further one
+abbrev pub least_with : Option ℕ → ℕ → ℕ
+least_with None depth = depth
+least_with (Some least) depth = min depth least
+
+-- the entries are of elements that there are
+abbrev pub AreEntriesIn : World → List ResizeEntry → Type 0
+AreEntriesIn world entries = AllByRecursion (λ (entry : ResizeEntry). entry.target.0 < length world.tree.elements) entries

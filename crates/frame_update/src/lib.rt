@@ -1,0 +1,14 @@
+//! A tick of a page's clock: the timers that are due, one update of the rendering, and the tasks that wait (HTML, event loops;
+//! CSSOM View, 13; Resize Observer, 3.4).
+#![tactic(auto)]
+
+mod events;
+mod frames;
+mod rounds;
+mod steps;
+mod tasks;
+mod ticks;
+mod timers;
+mod update;
+
+pub use ticks::tick;

@@ -1,0 +1,88 @@
+//! A tick.
+
+ghost use Rattle.std.specs.Prelude.{◌≡◌, IfOk};
+ghost use Rattle.script_model.specs.Scripts.{handlers_in};
+ghost use Rattle.script_syntax.specs.Allowed.{IsTime};
+ghost use Rattle.page_model.specs.Outcome.{run_tick};
+ghost use Rattle.page_model.specs.Runs.{caught};
+ghost use Rattle.page_model.specs.Ticks.{tick};
+ghost use Rattle.trace_runs.specs.Flows.{goes_on};
+ghost use Rattle.trace_runs.specs.Runs.{Runs};
+ghost use Rattle.frame_update.specs.Answers.{Refused};
+ghost use Rattle.frame_update.specs.Ready.{IsReady};
+
+use crate::tasks::run_tasks;
+use crate::timers::run_timers;
+use crate::update::update_rendering;
+use page_state::{Page, PageFault};
+use script_syntax::Script;
+use std::alloc::Global;
+use std::sync::ledger::Ledger;
+use step_count::Steps;
+use text_io::Sink;
+use trace_runs::{RunFault, write_one};
+use trace_text::TraceLine;
+
+// A tick whose time is set: the timers due, an update of the rendering, and the tasks.
+fn run_parts<K: Sink, L: Ledger>(
+    alloc: Global,
+    page: &mut Page,
+    script: &Script,
+    time: u64,
+    sink: &mut K,
+    steps: &mut Steps<L>,
+) -> Result<(), RunFault>
+    requires ready { IsReady script.now page.old.world }
+    requires time { page.old.world.clock ≡ time }
+    ensures says { Runs goes_on (λ _. page.new.world) result (K.taken sink.old) (K.taken sink.new) (K.faults sink.old) (K.faults sink.new)
+        (tick (handlers_in script.now) page.old.world) }
+    ensures ready { IfOk result (λ _. IsReady script.now page.new.world) }
+{
+    write_one(alloc, &TraceLine::Tick(time), sink)?;
+    run_timers(alloc, page, script, sink, steps)?;
+    update_rendering(alloc, page, script, sink, steps)?;
+    run_tasks(alloc, page, script, sink, steps)
+}
+
+// What is written of a call that was refused: an exception ends the tick, and a limit the run.
+fn refuse<K: Sink>(alloc: Global, line: u32, fault: PageFault, sink: &mut K) -> Result<(), RunFault>
+    ensures { Refused fault line result (K.taken sink.old) (K.taken sink.new) (K.faults sink.old) (K.faults sink.new) }
+{
+    match fault {
+        PageFault::Throw(kind) => write_one(alloc, &TraceLine::Throw(line, kind), sink),
+        PageFault::Limit(kind) => Err(RunFault::Limit { kind, line }),
+        PageFault::Memory => Err(RunFault::Memory),
+    }
+}
+
+/// A tick at a time in milliseconds, at most 1,000,000,000,000: it is counted as a command; a time before the clock's throws,
+/// which is written and answers Ok. Then come the timers that are due, one update of the rendering, and the tasks that wait
+/// (HTML, event loops).
+///
+/// # Errors
+/// - `Limit` exactly where a limit is met, with every line up to its own written.
+/// - `WriteFault` only where the sink's count of faults rose in this call, and `Memory` for want of memory; a first part of the
+///   lines was written.
+pub fn tick<K: Sink, L: Ledger>(
+    alloc: Global,
+    page: &mut Page,
+    script: &Script,
+    line: u32,
+    time: u64,
+    sink: &mut K,
+    steps: &mut Steps<L>,
+) -> Result<(), RunFault>
+    requires ready { IsReady script.now page.old.world }
+    requires time { IsTime time }
+    ensures says { Runs goes_on (λ _. page.new.world) result (K.taken sink.old) (K.taken sink.new) (K.faults sink.old) (K.faults sink.new)
+        (caught (run_tick (handlers_in script.now) line time page.old.world)) }
+    ensures ready { IfOk result (λ _. IsReady script.now page.new.world) }
+{
+    if let Err(fault) = page.begin_command() {
+        return refuse(alloc, line, fault, sink);
+    }
+    if let Err(fault) = page.set_time(time) {
+        return refuse(alloc, line, fault, sink);
+    }
+    run_parts(alloc, page, script, time, sink, steps)
+}

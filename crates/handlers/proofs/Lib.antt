@@ -1,0 +1,5 @@
+mod Answered
+mod Places
+mod Blocks
+mod Growing
+mod Handlers

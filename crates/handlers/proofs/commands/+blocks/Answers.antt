@@ -1,0 +1,149 @@
+use Rattle.std.proofs.Common.{◌≡◌, ◌+◌, ◌≤◌, true, ap, arith, refl, rules, subst, sym, ◌∙◌}
+use Rattle.script_syntax.specs.Seen.{command_of, command_size, block_size, block_of}
+use Rattle.trace_runs.proofs.Following.{begin, rest_same, go_on, end_thrown, end_cut, done}
+use Rattle.trace_runs.proofs.Loops.{each_more, each_none}
+use Rattle.trace_runs.proofs.Runs.{run_same, silent_run}
+use Rattle.page_state.specs.Views.{PageView}
+use Rattle.handlers.specs.Blocks.{are_run}
+use Rattle.page_model.specs.Callbacks.{presents, run_block}
+use Rattle.script_model.specs.Scripts.{handlers_in}
+use Rattle.handlers.specs.Entries.{entries_of, present_at}
+use Rattle.trace_runs.proofs.Answered.{threw_run}
+use Rattle.handlers.proofs.Answered.{apply_same, begun_is, found_same, held_is, unheld_is, unbegun_run}
+use Rattle.handlers.proofs.Blocks.{action_allowed, action_applied, block_more, block_same, block_none, command_begins, command_runs, each_does, each_runs, each_size, others_run, simple_does, simple_is, size_within, test_allowed, when_does, when_runs, when_size}
+use Rattle.handlers.proofs.Growing.{in_after_begun, in_after_block, in_after_command}
+use Rattle.handlers.proofs.Places.{present_is, subject_in}
+use Rattle.handlers.proofs.commands.+blocks.Goals as goal
+
+pub run_command-returns-in-Err : goal.run_command-returns-in-Err
+run_command-returns-in-Err g t c =
+    let it = command_begins _ _ c.args.command.now.line c.args.command.now.what _ _ in
+    run_same it.1 (unbegun_run c.in-Err.fault _ c.refuse.result _ _ _ _ _ _ it.0 c.in-Err.ensures.counted c.refuse.ensures)
+
+pub run_command-run_each-requires : goal.run_command-run_each-requires
+run_command-run_each-requires g t c =
+    let size : command_size (command_of c.args.command.now) ≡ block_size c.in-Each.body.commands + 1 =
+    each_size c.args.command.now.line c.args.command.now.what c.in-Each.body c.in-Each.is in
+    let built = each_runs c.args.command.now.line c.args.command.now.what c.requires.built c.in-Each.body c.in-Each.is in
+    let targets = in_after_begun c.args.page.now.world _ _ c.in_default.ensures.counted c.requires.targets in
+    λ lives within. (omega arith, search rules)
+
+pub run_command-apply-requires : goal.run_command-apply-requires
+run_command-apply-requires g t c =
+    record {
+      begun = c.in_default.ensures.begun;
+      allowed = action_allowed c.args.command.now.line c.args.command.now.what c.in_default-what.not-Each c.in_default-what.not-When c.requires.built c.requires.allowed;
+      built = action_applied c.args.command.now.line c.args.command.now.what c.in_default-what.not-Each c.in_default-what.not-When c.requires.built;
+      subject = subject_in c.begin_command.new.self.world _ _ _ _ c.subject_at-present.ensures (in_after_begun c.args.page.now.world _ _ c.in_default.ensures.counted c.requires.targets);
+    }
+
+pub run_command-returns-in-Each : goal.run_command-returns-in-Each
+run_command-returns-in-Each g t c =
+    run_same (begun_is _ _ _ _ c.in_default.ensures.counted ∙ each_does _ _ _ c.args.command.now.what _ _ c.in-Each.body c.in-Each.is) c.run_each.ensures
+
+pub run_command-returns-in-When : goal.run_command-returns-in-When
+run_command-returns-in-When g t c =
+    run_same (begun_is _ _ _ _ c.in_default.ensures.counted ∙ when_does _ _ _ c.args.command.now.what _ _ c.in-When.condition c.in-When.body c.in-When.is) c.run_when.ensures
+
+pub run_command-returns-in_default-what : goal.run_command-returns-in_default-what
+run_command-returns-in_default-what g t c =
+    run_same
+    (begun_is _ _ _ _ c.in_default.ensures.counted ∙ simple_does _ _ _ c.args.command.now.what _ _ (simple_is _ _ c.in_default-what.not-Each c.in_default-what.not-When))
+    (apply_same _ _ _ _ c.subject_at-present.ensures c.apply.ensures)
+
+pub run_each-loop-place-init : goal.run_each-loop-place-init
+run_each-loop-place-init g t c = record { following = begin; targets = c.requires.targets }
+
+pub run_each-returns-in-Ok-Thrown : goal.run_each-returns-in-Ok-Thrown
+run_each-returns-in-Ok-Thrown g t c =
+    end_thrown _ refl refl refl
+    (rest_same (each_more _ _ c.loop-place.place _ _ (omega (arith, c.count-place-end.ensures)) (present_is _ c.loop-place.place (omega (arith, c.count-place-end.ensures)))) c.loop-place.invariant.following)
+    (rw c.in-Ok-Thrown.field-0-is at c.in-Ok-Thrown.ensures)
+
+pub run_each-loop-place-preserved : goal.run_each-loop-place-preserved
+run_each-loop-place-preserved g t c =
+    record {
+      following =
+          go_on _ refl
+          (rest_same (each_more _ _ c.loop-place.place _ _ (omega (arith, c.count-place-end.ensures)) (present_is _ c.loop-place.place (omega (arith, c.count-place-end.ensures)))) c.loop-place.invariant.following)
+          (rw c.in-Ok-Next.field-0-is at c.in-Ok-Next.ensures);
+      targets = in_after_block c.runs_take_nothing_back.ensures.commands _ _ _ _ _ _ c.in-Ok-Next.ensures.ended.state_is c.loop-place.invariant.targets;
+    }
+
+pub run_each-returns : goal.run_each-returns
+run_each-returns g t c =
+    done refl (rest_same (each_none _ _ c.loop-place.place _ (omega (arith, c.count-place-end.ensures))) c.loop-place.invariant.following)
+
+pub run_when-returns-in-Ok-true : goal.run_when-returns-in-Ok-true
+run_when-returns-in-Ok-true g t c =
+    run_same
+    (held_is _ _ _ (run_block (handlers_in c.args.script.now) (presents (entries_of c.args.entries.now)) c.args.block.now (present_at (presents (entries_of c.args.entries.now)) c.args.subject)) _ (found_same _ _ c.subject_at-present.ensures (rw c.in-Ok-true.field-0-test at c.in-Ok-true.ensures.answer)) (ap (λ (page : PageView). page.world) c.in-Ok-true.ensures.same))
+    c.run_block.ensures
+
+pub run_when-returns-in-Ok-false : goal.run_when-returns-in-Ok-false
+run_when-returns-in-Ok-false g t c =
+    run_same
+    (unheld_is _ _ _ (run_block (handlers_in c.args.script.now) (presents (entries_of c.args.entries.now)) c.args.block.now (present_at (presents (entries_of c.args.entries.now)) c.args.subject)) _ (found_same _ _ c.subject_at-present.ensures (rw c.in-Ok-false.field-0-test at c.in-Ok-false.ensures.answer)) (ap (λ (page : PageView). page.world) c.in-Ok-false.ensures.same))
+    (silent_run refl)
+
+pub run_when-returns-in-Err : goal.run_when-returns-in-Err
+run_when-returns-in-Err g t c =
+    threw_run _ _ _ (found_same _ _ c.subject_at-present.ensures c.in-Err.ensures.answer) (ap (λ (page : PageView). page.world) c.in-Err.ensures.same) (c.write_throw.ensures _)
+
+pub run_block-loop-command-init : goal.run_block-loop-command-init
+run_block-loop-command-init g t c =
+    record {
+      following = rest_same (block_same _ _ _ _ c.commands-command-items.ensures.value) begin;
+      runs = subst (λ block. are_run block ≡ true) (sym c.commands-command-items.ensures.value) c.requires.built;
+      targets = c.requires.targets;
+    }
+
+pub run_block-run_command-requires : goal.run_block-run_command-requires
+run_block-run_command-requires g t c =
+    let size : command_size (command_of c.command-item.result) ≤ block_size (block_of c.commands-command-items.result.now) =
+    size_within c.commands-command-items.result.now c.loop-command.command-index _ _ (omega arith) c.command-item.is in
+    let same = ap block_size c.commands-command-items.ensures.value in
+    let built = command_runs c.commands-command-items.result.now _ _ (omega arith) c.command-item.is c.loop-command.invariant.runs in
+    λ lives within. (omega arith, search rules)
+
+pub run_command-run_when-requires : goal.run_command-run_when-requires
+run_command-run_when-requires g t c =
+    let size : command_size (command_of c.args.command.now) ≡ block_size c.in-When.body.commands + 1 =
+    when_size c.args.command.now.line c.args.command.now.what c.in-When.condition c.in-When.body c.in-When.is in
+    let allowed = test_allowed c.args.command.now.what c.in-When.condition c.in-When.body c.in-When.is c.requires.allowed in
+    let built = when_runs c.args.command.now.line c.args.command.now.what c.requires.built c.in-When.condition c.in-When.body c.in-When.is in
+    let targets = in_after_begun c.args.page.now.world _ _ c.in_default.ensures.counted c.requires.targets in
+    λ lives within. (omega arith, search rules)
+
+pub run_each-returns-in-Err : goal.run_each-returns-in-Err
+run_each-returns-in-Err g t c =
+    end_cut c.in-Err.fault _
+    (rest_same (each_more _ _ c.loop-place.place _ _ (omega (arith, c.count-place-end.ensures)) (present_is _ c.loop-place.place (omega (arith, c.count-place-end.ensures)))) c.loop-place.invariant.following)
+    c.in-Err.ensures
+
+pub run_block-returns-in-Ok-Thrown : goal.run_block-returns-in-Ok-Thrown
+run_block-returns-in-Ok-Thrown g t c =
+    end_thrown _ refl refl refl
+    (rest_same (block_more c.commands-command-items.result.now _ _ (omega arith) c.command-item.is _ _ _ _) c.loop-command.invariant.following)
+    (rw c.in-Ok-Thrown.field-0-is at c.in-Ok-Thrown.ensures)
+
+pub run_block-loop-command-preserved : goal.run_block-loop-command-preserved
+run_block-loop-command-preserved g t c =
+    record {
+      following =
+          go_on _ refl
+          (rest_same (block_more c.commands-command-items.result.now _ _ (omega arith) c.command-item.is _ _ _ _) c.loop-command.invariant.following)
+          (rw c.in-Ok-Next.field-0-is at c.in-Ok-Next.ensures);
+      runs = others_run c.commands-command-items.result.now _ _ (omega arith) c.command-item.is c.loop-command.invariant.runs;
+      targets = in_after_command c.runs_take_nothing_back.ensures.commands _ _ _ _ _ _ c.in-Ok-Next.ensures.ended.state_is c.loop-command.invariant.targets;
+    }
+
+pub run_block-returns-in-Err : goal.run_block-returns-in-Err
+run_block-returns-in-Err g t c =
+    end_cut c.in-Err.fault _
+    (rest_same (block_more c.commands-command-items.result.now _ _ (omega arith) c.command-item.is _ _ _ _) c.loop-command.invariant.following)
+    c.in-Err.ensures
+
+pub run_block-returns : goal.run_block-returns
+run_block-returns g t c =
+    done refl (rest_same (block_none c.commands-command-items.result.now c.loop-command.command-index _ _ _ _ (omega arith)) c.loop-command.invariant.following)

@@ -1,0 +1,7 @@
+use Rattle.std.proofs.Common.{refl}
+use Rattle.trace_runs.proofs.Runs.{run_same, silent_run}
+use Rattle.handlers.proofs.Handlers.{no_handler}
+use Rattle.handlers.proofs.handler.run_named.Goals as goal
+
+pub returns-in-None : goal.returns-in-None
+returns-in-None g c = run_same (no_handler _ _ _ _ c.in-None.is) (silent_run refl)

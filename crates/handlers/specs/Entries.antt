@@ -1,0 +1,42 @@
+-- The entries that a callback is given, and which of them a command is run for.
+use Rattle.std.specs.Prelude.{ℕ, ◌<◌, List, length, map, Option, Some, None, slice_get, unwrap_or, ⊤}
+use Rattle.std.specs.List.{AllByRecursion}
+use Rattle.trace_text.specs.Ranges.{HasReach}
+use Rattle.page_model.specs.World.{World}
+use Rattle.page_model.specs.Callbacks as model
+use Rattle.page_model.specs.Callbacks.{NoEntries, SizeEntries, CutEntries, presents, entry_lines}
+use Rattle.page_model.specs.Operands.{Present, NoEntry}
+use Rattle.page_model.specs.Ranges.{IsPresentIn}
+use Rattle.depth_gather.specs.Entries.{seen_entry}
+use Rattle.page_state.specs.Things.{present_with}
+use Rattle.handlers.specs.declared.entries.Entries.{Entries}
+use Rattle.handlers.specs.declared.entries.Entries.TheVariants.{Nothing, Resize}
+use Rattle.handlers.specs.declared.entries.Subject.{Subject}
+
+abbrev pub entries_of : Entries → model.Entries
+entries_of Nothing = NoEntries
+entries_of (Resize observer entries) = SizeEntries observer.0 (map seen_entry entries)
+
+-- the entry at a place, none where there is no place or no entry there
+abbrev pub present_at : List Present → Option ℕ → Present
+present_at entries None = NoEntry
+present_at entries (Some place) = unwrap_or (slice_get entries place) NoEntry
+
+abbrev pub subject_of : Subject → Present
+subject_of subject = present_with subject.target subject.meets
+
+-- the elements of entries are among those that there are
+abbrev pub AreIn : World → List Present → Type 0
+AreIn world entries = AllByRecursion (IsPresentIn world) entries
+
+-- the observer that the entries are of
+abbrev pub IsCallerIn : World → model.Entries → Type 0
+IsCallerIn world NoEntries = ⊤
+IsCallerIn world (SizeEntries observer entries) = observer < length world.resize_observers.made
+IsCallerIn world (CutEntries observer entries) = observer < length world.intersection_observers.made
+
+-- entries that can be handed to a callback: they are of what there is, and the lengths of their lines can be written
+pub record AreHanded (world : World) (handed : model.Entries) : Type 0 where
+  pub caller : IsCallerIn world handed
+  pub targets : AreIn world (presents handed)
+  pub reach : AllByRecursion HasReach (entry_lines world.names handed)

@@ -1,0 +1,167 @@
+//! Commands with their blocks, one after another.
+
+ghost use Rattle.std.specs.Prelude.{◌≡◌, true};
+ghost use Rattle.script_model.specs.Scripts.{handlers_in};
+ghost use Rattle.script_syntax.specs.Allowed.{IsAllowed, TestAllowed};
+ghost use Rattle.script_syntax.specs.Seen.{command_of, condition_of};
+ghost use Rattle.page_model.specs.Callbacks.{answered, presents, run_block, run_command};
+ghost use Rattle.page_model.specs.Commands.{holds};
+ghost use Rattle.page_model.specs.Runs.{for_each, only_if};
+ghost use Rattle.trace_runs.specs.Flows.{flow_of};
+ghost use Rattle.trace_runs.specs.Runs.{Runs};
+ghost use Rattle.handlers.specs.Blocks.{is_run, are_run};
+ghost use Rattle.handlers.specs.Entries.{entries_of, present_at, AreIn};
+
+use crate::entries::{Entries, subject_at};
+use crate::steps::{apply, refuse};
+use page_laws::runs_take_nothing_back;
+use page_state::Page;
+use script_syntax::{Command, CommandList, Condition, Script, What};
+use std::alloc::Global;
+use std::sync::ledger::Ledger;
+use step_count::Steps;
+use text_io::Sink;
+use trace_runs::{Flow, RunFault, write_throw};
+
+/// Begins a command and runs it with its block, for the entry at a place of `entries` if there is one, and writes its lines.
+/// Outside handlers there are no entries. It isn't called for a `tick`.
+///
+/// `Thrown` where it threw, which was written.
+///
+/// # Errors
+/// - `Limit` exactly where a limit is met; all but the limit's own line was written.
+/// - `Memory`, and `WriteFault` only where the sink's count of faults rose in this call: a first part was written.
+#[cycle(blocks)]
+pub fn run_command<K: Sink, L: Ledger>(
+    alloc: Global,
+    page: &mut Page,
+    script: &Script,
+    command: &Command,
+    entries: &Entries,
+    subject: Option<usize>,
+    sink: &mut K,
+    steps: &mut Steps<L>,
+) -> Result<Flow, RunFault>
+    requires allowed { IsAllowed command.now }
+    requires built { is_run (command_of command.now) ≡ true }
+    requires targets { AreIn page.old.world (presents (entries_of entries.now)) }
+    ensures { Runs flow_of (λ _. page.new.world) result (K.taken sink.old) (K.taken sink.new) (K.faults sink.old) (K.faults sink.new)
+        (run_command (handlers_in script.now) (presents (entries_of entries.now)) (command_of command.now) (present_at (presents (entries_of entries.now)) subject) page.old.world) }
+{
+    if let Err(fault) = page.begin_command() {
+        return refuse(alloc, command.line, fault, sink);
+    }
+    match &command.what {
+        What::Each(body) => run_each(alloc, page, script, &body.commands, entries, sink, steps),
+        What::When(condition, body) => run_when(
+            alloc,
+            page,
+            script,
+            command.line,
+            condition,
+            &body.commands,
+            entries,
+            subject,
+            sink,
+            steps,
+        ),
+        _ => {
+            let present = subject_at(entries, subject);
+            apply(alloc, page, script, command, present, sink, steps)
+        }
+    }
+}
+
+// An `each` that was begun: its block for each of the entries.
+#[cycle(blocks)]
+fn run_each<K: Sink, L: Ledger>(
+    alloc: Global,
+    page: &mut Page,
+    script: &Script,
+    block: &CommandList,
+    entries: &Entries,
+    sink: &mut K,
+    steps: &mut Steps<L>,
+) -> Result<Flow, RunFault>
+    requires built { are_run block.now ≡ true }
+    requires targets { AreIn page.old.world (presents (entries_of entries.now)) }
+    ensures { Runs flow_of (λ _. page.new.world) result (K.taken sink.old) (K.taken sink.new) (K.faults sink.old) (K.faults sink.new)
+        (for_each (run_block (handlers_in script.now) (presents (entries_of entries.now)) block.now) (presents (entries_of entries.now)) page.old.world) }
+{
+    runs_take_nothing_back();
+    for place in 0..entries.count() {
+        match run_block(
+            alloc,
+            page,
+            script,
+            block,
+            entries,
+            Some(place),
+            sink,
+            steps,
+        ) {
+            Ok(Flow::Next) => {}
+            Ok(Flow::Thrown) => return Ok(Flow::Thrown),
+            Err(fault) => return Err(fault),
+        }
+    }
+    Ok(Flow::Next)
+}
+
+// A `when` that was begun: its block where the condition holds.
+#[cycle(blocks)]
+fn run_when<K: Sink, L: Ledger>(
+    alloc: Global,
+    page: &mut Page,
+    script: &Script,
+    line: u32,
+    condition: &Condition,
+    block: &CommandList,
+    entries: &Entries,
+    subject: Option<usize>,
+    sink: &mut K,
+    steps: &mut Steps<L>,
+) -> Result<Flow, RunFault>
+    requires allowed { TestAllowed condition.now.asks }
+    requires built { are_run block.now ≡ true }
+    requires targets { AreIn page.old.world (presents (entries_of entries.now)) }
+    ensures { Runs flow_of (λ _. page.new.world) result (K.taken sink.old) (K.taken sink.new) (K.faults sink.old) (K.faults sink.new)
+        (answered line page.old.world
+        (only_if (run_block (handlers_in script.now) (presents (entries_of entries.now)) block.now (present_at (presents (entries_of entries.now)) subject)) page.old.world)
+        (holds page.old.world (present_at (presents (entries_of entries.now)) subject) (condition_of condition.now))) }
+{
+    let present = subject_at(entries, subject);
+    match page.holds(condition, present.target, present.meets, steps) {
+        Ok(true) => run_block(alloc, page, script, block, entries, subject, sink, steps),
+        Ok(false) => Ok(Flow::Next),
+        Err(kind) => write_throw(alloc, line, kind, sink),
+    }
+}
+
+/// Runs the commands of a block, for the entry at a place of `entries` if there is one. Refused as `run_command`.
+#[cycle(blocks)]
+pub(crate) fn run_block<K: Sink, L: Ledger>(
+    alloc: Global,
+    page: &mut Page,
+    script: &Script,
+    block: &CommandList,
+    entries: &Entries,
+    subject: Option<usize>,
+    sink: &mut K,
+    steps: &mut Steps<L>,
+) -> Result<Flow, RunFault>
+    requires built { are_run block.now ≡ true }
+    requires targets { AreIn page.old.world (presents (entries_of entries.now)) }
+    ensures { Runs flow_of (λ _. page.new.world) result (K.taken sink.old) (K.taken sink.new) (K.faults sink.old) (K.faults sink.new)
+        (run_block (handlers_in script.now) (presents (entries_of entries.now)) block.now (present_at (presents (entries_of entries.now)) subject) page.old.world) }
+{
+    runs_take_nothing_back();
+    for command in block.commands() {
+        match run_command(alloc, page, script, command, entries, subject, sink, steps) {
+            Ok(Flow::Next) => {}
+            Ok(Flow::Thrown) => return Ok(Flow::Thrown),
+            Err(fault) => return Err(fault),
+        }
+    }
+    Ok(Flow::Next)
+}

@@ -1,0 +1,151 @@
+//! The entries of a callback, the lines that tell of them, and the one that a command is run for.
+
+ghost use Rattle.std.specs.Prelude.{◌≡◌, ◌<◌, ◌^◌, pos, unsigned_abs, map, length, Some, None};
+ghost use Rattle.trace_text.specs.Ranges.{HasReach};
+ghost use Rattle.trace_text.specs.Seen.{seen_line};
+ghost use Rattle.page_model.specs.Callbacks.{SizeEntries, presents, entry_lines, resize_line};
+ghost use Rattle.page_model.specs.Outcome.{bytes_of};
+ghost use Rattle.depth_gather.specs.Entries.{seen_entry};
+ghost use Rattle.trace_runs.specs.Writes.{Wrote};
+ghost use Rattle.handlers.specs.Entries.{entries_of, present_at, subject_of, AreHanded};
+
+use depth_gather::{ResizeEntry, ResizeList};
+use element_tree::NodeId;
+use event_tables::EventTarget;
+use page_state::{Label, Page};
+use px_units::{Rect, Size};
+use resize_observer::ObserverId;
+use std::alloc::Global;
+use text_io::Sink;
+use trace_runs::{RunFault, write_one};
+use trace_text::TraceLine;
+
+/// What a callback is given.
+#[derive(Drop)]
+pub enum Entries {
+    /// No entries.
+    Nothing,
+    /// Those of a resize observer, in units of 1/64 CSS pixel (Resize Observer, 2.3: ResizeObserverEntry).
+    Resize(ObserverId, ResizeList),
+}
+
+impl Entries {
+    // How many there are.
+    pub(crate) fn count(&self) -> usize
+        ensures { result ≡ length (presents (entries_of self.now)) }
+    {
+        match self {
+            Entries::Nothing => 0,
+            Entries::Resize(_, list) => list.entries().len(),
+        }
+    }
+}
+
+// The entry that a command is run for: its target, and of an intersection observer whether it is intersecting.
+#[derive(Clone, Copy)]
+pub(crate) struct Subject {
+    pub(crate) target: Option<NodeId>,
+    pub(crate) meets: Option<bool>,
+}
+
+const NO_SUBJECT: Subject = Subject {
+    target: None,
+    meets: None,
+};
+
+// The entry at a place, none where there is none.
+fn entry_at(entries: &Entries, place: usize) -> Subject
+    ensures { subject_of result ≡ present_at (presents (entries_of entries.now)) (Some place) }
+{
+    match entries {
+        Entries::Nothing => NO_SUBJECT,
+        Entries::Resize(_, list) => match list.entries().get(place) {
+            None => NO_SUBJECT,
+            Some(entry) => Subject {
+                target: Some(entry.target),
+                meets: None,
+            },
+        },
+    }
+}
+
+pub(crate) fn subject_at(entries: &Entries, place: Option<usize>) -> Subject
+    ensures { subject_of result ≡ present_at (presents (entries_of entries.now)) place }
+{
+    match place {
+        None => NO_SUBJECT,
+        Some(place) => entry_at(entries, place),
+    }
+}
+
+fn length_of(units: u64) -> i64
+    requires { units < 2 ^ 63 }
+    ensures { result ≡ pos units }
+{
+    units as i64
+}
+
+// The line of an entry, whose lengths have no sign.
+fn resize_line(page: &Page, observer: ObserverId, entry: &ResizeEntry) -> TraceLine
+    requires caller { observer.0 < length page.now.world.resize_observers.made }
+    requires target { entry.now.target.0 < length page.now.world.tree.elements }
+    requires reach { HasReach (resize_line page.now.world.names observer.0 (seen_entry entry.now)) }
+    ensures { seen_line result ≡ resize_line page.now.world.names observer.0 (seen_entry entry.now) }
+{
+    let left = entry.corner.left.unsigned_abs();
+    let top = entry.corner.top.unsigned_abs();
+    TraceLine::Resize {
+        observer: page.label(Label::Observer(observer)),
+        target: page.label(Label::Target(EventTarget::Node(entry.target))),
+        rect: Rect {
+            left: length_of(left),
+            top: length_of(top),
+            right: length_of(left + entry.content.width.unsigned_abs()),
+            bottom: length_of(top + entry.content.height.unsigned_abs()),
+        },
+        border: Size {
+            width: length_of(entry.border.width.unsigned_abs()),
+            height: length_of(entry.border.height.unsigned_abs()),
+        },
+    }
+}
+
+// The lines of the entries of a resize observer.
+fn write_sizes<K: Sink>(
+    alloc: Global,
+    page: &Page,
+    observer: ObserverId,
+    entries: &[ResizeEntry],
+    sink: &mut K,
+) -> Result<(), RunFault>
+    requires { AreHanded page.now.world (SizeEntries observer.0 (map seen_entry entries.now)) }
+    ensures { Wrote result (K.taken sink.old) (K.taken sink.new) (K.faults sink.old) (K.faults sink.new)
+        (bytes_of (map (resize_line page.now.world.names observer.0) (map seen_entry entries.now))) }
+{
+    for entry in entries {
+        let line = resize_line(page, observer, entry);
+        if let Err(fault) = write_one(alloc, &line, sink) {
+            return Err(fault);
+        }
+    }
+    Ok(())
+}
+
+/// Writes the lines of the entries, before their callback is called.
+pub(crate) fn write_entries<K: Sink>(
+    alloc: Global,
+    page: &Page,
+    entries: &Entries,
+    sink: &mut K,
+) -> Result<(), RunFault>
+    requires { AreHanded page.now.world (entries_of entries.now) }
+    ensures { Wrote result (K.taken sink.old) (K.taken sink.new) (K.faults sink.old) (K.faults sink.new)
+        (bytes_of (entry_lines page.now.world.names (entries_of entries.now))) }
+{
+    match entries {
+        Entries::Nothing => Ok(()),
+        Entries::Resize(observer, list) => {
+            write_sizes(alloc, page, *observer, list.entries(), sink)
+        }
+    }
+}

@@ -1,0 +1,98 @@
+//! A handler, called with the entries of its callback.
+
+ghost use Rattle.std.specs.Prelude.{◌≡◌, option_map, Some};
+ghost use Rattle.script_model.specs.Scripts.{handlers_in};
+ghost use Rattle.page_model.specs.Callbacks.{call, presents, run_handler};
+ghost use Rattle.trace_runs.specs.Flows.{goes_on};
+ghost use Rattle.trace_runs.specs.Runs.{Runs};
+ghost use Rattle.handlers.specs.Blocks.{AreRun};
+ghost use Rattle.handlers.specs.Entries.{entries_of, AreHanded, AreIn};
+
+use crate::commands::run_block;
+use crate::entries::{Entries, write_entries};
+use event_tables::HandlerId;
+use page_state::Page;
+use script_syntax::{Item, Script};
+use std::alloc::Global;
+use std::sync::ledger::Ledger;
+use step_count::Steps;
+use text_io::Sink;
+use trace_runs::RunFault;
+
+// Runs the block of the handler of a number, if there is one. What it throws ends it alone.
+fn run_numbered<K: Sink, L: Ledger>(
+    alloc: Global,
+    page: &mut Page,
+    script: &Script,
+    number: u32,
+    entries: &Entries,
+    sink: &mut K,
+    steps: &mut Steps<L>,
+) -> Result<(), RunFault>
+    requires built { AreRun (handlers_in script.now) }
+    requires targets { AreIn page.old.world (presents (entries_of entries.now)) }
+    ensures { Runs goes_on (λ _. page.new.world) result (K.taken sink.old) (K.taken sink.new) (K.faults sink.old) (K.faults sink.new)
+        (run_handler (handlers_in script.now) (entries_of entries.now) (Some number) page.old.world) }
+{
+    match script.handler(number) {
+        None => Ok(()),
+        Some(Item::Command(_)) => unreachable!(),
+        Some(Item::Handler { commands, .. }) => {
+            match run_block(alloc, page, script, commands, entries, None, sink, steps) {
+                Ok(_) => Ok(()),
+                Err(fault) => Err(fault),
+            }
+        }
+    }
+}
+
+// Runs a handler, if there is one.
+fn run_named<K: Sink, L: Ledger>(
+    alloc: Global,
+    page: &mut Page,
+    script: &Script,
+    handler: Option<HandlerId>,
+    entries: &Entries,
+    sink: &mut K,
+    steps: &mut Steps<L>,
+) -> Result<(), RunFault>
+    requires built { AreRun (handlers_in script.now) }
+    requires targets { AreIn page.old.world (presents (entries_of entries.now)) }
+    ensures { Runs goes_on (λ _. page.new.world) result (K.taken sink.old) (K.taken sink.new) (K.faults sink.old) (K.faults sink.new)
+        (run_handler (handlers_in script.now) (entries_of entries.now) (option_map (λ it. it.0) handler) page.old.world) }
+{
+    match handler {
+        None => Ok(()),
+        Some(HandlerId(number)) => run_numbered(alloc, page, script, number, entries, sink, steps),
+    }
+}
+
+/// Calls a handler for a document, with entries: nothing where the document isn't Active, else a line for each entry and then
+/// the handler's block, if there is a handler. An exception ends the block alone.
+///
+/// # Errors
+/// - `Limit` exactly where a limit is met; all but the limit's own line was written.
+/// - `Memory`, and `WriteFault` only where the sink's count of faults rose in this call: a first part was written.
+pub fn run_handler<K: Sink, L: Ledger>(
+    alloc: Global,
+    page: &mut Page,
+    script: &Script,
+    document: u32,
+    handler: Option<HandlerId>,
+    entries: &Entries,
+    sink: &mut K,
+    steps: &mut Steps<L>,
+) -> Result<(), RunFault>
+    requires built { AreRun (handlers_in script.now) }
+    requires handed { AreHanded page.old.world (entries_of entries.now) }
+    ensures { Runs goes_on (λ _. page.new.world) result (K.taken sink.old) (K.taken sink.new) (K.faults sink.old) (K.faults sink.new)
+        (call (handlers_in script.now) document (option_map (λ it. it.0) handler) (entries_of entries.now) page.old.world) }
+{
+    if !page.is_active(document) {
+        return Ok(());
+    }
+    match write_entries(alloc, page, entries, sink) {
+        Ok(()) => run_named(alloc, page, script, handler, entries, sink, steps),
+        Err(fault) => Err(fault),
+    }
+}

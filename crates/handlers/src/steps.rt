@@ -1,0 +1,69 @@
+//! A command that was begun, and what is written of one that was refused.
+
+ghost use Rattle.std.specs.Prelude.{◌≡◌, true, length};
+ghost use Rattle.script_model.specs.Scripts.{handlers_in};
+ghost use Rattle.script_syntax.specs.Allowed.{ActionAllowed};
+ghost use Rattle.script_syntax.specs.Seen.{action_of};
+ghost use Rattle.page_model.specs.Callbacks.{answered, handler_names, said_by};
+ghost use Rattle.page_model.specs.Commands.{does};
+ghost use Rattle.trace_runs.specs.Flows.{flow_of};
+ghost use Rattle.trace_runs.specs.Runs.{Runs};
+ghost use Rattle.page_state.specs.Applied.{is_applied};
+ghost use Rattle.page_state.specs.Things.{IsSubject};
+ghost use Rattle.handlers.specs.Answers.{Refused};
+ghost use Rattle.handlers.specs.Entries.{subject_of};
+
+use crate::entries::Subject;
+use page_laws::commands_read_the_target_alone;
+use page_state::{Effect, Page, PageFault};
+use script_syntax::{Command, Script};
+use std::alloc::Global;
+use std::sync::ledger::Ledger;
+use step_count::Steps;
+use text_io::Sink;
+use trace_runs::{Flow, RunFault, write_one, write_throw};
+
+// What is written of a call that was refused by the command on a line: an exception is thrown on, and the line of a limit is
+// left to the top call.
+pub(crate) fn refuse<K: Sink>(
+    alloc: Global,
+    line: u32,
+    fault: PageFault,
+    sink: &mut K,
+) -> Result<Flow, RunFault>
+    ensures { Refused fault line result (K.taken sink.old) (K.taken sink.new) (K.faults sink.old) (K.faults sink.new) }
+{
+    match fault {
+        PageFault::Throw(kind) => write_throw(alloc, line, kind, sink),
+        PageFault::Limit(kind) => Err(RunFault::Limit { kind, line }),
+        PageFault::Memory => Err(RunFault::Memory),
+    }
+}
+
+// Applies a command that was begun, and writes its line if it has one.
+pub(crate) fn apply<K: Sink, L: Ledger>(
+    alloc: Global,
+    page: &mut Page,
+    script: &Script,
+    command: &Command,
+    subject: Subject,
+    sink: &mut K,
+    steps: &mut Steps<L>,
+) -> Result<Flow, RunFault>
+    requires begun { page.old.begun ≡ true }
+    requires allowed { ActionAllowed command.now.what }
+    requires built { is_applied (action_of command.now.what) ≡ true }
+    requires subject { IsSubject (length page.old.world.tree.elements) subject.target }
+    ensures { Runs flow_of (λ _. page.new.world) result (K.taken sink.old) (K.taken sink.new) (K.faults sink.old) (K.faults sink.new)
+        (answered command.now.line page.old.world said_by (does (handler_names (handlers_in script.now)) page.old.world (subject_of subject) (action_of command.now.what))) }
+{
+    commands_read_the_target_alone();
+    match page.apply(script, command, subject.target, steps) {
+        Ok(Effect::Nothing) => Ok(Flow::Next),
+        Ok(Effect::Line(line)) => match write_one(alloc, &line, sink) {
+            Ok(()) => Ok(Flow::Next),
+            Err(fault) => Err(fault),
+        },
+        Err(fault) => refuse(alloc, command.line, fault, sink),
+    }
+}

@@ -1,0 +1,10 @@
+pub mod Only
+pub mod Entries
+pub mod Written
+pub mod Standing
+pub mod Subjects
+pub mod Numbers
+pub mod Changing
+pub mod Counts
+pub mod Listed
+pub mod Settling

@@ -1,0 +1,259 @@
+//! Calls with their answers, as the standard's steps give them, with each call that memory is refused to.
+ghost use Rattle.std.specs.Prelude.{◌≡◌, ◌<◌, ◌≤◌, ◌+◌, ◌^◌, length, IfOk};
+
+use crate::{Entry, Finding, Root, Settled, WatchFault, WatcherId, Watchers};
+use element_tree::NodeId;
+use px_units::Rect;
+use std::alloc::Global;
+use std::test::Fail;
+use thresholds::{Margins, Ratio, Thresholds};
+
+#[derive(Clone, Copy)]
+enum Step {
+    Observe(u32),
+    Unobserve(u32),
+    Disconnect,
+    // The registration at a place: the time, the index, and whether they meet.
+    Settle(usize, u64, u32, bool),
+    Take,
+}
+
+fn found(index: u32, meets: bool) -> Finding {
+    let none = Rect {
+        left: 0,
+        top: 0,
+        right: 0,
+        bottom: 0,
+    };
+    Finding {
+        index,
+        meets,
+        ratio: Ratio { part: 0, whole: 1 },
+        root: none,
+        target: none,
+        cut: none,
+    }
+}
+
+// Entries as target, time, index, and `+` where they met.
+fn entries(alloc: Global, entries: &[Entry]) -> Result<String, Fail> {
+    let mut text = String::new(alloc);
+    for each in entries {
+        let sign = if each.finding.meets { "+" } else { "-" };
+        let shown = format!(in alloc;
+            " {}@{}:{}{sign}",
+            each.target.0, each.time, each.finding.index
+        )?;
+        text.push_str(shown.as_str())?;
+    }
+    Ok(text)
+}
+
+// The registrations of an observer with their targets.
+fn registrations(alloc: Global, watchers: &Watchers, watcher: WatcherId) -> Result<String, Fail>
+    requires { watcher.0 < length watchers.now.part.made }
+{
+    let mut text = String::new(alloc);
+    for each in watchers.registrations(watcher) {
+        let target = watchers.target_of(*each);
+        let shown = format!(in alloc; " {}:{}", each.0, target.0)?;
+        text.push_str(shown.as_str())?;
+    }
+    Ok(text)
+}
+
+fn observe(
+    alloc: Global,
+    watchers: &mut Watchers,
+    watcher: WatcherId,
+    target: u32,
+) -> Result<String, Fail>
+    requires watcher { watcher.0 < length watchers.old.part.made }
+    requires serials { watchers.old.part.given < 2 ^ 32 }
+    ensures count { length watchers.new.part.made ≡ length watchers.old.part.made }
+    ensures given { watchers.new.part.given ≤ watchers.old.part.given + 1 }
+{
+    let said = match watchers.observe(watcher, NodeId(target)) {
+        Ok(Some(registration)) => format!(in alloc; "{}", registration.0)?,
+        Ok(None) => String::from_str(alloc, "None")?,
+        Err(WatchFault::Limit) => String::from_str(alloc, "Limit")?,
+        Err(WatchFault::Memory) => String::from_str(alloc, "Memory")?,
+    };
+    Ok(said)
+}
+
+fn unobserve(
+    alloc: Global,
+    watchers: &mut Watchers,
+    watcher: WatcherId,
+    target: u32,
+) -> Result<String, Fail>
+    requires { watcher.0 < length watchers.old.part.made }
+    ensures count { length watchers.new.part.made ≡ length watchers.old.part.made }
+    ensures given { watchers.new.part.given ≡ watchers.old.part.given }
+{
+    let said = match watchers.unobserve(watcher, NodeId(target)) {
+        Some(registration) => format!(in alloc; "{}", registration.0)?,
+        None => String::from_str(alloc, "None")?,
+    };
+    Ok(said)
+}
+
+fn settle(
+    watchers: &mut Watchers,
+    watcher: WatcherId,
+    place: usize,
+    time: u64,
+    finding: Finding,
+) -> &'static str
+    requires { watcher.0 < length watchers.old.part.made }
+    ensures count { length watchers.new.part.made ≡ length watchers.old.part.made }
+    ensures given { watchers.new.part.given ≡ watchers.old.part.given }
+{
+    let listed = watchers.registrations(watcher);
+    if place >= listed.len() {
+        return "past the last";
+    }
+    let registration = listed[place];
+    match watchers.settle(registration, time, finding) {
+        Ok(Settled::Queued) => "Queued",
+        Ok(Settled::Kept) => "Kept",
+        Err(_) => "Memory",
+    }
+}
+
+fn apply(
+    alloc: Global,
+    watchers: &mut Watchers,
+    watcher: WatcherId,
+    step: Step,
+) -> Result<String, Fail>
+    requires watcher { watcher.0 < length watchers.old.part.made }
+    requires serials { watchers.old.part.given < 2 ^ 32 }
+    ensures count { length watchers.new.part.made ≡ length watchers.old.part.made }
+    ensures given { watchers.new.part.given ≤ watchers.old.part.given + 1 }
+{
+    match step {
+        Step::Observe(target) => observe(alloc, watchers, watcher, target),
+        Step::Unobserve(target) => unobserve(alloc, watchers, watcher, target),
+        Step::Disconnect => {
+            watchers.disconnect(watcher);
+            Ok(String::new(alloc))
+        }
+        Step::Settle(place, time, index, meets) => {
+            let said = settle(watchers, watcher, place, time, found(index, meets));
+            Ok(String::from_str(alloc, said)?)
+        }
+        Step::Take => entries(alloc, watchers.take_records(watcher).as_slice()),
+    }
+}
+
+// Two observers, as many as there may be, and at most four registrations.
+fn two_watchers(alloc: Global) -> Result<Watchers, Fail>
+    ensures { IfOk result (λ watchers. (watchers.part.given ≡ 0) × (length watchers.part.made ≡ 2)) }
+{
+    let mut watchers = Watchers::new(alloc, 2, 4);
+    let margins = Margins::parse(b"")?;
+    let thresholds = Thresholds::new(alloc, &[])?;
+    watchers.make(0, None, Root::Implicit, margins, thresholds)?;
+    let thresholds = Thresholds::new(alloc, &[])?;
+    watchers.make(1, Some(3), Root::Document(1), margins, thresholds)?;
+    Ok(watchers)
+}
+
+// Of an observer: the step, what it answers, and the registrations then.
+const STEPS: [(u32, Step, &'static str, &'static str); 27] = [
+    (0, Step::Observe(5), "0", " 0:5"),
+    (0, Step::Observe(6), "1", " 0:5 1:6"),
+    (0, Step::Observe(5), "None", " 0:5 1:6"),
+    (0, Step::Observe(7), "2", " 0:5 1:6 2:7"),
+    (1, Step::Observe(5), "3", " 3:5"),
+    (1, Step::Observe(6), "Limit", " 3:5"),
+    (0, Step::Observe(6), "None", " 0:5 1:6 2:7"),
+    (0, Step::Settle(0, 10, 0, false), "Queued", " 0:5 1:6 2:7"),
+    (0, Step::Settle(0, 20, 0, false), "Kept", " 0:5 1:6 2:7"),
+    (0, Step::Settle(0, 30, 0, true), "Queued", " 0:5 1:6 2:7"),
+    (0, Step::Settle(0, 40, 1, true), "Queued", " 0:5 1:6 2:7"),
+    (0, Step::Settle(0, 40, 1, true), "Kept", " 0:5 1:6 2:7"),
+    (0, Step::Settle(1, 40, 2, true), "Queued", " 0:5 1:6 2:7"),
+    (1, Step::Settle(0, 40, 0, false), "Queued", " 3:5"),
+    (0, Step::Unobserve(5), "0", " 1:6 2:7"),
+    (0, Step::Unobserve(9), "None", " 1:6 2:7"),
+    (0, Step::Settle(0, 50, 2, true), "Kept", " 1:6 2:7"),
+    (0, Step::Observe(5), "4", " 1:6 2:7 4:5"),
+    (0, Step::Settle(2, 50, 1, true), "Queued", " 1:6 2:7 4:5"),
+    (0, Step::Disconnect, "", ""),
+    (
+        0,
+        Step::Take,
+        " 5@10:0- 5@30:0+ 5@40:1+ 6@40:2+ 5@50:1+",
+        "",
+    ),
+    (0, Step::Take, "", ""),
+    (1, Step::Take, " 5@40:0-", " 3:5"),
+    (1, Step::Settle(0, 60, 0, false), "Kept", " 3:5"),
+    (0, Step::Observe(7), "5", " 5:7"),
+    (0, Step::Settle(0, 60, 0, false), "Queued", " 5:7"),
+    (0, Step::Take, " 7@60:0-", " 5:7"),
+];
+
+#[test]
+fn steps_queue_what_is_news(rt: HostRuntime) -> Result<(), Fail> {
+    let alloc = rt.alloc();
+    let mut watchers = two_watchers(alloc)?;
+    for (number, step, answer, want) in STEPS {
+        assert!(rt; number < watchers.count());
+        let watcher = WatcherId(number);
+        let before = registrations(alloc, &watchers, watcher)?;
+        let mut said = apply(alloc, &mut watchers, watcher, step)?;
+        if said.as_bytes() == b"Memory".as_slice() {
+            let now = registrations(alloc, &watchers, watcher)?;
+            assert!(rt;
+                now.as_bytes() == before.as_bytes(),
+                "refused before {want}"
+            );
+            said = apply(alloc, &mut watchers, watcher, step)?;
+        }
+        assert!(rt; said.as_bytes() == answer.as_bytes(), "want {answer}");
+        let now = registrations(alloc, &watchers, watcher)?;
+        assert!(rt; now.as_bytes() == want.as_bytes(), "want {want}");
+    }
+    Ok(())
+}
+
+#[test]
+fn observers_are_as_they_were_made(rt: HostRuntime) -> Result<(), Fail> {
+    let alloc = rt.alloc();
+    let mut watchers = Watchers::new(alloc, 2, 4);
+    assert!(rt; !watchers.is_full());
+    let margins = Margins::parse(b"10px 0px")?;
+    let thresholds = Thresholds::new(alloc, &[5000, 10000])?;
+    let first = watchers.make(7, None, Root::Node(NodeId(3)), margins, thresholds)?;
+    let margins = Margins::parse(b"")?;
+    let thresholds = Thresholds::new(alloc, &[])?;
+    let second = watchers.make(8, Some(2), Root::Document(8), margins, thresholds)?;
+    assert!(rt; watchers.is_full());
+    let thresholds = Thresholds::new(alloc, &[])?;
+    let refused = watchers.make(9, None, Root::Implicit, margins, thresholds);
+    assert_eq!(rt; refused, Err(WatchFault::Limit));
+    assert_eq!(rt; watchers.count(), 2);
+    assert_eq!(rt; watchers.document_of(first), 7);
+    assert_eq!(rt; watchers.handler_of(first), None);
+    assert_eq!(rt; watchers.root_of(first), Root::Node(NodeId(3)));
+    assert_eq!(rt; watchers.document_of(second), 8);
+    assert_eq!(rt; watchers.handler_of(second), Some(2));
+    assert_eq!(rt; watchers.root_of(second), Root::Document(8));
+    let view = Rect {
+        left: 0,
+        top: 0,
+        right: 64,
+        bottom: 64,
+    };
+    assert_eq!(rt; watchers.margins_of(first).dilate(view).top, -640);
+    assert_eq!(rt; watchers.margins_of(second).dilate(view).top, 0);
+    let half = Ratio { part: 1, whole: 2 };
+    assert_eq!(rt; watchers.thresholds_of(first).index_of(half), 1);
+    assert_eq!(rt; watchers.thresholds_of(second).index_of(half), 1);
+    assert!(rt; watchers.may_observe(first, NodeId(1)));
+    Ok(())
+}

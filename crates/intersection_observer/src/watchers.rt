@@ -1,0 +1,317 @@
+//! The observers of a page.
+
+ghost use Rattle.std.specs.Prelude.{◌≡◌, ◌<◌, ◌≤◌, ◌+◌, ◌-◌, All, ◌^◌, false, [], length, map, not, option_map, Ok, IfOk, OnOk, OnErr, IfSome, Some};
+ghost use Rattle.page_model.specs.World.{Registration};
+ghost use Rattle.page_model.specs.IntersectionObserving.{with_intersection_observer, without_registration, without_registrations, without_queue};
+ghost use Rattle.intersection_observer.specs.Seen.{seen_root, seen_finding, serial_numbers};
+ghost use Rattle.intersection_observer.specs.Places.{Standing, standing_of, IsStanding};
+ghost use Rattle.intersection_observer.specs.Serials.{HasSerials};
+ghost use Rattle.intersection_observer.specs.Settling.{with_settled, is_news_for};
+ghost use Rattle.intersection_observer.specs.Watchers.{watcher_at, has_room, observes, may_register, may_observe, once_observed, serial_of};
+ghost use Rattle.intersection_observer.specs.Answers.{Enters, Registers, Settles};
+ghost use Rattle.intersection_observer.specs.Held.{seen_place};
+ghost use Rattle.intersection_observer.specs.declared.registration.Settled.TheVariants.{Kept};
+
+use crate::registration::Place;
+use crate::watcher::Watcher;
+use crate::{EntryList, Finding, RegistrationId, Root, Settled, WatcherId};
+use element_tree::NodeId;
+use indexmap::IndexMap;
+use std::alloc::{AllocError, Global};
+use std::marker::Model;
+use thiserror::Error;
+use thresholds::{Margins, Thresholds};
+
+/// Why a call is refused. A refused call changes nothing.
+#[derive(Clone, Copy, Debug, PartialEq, Eq, Error)]
+pub enum WatchFault {
+    /// As many as there may be are there.
+    #[error("Limit")]
+    Limit,
+    /// There is no memory.
+    #[error("Memory")]
+    Memory,
+}
+
+/// The intersection observers of a page in order of making, each with its document, its handler, its root, margins and
+/// thresholds, its registrations and its queue of entries (Intersection Observer, 2.2 and 3.1). A clause sees them as the
+/// definitions of a world do, with the number of serial numbers given.
+///
+/// An observer that is handed in is one that these observers made, and a registration one that stands.
+#[derive(Drop)]
+pub struct Watchers {
+    made: Vec<Watcher>,
+    // Where each registration stands, by its serial number.
+    places: IndexMap<u64, Place>,
+    given: u64,
+    most_watchers: u32,
+    most_registrations: u32,
+}
+
+impl Model for Watchers {
+    ghost use Rattle.intersection_observer.specs.Watchers.{HeldWatchers};
+
+    ghost Value = { HeldWatchers };
+
+    ghost use Rattle.intersection_observer.specs.Held.{IsHeld};
+
+    ghost view = { λ w. record { part = record { given = w.given; made = w.made.items }; most_watchers = w.most_watchers; most_registrations = w.most_registrations } };
+
+    ghost invariant = { λ w. IsHeld w.places (record { given = w.given; made = w.made.items }) w.most_watchers w.most_registrations };
+}
+
+impl Watchers {
+    /// No observers, which take no memory yet. At most `most_watchers` can be made, and at most `most_registrations` targets
+    /// observed, each once for an observer of it.
+    pub fn new(alloc: Global, most_watchers: u32, most_registrations: u32) -> Watchers
+        ensures { result ≡ record { part = record { given = 0; made = [] }; most_watchers = most_watchers; most_registrations = most_registrations } }
+    {
+        Watchers {
+            made: Vec::new(alloc),
+            places: IndexMap::new(alloc),
+            given: 0,
+            most_watchers,
+            most_registrations,
+        }
+    }
+
+    /// Whether as many were made as may be, so that `make` answers `Limit`.
+    pub fn is_full(&self) -> bool
+        ensures { result ≡ not (has_room self.now) }
+    {
+        self.made.len() >= self.most_watchers as usize
+    }
+
+    /// How many were made.
+    pub fn count(&self) -> u32
+        ensures { result ≡ length self.now.part.made }
+    {
+        self.made.len() as u32
+    }
+
+    /// Makes an observer for a document, with the number of its handler if it has one (Intersection Observer, 2.2: the
+    /// constructor). It has no targets and an empty queue.
+    ///
+    /// `Limit` exactly where `most_watchers` were made; else `Memory` where there is none. The thresholds are dropped then.
+    pub fn make(
+        &mut self,
+        document: u32,
+        handler: Option<u32>,
+        root: Root,
+        margins: Margins,
+        thresholds: Thresholds,
+    ) -> Result<WatcherId, WatchFault>
+        ensures watcher { IfOk result (λ watcher. watcher.0 ≡ length self.old.part.made) }
+        ensures made { OnOk result (self.new ≡ record self.old { part = with_intersection_observer document handler (seen_root root) margins thresholds (self.old.part) }) }
+        ensures same { OnErr result (self.new ≡ self.old) }
+        ensures room { Enters result (has_room self.old) }
+    {
+        if self.is_full() {
+            return Err(WatchFault::Limit);
+        }
+        let number = self.made.len() as u32;
+        let alloc = *self.made.allocator();
+        let watcher = Watcher::new(alloc, document, handler, root, margins, thresholds);
+        let Ok(()) = self.made.push(watcher) else {
+            return Err(WatchFault::Memory);
+        };
+        Ok(WatcherId(number))
+    }
+
+    /// Whether a target is there or there is room for one more, so that `observe` doesn't answer `Limit`.
+    pub fn may_observe(&self, watcher: WatcherId, target: NodeId) -> bool
+        requires { watcher.0 < length self.now.part.made }
+        ensures { result ≡ may_observe watcher.0 target.0 self.now }
+    {
+        self.made[watcher.0 as usize].observes(target) || self.has_space()
+    }
+
+    // Whether one more registration may be held.
+    fn has_space(&self) -> bool
+        ensures { result ≡ may_register self.now }
+    {
+        self.places.len() < self.most_registrations as usize
+    }
+
+    /// Observes a target (Intersection Observer, 2.2: `observe`): a new registration with the next serial number goes to the
+    /// end of the observer's registrations. It has no previous index, so that its first update queues an entry. `None`, and
+    /// nothing changes, exactly where the target is there.
+    ///
+    /// `Limit` exactly where the target isn't there and `most_registrations` are held; else `Memory` where there is none.
+    /// Fewer than 2^64 - 1 serial numbers were given.
+    pub fn observe(
+        &mut self,
+        watcher: WatcherId,
+        target: NodeId,
+    ) -> Result<Option<RegistrationId>, WatchFault>
+        requires watcher { watcher.0 < length self.old.part.made }
+        requires serials { self.old.part.given < 2 ^ 64 - 1 }
+        ensures answer { Registers result (observes watcher.0 target.0 self.old) (may_register self.old) self.old.part.given }
+        ensures observed { OnOk result (self.new ≡ record self.old { part = once_observed watcher.0 target.0 (self.old.part) }) }
+        ensures same { OnErr result (self.new ≡ self.old) }
+        ensures count { length self.new.part.made ≡ length self.old.part.made }
+        ensures given { self.new.part.given ≤ self.old.part.given + 1 }
+    {
+        if self.made[watcher.0 as usize].observes(target) {
+            return Ok(None);
+        }
+        if !self.has_space() {
+            return Err(WatchFault::Limit);
+        }
+        let Ok(()) = self.places.reserve(1) else {
+            return Err(WatchFault::Memory);
+        };
+        let registration = RegistrationId(self.given);
+        let Ok(()) = self.made[watcher.0 as usize].observe(target, registration) else {
+            return Err(WatchFault::Memory);
+        };
+        let place = Place {
+            watcher: watcher.0,
+            target: target.0,
+        };
+        self.places.insert(self.given, place).unwrap();
+        self.given += 1;
+        Ok(Some(registration))
+    }
+
+    /// Takes the registration of a target out, and tells which it was; `None` exactly where it isn't there (Intersection
+    /// Observer, 2.2: `unobserve`). The queue stays.
+    pub fn unobserve(&mut self, watcher: WatcherId, target: NodeId) -> Option<RegistrationId>
+        requires { watcher.0 < length self.old.part.made }
+        ensures answer { option_map (λ (it : RegistrationId). it.0) result ≡ serial_of target.0 (watcher_at self.old watcher.0).registrations }
+        ensures unobserved { self.new ≡ record self.old { part = without_registration watcher.0 target.0 (self.old.part) } }
+        ensures count { length self.new.part.made ≡ length self.old.part.made }
+    {
+        let registration = self.made[watcher.0 as usize].unobserve(target)?;
+        self.places.swap_remove(&registration.0);
+        Some(registration)
+    }
+
+    /// Takes all of an observer's registrations out (Intersection Observer, 2.2: `disconnect`). The queue stays.
+    pub fn disconnect(&mut self, watcher: WatcherId)
+        requires { watcher.0 < length self.old.part.made }
+        ensures disconnected { self.new ≡ record self.old { part = without_registrations watcher.0 (self.old.part) } }
+        ensures count { length self.new.part.made ≡ length self.old.part.made }
+    {
+        // From the last one on, so that none has to move.
+        while let Some(target) = self.made[watcher.0 as usize].last_target() {
+            self.unobserve(watcher, target);
+        }
+    }
+
+    /// The registrations of an observer in order of the calls of `observe`.
+    pub fn registrations(&self, watcher: WatcherId) -> &[RegistrationId]
+        requires { watcher.0 < length self.now.part.made }
+        ensures value { serial_numbers result.now ≡ map (λ (it : Registration). it.serial) (watcher_at self.now watcher.0).registrations }
+        ensures count { length result.now ≡ length (watcher_at self.now watcher.0).registrations }
+        ensures standing { All (λ registration. IsStanding registration.0 self.now.part) result.now }
+        ensures serials { HasSerials self.now.part }
+    {
+        self.made[watcher.0 as usize].names()
+    }
+
+    // Where a registration stands.
+    fn place_of(&self, registration: RegistrationId) -> Place
+        requires { IsStanding registration.0 self.now.part }
+        ensures value { standing_of registration.0 self.now.part ≡ Some (seen_place result) }
+    {
+        match self.places.get(&registration.0) {
+            Some(place) => *place,
+            None => Place {
+                watcher: 0,
+                target: 0,
+            },
+        }
+    }
+
+    /// The target of a registration.
+    pub fn target_of(&self, registration: RegistrationId) -> NodeId
+        requires { IsStanding registration.0 self.now.part }
+        ensures { option_map (λ (it : Standing). it.target) (standing_of registration.0 self.now.part) ≡ Some result.0 }
+    {
+        NodeId(self.place_of(registration).target)
+    }
+
+    /// The observer of a registration.
+    pub fn watcher_of(&self, registration: RegistrationId) -> WatcherId
+        requires { IsStanding registration.0 self.now.part }
+        ensures value { option_map (λ (it : Standing). it.watcher) (standing_of registration.0 self.now.part) ≡ Some result.0 }
+        ensures made { result.0 < length self.now.part.made }
+    {
+        WatcherId(self.place_of(registration).watcher)
+    }
+
+    /// The document that an observer was made for.
+    pub fn document_of(&self, watcher: WatcherId) -> u32
+        requires { watcher.0 < length self.now.part.made }
+        ensures { result ≡ (watcher_at self.now watcher.0).document }
+    {
+        self.made[watcher.0 as usize].document()
+    }
+
+    /// The number of an observer's handler, none where it has none.
+    pub fn handler_of(&self, watcher: WatcherId) -> Option<u32>
+        requires { watcher.0 < length self.now.part.made }
+        ensures { result ≡ (watcher_at self.now watcher.0).handler }
+    {
+        self.made[watcher.0 as usize].handler()
+    }
+
+    /// The root of an observer.
+    pub fn root_of(&self, watcher: WatcherId) -> Root
+        requires { watcher.0 < length self.now.part.made }
+        ensures { seen_root result ≡ (watcher_at self.now watcher.0).root }
+    {
+        self.made[watcher.0 as usize].root()
+    }
+
+    /// The root margins of an observer.
+    pub fn margins_of(&self, watcher: WatcherId) -> &Margins
+        requires { watcher.0 < length self.now.part.made }
+        ensures { result.now ≡ (watcher_at self.now watcher.0).margins }
+    {
+        self.made[watcher.0 as usize].margins()
+    }
+
+    /// The thresholds of an observer.
+    pub fn thresholds_of(&self, watcher: WatcherId) -> &Thresholds
+        requires { watcher.0 < length self.now.part.made }
+        ensures { result.now ≡ (watcher_at self.now watcher.0).thresholds }
+    {
+        self.made[watcher.0 as usize].thresholds()
+    }
+
+    /// Stores what was found of a registration's target at a time, and queues an entry at its observer exactly where the
+    /// index or whether they meet differs from before (Intersection Observer, 3.2: update intersection observations). Where
+    /// there was no update before, the index differs from every index.
+    ///
+    /// Only an entry takes memory; where it is refused, nothing changes.
+    pub fn settle(
+        &mut self,
+        registration: RegistrationId,
+        time: u64,
+        finding: Finding,
+    ) -> Result<Settled, AllocError>
+        requires { IsStanding registration.0 self.old.part }
+        ensures settled { OnOk result (self.new ≡ record self.old { part = with_settled registration.0 time (seen_finding finding) (self.old.part) }) }
+        ensures same { OnErr result (self.new ≡ self.old) }
+        ensures answer { Settles result (is_news_for registration.0 (seen_finding finding) self.old.part) }
+        ensures kept { result ≡ Ok Kept → self.new ≡ self.old }
+        ensures count { length self.new.part.made ≡ length self.old.part.made }
+        ensures given { self.new.part.given ≡ self.old.part.given }
+    {
+        let place = self.place_of(registration);
+        self.made[place.watcher as usize].settle(NodeId(place.target), time, finding)
+    }
+
+    /// Hands the queue of an observer out, and leaves it empty (Intersection Observer, 2.2: `takeRecords`). It takes no
+    /// memory.
+    pub fn take_records(&mut self, watcher: WatcherId) -> EntryList
+        requires { watcher.0 < length self.old.part.made }
+        ensures taken { result ≡ (watcher_at self.old watcher.0).queue }
+        ensures emptied { self.new ≡ record self.old { part = without_queue watcher.0 (self.old.part) } }
+        ensures count { length self.new.part.made ≡ length self.old.part.made }
+    {
+        self.made[watcher.0 as usize].take_records()
+    }
+}

@@ -1,0 +1,15 @@
+mod Along
+mod Standing
+mod Counting
+mod Waiting
+mod Effects
+mod Paths
+mod Depths
+mod Found
+mod Deeper
+mod Falling
+mod Bounded
+mod LoopsAtRest
+mod TasksAtRest
+mod Loops
+mod Errors

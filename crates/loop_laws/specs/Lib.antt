@@ -1,0 +1,7 @@
+pub mod Still
+pub mod Rounds
+pub mod TaskRuns
+pub mod Moments
+pub mod Uprooting
+pub mod WholeLoops
+pub mod Examples

@@ -1,0 +1,56 @@
+-- Which commands of a round uproot what was gathered in it: those that move an inclusive ancestor of it.
+use Rattle.std.specs.Prelude.{ℕ, Bool, false, ◌&&◌, cond, List, [], map, flat_map, count_by, Option, Some, None}
+use Rattle.std.specs.List.{list_any}
+use Rattle.script_model.specs.Syntax.{Action, Append, Before, Remove, Operand, Command, Simple, Each, When}
+use Rattle.page_model.specs.World.{World, Tree, Observation, ResizeObserver}
+use Rattle.page_model.specs.Documents.{is_inclusive_ancestor}
+use Rattle.page_model.specs.Gathering.{is_of}
+use Rattle.page_model.specs.Steps.{Step, Did, Threw, Met, is_did}
+use Rattle.page_model.specs.Operands.{element_meant}
+use Rattle.page_model.specs.Commands.{does}
+use Rattle.page_model.specs.Callbacks.{Script, handler_names}
+use Rattle.loop_laws.specs.Moments.{Moment, broadcast_moments}
+
+-- the element that `append`, `before` and `remove` move; no other command moves one
+abbrev pub moved_operand : Action → Option Operand
+moved_operand (Append parent node) = Some node
+moved_operand (Before parent node sibling) = Some node
+moved_operand (Remove node) = Some node
+moved_operand action = None
+
+abbrev pub comes_to : Step ℕ → (ℕ → Bool) → Bool
+comes_to (Did n) test = test n
+comes_to (Threw exception) test = false
+comes_to (Met limit) test = false
+
+-- whether an element is an inclusive ancestor of one of these targets
+abbrev pub is_above : Tree → List ℕ → ℕ → Bool
+is_above tree targets n = list_any (λ target. is_inclusive_ancestor tree n target) targets
+
+-- whether an action takes effect and moves an inclusive ancestor of one of these targets, as the tree is before
+abbrev pub lifts : Script → List ℕ → Moment → Action → Option Operand → Bool
+lifts script targets now action None = false
+lifts script targets now action (Some node) =
+    is_did (does (handler_names script) (now.world) (now.present) action)
+    && comes_to (element_meant (now.world.names) (now.present) node) (is_above (now.world.tree) targets)
+
+abbrev pub uproots_by : Script → List ℕ → Moment → Command → Bool
+uproots_by script targets now (Simple line action) = lifts script targets now action (moved_operand action)
+uproots_by script targets now (Each line block end_line) = false
+uproots_by script targets now (When line condition block end_line) = false
+
+unfoldable pub uproots : Script → List ℕ → Moment → Bool
+unfolding does is_inclusive_ancestor
+uproots script targets now = uproots_by script targets now (now.command)
+
+-- the targets that wait to be delivered to a document's observers
+abbrev pub gathered_targets : ℕ → World → List ℕ
+gathered_targets document world =
+    flat_map
+    (λ (observer : ResizeObserver). cond (is_of document observer) (map (λ (it : Observation). it.target) (observer.active)) [])
+    (world.resize_observers.made)
+
+-- how many commands of a round uproot what was gathered in it; the round begins in this world
+unfoldable pub uprootings : Script → ℕ → World → ℕ
+unfolding uproots broadcast_moments
+uprootings script document world = count_by (uproots script (gathered_targets document world)) (broadcast_moments script document world)

@@ -1,0 +1,58 @@
+-- All rounds of a resize loop, with what they deliver, and the error behind them (Resize Observer, 3.4).
+use Rattle.std.specs.Prelude.{◌≡◌, ◌<◌, ℕ, Bool, ◌&&◌, List, [], ◌∷◌, map, fold, max, length, None, ⊤}
+use Rattle.std.specs.List.{list_any}
+use Rattle.text_io.specs.declared.kinds.EventKind.TheVariants as events
+use Rattle.script_model.specs.TraceLines.{FiredError}
+use Rattle.page_model.specs.World.{World, Observation, ResizeObserver, WindowTarget}
+use Rattle.page_model.specs.Documents.{is_active, element_depth}
+use Rattle.page_model.specs.Names.{document_text}
+use Rattle.page_model.specs.Gathering.{sight_of, is_of, has_changed, due_at}
+use Rattle.page_model.specs.Runs.{Said, most_steps}
+use Rattle.page_model.specs.Callbacks.{Script, call, fire}
+use Rattle.page_model.specs.Loop.{Broadcast, gather, broadcast, round, deliver_some}
+use Rattle.loop_laws.specs.Moments.{along_repeat, along_places}
+use Rattle.loop_laws.specs.Rounds.{goes_on, rounds_up_to, round_depth}
+use Rattle.loop_laws.specs.Uprooting.{uprootings}
+
+-- the rounds of a loop, without the error behind them
+unfoldable pub resize_rounds : Script → ℕ → World → Said World
+unfolding rounds_up_to gather
+resize_rounds script document world = rounds_up_to most_steps script document (gather document 0 world)
+
+-- the worlds in which the rounds of a loop begin, each gathered already. The last one may be broken off, which writes no line
+unfoldable pub round_starts : Script → ℕ → World → List World
+unfolding along_repeat broadcast gather
+round_starts script document world =
+    along_repeat (goes_on document) (λ now. now ∷ []) (round script document) most_steps (gather document 0 world)
+
+-- the depths of the targets that a round delivers, each as it is then
+unfoldable pub delivered_depths : Script → ℕ → World → List ℕ
+unfolding along_places call element_depth
+delivered_depths script document world =
+    along_places
+    (λ so_far. length (so_far.world.resize_observers.made))
+    (λ so_far. is_active (so_far.world.tree) document)
+    (λ observer (so_far : Broadcast).
+    map (λ (it : Observation). element_depth (so_far.world.tree) (it.target)) (due_at document observer (so_far.world.resize_observers)))
+    (λ observer so_far. deliver_some script document observer so_far (due_at document observer (so_far.world.resize_observers)))
+    (record { world = world; shallowest = None })
+
+abbrev pub greatest : List ℕ → ℕ
+greatest depths = fold max 0 depths
+
+-- each round is deeper than the one before, or a command of it uproots what was gathered in it
+abbrev pub GoesDeeper : Script → ℕ → ℕ → List World → Type 0
+GoesDeeper script document before [] = ⊤
+GoesDeeper script document before (start ∷ others) =
+    (uprootings script document start ≡ 0 → before < round_depth script document start)
+    × GoesDeeper script document (round_depth script document start) others
+
+-- whether an observer of a document has a target whose size differs from its last reported one
+abbrev pub has_undelivered : ℕ → World → Bool
+has_undelivered document world =
+    list_any
+    (λ (observer : ResizeObserver). is_of document observer && list_any (has_changed (sight_of world)) (observer.targets))
+    (world.resize_observers.made)
+
+abbrev pub fire_error : Script → ℕ → World → Said World
+fire_error script document world = fire script (FiredError (document_text (world.names) document)) (WindowTarget document) events.Error world

@@ -1,0 +1,32 @@
+//! Laws of the depths of rounds, and so of their number.
+
+ghost use Rattle.std.specs.Prelude.{◌≡◌, ◌<◌, ◌≤◌, ◌*◌, ℕ, suc, IsTrue, length, sum_by, flat_map};
+ghost use Rattle.page_model.specs.World.{World};
+ghost use Rattle.page_model.specs.Callbacks.{Script};
+ghost use Rattle.page_laws.specs.Bounds.{IsWithinLimits};
+ghost use Rattle.loop_laws.specs.Rounds.{goes_on, round_depth, IsDeeper};
+ghost use Rattle.loop_laws.specs.Uprooting.{uprootings};
+ghost use Rattle.loop_laws.specs.WholeLoops.{round_starts, delivered_depths, greatest, GoesDeeper};
+
+/// A round that was gathered at a depth delivers only deeper targets, unless a command of that round uproots what was gathered: an
+/// `append`, `before` or `remove` that takes effect and moves an inclusive ancestor of a target that was gathered, as the tree is then.
+pub fn rounds_go_deeper()
+    ensures { (script : Script) (document depth : ℕ) (world : World) → IsWithinLimits world → IsDeeper document depth world →
+        IsTrue (goes_on document world) → uprootings script document world ≡ 0 → depth < round_depth script document world }
+{}
+
+/// In each resize loop the depth of a round is greater than that of the round before it, and that of the first round greater than 0, unless
+/// in that round itself a command uproots what was gathered.
+pub fn loops_go_deeper()
+    ensures { (script : Script) (document : ℕ) (world : World) → IsWithinLimits world →
+        GoesDeeper script document 0 (round_starts script document world) }
+{}
+
+/// With m such commands in a loop, and the greatest depth H of what it delivers, it has at most (m + 1) * H rounds, one that is
+/// broken off counted.
+pub fn loops_have_few_rounds()
+    ensures { (script : Script) (document : ℕ) (world : World) → IsWithinLimits world →
+        length (round_starts script document world)
+        ≤ suc (sum_by (uprootings script document) (round_starts script document world))
+        * greatest (flat_map (delivered_depths script document) (round_starts script document world)) }
+{}

@@ -1,0 +1,15 @@
+-- Gathering is that of the page's resize observers by its sizes as they are now.
+use Rattle.std.proofs.Common.{ap, ◌∙◌}
+use Rattle.page_model.specs.Loop.{gather}
+use Rattle.page_model.specs.World.{World}
+use Rattle.resize_observer.specs.Observers.{HeldObservers}
+use Rattle.page_state.specs.Views.{PageView}
+use Rattle.page_state.specs.Worlds.{world_of}
+use Rattle.page_state.proofs.Doing.{gathers}
+use Rattle.page_state.proofs.page.Page.gather.Goals as goal
+
+pub returns-clause-gathered : goal.returns-clause-gathered
+returns-clause-gathered g c =
+    ap (λ (it : HeldObservers). record { world = record (world_of c.self.inside) { resize_observers = it.part }; begun = c.self.inside.begun }) c.gather.ensures.gathered
+    ∙ ap (λ (world : World). record { world = world; begun = c.self.inside.begun }) (gathers c.args.document c.args.depth (world_of c.self.inside))
+    ∙ ap (λ (v : PageView). record { world = gather c.args.document c.args.depth (v.world); begun = v.begun }) c.self.view_is

@@ -1,0 +1,38 @@
+-- The world that a page's parts are.
+use Rattle.std.specs.Prelude.{ℕ, [], map, length, option_map}
+use Rattle.page_model.specs.World.{World}
+use Rattle.page_model.specs.Ranges.{Counts}
+use Rattle.page_boxes.specs.Pages.{seen_size}
+use Rattle.page_state.specs.Views.{noted_list}
+use Rattle.page_state.specs.Queries.{seen_query_list}
+use Rattle.page_state.specs.declared.page.Page.TheInside.{Inside}
+
+-- there is no intersection observer, since no command of a page makes one yet
+abbrev pub world_of : Inside → World
+world_of p = record {
+  tree = p.tree.tree;
+  names = p.names.list;
+  viewports = record { size = seen_size p.size; noted = noted_list (option_map seen_size p.noted) };
+  scrolls = p.scrolls;
+  resize_observers = p.observers.part;
+  intersection_observers = record { given = 0; made = [] };
+  notifying = [];
+  queries = map seen_query_list p.queries.items;
+  listeners = p.listeners.part;
+  frame_callbacks = p.frame_callbacks.part;
+  timers = p.timers.part;
+  tasks = p.tasks.part;
+  clock = p.clock;
+  begun = p.count;
+}
+
+-- how much there is of what has a name
+abbrev pub counts_in : Inside → Counts
+counts_in p = record {
+  elements = length p.tree.tree.elements;
+  documents = 1;
+  resize_observers = length p.observers.part.made;
+  intersection_observers = 0;
+  queries = length p.queries.items;
+  handlers = 0;
+}

@@ -1,0 +1,134 @@
+//! Media query lists (CSSOM View, 4.2).
+
+ghost use Rattle.std.specs.Prelude.{◌≡◌, ◌<◌, ℕ, true, length, map, option_map, IfSome};
+ghost use Rattle.script_model.specs.Syntax.{MakeQueryList};
+ghost use Rattle.page_model.specs.Commands.{does, matches_now};
+ghost use Rattle.page_model.specs.Lookups.{query_list_at};
+ghost use Rattle.page_model.specs.Operands.{Present};
+ghost use Rattle.page_boxes.specs.Pages.{seen_size};
+ghost use Rattle.page_state.specs.Answers.{Keeps};
+ghost use Rattle.page_state.specs.Queries.{seen_query_list, is_changed, changed_from, next_changed, once_evaluated};
+
+use crate::answers::{Effect, PageFault};
+use crate::names::Thing;
+use crate::page::Page;
+use media_queries::Query;
+use px_units::Size;
+use std::sync::ledger::Ledger;
+use step_count::Steps;
+use text_io::{LimitKind, Name};
+
+/// As many query lists as may be made.
+const MOST_QUERIES: usize = 4096;
+
+/// A media query list, with its state at the last evaluation, or at creation.
+#[derive(Drop)]
+pub(crate) struct QueryList {
+    pub(crate) document: u32,
+    pub(crate) query: Query,
+    pub(crate) matched: bool,
+}
+
+/// A query list that has another state than at its last evaluation.
+#[derive(Clone, Copy, PartialEq, Eq, Debug)]
+pub struct Change {
+    pub query: u32,
+    /// Whether it matches now.
+    pub matches: bool,
+    /// The place from which the next change is looked for.
+    pub place: usize,
+}
+
+impl QueryList {
+    // Whether it is one of a document and has another state in a viewport of this size than at its last evaluation.
+    fn is_changed(&self, document: u32, viewport: Size) -> bool
+        ensures { result ≡ is_changed document (seen_size viewport) (seen_query_list self.now) }
+    {
+        self.document == document && self.query.matches(viewport) != self.matched
+    }
+}
+
+// The number of the first such query list from a place on.
+fn changed_from(queries: &[QueryList], document: u32, viewport: Size, place: usize) -> Option<usize>
+    ensures value { result ≡ changed_from document place (seen_size viewport) (map seen_query_list queries.now) }
+    ensures there { IfSome result (λ number. number < length queries.now) }
+    ensures changed { IfSome result (λ number. is_changed document (seen_size viewport) (query_list_at (map seen_query_list queries.now) number) ≡ true) }
+{
+    if place >= queries.len() {
+        return None;
+    }
+    let from = queries[place..]
+        .iter()
+        .position(|list| list.is_changed(document, viewport))?;
+    Some(place + from)
+}
+
+impl Page {
+    #[tactic(auto, unfolding(page_model::specs::Commands::does))]
+    pub(crate) fn make_query_list(
+        &mut self,
+        name: Name,
+        document: Name,
+        query: &Query,
+    ) -> Result<Effect, PageFault>
+        ensures { (present : Present) → Keeps self.old self.new result (λ handlers. does handlers self.old.world present (MakeQueryList name document query.now)) }
+    {
+        self.names.check_free(name)?;
+        let document = self.document(document)?;
+        let number = self.queries.len();
+        if number >= MOST_QUERIES {
+            return Err(PageFault::Limit(LimitKind::Queries));
+        }
+        let query = query.copy(*self.queries.allocator())?;
+        self.names.reserve()?;
+        let matched = query.matches(self.viewport(document));
+        let list = QueryList {
+            document,
+            query,
+            matched,
+        };
+        let Ok(()) = self.queries.push(list) else {
+            return Err(PageFault::Memory);
+        };
+        self.names.insert(name, Thing::QueryList(number as u32))?;
+        Ok(Effect::Nothing)
+    }
+
+    // Whether a query list matches its document's viewport now.
+    pub(crate) fn matches_now(&self, query: u32) -> bool
+        requires { query < length self.now.world.queries }
+        ensures { let list = query_list_at self.now.world.queries query in
+            result ≡ matches_now self.now.world list.document list.query }
+    {
+        // `top` is the only document, as its root element tells.
+        let _root = self.tree.root();
+        let list = &self.queries[query as usize];
+        list.query.matches(self.viewport(list.document))
+    }
+
+    /// Evaluates the query lists of a document from a place on, counted over the lists of all documents, up to the first
+    /// whose state is another than at its last evaluation or creation, which then has that state (CSSOM View, 4.2:
+    /// evaluate media queries and report changes). None exactly where there is none. No memory.
+    pub fn next_change<L: Ledger>(
+        &mut self,
+        document: u32,
+        place: usize,
+        _steps: &mut Steps<L>,
+    ) -> Option<Change>
+        requires { document < length self.old.world.tree.documents }
+        ensures query { option_map (λ change. change.query) result ≡ next_changed document place self.old.world }
+        ensures matches { IfSome result (λ change. change.matches ≡ matches_now self.old.world document (query_list_at self.old.world.queries change.query).query) }
+        ensures place { IfSome result (λ change. (change.place ≡ ℕ.suc change.query) × change.query < length self.old.world.queries) }
+        ensures evaluated { self.new ≡ record self.old { world = once_evaluated document (next_changed document place self.old.world) (self.old.world) } }
+    {
+        let size = self.viewport(document);
+        let query = changed_from(self.queries.as_slice(), document, size, place)?;
+        let list = &mut self.queries[query];
+        list.matched = !list.matched;
+        Some(Change {
+            query: query as u32,
+            matches: list.matched,
+            place: query + 1,
+        })
+    }
+}

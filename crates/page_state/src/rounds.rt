@@ -1,0 +1,116 @@
+//! What the resize loop asks of a page (Resize Observer, 3.4). Sizes are those of boxes that are computed anew.
+
+ghost use Rattle.std.specs.Prelude.{◌≡◌, ◌<◌, min, length, option_map, IfOk, IfSome, OnErr};
+ghost use Rattle.page_model.specs.World.{Extent};
+ghost use Rattle.page_model.specs.Gathering.{has_skipped, sight_in, sight_of, without_active, size_entry};
+ghost use Rattle.page_model.specs.Loop.{gather};
+ghost use Rattle.depth_gather.specs.Deliveries.{turn_of, active_at, entries_in};
+ghost use Rattle.depth_gather.specs.Gathering.{active_count};
+ghost use Rattle.depth_gather.specs.Entries.{as_size, as_point, HasLengths};
+ghost use Rattle.std.specs.List.{AllByRecursion};
+ghost use Rattle.block_layout.specs.Held.{held_in};
+ghost use Rattle.page_boxes.specs.Fresh.{IsFresh};
+ghost use Rattle.page_boxes.specs.Pages.{seen_size};
+ghost use Rattle.page_state.specs.Rounds.{next_turn, once_reported};
+
+use crate::page::Page;
+use block_layout::FreshBoxes;
+use depth_gather::{Delivery, Sizes};
+use element_tree::NodeId;
+use page_boxes::{corner_of, refresh, size_of};
+use page_tree::PageTree;
+use px_units::{BoxKind, Point, Size};
+use resize_observer::ObserverId;
+use std::alloc::{AllocError, Global};
+use std::sync::ledger::Ledger;
+use step_count::Steps;
+
+// The sizes of a page whose boxes are all held as they are now.
+#[derive(Clone, Copy)]
+struct Shown<'a> {
+    tree: &'a PageTree,
+    boxes: &'a FreshBoxes,
+    size: Size,
+    ghost fresh: { IsFresh tree.now.tree (seen_size size) (held_in boxes.now) },
+}
+
+impl Sizes for Shown<'_> {
+    ghost sight = { λ it. sight_in it.tree.now.tree (seen_size it.size) };
+
+    fn size_now(&self, node: NodeId, kind: BoxKind) -> Size {
+        size_of(self.tree, self.boxes, node, kind)
+    }
+
+    fn corner_now(&self, node: NodeId) -> Point {
+        corner_of(self.tree, self.boxes, node)
+    }
+
+    fn depth_now(&self, node: NodeId) -> u32 {
+        if self.tree.holds(node) {
+            return self.tree.depth(node);
+        }
+        1
+    }
+}
+
+impl Page {
+    /// Gathers the active observations of a document at a depth (Resize Observer, 3.4: gather active observations at
+    /// depth), and answers how many there are. No memory.
+    pub fn gather<L: Ledger>(&mut self, document: u32, depth: u32, steps: &mut Steps<L>) -> u32
+        ensures gathered { self.new ≡ record self.old { world = gather document depth (self.old.world) } }
+        ensures number { result ≡ min (active_count document self.new.world.resize_observers) 4294967295 }
+    {
+        refresh(&mut self.boxes, &self.tree, self.size, steps);
+        let sizes = Shown {
+            tree: &self.tree,
+            boxes: &self.boxes,
+            size: self.size,
+        };
+        depth_gather::gather(&mut self.observers, &sizes, document, depth)
+    }
+
+    /// The next delivery of a document (Resize Observer, 3.4: broadcast active observations, up to the callback): of its
+    /// observers from `place` on the first with something active, with an entry for each active observation, of sizes as
+    /// they are now, which become the last reported ones. None exactly where no observer is left that has something active.
+    ///
+    /// # Errors
+    /// Want of memory; the world is then as it was.
+    pub fn next_delivery<L: Ledger>(
+        &mut self,
+        alloc: Global,
+        document: u32,
+        place: usize,
+        steps: &mut Steps<L>,
+    ) -> Result<Option<Delivery>, AllocError>
+        ensures turn { IfOk result (λ next. option_map turn_of next ≡ next_turn document place self.old.world) }
+        ensures entries { IfOk result (λ next. IfSome next (λ it. it.entries ≡ entries_in (sight_of self.old.world) (active_at self.old.world.resize_observers it.observer.0))) }
+        ensures reported { IfOk result (λ next. self.new ≡ record self.old { world = once_reported (next_turn document place self.old.world) (self.old.world) }) }
+        ensures made { IfOk result (λ next. IfSome next (λ it. it.observer.0 < length self.old.world.resize_observers.made)) }
+        ensures some { IfOk result (λ next. IfSome next (λ it. 0 < length it.entries)) }
+        ensures lengths { IfOk result (λ next. IfSome next (λ it. AllByRecursion HasLengths it.entries)) }
+        ensures same { OnErr result (self.new ≡ self.old) }
+    {
+        refresh(&mut self.boxes, &self.tree, self.size, steps);
+        let sizes = Shown {
+            tree: &self.tree,
+            boxes: &self.boxes,
+            size: self.size,
+        };
+        depth_gather::next_delivery(alloc, &mut self.observers, &sizes, document, place)
+    }
+
+    /// The end of an observer's turn, once its callback was called: its active list is emptied. No memory.
+    pub fn end_delivery(&mut self, observer: ObserverId)
+        requires { observer.0 < length self.old.world.resize_observers.made }
+        ensures { self.new ≡ record self.old { world = record (self.old.world) { resize_observers = without_active observer.0 (self.old.world.resize_observers) } } }
+    {
+        depth_gather::end_delivery(&mut self.observers, observer);
+    }
+
+    /// Whether something was skipped as a document's observations were last gathered. No memory.
+    pub fn has_skipped(&self, document: u32) -> bool
+        ensures { result ≡ has_skipped document self.now.world.resize_observers }
+    {
+        depth_gather::has_skipped(&self.observers, document)
+    }
+}

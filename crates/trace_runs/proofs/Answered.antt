@@ -1,0 +1,58 @@
+-- What a refused call of a page comes to, and one that isn't refused.
+use Rattle.std.proofs.Common.{◌≡◌, ℕ, List, [], ◌∷◌, Option, refl, ap, sym, ◌∙◌, subst}
+use Rattle.std.specs.Prelude.{Result, Err}
+use Rattle.text_io.specs.declared.kinds.LimitKind.{LimitKind}
+use Rattle.text_io.specs.declared.kinds.ThrowKind.{ThrowKind}
+use Rattle.text_io.specs.Limits.{limit_number}
+use Rattle.script_model.specs.TraceLines.{ThrowLine, LimitLine}
+use Rattle.page_model.specs.Callbacks.{answered, once_begun}
+use Rattle.page_model.specs.Commands.{begun_in}
+use Rattle.page_model.specs.Runs.{Said, Flow, Thrown, Limited}
+use Rattle.page_model.specs.Steps.{Step, Did, Threw, Met}
+use Rattle.page_model.specs.World.{World}
+use Rattle.trace_runs.specs.declared.faults.RunFault.{RunFault}
+use Rattle.trace_runs.specs.declared.faults.RunFault.TheVariants as faults
+use Rattle.trace_runs.specs.Runs.{Runs}
+use Rattle.trace_runs.proofs.Lines.{bytes_none}
+use Rattle.trace_runs.proofs.Runs.{run_same}
+use Rattle.trace_runs.proofs.Writes.{nothing}
+use Rattle.std.specs.Io.KnownBytes.{Appends}
+
+module _ {A : Type 0} (line : ℕ) (world : World) (next : A → Said World) {step : Step A} where
+  pub answered_did : {value : A} → step ≡ Did value → answered line world next step ≡ next value
+  unfolding answered
+  answered_did is = ap (answered line world next) is
+
+  pub answered_threw : {kind : ThrowKind} → step ≡ Threw kind → answered line world next step ≡ record { lines = ThrowLine line kind ∷ []; flow = Thrown; state = world }
+  unfolding answered
+  answered_threw is = ap (answered line world next) is
+
+  pub answered_met : {kind : LimitKind} → step ≡ Met kind → answered line world next step ≡ record { lines = LimitLine kind line (limit_number kind) ∷ []; flow = Limited; state = world }
+  unfolding answered
+  answered_met is = ap (answered line world next) is
+
+  -- a call that threw, in the world as it was, and its line was written or that was cut off
+  pub threw_run : {B : Type 0} {flow : B → Flow} {new : World} {kind : ThrowKind} {result : Result B RunFault} {before after : Option (List ℕ)} {f g : ℕ}
+      → step ≡ Threw kind → new ≡ world → Runs flow (λ value. new) result before after f g (record { lines = ThrowLine line kind ∷ []; flow = Thrown; state = new })
+      → Runs flow (λ value. new) result before after f g (answered line world next step)
+  threw_run {kind = kind} threw same run =
+      run_same (ap (λ (state : World). record { lines = ThrowLine line kind ∷ []; flow = Thrown; state = state }) same ∙ sym (answered_threw threw)) run
+
+  -- a limit that was met, of which nothing is written yet
+  pub met_run : {B : Type 0} {flow : B → Flow} {state : B → World} {kind : LimitKind} {now : Option (List ℕ)} {f : ℕ} → step ≡ Met kind
+      → Runs flow state (Err (faults.Limit kind line)) now now f f (answered line world next step)
+  met_run {kind = kind} {now} met = run_same (sym (answered_met met)) (record {
+    ended = tt;
+    cut_off = record {
+      lines = [];
+      last = refl;
+      written = subst (λ (t : List ℕ). Appends now now t) (sym bytes_none) (nothing now);
+      unfailed = refl;
+      flow_is = refl;
+    };
+  })
+
+-- a command that is begun
+pub once_begun_is : (line : ℕ) (world : World) (run : World → Said World) → answered line world run (begun_in world) ≡ once_begun line world run
+unfolding once_begun
+once_begun_is line world run = refl

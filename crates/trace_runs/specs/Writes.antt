@@ -1,0 +1,25 @@
+-- What is written of a text to a sink that may fail. This project's own choice.
+use Rattle.std.specs.Prelude.{◌≡◌, ℕ, List, ◌++◌, Option, Result, Ok, Err}
+use Rattle.std.specs.Io.KnownBytes.{Appends}
+use Rattle.text_io.specs.Streams.{Rose}
+use Rattle.trace_runs.specs.declared.faults.RunFault.{RunFault}
+use Rattle.trace_runs.specs.declared.faults.RunFault.TheVariants.{Limit, Memory, WriteFault}
+
+-- known bytes grow by a first part of a text
+pub record AppendsPart (before after : Option (List ℕ)) (text : List ℕ) : Type 0 where
+  pub part : List ℕ
+  pub rest : List ℕ
+  pub whole : text ≡ part ++ rest
+  pub written : Appends before after part
+
+-- the same, and a write failed
+pub record FailsWithin (before after : Option (List ℕ)) (faults faults_after : ℕ) (text : List ℕ) : Type 0 where
+  pub part : AppendsPart before after text
+  pub rose : Rose faults faults_after
+
+-- a text was written, and no write failed, or a first part of it was, and the reason stands
+abbrev pub Wrote : {A : Type 0} → Result A RunFault → Option (List ℕ) → Option (List ℕ) → ℕ → ℕ → List ℕ → Type 0
+Wrote (Ok value) before after faults faults_after text = Appends before after text × (faults_after ≡ faults)
+Wrote (Err (Limit kind line)) before after faults faults_after text = ⊥
+Wrote (Err Memory) before after faults faults_after text = AppendsPart before after text
+Wrote (Err WriteFault) before after faults faults_after text = FailsWithin before after faults faults_after text

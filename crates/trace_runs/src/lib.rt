@@ -1,0 +1,11 @@
+//! What a run of the definitions writes to a sink that may fail: lines, throws and limits, and the laws by which steps
+//! written one after another are one run.
+#![tactic(auto)]
+
+mod faults;
+#[cfg(test)]
+mod tests;
+mod write;
+
+pub use faults::{Flow, RunFault};
+pub use write::{write_each, write_one, write_throw};
