@@ -150,9 +150,9 @@ outside_runs line command ticks built = built_runs (command_at line command) (sy
 -- all handlers of a script
 pub handlers_run : (items : List model.Item) → unbuilt_line items ≡ None → AreRun (handlers_in items)
 unfolding unbuilt_line handlers_in
-handlers_run [] built = tt
+handlers_run [] built = refl
 handlers_run (Outside command ∷ items) built = handlers_run items (first-none (unbuilt_command command) (unbuilt_line items) built).1
 handlers_run (Tick line time ∷ items) built = handlers_run items built
 handlers_run (Handler line name block end_line ∷ items) built =
     let both = first-none (unbuilt_block block) (unbuilt_line items) built in
-    (block-runs block both.0, handlers_run items both.1)
+    and-true _ _ (block-runs block both.0) (handlers_run items both.1)

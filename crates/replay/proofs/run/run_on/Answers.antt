@@ -23,7 +23,7 @@ returns-in-Err-Memory-clause-answers g c =
     let cut = rw c.in-Err-Memory.field-0-is at c.in-Err-Memory.ensures in
     rw c.without_page.ensures (memory_answers _ _ _ c.requires.built c.requires.opening _ 0 0 cut.cut_off)
 
-pub returns-in-Err-WriteFault-clause-answers : goal.returns-in-Err-WriteFault-clause-answers
-returns-in-Err-WriteFault-clause-answers g c =
+pub returns-clause-answers : goal.returns-clause-answers
+returns-clause-answers g c =
     let cut = rw c.in-Err-WriteFault.field-0-is at c.in-Err-WriteFault.ensures in
     rw c.without_page-in-Err-WriteFault.ensures (failed_answers _ _ _ c.requires.built c.requires.opening _ _ cut.cut_off)
