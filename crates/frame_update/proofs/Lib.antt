@@ -14,8 +14,11 @@ pub mod Evaluating
 pub mod Scrolling
 pub mod Resizing
 mod Observers
+mod Watchers
+mod Notifying
 mod Delivered
 mod Turns
 mod Broadcasts
 mod RoundEnds
 mod RoundLoops
+mod LoopStarts

@@ -94,5 +94,4 @@ module _ (script : List Item) (task : Task) (world : World) (ready : IsReady scr
   ready_behind after is = record {
     range = subst (IsInRange (length (handlers_in script))) is (ranges.first-in (handlers_in script) (with_first task world) ready.range);
     limits = subst IsWithinLimits is (first-within (handlers_in script) (with_first task world) ready.limits);
-    built = ready.built;
   }

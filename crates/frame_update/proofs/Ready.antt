@@ -15,7 +15,7 @@ use Rattle.page_laws.proofs.RunsInRange.{call-in}
 use Rattle.page_laws.proofs.Turns.{call-within}
 use Rattle.frame_update.specs.Ready.{IsReady}
 
-within_next : (before after : World) → IsNext before after → IsWithinLimits before → IsWithinLimits after
+pub within_next : (before after : World) → IsNext before after → IsWithinLimits before → IsWithinLimits after
 within_next before after next within = record {
   resize_observers = subst (λ (count : ℕ). count ≤ limit_number limits.ResizeObservers) (sym next.observers) within.resize_observers;
   queries = subst (λ (count : ℕ). count ≤ limit_number limits.Queries) (sym next.queries) within.queries;
@@ -28,7 +28,6 @@ pub ready_next : (script : List Item) (before after : World) → IsNext before a
 ready_next script before after next ready = record {
   range = next.within (length (handlers_in script)) ready.range;
   limits = within_next before after next ready.limits;
-  built = ready.built;
 }
 
 -- behind a callback
@@ -39,5 +38,4 @@ ready_called script document handler handed before after are is ready =
     (record {
       range = call-in (handlers_in script) before ready.range document handler handed are;
       limits = call-within (handlers_in script) before ready.limits document handler handed;
-      built = ready.built;
     })

@@ -56,7 +56,7 @@ pub begun_ready : (script : List Item) (old new : World) → begun_in old ≡ Di
 begun_ready script old new is ready =
     let did : (old.begun < limit_number limits.Commands) × (record old { begun = suc old.begun } ≡ new) = begun_did old new is in
     subst (IsReady script) did.1
-    (record { range = begun-in (length (handlers_in script)) old ready.range; limits = counted-within old ready.limits did.0; built = ready.built })
+    (record { range = begun-in (length (handlers_in script)) old ready.range; limits = counted-within old ready.limits did.0 })
 
 timed-did : (time : ℕ) (old new : World) (early : Bool) → cond early (Threw RangeError) (Did (record old { clock = time })) ≡ Did new → record old { clock = time } ≡ new
 timed-did time old new true is = absurd (cc)
@@ -71,7 +71,6 @@ timed_ready script time old new is ready =
     (record {
       range = timed-in (length (handlers_in script)) time old ready.range;
       limits = as-many old ready.limits (record old { clock = time }) refl refl refl (tasks-alike old (record old { clock = time }) refl refl refl);
-      built = ready.built;
     })
 
 pub clock_is : (time : ℕ) (old new : World) → time_set time old ≡ Did new → new.clock ≡ time

@@ -5,11 +5,8 @@ use Rattle.script_model.specs.Scripts.{handlers_in}
 use Rattle.page_model.specs.World.{World}
 use Rattle.page_model.specs.Ranges.{IsInRange}
 use Rattle.page_laws.specs.Bounds.{IsWithinLimits}
-use Rattle.handlers.specs.Blocks.{AreRun}
 
--- each number in the world is that of something, the limits on what is gone over by place are kept, and all commands of the
--- script's handlers are built
+-- each number in the world is that of something, and the limits on what is gone over by place are kept
 pub record IsReady (script : List Item) (world : World) : Type 0 where
   pub range : IsInRange (length (handlers_in script)) world
   pub limits : IsWithinLimits world
-  pub built : AreRun (handlers_in script)

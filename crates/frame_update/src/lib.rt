@@ -4,6 +4,7 @@
 
 mod events;
 mod frames;
+mod notify;
 mod rounds;
 mod steps;
 mod tasks;

@@ -93,7 +93,7 @@ fn broadcast<K: Sink, L: Ledger>(
     let mut least = None;
     let mut place = 0;
     while page.is_active(document) {
-        let Ok(next) = page.next_delivery(alloc, document, place, steps) else {
+        let Ok(next) = page.next_delivery(document, place, steps) else {
             return Err(RunFault::Memory);
         };
         let Some(delivery) = next else {

@@ -11,6 +11,7 @@ ghost use Rattle.page_model.specs.Callbacks.{handler_text};
 ghost use Rattle.page_model.specs.World.{Posted};
 ghost use Rattle.event_tables.specs.Seen.{seen_task};
 
+use crate::notify::notify;
 use event_tables::{EventTarget, HandlerId, Task};
 use handlers::{Entries, run_handler};
 use loop_laws::runs_of_tasks_come_to_rest;
@@ -72,10 +73,7 @@ fn run_task<K: Sink, L: Ledger>(
     ensures ready { IfOk result (λ _. IsReady script.now page.new.world) }
 {
     match task {
-        Task::Notify(document) => {
-            page.notify(document);
-            Ok(())
-        }
+        Task::Notify(document) => notify(alloc, page, script, document, sink, steps),
         Task::Posted(document, handler) => {
             run_posted(alloc, page, script, document, handler, sink, steps)
         }

@@ -1,6 +1,7 @@
 //! A tick.
 
 ghost use Rattle.std.specs.Prelude.{◌≡◌, IfOk};
+ghost use Rattle.std.specs.List.{AllByRecursion};
 ghost use Rattle.script_model.specs.Scripts.{handlers_in};
 ghost use Rattle.script_syntax.specs.Allowed.{IsTime};
 ghost use Rattle.page_model.specs.Outcome.{run_tick};
@@ -9,11 +10,13 @@ ghost use Rattle.page_model.specs.Ticks.{tick};
 ghost use Rattle.trace_runs.specs.Flows.{goes_on};
 ghost use Rattle.trace_runs.specs.Runs.{Runs};
 ghost use Rattle.frame_update.specs.Answers.{Refused};
+ghost use Rattle.frame_update.specs.Loops.{loops_of_tick, IsExact};
 ghost use Rattle.frame_update.specs.Ready.{IsReady};
 
 use crate::tasks::run_tasks;
 use crate::timers::run_timers;
 use crate::update::update_rendering;
+use loop_laws::{loop_errors_are_exact, loops_go_deeper};
 use page_state::{Page, PageFault};
 use script_syntax::Script;
 use std::alloc::Global;
@@ -59,6 +62,10 @@ fn refuse<K: Sink>(alloc: Global, line: u32, fault: PageFault, sink: &mut K) -> 
 /// which is written and answers Ok. Then come the timers that are due, one update of the rendering, and the tasks that wait
 /// (HTML, event loops).
 ///
+/// In each of its resize loops a round is deeper than the one before, unless a command of that round moves an inclusive ancestor
+/// of what was gathered in it; and the error event is fired exactly where the rounds ended with the document Active and a target
+/// whose size differs from its last reported one (Resize Observer, 3.4).
+///
 /// # Errors
 /// - `Limit` exactly where a limit is met, with every line up to its own written.
 /// - `WriteFault` only where the sink's count of faults rose in this call, and `Memory` for want of memory; a first part of the
@@ -76,8 +83,11 @@ pub fn tick<K: Sink, L: Ledger>(
     requires time { IsTime time }
     ensures says { Runs goes_on (λ _. page.new.world) result (K.taken sink.old) (K.taken sink.new) (K.faults sink.old) (K.faults sink.new)
         (caught (run_tick (handlers_in script.now) line time page.old.world)) }
+    ensures loops { AllByRecursion (IsExact (handlers_in script.now)) (loops_of_tick (handlers_in script.now) time page.old.world) }
     ensures ready { IfOk result (λ _. IsReady script.now page.new.world) }
 {
+    loops_go_deeper();
+    loop_errors_are_exact();
     if let Err(fault) = page.begin_command() {
         return refuse(alloc, line, fault, sink);
     }

@@ -127,7 +127,7 @@ pub(crate) fn update_rendering<K: Sink, L: Ledger>(
         (update_rendering (handlers_in script.now) page.old.world) }
     ensures ready { IfOk result (λ _. IsReady script.now page.new.world) }
 {
-    let Ok(documents) = page.active_documents(alloc) else {
+    let Ok(documents) = page.active_documents() else {
         return Err(RunFault::Memory);
     };
     for part in PARTS {

@@ -22,7 +22,7 @@ use Rattle.trace_runs.specs.Flows.{flow_of}
 use Rattle.trace_runs.specs.Runs.{Runs}
 use Rattle.trace_runs.specs.Writes.{Wrote}
 use Rattle.trace_runs.proofs.Answered.{answered_did, answered_met, met_run, threw_run, once_begun_is}
-use Rattle.trace_runs.proofs.Runs.{run_same, cut_as, ended_as, only_if_true, only_if_false, silent_run, say_run}
+use Rattle.trace_runs.proofs.Runs.{run_same, cut_as, ended_as, only_if_true, only_if_false, say_run}
 use Rattle.page_state.specs.Answers.{Applied, Moved}
 use Rattle.page_state.specs.Things.{present_of, present_with}
 use Rattle.page_state.specs.declared.answers.PageFault.{PageFault}
@@ -64,11 +64,7 @@ unbegun_run fault line result before after f g old new run moved refused =
 pub begun_is : (line : ℕ) (old begun : World) (run : World → Said World) → begun_in old ≡ Did begun → run begun ≡ once_begun line old run
 begun_is line old begun run is = sym (answered_did line old run is) ∙ once_begun_is line old run
 
--- a command that was done, with no line or with one
-pub done_run : (line : ℕ) (old : World) {new : World} {step : Step ModelEffect} {now : Option (List ℕ)} {f : ℕ} → step ≡ Did (record { world = new; lines = [] })
-    → Runs flow_of (λ (value : Flow). new) (Ok Next) now now f f (answered line old said_by step)
-done_run line old is = run_same (sym (answered_did line old said_by is)) (silent_run refl)
-
+-- a command that was done, with its lines
 pub told_run : (line : ℕ) (old : World) {new : World} {step : Step ModelEffect} {before after : Option (List ℕ)} {f g : ℕ} {lines : List TraceLine} → step ≡ Did (record { world = new; lines = lines })
     → Wrote {A = Unit {0}} (Ok tt) before after f g (bytes_of lines) → Runs flow_of (λ (value : Flow). new) (Ok Next) before after f g (answered line old said_by step)
 told_run line old {new} {lines = lines} is wrote = run_same (sym (answered_did line old said_by is)) (ended_as refl refl (say_run (Ok (tt {0})) {lines = lines} {state = new} wrote))

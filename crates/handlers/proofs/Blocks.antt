@@ -1,9 +1,8 @@
 -- Commands by what they are, and the blocks that a walk goes through.
-use Rattle.std.proofs.Common.{◌≡◌, ℕ, zero, suc, ◌+◌, ◌<◌, ◌≤◌, List, [], ◌∷◌, length, get_or, drop, Bool, true, false, refl, ap, sym, subst, ◌∙◌, arith}
+use Rattle.std.proofs.Common.{◌≡◌, ℕ, zero, suc, ◌+◌, ◌<◌, ◌≤◌, List, [], ◌∷◌, length, get_or, drop, refl, ap, sym, subst, ◌∙◌, arith}
 use Rattle.std.proofs.lemmas.List.{drop_more, drop_all}
-use Rattle.std.specs.Prelude.{◌&&◌}
 use Rattle.script_model.specs.Syntax.{Simple, Block, Then}
-use Rattle.script_syntax.specs.Allowed.{WhatAllowed, ActionAllowed, TestAllowed}
+use Rattle.script_syntax.specs.Allowed.{WhatAllowed, TestAllowed}
 use Rattle.script_syntax.specs.Seen.{action_of, command_at, command_of, condition_of, block_of, command_size, block_size}
 use Rattle.script_syntax.specs.declared.operands.Condition.{Condition}
 use Rattle.script_syntax.specs.declared.commands.Body.{Body}
@@ -15,16 +14,6 @@ use Rattle.page_model.specs.Commands.{does, holds}
 use Rattle.page_model.specs.Operands.{Present}
 use Rattle.page_model.specs.Runs.{Said, ◌followed_by◌, for_each, only_if, silent}
 use Rattle.page_model.specs.World.{World}
-use Rattle.page_state.specs.Applied.{is_applied}
-use Rattle.handlers.specs.Blocks.{is_run, are_run, is_worded}
-
-pub and_left : (a b : Bool) → (a && b) ≡ true → a ≡ true
-and_left true b both = refl
-and_left false b both = both
-
-pub and_right : (a b : Bool) → (a && b) ≡ true → b ≡ true
-and_right true b both = both
-and_right false b both = cc
 
 -- commands by what they are -----------------------------------------------------------------------------------------------
 
@@ -33,37 +22,6 @@ pub simple_is : (line : ℕ) (command : What) → ((body : Body) → command ≡
 simple_is line (what.Each body) each whens = absurd (each body refl)
 simple_is line (what.When condition body) each whens = absurd (whens condition body refl)
 simple_is line other each whens = refl
-
-module _ (line : ℕ) (command : What) (runs : is_run (command_at line command) ≡ true) where
-  pub each_runs : (body : Body) → command ≡ what.Each body → are_run body.commands ≡ true
-  unfolding is_run
-  each_runs body is = subst (λ it. is_run (command_at line it) ≡ true) is runs
-
-  pub when_runs : (condition : Condition) (body : Body) → command ≡ what.When condition body → are_run body.commands ≡ true
-  unfolding is_run
-  when_runs condition body is = subst (λ it. is_run (command_at line it) ≡ true) is runs
-
-simple_runs : (line : ℕ) (command : What) → command_at line command ≡ Simple line (action_of command) → is_run (command_at line command) ≡ true
-    → (is_applied (action_of command) && is_worded (action_of command)) ≡ true
-unfolding is_run
-simple_runs line command simple runs = sym (ap is_run simple) ∙ runs
-
--- a command without a block, which isn't `tick`
-pub action_applied : (line : ℕ) (command : What) → ((body : Body) → command ≡ what.Each body → ⊥) → ((condition : Condition) (body : Body) → command ≡ what.When condition body → ⊥)
-    → is_run (command_at line command) ≡ true → is_applied (action_of command) ≡ true
-action_applied line command each whens runs = and_left _ _ (simple_runs line command (simple_is line command each whens) runs)
-
-tickless : (command : What) → is_worded (action_of command) ≡ true → ((body : Body) → command ≡ what.Each body → ⊥)
-    → ((condition : Condition) (body : Body) → command ≡ what.When condition body → ⊥) → WhatAllowed command → ActionAllowed command
-tickless (what.Each body) worded each whens allowed = each body refl
-tickless (what.When condition body) worded each whens allowed = whens condition body refl
-tickless (what.Tick time) worded each whens allowed = cc
-tickless other worded each whens allowed = allowed
-
-pub action_allowed : (line : ℕ) (command : What) → ((body : Body) → command ≡ what.Each body → ⊥) → ((condition : Condition) (body : Body) → command ≡ what.When condition body → ⊥)
-    → is_run (command_at line command) ≡ true → WhatAllowed command → ActionAllowed command
-action_allowed line command each whens runs allowed =
-    tickless command (and_right _ _ (simple_runs line command (simple_is line command each whens) runs)) each whens allowed
 
 pub test_allowed : (command : What) (condition : Condition) (body : Body) → command ≡ what.When condition body → WhatAllowed command → TestAllowed condition.asks
 test_allowed command condition body is allowed = subst WhatAllowed is allowed
@@ -110,16 +68,6 @@ module _ (commands : List Command) (i : ℕ) (command : Command) (within : i < l
   unfolding run_block
   block_more script entries present world = ap (λ block. run_block script entries block present world) more_is
 
-  runs_more : are_run (block_of (drop i commands)) ≡ true → (is_run (command_of command) && are_run (block_of (drop (i + 1) commands))) ≡ true
-  unfolding are_run
-  runs_more runs = sym (ap are_run more_is) ∙ runs
-
-  pub command_runs : are_run (block_of (drop i commands)) ≡ true → is_run (command_of command) ≡ true
-  command_runs runs = and_left _ _ (runs_more runs)
-
-  pub others_run : are_run (block_of (drop i commands)) ≡ true → are_run (block_of (drop (i + 1) commands)) ≡ true
-  others_run runs = and_right _ _ (runs_more runs)
-
 -- no command is left
 pub block_none : (commands : List Command) (i : ℕ) (script : Script) (entries : List Present) (present : Present) (world : World) → length commands ≤ i
     → run_block script entries (block_of (drop i commands)) present world ≡ silent world
@@ -152,42 +100,3 @@ size_within commands i d command within is =
 pub block_same : (script : Script) (entries : List Present) (present : Present) (world : World) {block other : Block} → other ≡ block
     → run_block script entries block present world ≡ run_block script entries other present world
 block_same script entries present world same = ap (λ it. run_block script entries it present world) (sym same)
-
--- what can be run ---------------------------------------------------------------------------------------------------------
-
-pub false_and : (a b : Bool) → a ≡ false → (a && b) ≡ false
-false_and true b is = absurd cc
-false_and false b is = refl
-
-pub true_and : (a b : Bool) → a ≡ true → (a && b) ≡ b
-true_and true b is = refl
-true_and false b is = absurd cc
-
-module _ (commands : List Command) (i : ℕ) (command : Command) (within : i < length commands) (is : command ≡ get_or commands i command) where
-  are_more : are_run (block_of (drop i commands)) ≡ (is_run (command_of command) && are_run (block_of (drop (i + 1) commands)))
-  unfolding are_run
-  are_more = ap are_run (more_is commands i command within is)
-
-  -- a command that can't be run, and one that can
-  pub stops_at : is_run (command_of command) ≡ false → are_run (block_of (drop i commands)) ≡ false
-  stops_at fails = are_more ∙ false_and _ _ fails
-
-  pub passes_at : is_run (command_of command) ≡ true → are_run (block_of (drop i commands)) ≡ are_run (block_of (drop (i + 1) commands))
-  passes_at runs = are_more ∙ true_and _ _ runs
-
-pub none_left : (commands : List Command) (i : ℕ) → length commands ≤ i → are_run (block_of (drop i commands)) ≡ true
-unfolding are_run
-none_left commands i past = ap (λ rest. are_run (block_of rest)) (drop_all i commands past)
-
-pub each_is_run : (line : ℕ) (command : What) (body : Body) → command ≡ what.Each body → are_run body.commands ≡ is_run (command_at line command)
-unfolding is_run
-each_is_run line command body is = ap (λ it. is_run (command_at line it)) (sym is)
-
-pub when_is_run : (line : ℕ) (command : What) (condition : Condition) (body : Body) → command ≡ what.When condition body → are_run body.commands ≡ is_run (command_at line command)
-unfolding is_run
-when_is_run line command condition body is = ap (λ it. is_run (command_at line it)) (sym is)
-
-pub simple_is_run : (line : ℕ) (command : What) → command_at line command ≡ Simple line (action_of command)
-    → (is_applied (action_of command) && is_worded (action_of command)) ≡ is_run (command_at line command)
-unfolding is_run
-simple_is_run line command is = ap is_run (sym is)

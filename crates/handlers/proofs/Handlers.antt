@@ -1,12 +1,9 @@
 -- The block of a handler, found among the items of a script.
-use Rattle.std.proofs.Common.{◌≡◌, ℕ, zero, suc, ◌+◌, ◌<◌, ◌≤◌, length, drop, get_or, List, [], ◌∷◌, true, false, Option, Some, None, refl, ap, sym, ◌∙◌}
-use Rattle.std.proofs.Math.Bool.{and-true}
-use Rattle.std.proofs.lemmas.List.{drop_more, drop_all}
-use Rattle.script_syntax.specs.declared.commands.Item.{Item as CodeItem}
-use Rattle.std.specs.Prelude.{◌&&◌, filter, map, slice_get, option_map}
-use Rattle.script_model.specs.Scripts.{NamedBlock, handlers_in}
+use Rattle.std.proofs.Common.{◌≡◌, ℕ, zero, suc, List, [], ◌∷◌, true, false, Option, Some, None, refl, ap, sym, ◌∙◌}
+use Rattle.std.specs.Prelude.{filter, slice_get, option_map}
+use Rattle.script_model.specs.Scripts.{handlers_in}
 use Rattle.script_model.specs.Syntax.{Item, Outside, Tick, Handler, Block, NoMore}
-use Rattle.script_syntax.specs.Seen.{is_handler, item_of, item_at}
+use Rattle.script_syntax.specs.Seen.{is_handler, item_at}
 use Rattle.script_syntax.specs.declared.commands.What.{What}
 use Rattle.script_syntax.specs.declared.commands.What.TheVariants as what
 use Rattle.event_tables.specs.declared.events.HandlerId.{HandlerId}
@@ -16,8 +13,6 @@ use Rattle.page_model.specs.Operands.{NoEntry}
 use Rattle.page_model.specs.Runs.{silent, say, ◌followed_by◌, only_if, caught, caught_flow}
 use Rattle.page_model.specs.World.{World}
 use Rattle.trace_runs.proofs.Runs.{only_if_true, only_if_false}
-use Rattle.handlers.specs.Blocks.{are_run, all_run}
-use Rattle.handlers.proofs.Blocks.{and_left, and_right, false_and, true_and}
 
 block_in : Option Item → Block
 block_in None = NoMore
@@ -59,48 +54,6 @@ command_is_none line other = refl
 
 pub no_command : (items : List Item) (number line : ℕ) (command : What) → Some (item_at line command) ≡ slice_get (filter is_handler items) number → ⊥
 no_command items number line command is = let handler = at_number items number _ is in let none = command_is_none line command in cc
-
--- each handler can be run
-pub handler_runs : (handlers : List NamedBlock) (number : ℕ) → all_run handlers ≡ true → are_run (handler_block handlers number) ≡ true
-unfolding are_run
-handler_runs [] number all = refl
-handler_runs (handler ∷ handlers) zero all = and_left _ _ all
-handler_runs (handler ∷ handlers) (suc number) all = handler_runs handlers number (and_right (are_run handler.block) (all_run handlers) all)
-
--- what can be run of items, one after another
-all_more : (item : Item) (items : List Item) → all_run (handlers_in (item ∷ items)) ≡ (all_run (handlers_in (item ∷ [])) && all_run (handlers_in items))
-unfolding handlers_in
-all_more (Outside command) items = refl
-all_more (Tick line time) items = refl
-all_more (Handler line name block end_line) items = ap (λ runs. runs && all_run (handlers_in items)) (sym (and-true (are_run block)))
-
-pub command_runs_alone : (line : ℕ) (command : What) → all_run (handlers_in (item_at line command ∷ [])) ≡ true
-unfolding handlers_in
-command_runs_alone line (what.Each body) = refl
-command_runs_alone line (what.When condition body) = refl
-command_runs_alone line (what.Tick time) = refl
-command_runs_alone line other = refl
-
-pub handler_runs_alone : (line : ℕ) (name : List ℕ) (block : Block) (end_line : ℕ) → all_run (handlers_in (Handler line name block end_line ∷ [])) ≡ are_run block
-unfolding handlers_in
-handler_runs_alone line name block end_line = and-true (are_run block)
-
-module _ (items : List CodeItem) (i : ℕ) (item : CodeItem) (within : i < length items) (is : item ≡ get_or items i item) where
-  items_more : all_run (handlers_in (map item_of (drop i items))) ≡ (all_run (handlers_in (item_of item ∷ [])) && all_run (handlers_in (map item_of (drop (i + 1) items))))
-  items_more =
-      ap (λ rest. all_run (handlers_in (map item_of rest))) (drop_more items i item within)
-      ∙ ap (λ it. all_run (handlers_in (item_of it ∷ map item_of (drop (i + 1) items)))) (sym is)
-      ∙ all_more (item_of item) (map item_of (drop (i + 1) items))
-
-  pub item_stops : all_run (handlers_in (item_of item ∷ [])) ≡ false → all_run (handlers_in (map item_of (drop i items))) ≡ false
-  item_stops fails = items_more ∙ false_and _ _ fails
-
-  pub item_passes : all_run (handlers_in (item_of item ∷ [])) ≡ true → all_run (handlers_in (map item_of (drop i items))) ≡ all_run (handlers_in (map item_of (drop (i + 1) items)))
-  item_passes runs = items_more ∙ true_and _ _ runs
-
-pub no_item_left : (items : List CodeItem) (i : ℕ) → length items ≤ i → all_run (handlers_in (map item_of (drop i items))) ≡ true
-unfolding handlers_in
-no_item_left items i past = ap (λ rest. all_run (handlers_in (map item_of rest))) (drop_all i items past)
 
 -- a callback ---------------------------------------------------------------------------------------------------------------
 

@@ -3,3 +3,4 @@ mod Places
 mod Blocks
 mod Growing
 mod Handlers
+pub mod Telling

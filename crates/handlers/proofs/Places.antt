@@ -5,22 +5,25 @@ use Rattle.std.proofs.lemmas.Int.{ints}
 use Rattle.std.specs.Prelude.{map}
 use Rattle.depth_gather.specs.Entries.{seen_entry}
 use Rattle.depth_gather.specs.declared.entries.ResizeEntry.{ResizeEntry}
+use Rattle.intersection_observer.specs.Seen.{seen_entries}
+use Rattle.intersection_observer.specs.declared.entry.Entry.{Entry as CutEntry}
+use Rattle.intersection_observer.specs.declared.root.WatcherId.{WatcherId}
 use Rattle.page_model.specs.Gathering.{SizeEntry}
 use Rattle.std.specs.List.{AllByRecursion}
 use Rattle.element_tree.specs.declared.node.NodeId.{NodeId}
-use Rattle.page_model.specs.Operands.{Present, ResizeEntry as Sized}
+use Rattle.page_model.specs.Operands.{Present, ResizeEntry as Sized, IntersectionEntry as Cut}
 use Rattle.page_model.specs.Ranges.{IsPresentIn}
-use Rattle.page_model.specs.World.{World, Name}
+use Rattle.page_model.specs.World.{World, Name, Entry}
 use Rattle.page_model.specs.Outcome.{bytes_of}
 use Rattle.std.specs.Io.KnownBytes.{Appends}
 use Rattle.trace_runs.proofs.Lines.{bytes_none}
 use Rattle.trace_runs.proofs.Writes.{nothing}
 use Rattle.page_state.specs.Things.{present_with, IsSubject}
 use Rattle.resize_observer.specs.declared.observation.ObserverId.{ObserverId}
-use Rattle.page_model.specs.Callbacks.{presents, entry_lines}
+use Rattle.page_model.specs.Callbacks.{CutEntries, presents, entry_lines}
 use Rattle.handlers.specs.Entries.{entries_of, present_at, AreIn}
 use Rattle.handlers.specs.declared.entries.Entries.{Entries}
-use Rattle.handlers.specs.declared.entries.Entries.TheVariants.{Nothing, Resize}
+use Rattle.handlers.specs.declared.entries.Entries.TheVariants.{Nothing, Resize, Intersection}
 
 -- the entry at a place
 pub present_is : (entries : List Present) (place : ℕ) → place < length entries → present_at entries (Some place) ≡ get_or entries place (present_at entries (Some place))
@@ -69,6 +72,20 @@ sized_at (first ∷ list) (suc place) entry within is = sized_at list place entr
 pub entry_found : (entries : Entries) (observer : ObserverId) (list : List ResizeEntry) (place : ℕ) (entry : ResizeEntry) → entries ≡ Resize observer list → place < length list
     → entry ≡ get_or list place entry → Sized (entry.target.0) ≡ present_at (presents (entries_of entries)) (Some place)
 entry_found entries observer list place entry are within is = sized_at list place entry within is ∙ ap (λ it. present_at (presents (entries_of it)) (Some place)) (sym are)
+
+-- the same of an intersection observer's
+cut_at : (list : List CutEntry) (place : ℕ) (entry : CutEntry) → place < length list → entry ≡ get_or list place entry
+    → Cut (entry.target.0) (entry.finding.meets) ≡ present_at (map (λ (it : Entry). Cut (it.target) (it.finding.meets)) (seen_entries list)) (Some place)
+cut_at [] place entry within is = absurd (omega arith)
+cut_at (first ∷ list) zero entry within is = ap (λ (it : CutEntry). Cut (it.target.0) (it.finding.meets)) is
+cut_at (first ∷ list) (suc place) entry within is = cut_at list place entry (omega (arith, within)) is
+
+pub cut_found : (entries : Entries) (observer : WatcherId) (told : List Entry) (list : List CutEntry) (place : ℕ) (entry : CutEntry) → entries ≡ Intersection observer told → seen_entries list ≡ told
+    → place < length list → entry ≡ get_or list place entry → Cut (entry.target.0) (entry.finding.meets) ≡ present_at (presents (entries_of entries)) (Some place)
+cut_found entries observer told list place entry are seen within is =
+    cut_at list place entry within is
+    ∙ ap (λ it. present_at (presents (CutEntries observer.0 it)) (Some place)) seen
+    ∙ ap (λ it. present_at (presents (entries_of it)) (Some place)) (sym are)
 
 -- a length of a line is written and read back
 pub length_again : (given : ℤ) (units : ℕ) → units < 2 ^ 63 → given ≡ pos units → to_z w64 (of_z w64 given) ≡ pos units

@@ -10,12 +10,13 @@ use Rattle.page_model.specs.Ranges.{IsPresentIn}
 use Rattle.depth_gather.specs.Entries.{seen_entry}
 use Rattle.page_state.specs.Things.{present_with}
 use Rattle.handlers.specs.declared.entries.Entries.{Entries}
-use Rattle.handlers.specs.declared.entries.Entries.TheVariants.{Nothing, Resize}
+use Rattle.handlers.specs.declared.entries.Entries.TheVariants.{Nothing, Resize, Intersection}
 use Rattle.handlers.specs.declared.entries.Subject.{Subject}
 
 abbrev pub entries_of : Entries → model.Entries
 entries_of Nothing = NoEntries
 entries_of (Resize observer entries) = SizeEntries observer.0 (map seen_entry entries)
+entries_of (Intersection observer entries) = CutEntries observer.0 entries
 
 -- the entry at a place, none where there is no place or no entry there
 abbrev pub present_at : List Present → Option ℕ → Present

@@ -1,3 +1,2 @@
 pub mod Entries
-pub mod Blocks
 pub mod Answers

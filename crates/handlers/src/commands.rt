@@ -1,15 +1,14 @@
 //! Commands with their blocks, one after another.
 
-ghost use Rattle.std.specs.Prelude.{◌≡◌, true};
+ghost use Rattle.std.specs.Prelude.{◌≡◌};
 ghost use Rattle.script_model.specs.Scripts.{handlers_in};
-ghost use Rattle.script_syntax.specs.Allowed.{IsAllowed, TestAllowed};
+ghost use Rattle.script_syntax.specs.Allowed.{InnerAllowed, TestAllowed};
 ghost use Rattle.script_syntax.specs.Seen.{command_of, condition_of};
 ghost use Rattle.page_model.specs.Callbacks.{answered, presents, run_block, run_command};
 ghost use Rattle.page_model.specs.Commands.{holds};
 ghost use Rattle.page_model.specs.Runs.{for_each, only_if};
 ghost use Rattle.trace_runs.specs.Flows.{flow_of};
 ghost use Rattle.trace_runs.specs.Runs.{Runs};
-ghost use Rattle.handlers.specs.Blocks.{is_run, are_run};
 ghost use Rattle.handlers.specs.Entries.{entries_of, present_at, AreIn};
 
 use crate::entries::{Entries, subject_at};
@@ -24,7 +23,7 @@ use text_io::Sink;
 use trace_runs::{Flow, RunFault, write_throw};
 
 /// Begins a command and runs it with its block, for the entry at a place of `entries` if there is one, and writes its lines.
-/// Outside handlers there are no entries. It isn't called for a `tick`.
+/// Outside handlers there are no entries. The command isn't a `tick`.
 ///
 /// `Thrown` where it threw, which was written.
 ///
@@ -42,8 +41,7 @@ pub fn run_command<K: Sink, L: Ledger>(
     sink: &mut K,
     steps: &mut Steps<L>,
 ) -> Result<Flow, RunFault>
-    requires allowed { IsAllowed command.now }
-    requires built { is_run (command_of command.now) ≡ true }
+    requires allowed { InnerAllowed command.now }
     requires targets { AreIn page.old.world (presents (entries_of entries.now)) }
     ensures { Runs flow_of (λ _. page.new.world) result (K.taken sink.old) (K.taken sink.new) (K.faults sink.old) (K.faults sink.new)
         (run_command (handlers_in script.now) (presents (entries_of entries.now)) (command_of command.now) (present_at (presents (entries_of entries.now)) subject) page.old.world) }
@@ -83,7 +81,6 @@ fn run_each<K: Sink, L: Ledger>(
     sink: &mut K,
     steps: &mut Steps<L>,
 ) -> Result<Flow, RunFault>
-    requires built { are_run block.now ≡ true }
     requires targets { AreIn page.old.world (presents (entries_of entries.now)) }
     ensures { Runs flow_of (λ _. page.new.world) result (K.taken sink.old) (K.taken sink.new) (K.faults sink.old) (K.faults sink.new)
         (for_each (run_block (handlers_in script.now) (presents (entries_of entries.now)) block.now) (presents (entries_of entries.now)) page.old.world) }
@@ -123,7 +120,6 @@ fn run_when<K: Sink, L: Ledger>(
     steps: &mut Steps<L>,
 ) -> Result<Flow, RunFault>
     requires allowed { TestAllowed condition.now.asks }
-    requires built { are_run block.now ≡ true }
     requires targets { AreIn page.old.world (presents (entries_of entries.now)) }
     ensures { Runs flow_of (λ _. page.new.world) result (K.taken sink.old) (K.taken sink.new) (K.faults sink.old) (K.faults sink.new)
         (answered line page.old.world
@@ -150,7 +146,6 @@ pub(crate) fn run_block<K: Sink, L: Ledger>(
     sink: &mut K,
     steps: &mut Steps<L>,
 ) -> Result<Flow, RunFault>
-    requires built { are_run block.now ≡ true }
     requires targets { AreIn page.old.world (presents (entries_of entries.now)) }
     ensures { Runs flow_of (λ _. page.new.world) result (K.taken sink.old) (K.taken sink.new) (K.faults sink.old) (K.faults sink.new)
         (run_block (handlers_in script.now) (presents (entries_of entries.now)) block.now (present_at (presents (entries_of entries.now)) subject) page.old.world) }

@@ -1,17 +1,24 @@
 //! The entries of a callback, the lines that tell of them, and the one that a command is run for.
 
-ghost use Rattle.std.specs.Prelude.{◌≡◌, ◌<◌, ◌^◌, pos, unsigned_abs, map, length, Some, None};
+ghost use Rattle.std.specs.Prelude.{◌≡◌, ◌<◌, ◌^◌, ◌∷◌, pos, unsigned_abs, map, length, Some, None};
+ghost use Rattle.script_model.specs.TraceLines.{TakeLine};
 ghost use Rattle.trace_text.specs.Ranges.{HasReach};
 ghost use Rattle.trace_text.specs.Seen.{seen_line};
 ghost use Rattle.page_model.specs.Callbacks.{SizeEntries, presents, entry_lines, resize_line};
+ghost use Rattle.page_model.specs.EntryLines.{intersection_line, intersection_lines};
+ghost use Rattle.page_model.specs.Names.{intersection_observer_text};
 ghost use Rattle.page_model.specs.Outcome.{bytes_of};
 ghost use Rattle.depth_gather.specs.Entries.{seen_entry};
+ghost use Rattle.intersection_observer.specs.Seen as cuts;
+ghost use Rattle.intersection_observer.specs.Seen.{seen_entries};
+ghost use Rattle.intersection_update.specs.Watching.{AreWritten, IsWritten};
 ghost use Rattle.trace_runs.specs.Writes.{Wrote};
 ghost use Rattle.handlers.specs.Entries.{entries_of, present_at, subject_of, AreHanded};
 
 use depth_gather::{ResizeEntry, ResizeList};
 use element_tree::NodeId;
 use event_tables::EventTarget;
+use intersection_observer::{Entry, EntryList, WatcherId};
 use page_state::{Label, Page};
 use px_units::{Rect, Size};
 use resize_observer::ObserverId;
@@ -27,6 +34,8 @@ pub enum Entries {
     Nothing,
     /// Those of a resize observer, in units of 1/64 CSS pixel (Resize Observer, 2.3: ResizeObserverEntry).
     Resize(ObserverId, ResizeList),
+    /// Those of an intersection observer (Intersection Observer, 2.3: IntersectionObserverEntry).
+    Intersection(WatcherId, EntryList),
 }
 
 impl Entries {
@@ -37,6 +46,7 @@ impl Entries {
         match self {
             Entries::Nothing => 0,
             Entries::Resize(_, list) => list.entries().len(),
+            Entries::Intersection(_, list) => list.as_slice().len(),
         }
     }
 }
@@ -64,6 +74,13 @@ fn entry_at(entries: &Entries, place: usize) -> Subject
             Some(entry) => Subject {
                 target: Some(entry.target),
                 meets: None,
+            },
+        },
+        Entries::Intersection(_, list) => match list.as_slice().get(place) {
+            None => NO_SUBJECT,
+            Some(entry) => Subject {
+                target: Some(entry.target),
+                meets: Some(entry.finding.meets),
             },
         },
     }
@@ -131,6 +148,72 @@ fn write_sizes<K: Sink>(
     Ok(())
 }
 
+// The line of an entry of an intersection observer.
+#[tactic(auto, unfolding(page_model::specs::EntryLines::intersection_line))]
+fn intersection_line(page: &Page, observer: WatcherId, entry: &Entry) -> TraceLine
+    requires caller { observer.0 < length page.now.world.intersection_observers.made }
+    requires written { IsWritten (length page.now.world.tree.elements) (cuts.seen_entry entry.now) }
+    ensures { seen_line result ≡ intersection_line page.now.world.names observer.0 (cuts.seen_entry entry.now) }
+{
+    let finding = entry.finding;
+    TraceLine::Intersect {
+        observer: page.label(Label::Watcher(observer)),
+        target: page.label(Label::Target(EventTarget::Node(entry.target))),
+        time: entry.time,
+        meets: finding.meets,
+        part: finding.ratio.part,
+        whole: finding.ratio.whole,
+        root: finding.root,
+        bounds: finding.target,
+        cut: finding.cut,
+    }
+}
+
+// The lines of the entries of an intersection observer.
+fn write_cuts<K: Sink>(
+    alloc: Global,
+    page: &Page,
+    observer: WatcherId,
+    entries: &[Entry],
+    sink: &mut K,
+) -> Result<(), RunFault>
+    requires caller { observer.0 < length page.now.world.intersection_observers.made }
+    requires written { AreWritten (length page.now.world.tree.elements) (seen_entries entries.now) }
+    ensures { Wrote result (K.taken sink.old) (K.taken sink.new) (K.faults sink.old) (K.faults sink.new)
+        (bytes_of (intersection_lines page.now.world.names observer.0 (seen_entries entries.now))) }
+{
+    for entry in entries {
+        let line = intersection_line(page, observer, entry);
+        if let Err(fault) = write_one(alloc, &line, sink) {
+            return Err(fault);
+        }
+    }
+    Ok(())
+}
+
+/// Writes how many entries were taken of the queue of an intersection observer, and then their lines (Intersection Observer,
+/// 2.2: `takeRecords`).
+pub(crate) fn write_taken<K: Sink>(
+    alloc: Global,
+    page: &Page,
+    observer: WatcherId,
+    entries: &EntryList,
+    sink: &mut K,
+) -> Result<(), RunFault>
+    requires caller { observer.0 < length page.now.world.intersection_observers.made }
+    requires written { AreWritten (length page.now.world.tree.elements) entries.now }
+    ensures { Wrote result (K.taken sink.old) (K.taken sink.new) (K.faults sink.old) (K.faults sink.new)
+        (bytes_of (TakeLine (intersection_observer_text page.now.world.names observer.0) (length entries.now)
+        ∷ intersection_lines page.now.world.names observer.0 entries.now)) }
+{
+    let entries = entries.as_slice();
+    let name = page.label(Label::Watcher(observer));
+    match write_one(alloc, &TraceLine::Take(name, entries.len() as u64), sink) {
+        Ok(()) => write_cuts(alloc, page, observer, entries, sink),
+        Err(fault) => Err(fault),
+    }
+}
+
 /// Writes the lines of the entries, before their callback is called.
 pub(crate) fn write_entries<K: Sink>(
     alloc: Global,
@@ -146,6 +229,9 @@ pub(crate) fn write_entries<K: Sink>(
         Entries::Nothing => Ok(()),
         Entries::Resize(observer, list) => {
             write_sizes(alloc, page, *observer, list.entries(), sink)
+        }
+        Entries::Intersection(observer, list) => {
+            write_cuts(alloc, page, *observer, list.as_slice(), sink)
         }
     }
 }

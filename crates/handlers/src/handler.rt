@@ -5,7 +5,6 @@ ghost use Rattle.script_model.specs.Scripts.{handlers_in};
 ghost use Rattle.page_model.specs.Callbacks.{call, presents, run_handler};
 ghost use Rattle.trace_runs.specs.Flows.{goes_on};
 ghost use Rattle.trace_runs.specs.Runs.{Runs};
-ghost use Rattle.handlers.specs.Blocks.{AreRun};
 ghost use Rattle.handlers.specs.Entries.{entries_of, AreHanded, AreIn};
 
 use crate::commands::run_block;
@@ -29,7 +28,6 @@ fn run_numbered<K: Sink, L: Ledger>(
     sink: &mut K,
     steps: &mut Steps<L>,
 ) -> Result<(), RunFault>
-    requires built { AreRun (handlers_in script.now) }
     requires targets { AreIn page.old.world (presents (entries_of entries.now)) }
     ensures { Runs goes_on (λ _. page.new.world) result (K.taken sink.old) (K.taken sink.new) (K.faults sink.old) (K.faults sink.new)
         (run_handler (handlers_in script.now) (entries_of entries.now) (Some number) page.old.world) }
@@ -56,7 +54,6 @@ fn run_named<K: Sink, L: Ledger>(
     sink: &mut K,
     steps: &mut Steps<L>,
 ) -> Result<(), RunFault>
-    requires built { AreRun (handlers_in script.now) }
     requires targets { AreIn page.old.world (presents (entries_of entries.now)) }
     ensures { Runs goes_on (λ _. page.new.world) result (K.taken sink.old) (K.taken sink.new) (K.faults sink.old) (K.faults sink.new)
         (run_handler (handlers_in script.now) (entries_of entries.now) (option_map (λ it. it.0) handler) page.old.world) }
@@ -83,7 +80,6 @@ pub fn run_handler<K: Sink, L: Ledger>(
     sink: &mut K,
     steps: &mut Steps<L>,
 ) -> Result<(), RunFault>
-    requires built { AreRun (handlers_in script.now) }
     requires handed { AreHanded page.old.world (entries_of entries.now) }
     ensures { Runs goes_on (λ _. page.new.world) result (K.taken sink.old) (K.taken sink.new) (K.faults sink.old) (K.faults sink.new)
         (call (handlers_in script.now) document (option_map (λ it. it.0) handler) (entries_of entries.now) page.old.world) }

@@ -5,7 +5,6 @@
 mod commands;
 mod entries;
 mod handler;
-mod runnable;
 mod steps;
 #[cfg(test)]
 mod tests;
@@ -13,4 +12,3 @@ mod tests;
 pub use commands::run_command;
 pub use entries::Entries;
 pub use handler::run_handler;
-pub use runnable::{all_run, is_run};

@@ -6,14 +6,16 @@ ghost use Rattle.script_syntax.specs.Allowed.{ActionAllowed};
 ghost use Rattle.script_syntax.specs.Seen.{action_of};
 ghost use Rattle.page_model.specs.Callbacks.{answered, handler_names, said_by};
 ghost use Rattle.page_model.specs.Commands.{does};
+ghost use Rattle.page_model.specs.Outcome.{bytes_of};
 ghost use Rattle.trace_runs.specs.Flows.{flow_of};
 ghost use Rattle.trace_runs.specs.Runs.{Runs};
-ghost use Rattle.page_state.specs.Applied.{is_applied};
+ghost use Rattle.trace_runs.specs.Writes.{Wrote};
+ghost use Rattle.page_state.specs.Answers.{IsHanded, lines_of};
 ghost use Rattle.page_state.specs.Things.{IsSubject};
 ghost use Rattle.handlers.specs.Answers.{Refused};
 ghost use Rattle.handlers.specs.Entries.{subject_of};
 
-use crate::entries::Subject;
+use crate::entries::{Subject, write_taken};
 use page_laws::commands_read_the_target_alone;
 use page_state::{Effect, Page, PageFault};
 use script_syntax::{Command, Script};
@@ -40,7 +42,19 @@ pub(crate) fn refuse<K: Sink>(
     }
 }
 
-// Applies a command that was begun, and writes its line if it has one.
+// Writes the lines of a command that was applied.
+fn tell<K: Sink>(alloc: Global, page: &Page, effect: &Effect, sink: &mut K) -> Result<(), RunFault>
+    requires { IsHanded page.now.world effect.now }
+    ensures { Wrote result (K.taken sink.old) (K.taken sink.new) (K.faults sink.old) (K.faults sink.new) (bytes_of (lines_of page.now.world effect.now)) }
+{
+    match effect {
+        Effect::Nothing => Ok(()),
+        Effect::Line(line) => write_one(alloc, line, sink),
+        Effect::Taken(observer, entries) => write_taken(alloc, page, *observer, entries, sink),
+    }
+}
+
+// Applies a command that was begun, and writes its lines.
 pub(crate) fn apply<K: Sink, L: Ledger>(
     alloc: Global,
     page: &mut Page,
@@ -52,15 +66,13 @@ pub(crate) fn apply<K: Sink, L: Ledger>(
 ) -> Result<Flow, RunFault>
     requires begun { page.old.begun ≡ true }
     requires allowed { ActionAllowed command.now.what }
-    requires built { is_applied (action_of command.now.what) ≡ true }
     requires subject { IsSubject (length page.old.world.tree.elements) subject.target }
     ensures { Runs flow_of (λ _. page.new.world) result (K.taken sink.old) (K.taken sink.new) (K.faults sink.old) (K.faults sink.new)
         (answered command.now.line page.old.world said_by (does (handler_names (handlers_in script.now)) page.old.world (subject_of subject) (action_of command.now.what))) }
 {
     commands_read_the_target_alone();
     match page.apply(script, command, subject.target, steps) {
-        Ok(Effect::Nothing) => Ok(Flow::Next),
-        Ok(Effect::Line(line)) => match write_one(alloc, &line, sink) {
+        Ok(effect) => match tell(alloc, page, &effect, sink) {
             Ok(()) => Ok(Flow::Next),
             Err(fault) => Err(fault),
         },

@@ -1,10 +1,11 @@
 ghost use Rattle.std.specs.Prelude.{◌≡◌, ◌<◌};
+ghost use Rattle.script_syntax.specs.Allowed.{IsAllowed};
 
 use super::*;
 use event_tables::HandlerId;
 use page_state::Page;
 use script_lexer::Lexer;
-use script_syntax::{Item, ParseFault, Script, parse};
+use script_syntax::{Command, Item, ParseFault, Script, What, parse};
 use std::alloc::{AllocError, Global};
 use std::marker::Brand;
 use std::process::Abort;
@@ -30,6 +31,12 @@ const GROWS: &str =
 
 const GROWS_TOLD: &str = "read r 0 0 810 0 0 0\nsay wide\nthrow 10 ReferenceError\n";
 
+// Queues that are taken with nothing in them, outside handlers and in one.
+const TAKES: &str =
+    "script 1\nhandler h\nio-take i\nwhen seen\nsay unsaid\nend\nend\nblock r top\nappend top r\nio i top - root - margin threshold\nio-observe i r\nio-take i\n";
+
+const TAKES_TOLD: &str = "take i 0\ntake i 0\nthrow 4 ReferenceError\n";
+
 // No script of a test is longer.
 const LONGEST: usize = 65536;
 
@@ -51,7 +58,29 @@ fn read(alloc: Global, text: &str) -> Result<Script, ParseFault> {
     parse(alloc, &text)
 }
 
-// Each item that can be run, and then the first handler for a document.
+// A command, if it is no `tick`.
+#[tactic(auto, using(script_syntax::proofs::Inner::inner_unless_tick))]
+fn run_outside<L: Ledger>(
+    alloc: Global,
+    page: &mut Page,
+    script: &Script,
+    command: &Command,
+    sink: &mut MemorySink,
+    steps: &mut Steps<L>,
+) -> Result<(), RunFault>
+    requires { IsAllowed command.now }
+{
+    let nothing = Entries::Nothing;
+    match command.what {
+        What::Tick(_) => Ok(()),
+        _ => match run_command(alloc, page, script, command, &nothing, None, sink, steps) {
+            Ok(_) => Ok(()),
+            Err(fault) => Err(fault),
+        },
+    }
+}
+
+// Each command but `tick`, and then the first handler for a document.
 fn run<L: Ledger>(
     blank: Blank,
     alloc: Global,
@@ -67,34 +96,14 @@ fn run<L: Ledger>(
     let mut steps = Steps::<L>::new(blank);
     for item in script.items() {
         if let Item::Command(command) = item {
-            if is_run(command) {
-                run_command(
-                    alloc,
-                    page,
-                    script,
-                    command,
-                    &Entries::Nothing,
-                    None,
-                    sink,
-                    &mut steps,
-                )?;
-            }
+            run_outside(alloc, page, script, command, sink, &mut steps)?;
         }
     }
-    if all_run(script) {
-        let handler = Some(HandlerId(0));
-        run_handler(
-            alloc,
-            page,
-            script,
-            document,
-            handler,
-            &Entries::Nothing,
-            sink,
-            &mut steps,
-        )?;
-    }
-    Ok(())
+    let handler = Some(HandlerId(0));
+    let nothing = Entries::Nothing;
+    run_handler(
+        alloc, page, script, document, handler, &nothing, sink, &mut steps,
+    )
 }
 
 // Runs a text over a sink that takes 64 bytes a call, of which one may fail, and compares.
@@ -135,6 +144,7 @@ fn commands_and_handlers_give_their_lines(rt: HostRuntime) -> Result<(), Fail> {
     for (text, document, failing, ending, told) in [
         (BLOCKS, 0, None, Ok(()), BLOCKS_TOLD),
         (GROWS, 0, None, Ok(()), GROWS_TOLD),
+        (TAKES, 0, None, Ok(()), TAKES_TOLD),
         // A document that isn't Active.
         (BLOCKS, 1, None, Ok(()), OUTSIDE),
         (BLOCKS, 0, Some(2), Err(RunFault::WriteFault), cut),

@@ -2,6 +2,12 @@ pub mod Boxed
 pub mod Heights
 pub mod Shifts
 pub mod Sums
-pub mod Pages
 pub mod Shown
+pub mod Views
+pub mod Pages
+pub mod Counted
 pub mod Renewed
+pub mod Going
+pub mod Reaching
+pub mod InForce
+pub mod Rects

@@ -101,10 +101,10 @@ height_is at inputs p n block children same =
     (ap (λ k. sum_by (counted at (box_in at inputs)) (before n (inner_children k ((at p).children)))) block
     ∙ ap (λ xs. sum_by (counted at (box_in at inputs)) (before n xs)) same)
 
-same_box : (held : Option Box) (a b : Box) → Some a ≡ held → held ≡ Some b → a ≡ b
+pub same_box : (held : Option Box) (a b : Box) → Some a ≡ held → held ≡ Some b → a ≡ b
 same_box held a b first second = cc
 
-none_held : (held : Option Box) (b : Box) → None ≡ held → held ≡ Some b → ⊥
+pub none_held : (held : Option Box) (b : Box) → None ≡ held → held ≡ Some b → ⊥
 none_held held b first second = cc
 
 -- offsets in a tree whose boxes are held

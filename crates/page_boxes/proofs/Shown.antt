@@ -1,16 +1,15 @@
 -- Sizes, corners and places that are read of a world.
-use Rattle.std.proofs.Common.{◌≡◌, ℕ, zero, suc, ℤ, Bool, true, false, List, [], ◌∷◌, Some, None, option_map, unwrap_or, refl, ap, sym, ◌∙◌, arith}
+use Rattle.std.proofs.Common.{◌≡◌, ℕ, zero, suc, ℤ, Bool, true, false, List, [], ◌∷◌, Some, None, option_map, unwrap_or, refl, ap, sym, ◌∙◌, arith, min}
 use Rattle.std.proofs.lemmas.Int.{ints}
 use Rattle.std.specs.Prelude.{pos, negsuc, ◌≤ℤ◌, unsigned_abs, ⊤}
 use Rattle.px_units.specs.declared.Size.{Size}
-use Rattle.px_units.specs.declared.Point.{Point}
 use Rattle.px_units.specs.declared.BoxKind.{BoxKind}
 use Rattle.px_units.specs.declared.BoxKind.TheVariants.{Content, Border}
 use Rattle.layout_model.specs.Nodes.{Node, path_of, ancestors_of}
 use Rattle.layout_model.specs.Boxes.{Box, content_size, border_size, content_corner}
 use Rattle.layout_model.specs.Clips.{is_scroll_container}
 use Rattle.layout_model.specs.Points.{plus, moved, moved_back, sum_points}
-use Rattle.layout_model.specs.Reach.{View, in_force, force_if, range_of, range_of_view, offset_in_force, view_in_force}
+use Rattle.layout_model.specs.Reach.{View, inputs_in_view, in_force, force_if, range_of, range_of_view, reach_of, reach_of_view, offset_in_force, view_in_force}
 use Rattle.layout_model.specs.Places.{offset_of, place_in}
 use Rattle.page_model.specs.World.{Extent, Scrolls, Tree}
 use Rattle.page_model.specs.Lookups.{element_at}
@@ -18,6 +17,7 @@ use Rattle.page_model.specs.Documents.{nodes_of}
 use Rattle.page_model.specs.PageBoxes.{pair_of, stored_in, scrolled_view, has_box, box_of, size_by, size_of, corner_of, point_of, place_if, place_of}
 use Rattle.page_model.specs.Readings.{point_at}
 use Rattle.block_layout.specs.Seen.{as_size, as_point}
+use Rattle.page_boxes.proofs.Shifts.{pair_is}
 
 -- sizes of a box
 module _ (own : Box) (found : Size) where
@@ -42,7 +42,7 @@ module _ (tree : Tree) (size : Extent) (n : ℕ) where
   unfolding corner_of
   corner_none found = ap (λ o. as_point (unwrap_or (option_map content_corner o) (0, 0))) found
 
--- nothing is scrolled
+-- nothing is stored
 force_none : (range : ⊤ → ℕ × ℕ) (x y : ℕ) → x ≡ 0 → y ≡ 0 → in_force x y range ≡ (0, 0)
 force_none range zero zero none nothing = refl
 force_none range zero (suc y) none nothing = absurd (omega arith)
@@ -52,38 +52,58 @@ if_none : (scrolls : Bool) (stored : ℕ × ℕ) (range : ⊤ → ℕ × ℕ) �
 if_none true stored range none = force_none range (stored.0) (stored.1) (ap (λ p. p.0) none) (ap (λ p. p.1) none)
 if_none false stored range none = refl
 
-sum_zero : (f : ℕ → ℕ × ℕ) → ((n : ℕ) → f n ≡ (0, 0)) → (ns : List ℕ) → sum_points f ns ≡ (0, 0)
-unfolding sum_points
-sum_zero f none [] = refl
-sum_zero f none (n ∷ ns) = ap (λ p. plus p (sum_points f ns)) (none n) ∙ ap (plus (0, 0)) (sum_zero f none ns)
+pub offset_still : (at : ℕ → Node) (stored : ℕ → ℕ × ℕ) (view : View) (n : ℕ) → stored n ≡ (0, 0) → offset_in_force at stored view n ≡ (0, 0)
+unfolding offset_in_force
+offset_still at stored view n still = if_none (is_scroll_container (at n)) (stored n) (λ u. range_of at view n) still
 
-module _ (at : ℕ → Node) (stored : ℕ → ℕ × ℕ) (view : View) (still : (n : ℕ) → stored n ≡ (0, 0)) where
-  pub offset_still : (n : ℕ) → offset_in_force at stored view n ≡ (0, 0)
-  unfolding offset_in_force
-  offset_still n = if_none (is_scroll_container (at n)) (stored n) (λ u. range_of at view n) (still n)
+-- the lesser of a stored position and a range, on each axis
+force_is : (x y : ℕ) (range : ⊤ → ℕ × ℕ) → in_force x y range ≡ (min x (range tt).0, min y (range tt).1)
+force_is zero zero range = pair_is 0 0 (min 0 (range tt).0, min 0 (range tt).1) (omega arith) (omega arith)
+force_is zero (suc y) range = refl
+force_is (suc x) y range = refl
 
-pub view_still : (at : ℕ → Node) (view : View) → view.scrolled ≡ (0, 0) → view_in_force at view ≡ (0, 0)
-unfolding view_in_force
-view_still at view top = force_none (λ u. range_of_view at view) _ _ (ap (λ p. p.0) top) (ap (λ p. p.1) top)
+-- how far a viewport is scrolled makes no difference to boxes and ranges
+module _ (at : ℕ → Node) (stored : ℕ → ℕ × ℕ) (view : View) (scrolled : ℕ × ℕ) where
+  offsets_same : offset_of at (record view { scrolled = scrolled }) ≡ offset_of at view
+  unfolding offset_of inputs_in_view
+  offsets_same = refl
 
-int_pair : (a b c d : ℤ) → a ≡ b → c ≡ d → ◌≡◌ {A = ℤ × ℤ} (a, c) (b, d)
-int_pair a b c d first second = ap {B = ℤ × ℤ} (λ x. (x, c)) first ∙ ap {B = ℤ × ℤ} (λ y. (b, y)) second
+  forces_same : offset_in_force at stored (record view { scrolled = scrolled }) ≡ offset_in_force at stored view
+  unfolding offset_in_force range_of reach_of inputs_in_view
+  forces_same = refl
 
-unmoved : (x y : ℕ) → ◌≡◌ {A = ℤ × ℤ} (pos x, pos y) (moved_back (moved (pos 0, pos 0) (x, y)) (plus (0, 0) (0, 0)))
-unmoved x y = int_pair _ _ _ _ (omega (arith, ints)) (omega (arith, ints))
+  range_same : range_of_view at (record view { scrolled = scrolled }) ≡ range_of_view at view
+  unfolding range_of_view reach_of_view
+  range_same = refl
 
--- a place is the sum of the offsets
-module _ (at : ℕ → Node) (stored : ℕ → ℕ × ℕ) (view : View) (still : (n : ℕ) → stored n ≡ (0, 0)) (top : view.scrolled ≡ (0, 0)) where
-  pub place_still : (n : ℕ) (x y : ℕ) → ◌≡◌ {A = ℕ × ℕ} (x, y) (sum_points (offset_of at view) (path_of at n)) → ◌≡◌ {A = ℤ × ℤ} (pos x, pos y) (place_in at stored view n)
+  pub view_force : view_in_force at (record view { scrolled = scrolled }) ≡ (min (scrolled.0) (range_of_view at view).0, min (scrolled.1) (range_of_view at view).1)
+  unfolding view_in_force
+  view_force =
+      force_is (scrolled.0) (scrolled.1) (λ u. range_of_view at (record view { scrolled = scrolled }))
+      ∙ ap {B = ℕ × ℕ} (λ range. (min (scrolled.0) range.0, min (scrolled.1) range.1)) range_same
+
+  -- a place is the sum of the offsets, less what is scrolled
+  pub place_found : (n x y across down left top : ℕ) → ◌≡◌ {A = ℕ × ℕ} (x, y) (sum_points (offset_of at view) (path_of at n))
+      → ◌≡◌ {A = ℕ × ℕ} (across, down) (sum_points (offset_in_force at stored view) (ancestors_of at n))
+      → ◌≡◌ {A = ℕ × ℕ} (left, top) (view_in_force at (record view { scrolled = scrolled }))
+      → moved_back (moved (pos 0, pos 0) (x, y)) (plus (across, down) (left, top)) ≡ place_in at stored (record view { scrolled = scrolled }) n
   unfolding place_in
-  place_still n x y sum =
-      unmoved x y
-      ∙ ap (λ p. moved_back (moved (pos 0, pos 0) p) (plus (0, 0) (0, 0))) sum
-      ∙ ap (λ p. moved_back (moved (pos 0, pos 0) (sum_points (offset_of at view) (path_of at n))) (plus p (0, 0))) (sym (sum_zero (offset_in_force at stored view) (offset_still at stored view still) (ancestors_of at n)))
-      ∙ ap (λ p. moved_back (moved (pos 0, pos 0) (sum_points (offset_of at view) (path_of at n))) (plus (sum_points (offset_in_force at stored view) (ancestors_of at n)) p)) (sym (view_still at view top))
+  place_found n x y across down left top sum above around =
+      ap (λ p. moved_back (moved (pos 0, pos 0) p) (plus (across, down) (left, top))) (sum ∙ ap (λ f. sum_points f (path_of at n)) (sym offsets_same))
+      ∙ ap (λ p. moved_back (moved (pos 0, pos 0) (sum_points (offset_of at (record view { scrolled = scrolled })) (path_of at n))) (plus p (left, top)))
+      (above ∙ ap (λ f. sum_points f (ancestors_of at n)) (sym forces_same))
+      ∙ ap (λ p. moved_back (moved (pos 0, pos 0) (sum_points (offset_of at (record view { scrolled = scrolled })) (path_of at n)))
+      (plus (sum_points (offset_in_force at stored (record view { scrolled = scrolled })) (ancestors_of at n)) p)) around
 
-pub point_is : (found : Point) (left top : ℤ) → found.left ≡ left → found.top ≡ top → found ≡ point_of (left, top)
-point_is found left top first second = ap (λ l. point_of (l, found.top)) first ∙ ap (λ t. point_of (left, t)) second
+pub offset_force : (at : ℕ → Node) (stored : ℕ → ℕ × ℕ) (view : View) (n : ℕ) → is_scroll_container (at n) ≡ true
+    → offset_in_force at stored view n ≡ (min (stored n).0 (range_of at view n).0, min (stored n).1 (range_of at view n).1)
+unfolding offset_in_force
+offset_force at stored view n scrolls =
+    ap (λ b. force_if b (stored n) (λ u. range_of at view n)) scrolls ∙ force_is (stored n).0 (stored n).1 (λ u. range_of at view n)
+
+pub offset_none : (at : ℕ → Node) (stored : ℕ → ℕ × ℕ) (view : View) (n : ℕ) → is_scroll_container (at n) ≡ false → offset_in_force at stored view n ≡ (0, 0)
+unfolding offset_in_force
+offset_none at stored view n none = ap (λ b. force_if b (stored n) (λ u. range_of at view n)) none
 
 module _ (tree : Tree) (size : Extent) (scrolls : Scrolls) (n : ℕ) where
   pub place_none : has_box tree size n ≡ false → point_of (pos 0, pos 0) ≡ place_of tree size scrolls n

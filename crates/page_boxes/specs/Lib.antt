@@ -1,3 +1,4 @@
 pub mod Fresh
 pub mod Pages
+pub mod Filled
 pub mod Ranges

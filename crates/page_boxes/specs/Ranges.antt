@@ -1,6 +1,28 @@
--- How far lengths reach.
-use Rattle.std.specs.Prelude.{ℤ, pos, ◌≤ℤ◌}
+-- How far lengths and places reach.
+use Rattle.std.specs.Prelude.{ℤ, pos, negsuc, ◌≤ℤ◌}
+use Rattle.px_units.specs.declared.Point.{Point}
+use Rattle.px_units.specs.declared.Rect.{Rect}
+use Rattle.page_tree.specs.Items.{IsLength}
 
--- from 0 to 2 ^ 48 units, so that the edges of a rectangle at such a corner and of such a size lie below 2 ^ 50
+-- a scroll offset: from 0 to the largest length on both axes
+abbrev pub IsOffset : Point → Type 0
+IsOffset point = IsLength point.left × IsLength point.top
+
+-- from 0 to 2 ^ 40 units
 abbrev pub IsSpan : ℤ → Type 0
-IsSpan units = (pos 0 ≤ℤ units) × (units ≤ℤ pos 281474976710656)
+IsSpan units = (pos 0 ≤ℤ units) × (units ≤ℤ pos 1099511627776)
+
+-- from -2 ^ 40 to 2 ^ 40 units
+abbrev pub IsPlace : ℤ → Type 0
+IsPlace units = (negsuc 1099511627775 ≤ℤ units) × (units ≤ℤ pos 1099511627776)
+
+-- from -2 ^ 41 to 2 ^ 41 units
+abbrev pub IsEdge : ℤ → Type 0
+IsEdge units = (negsuc 2199023255551 ≤ℤ units) × (units ≤ℤ pos 2199023255552)
+
+-- each edge of a rectangle at a place, with a span on each axis
+pub record AreEdges (r : Rect) : Type 0 where
+  pub left : IsEdge r.left
+  pub top : IsEdge r.top
+  pub right : IsEdge r.right
+  pub bottom : IsEdge r.bottom

@@ -23,7 +23,7 @@ pub(crate) fn is_hidden<P: Styled>(tree: &Tree<P>, node: NodeId) -> bool
 }
 
 // Whether the children of the node may have boxes.
-fn has_kids<P: Styled>(tree: &Tree<P>, node: NodeId) -> bool
+pub(crate) fn has_kids<P: Styled>(tree: &Tree<P>, node: NodeId) -> bool
     requires { node.0 < length tree.now.nodes }
     ensures { result ≡ is_block (layout_tree P.style P.kind tree.now.nodes node.0).item.kind }
 {

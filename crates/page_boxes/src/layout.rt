@@ -1,13 +1,20 @@
-//! Laying out a page: its boxes, computed anew.
+//! Laying out a page: its boxes, computed anew, document by document.
 
-ghost use Rattle.std.specs.Prelude.{◌≡◌, ◌+◌, ◌≤◌, Some, length, unsigned_abs};
+ghost use Rattle.std.specs.Prelude.{◌≡◌, ◌≢◌, ℕ, ◌+◌, ◌<◌, ◌≤◌, true, Some, length, unsigned_abs};
+ghost use Rattle.page_model.specs.Documents.{first_of_list, is_active};
+ghost use Rattle.page_documents.specs.Frames.{AreFramed};
+ghost use Rattle.page_documents.specs.Paths.{way_down};
 ghost use Rattle.block_layout.specs.Held.{held_in};
 ghost use Rattle.block_layout.specs.Seen.{seen_inputs};
-ghost use Rattle.page_boxes.specs.Fresh.{IsFresh};
-ghost use Rattle.page_boxes.specs.Pages.{seen_size, box_number};
+ghost use Rattle.page_tree.specs.Steps.{seen_container};
+ghost use Rattle.page_boxes.specs.Filled.{is_filled, AreFilled, GoesOn, filled_number};
+ghost use Rattle.page_boxes.specs.Fresh.{IsFresh, IsFreshIn, IsFreshAbove, IsFreshFor};
+ghost use Rattle.page_boxes.specs.Pages.{seen_size, boxes_of, box_number};
 
+use crate::documents::framed_size;
+use crate::filled::Filled;
 use block_layout::{FreshBoxes, Inputs};
-use page_tree::PageTree;
+use page_tree::{Container, PageTree};
 use px_units::Size;
 use std::sync::ledger::Ledger;
 use step_count::Steps;
@@ -22,7 +29,99 @@ fn root_inputs(viewport: Size) -> Inputs
     }
 }
 
-/// Computes every box of the tree of `top` anew, with this size of its viewport, and holds it. Each element has its place in
+// Computes the boxes of an Active document, where those of the document around it are held.
+fn fill<L: Ledger>(
+    boxes: &mut FreshBoxes,
+    page: &PageTree,
+    viewport: Size,
+    document: u32,
+    steps: &mut Steps<L>,
+)
+    requires places { length page.now.tree.elements ≤ length boxes.old }
+    requires active { is_active page.now.tree document ≡ true }
+    requires around { IsFreshAbove page.now.tree (seen_size viewport) (held_in boxes.old) document }
+    ensures fresh { IsFreshIn page.now.tree (seen_size viewport) (held_in boxes.new) document }
+    ensures others { (other : ℕ) → other ≢ document → IsFreshIn page.now.tree (seen_size viewport) (held_in boxes.old) other →
+        IsFreshIn page.now.tree (seen_size viewport) (held_in boxes.new) other }
+    ensures places { length boxes.new ≡ length boxes.old }
+    ensures ticks { steps.new ≡ steps.old + boxes_of page.now.tree (seen_size viewport) document }
+{
+    let Some(root) = page.root(document) else {
+        return;
+    };
+    let Some(size) = framed_size(page, boxes, viewport, document) else {
+        return;
+    };
+    boxes.fill(page.tree(), root, root_inputs(size), steps);
+}
+
+// Computes the boxes of an Active document that isn't marked yet, and marks it.
+fn fill_once<L: Ledger>(
+    boxes: &mut FreshBoxes,
+    page: &PageTree,
+    viewport: Size,
+    document: u32,
+    filled: &mut Filled,
+    steps: &mut Steps<L>,
+)
+    requires places { length page.now.tree.elements ≤ length boxes.old }
+    requires known { document < 64 }
+    requires active { is_active page.now.tree document ≡ true }
+    requires marks { length filled.old ≡ 64 }
+    requires around { IsFreshAbove page.now.tree (seen_size viewport) (held_in boxes.old) document }
+    requires filled { AreFilled page.now.tree (seen_size viewport) filled.old (held_in boxes.old) }
+    ensures places { length boxes.new ≡ length boxes.old }
+    ensures goes { GoesOn page.now.tree (seen_size viewport) filled.old filled.new (held_in boxes.new) }
+    ensures marked { is_filled filled.new document ≡ true }
+    ensures ticks { steps.new + filled_number page.now.tree (seen_size viewport) filled.old
+        ≡ steps.old + filled_number page.now.tree (seen_size viewport) filled.new }
+{
+    if filled.has(document) {
+        return;
+    }
+    fill(boxes, page, viewport, document, steps);
+    filled.mark(document);
+}
+
+// Computes the boxes of a document after those of the documents around it, each that isn't marked yet. So many frames are looked
+// at, which lead up to `top`.
+fn fill_up<L: Ledger>(
+    boxes: &mut FreshBoxes,
+    page: &PageTree,
+    viewport: Size,
+    document: u32,
+    high: u32,
+    filled: &mut Filled,
+    steps: &mut Steps<L>,
+)
+    requires places { length page.now.tree.elements ≤ length boxes.old }
+    requires framed { AreFramed page.now.tree }
+    requires leads { is_active page.now.tree document ≡ true → first_of_list (way_down high page.now.tree document) ≡ Some 0 }
+    requires marks { length filled.old ≡ 64 }
+    requires filled { AreFilled page.now.tree (seen_size viewport) filled.old (held_in boxes.old) }
+    ensures places { length boxes.new ≡ length boxes.old }
+    ensures goes { GoesOn page.now.tree (seen_size viewport) filled.old filled.new (held_in boxes.new) }
+    ensures marked { is_active page.now.tree document ≡ true → is_filled filled.new document ≡ true }
+    ensures ticks { steps.new + filled_number page.now.tree (seen_size viewport) filled.old
+        ≡ steps.old + filled_number page.now.tree (seen_size viewport) filled.new }
+{
+    if high == 0 {
+        return;
+    }
+    if !page.is_active(document) {
+        return;
+    }
+    match page.frame_of(document) {
+        Some(frame) => {
+            let holder = page.document_of(frame);
+            fill_up(boxes, page, viewport, holder, high - 1, filled, steps);
+            fill_once(boxes, page, viewport, document, filled, steps);
+        }
+        None => fill_once(boxes, page, viewport, document, filled, steps),
+    }
+}
+
+/// Computes every box of the page anew, with this size of the viewport of `top`, and holds it. Each element has its place in
 /// `boxes` before. It takes one step for each box, and no memory.
 pub fn refresh<L: Ledger>(
     boxes: &mut FreshBoxes,
@@ -33,10 +132,53 @@ pub fn refresh<L: Ledger>(
     requires { length page.now.tree.elements ≤ length boxes.old }
     ensures fresh { IsFresh page.now.tree (seen_size viewport) (held_in boxes.new) }
     ensures places { length boxes.new ≡ length boxes.old }
-    ensures ticks { steps.new ≡ steps.old + box_number page.now.tree }
+    ensures ticks { steps.new ≡ steps.old + box_number page.now.tree (seen_size viewport) }
 {
-    let Some(root) = page.root() else {
-        return;
+    let mut filled = Filled::new();
+    let count = page.document_count();
+    for document in 0..count {
+        fill_up(boxes, page, viewport, document, count, &mut filled, steps);
+    }
+}
+
+// Computes the boxes of a document anew and those of the documents around it.
+fn refresh_document<L: Ledger>(
+    boxes: &mut FreshBoxes,
+    page: &PageTree,
+    viewport: Size,
+    document: u32,
+    steps: &mut Steps<L>,
+)
+    requires { length page.now.tree.elements ≤ length boxes.old }
+    ensures fresh { IsFreshIn page.now.tree (seen_size viewport) (held_in boxes.new) document }
+    ensures places { length boxes.new ≡ length boxes.old }
+    ensures ticks { steps.new ≤ steps.old + box_number page.now.tree (seen_size viewport) }
+{
+    let mut filled = Filled::new();
+    let count = page.document_count();
+    fill_up(boxes, page, viewport, document, count, &mut filled, steps);
+}
+
+/// Computes the boxes anew that a reading of an element or a document rests on, with this size of the viewport of `top`, and holds
+/// them: those of one document and of the documents around it. Each element has its place in `boxes` before. It takes one step for
+/// each of these boxes, and no memory.
+pub fn refresh_for<L: Ledger>(
+    boxes: &mut FreshBoxes,
+    page: &PageTree,
+    viewport: Size,
+    container: Container,
+    steps: &mut Steps<L>,
+)
+    requires { length page.now.tree.elements ≤ length boxes.old }
+    ensures fresh { IsFreshFor page.now.tree (seen_size viewport) (held_in boxes.new) (seen_container container) }
+    ensures places { length boxes.new ≡ length boxes.old }
+    ensures ticks { steps.new ≤ steps.old + box_number page.now.tree (seen_size viewport) }
+{
+    let around = match container {
+        Container::Element(node) => Some(node),
+        Container::Document(document) => page.frame_of(document),
     };
-    boxes.fill(page.tree(), root, root_inputs(viewport), steps);
+    if let Some(node) = around {
+        refresh_document(boxes, page, viewport, page.document_of(node), steps);
+    }
 }

@@ -1,17 +1,27 @@
-//! What a page reads of its boxes: whether an element has one, its sizes, and its place in the viewport of its document
-//! (CSS 2.2, 8 to 11; CSSOM View, 6). `top` is the only document here, and nothing in it is scrolled. All lengths are in
-//! units of 1/64 CSS pixel.
+//! What a page reads of its boxes: whether an element has one, its sizes, and its place in the viewport of its document; the
+//! size of that viewport; and how far an element or a viewport can be scrolled and is scrolled (CSS 2.2, 8 to 11; CSS
+//! Overflow 3, 2.2; CSSOM View, 4 to 6). All lengths are in units of 1/64 CSS pixel.
 //!
-//! The boxes are held in places of their own, a `FreshBoxes` or another holder of boxes, which gets a place for each
-//! element as it is made. `refresh` computes them; a reading makes no box and takes no memory.
+//! The boxes are held in places of their own, a `FreshBoxes` or another holder of boxes, which gets a place for each element
+//! as it is made. `refresh` computes them for all documents, and `refresh_for` for what one reading rests on; a reading makes
+//! no box and takes no memory. The stored scroll positions are handed in.
 #![tactic(auto)]
 
 mod climb;
+mod documents;
+mod filled;
+mod in_force;
 mod layout;
 mod offsets;
+mod ranges;
 mod readings;
 #[cfg(test)]
 mod tests;
 
-pub use layout::refresh;
-pub use readings::{Reading, corner_of, has_box, place_of, read, size_of};
+pub use documents::{has_box, viewport_of};
+pub use in_force::offset_of;
+pub use layout::{refresh, refresh_for};
+pub use ranges::{is_scroller, range_of};
+pub use readings::{
+    Reading, border_rect, content_origin, corner_of, padding_rect, place_of, read, size_of,
+};

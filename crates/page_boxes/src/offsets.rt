@@ -1,20 +1,25 @@
-//! Where a box is: from the corner of its parent's border box, and in the viewport (CSS 2.2, 8.1 and 9.4.1).
+//! Where a box is: from the corner of its parent's border box, and in the viewport (CSS 2.2, 8.1 and 9.4.1; CSSOM View, 6).
 
-ghost use Rattle.std.specs.Prelude.{◌≡◌, ◌+◌, ◌*◌, ◌<◌, ◌≤◌, ℕ, true, false, pos, Some, None, length, sum_by, is_some};
+ghost use Rattle.std.specs.Prelude.{◌≡◌, ◌+◌, ◌*◌, ◌<◌, ◌≤◌, ℕ, true, false, pos, Some, None, length, sum_by, is_some, unsigned_abs};
 ghost use Rattle.px_units.specs.Lengths.{cap};
-ghost use Rattle.layout_model.specs.Nodes.{path_of};
+ghost use Rattle.layout_model.specs.Nodes.{path_of, ancestors_of};
 ghost use Rattle.layout_model.specs.Boxes.{Box, counted, margin_height};
-ghost use Rattle.layout_model.specs.Points.{sum_points};
-ghost use Rattle.layout_model.specs.Reach.{View, inputs_in_view};
+ghost use Rattle.layout_model.specs.Points.{plus, moved, moved_back, sum_points};
+ghost use Rattle.layout_model.specs.Reach.{View, inputs_in_view, offset_in_force};
 ghost use Rattle.layout_model.specs.Places.{before, offset_of};
 ghost use Rattle.element_tree.specs.Forest.{IsForest, parent_of, children_of};
 ghost use Rattle.block_layout.specs.Trees.{layout_tree};
+ghost use Rattle.page_model.specs.PageBoxes.{point_of, stored_in};
 ghost use Rattle.page_boxes.specs.Fresh.{HoldsAll};
+ghost use Rattle.page_boxes.specs.Ranges.{IsPlace};
 
 use crate::climb::is_hidden;
+use crate::in_force::boxed_offset;
 use block_layout::{BoxOf, Boxes, Styled};
 use element_tree::{NodeId, Tree};
 use layout_model::capped;
+use px_units::Point;
+use scrolling::Scrolls;
 
 // To the right and downwards.
 #[derive(Clone, Copy)]
@@ -132,13 +137,13 @@ fn own_offset<P: Styled, B: Boxes>(tree: &Tree<P>, boxes: &B, node: NodeId) -> O
     }
 }
 
-// The place of a node's border box where nothing is scrolled: the offsets of the node and its ancestors.
+// The offsets of a node and its ancestors, which is the place of its border box where nothing is scrolled.
 pub(crate) fn place<P: Styled, B: Boxes>(tree: &Tree<P>, boxes: &B, node: NodeId) -> Offset
     ensures value { let at = layout_tree P.style P.kind tree.now.nodes in (view : View) →
         HoldsAll at view (B.held boxes.now) → is_some (inputs_in_view at view node.0) ≡ true →
         (result.across, result.down) ≡ sum_points (offset_of at view) (path_of at node.0) }
-    ensures across { result.across ≤ 2147483647 * 65536 }
-    ensures down { result.down ≤ 2147483647 * 65536 }
+    ensures across { result.across ≤ 2147483647 * tree.now.most_depth }
+    ensures down { result.down ≤ 2147483647 * tree.now.most_depth }
 {
     let mut place = own_offset(tree, boxes, node);
     let mut at = node;
@@ -151,4 +156,76 @@ pub(crate) fn place<P: Styled, B: Boxes>(tree: &Tree<P>, boxes: &B, node: NodeId
         at = parent;
     }
     place
+}
+
+pub(crate) fn unsigned(offset: Point) -> Offset
+    ensures across { result.across ≡ unsigned_abs offset.left }
+    ensures down { result.down ≡ unsigned_abs offset.top }
+{
+    Offset {
+        across: offset.left.unsigned_abs(),
+        down: offset.top.unsigned_abs(),
+    }
+}
+
+// The scroll offset in force of a node that has a box.
+fn own_scroll<P: Styled, B: Boxes>(
+    tree: &Tree<P>,
+    boxes: &B,
+    scrolls: &Scrolls,
+    node: NodeId,
+) -> Offset
+    requires { node.0 < length tree.now.nodes }
+    ensures value { let at = layout_tree P.style P.kind tree.now.nodes in (view : View) →
+        HoldsAll at view (B.held boxes.now) → is_some (inputs_in_view at view node.0) ≡ true →
+        (result.across, result.down) ≡ offset_in_force at (stored_in scrolls.now) view node.0 }
+    ensures across { result.across ≤ 2147483647 }
+    ensures down { result.down ≤ 2147483647 }
+{
+    unsigned(boxed_offset(tree, boxes, scrolls, node))
+}
+
+// How far the ancestors of a node are scrolled.
+pub(crate) fn scrolled<P: Styled, B: Boxes>(
+    tree: &Tree<P>,
+    boxes: &B,
+    scrolls: &Scrolls,
+    node: NodeId,
+) -> Offset
+    ensures value { let at = layout_tree P.style P.kind tree.now.nodes in (view : View) →
+        HoldsAll at view (B.held boxes.now) → is_some (inputs_in_view at view node.0) ≡ true →
+        (result.across, result.down) ≡ sum_points (offset_in_force at (stored_in scrolls.now) view) (ancestors_of at node.0) }
+    ensures across { result.across ≤ 2147483647 * tree.now.most_depth }
+    ensures down { result.down ≤ 2147483647 * tree.now.most_depth }
+{
+    let mut scrolled = NOTHING;
+    let mut at = node;
+    while let Some(parent) = tree.parent(at) {
+        let more = own_scroll(tree, boxes, scrolls, parent);
+        scrolled = Offset {
+            across: scrolled.across + more.across,
+            down: scrolled.down + more.down,
+        };
+        at = parent;
+    }
+    scrolled
+}
+
+// A place from the corner of a viewport, where what it is in and the viewport are scrolled so far.
+pub(crate) fn moved_back(place: Offset, inner: Offset, view: Offset) -> Point
+    requires across { place.across ≤ 2147483647 * 256 }
+    requires down { place.down ≤ 2147483647 * 256 }
+    requires inner_across { inner.across ≤ 2147483647 * 256 }
+    requires inner_down { inner.down ≤ 2147483647 * 256 }
+    requires view_across { view.across ≤ 2147483647 }
+    requires view_down { view.down ≤ 2147483647 }
+    ensures value { result ≡ point_of (moved_back (moved (pos 0, pos 0) (place.across, place.down))
+        (plus (inner.across, inner.down) (view.across, view.down))) }
+    ensures left { IsPlace result.left }
+    ensures top { IsPlace result.top }
+{
+    Point {
+        left: place.across as i64 - (inner.across + view.across) as i64,
+        top: place.down as i64 - (inner.down + view.down) as i64,
+    }
 }

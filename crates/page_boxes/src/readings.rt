@@ -1,24 +1,29 @@
 //! What is read of an element's box.
 
-ghost use Rattle.std.specs.Prelude.{◌≡◌, ◌≤◌, List, pos, ◌+ℤ◌, ◌-ℤ◌};
+ghost use Rattle.std.specs.Prelude.{◌≡◌, List, ◌+ℤ◌, ◌-ℤ◌};
 ghost use Rattle.px_units.specs.Rects.{InReach, RectInReach};
+ghost use Rattle.px_units.specs.declared.BoxKind.TheVariants.{Border};
 ghost use Rattle.script_model.specs.TraceLines.{ReadLine};
-ghost use Rattle.page_model.specs.World.{Extent, Name, Scrolls};
-ghost use Rattle.page_model.specs.PageBoxes.{pair_of, has_box, box_of, size_of, corner_of, place_of, is_scroller};
-ghost use Rattle.page_model.specs.Readings.{point_at, shown_scroll, reading_of};
+ghost use Rattle.page_model.specs.World.{Extent, Name};
+ghost use Rattle.page_model.specs.Lookups.{element_at};
+ghost use Rattle.page_model.specs.Chains.{padding_box_at, content_corner_at};
+ghost use Rattle.page_model.specs.PageBoxes.{pair_of, box_of, size_of, corner_of, place_of};
+ghost use Rattle.page_model.specs.Readings.{point_at, rect_of, reading_of};
 ghost use Rattle.block_layout.specs.Seen.{as_size};
 ghost use Rattle.page_tree.specs.Items.{IsNatural};
 ghost use Rattle.page_tree.specs.Steps.{seen_container};
-ghost use Rattle.page_boxes.specs.Fresh.{IsFresh};
-ghost use Rattle.page_boxes.specs.Ranges.{IsSpan};
-ghost use Rattle.page_boxes.specs.Pages.{seen_size, AreUnscrolled, text_in};
+ghost use Rattle.page_boxes.specs.Fresh.{IsFresh, IsFreshIn};
+ghost use Rattle.page_boxes.specs.Pages.{seen_size, text_in};
+ghost use Rattle.page_boxes.specs.Ranges.{IsOffset, IsSpan, IsPlace, IsEdge, AreEdges};
 
-use crate::climb::is_boxed;
-use crate::offsets::{Offset, place};
-use block_layout::{BoxOf, Boxes};
+use crate::documents::{has_box, own_box, viewport_of};
+use crate::in_force::{offset_of, view_offset};
+use crate::offsets::{moved_back, place, scrolled, unsigned};
+use block_layout::Boxes;
 use element_tree::NodeId;
 use page_tree::{Container, PageTree};
 use px_units::{BoxKind, Point, Rect, Size};
+use scrolling::{ScrollTarget, Scrolls};
 
 /// What the command `read` shows of an element or a document.
 #[derive(Clone, Copy, Debug, PartialEq, Eq)]
@@ -31,38 +36,22 @@ pub struct Reading {
 
 const ORIGIN: Point = Point { left: 0, top: 0 };
 
+const NO_RECT: Rect = Rect {
+    left: 0,
+    top: 0,
+    right: 0,
+    bottom: 0,
+};
+
 const NO_SIZE: Size = Size {
     width: 0,
     height: 0,
 };
 
-/// Whether an element has a box (CSS 2.2, 9.2.4): it stands in the tree of `top`, neither it nor an ancestor has
-/// `display: none`, and each proper ancestor is a block.
-pub fn has_box(page: &PageTree, node: NodeId) -> bool
-    ensures { (size : Extent) → result ≡ has_box page.now.tree size node.0 }
-{
-    if !page.holds(node) {
-        return false;
-    }
-    is_boxed(page.tree(), page.root(), node)
-}
-
-// The box of an element, none where it has none.
-fn own_box<B: Boxes>(page: &PageTree, boxes: &B, node: NodeId) -> Option<BoxOf>
-    ensures { (size : Extent) → IsFresh page.now.tree size (B.held boxes.now) →
-        result ≡ box_of page.now.tree size node.0 }
-{
-    if has_box(page, node) {
-        boxes.box_of(node)
-    } else {
-        None
-    }
-}
-
 /// The size of an element's content box or border box (CSS 2.2, 8.1), 0 by 0 without a box. It is so where the boxes of
-/// the page are held as they are now. No memory.
+/// its document are held as they are now. No memory.
 pub fn size_of<B: Boxes>(page: &PageTree, boxes: &B, node: NodeId, kind: BoxKind) -> Size
-    ensures value { (size : Extent) → IsFresh page.now.tree size (B.held boxes.now) →
+    ensures value { (size : Extent) → IsFreshIn page.now.tree size (B.held boxes.now) (element_at page.now.tree node.0).document →
         result ≡ as_size (pair_of (size_of page.now.tree size node.0 kind)) }
     ensures width { IsSpan result.width }
     ensures height { IsSpan result.height }
@@ -74,9 +63,9 @@ pub fn size_of<B: Boxes>(page: &PageTree, boxes: &B, node: NodeId, kind: BoxKind
 }
 
 /// The corner of an element's content in its padding box, which is its left and top paddings (Resize Observer, 3.2:
-/// `contentRect`), zeros without a box. It is so where the boxes of the page are held as they are now. No memory.
+/// `contentRect`), zeros without a box. It is so where the boxes of its document are held as they are now. No memory.
 pub fn corner_of<B: Boxes>(page: &PageTree, boxes: &B, node: NodeId) -> Point
-    ensures value { (size : Extent) → IsFresh page.now.tree size (B.held boxes.now) →
+    ensures value { (size : Extent) → IsFreshIn page.now.tree size (B.held boxes.now) (element_at page.now.tree node.0).document →
         result ≡ point_at (corner_of page.now.tree size node.0) }
     ensures left { IsSpan result.left }
     ensures top { IsSpan result.top }
@@ -87,48 +76,59 @@ pub fn corner_of<B: Boxes>(page: &PageTree, boxes: &B, node: NodeId) -> Point
     }
 }
 
-fn as_point(offset: Offset) -> Point
-    requires across { offset.across ≤ 140737488289792 }
-    requires down { offset.down ≤ 140737488289792 }
-    ensures left { result.left ≡ pos offset.across }
-    ensures top { result.top ≡ pos offset.down }
-{
-    Point {
-        left: offset.across as i64,
-        top: offset.down as i64,
-    }
-}
-
 /// The place of an element's border box in the viewport of its document (CSSOM View, 6: `getBoundingClientRect`), zeros
-/// without a box. It is so where the boxes of the page are held as they are now, and nothing is scrolled. No memory.
+/// without a box. It is so where the boxes of the page are held as they are now with this size of the viewport of `top`. No
+/// memory.
 ///
-/// It goes up to the root, and at each level over the earlier siblings.
-pub fn place_of<B: Boxes>(page: &PageTree, boxes: &B, node: NodeId) -> Point
-    ensures value { (size : Extent) (scrolls : Scrolls) → IsFresh page.now.tree size (B.held boxes.now) → AreUnscrolled scrolls →
-        result ≡ place_of page.now.tree size scrolls node.0 }
-    ensures left { IsSpan result.left }
-    ensures top { IsSpan result.top }
+/// It goes up to the root, and at each level over the earlier siblings; what is scrolled on the way is measured.
+pub fn place_of<B: Boxes>(
+    page: &PageTree,
+    boxes: &B,
+    scrolls: &Scrolls,
+    viewport: Size,
+    node: NodeId,
+) -> Point
+    requires { IsNatural viewport }
+    ensures value { IsFresh page.now.tree (seen_size viewport) (B.held boxes.now) →
+        result ≡ place_of page.now.tree (seen_size viewport) scrolls.now node.0 }
+    ensures left { IsPlace result.left }
+    ensures top { IsPlace result.top }
 {
     if !has_box(page, node) {
         return ORIGIN;
     }
-    as_point(place(page.tree(), boxes, node))
+    let tree = page.tree();
+    let view = view_offset(page, boxes, scrolls, viewport, page.document_of(node));
+    moved_back(
+        place(tree, boxes, node),
+        scrolled(tree, boxes, scrolls, node),
+        unsigned(view),
+    )
 }
 
-// The scroll offset in force of an element where nothing is scrolled.
-fn scroll_of(page: &PageTree, node: NodeId) -> Point
-    ensures value { (size : Extent) (scrolls : Scrolls) → AreUnscrolled scrolls →
-        result ≡ point_at (shown_scroll page.now.tree size scrolls node.0 (is_scroller page.now.tree size node.0)) }
-    ensures origin { result ≡ record { left = pos 0; top = pos 0 } }
+// The point that lies so far to the right of a place and below it.
+fn beside(place: Point, by: Point) -> Point
+    requires left { IsPlace place.left }
+    requires top { IsPlace place.top }
+    requires right { IsSpan by.left }
+    requires down { IsSpan by.top }
+    ensures left { result.left ≡ place.left +ℤ by.left }
+    ensures top { result.top ≡ place.top +ℤ by.top }
+    ensures left_edge { IsEdge result.left }
+    ensures top_edge { IsEdge result.top }
 {
-    let _root = page.root();
-    ORIGIN
+    Point {
+        left: place.left + by.left,
+        top: place.top + by.top,
+    }
 }
 
 // The rectangle at a corner and of a size.
 fn rect_at(corner: Point, size: Size) -> Rect
-    requires left { IsSpan corner.left }
-    requires top { IsSpan corner.top }
+    requires left { IsEdge corner.left }
+    requires top { IsEdge corner.top }
+    requires right { IsEdge (corner.left +ℤ size.width) }
+    requires bottom { IsEdge (corner.top +ℤ size.height) }
     requires width { IsSpan size.width }
     requires height { IsSpan size.height }
     ensures value { result ≡ record {
@@ -137,9 +137,9 @@ fn rect_at(corner: Point, size: Size) -> Rect
       right = corner.left +ℤ size.width;
       bottom = corner.top +ℤ size.height;
     } }
-    ensures edges { RectInReach result }
-    ensures width { InReach (result.right -ℤ result.left) }
-    ensures height { InReach (result.bottom -ℤ result.top) }
+    ensures edges { AreEdges result }
+    ensures width { IsSpan (result.right -ℤ result.left) }
+    ensures height { IsSpan (result.bottom -ℤ result.top) }
 {
     Rect {
         left: corner.left,
@@ -149,33 +149,107 @@ fn rect_at(corner: Point, size: Size) -> Rect
     }
 }
 
-/// What the command `read` shows: an element's border box in the viewport of its document, all zeros without a box, or
-/// the viewport of the document. Nothing is scrolled. It is so where the boxes of the page are held as they are now with
-/// this size of the viewport. No memory.
-pub fn read<B: Boxes>(page: &PageTree, boxes: &B, viewport: Size, container: Container) -> Reading
+/// The border box of an element in the viewport of its document (CSSOM View, 6: `getBoundingClientRect`), all zeros without a
+/// box. It is so where the boxes of the page are held as they are now with this size of the viewport of `top`. No memory.
+pub fn border_rect<B: Boxes>(
+    page: &PageTree,
+    boxes: &B,
+    scrolls: &Scrolls,
+    viewport: Size,
+    node: NodeId,
+) -> Rect
     requires { IsNatural viewport }
-    ensures value { (names : List Name) (scrolls : Scrolls) →
-        IsFresh page.now.tree (seen_size viewport) (B.held boxes.now) → AreUnscrolled scrolls →
-        reading_of names page.now.tree (seen_size viewport) scrolls (seen_container container)
+    ensures value { IsFresh page.now.tree (seen_size viewport) (B.held boxes.now) →
+        result ≡ rect_of (place_of page.now.tree (seen_size viewport) scrolls.now node.0) (size_of page.now.tree (seen_size viewport) node.0 Border) }
+    ensures edges { AreEdges result }
+    ensures width { IsSpan (result.right -ℤ result.left) }
+    ensures height { IsSpan (result.bottom -ℤ result.top) }
+{
+    rect_at(
+        place_of(page, boxes, scrolls, viewport, node),
+        size_of(page, boxes, node, BoxKind::Border),
+    )
+}
+
+/// The padding box of an element in the viewport of its document (CSS 2.2, 8.1), all zeros without a box. It is so where the
+/// boxes of the page are held as they are now with this size of the viewport of `top`. No memory.
+pub fn padding_rect<B: Boxes>(
+    page: &PageTree,
+    boxes: &B,
+    scrolls: &Scrolls,
+    viewport: Size,
+    node: NodeId,
+) -> Rect
+    requires { IsNatural viewport }
+    ensures value { IsFresh page.now.tree (seen_size viewport) (B.held boxes.now) →
+        result ≡ padding_box_at (place_of page.now.tree (seen_size viewport) scrolls.now node.0) (box_of page.now.tree (seen_size viewport) node.0) }
+    ensures edges { AreEdges result }
+    ensures width { IsSpan (result.right -ℤ result.left) }
+    ensures height { IsSpan (result.bottom -ℤ result.top) }
+{
+    let Some(own) = own_box(page, boxes, node) else {
+        return NO_RECT;
+    };
+    let place = place_of(page, boxes, scrolls, viewport, node);
+    rect_at(beside(place, own.padding_corner()), own.padding_size())
+}
+
+/// The corner of the content box of an element in the viewport of its document (CSS 2.2, 8.1), which for a frame is where the
+/// viewport of the document in it begins; zeros without a box. It is so where the boxes of the page are held as they are now
+/// with this size of the viewport of `top`. No memory.
+pub fn content_origin<B: Boxes>(
+    page: &PageTree,
+    boxes: &B,
+    scrolls: &Scrolls,
+    viewport: Size,
+    node: NodeId,
+) -> Point
+    requires { IsNatural viewport }
+    ensures value { IsFresh page.now.tree (seen_size viewport) (B.held boxes.now) →
+        result ≡ content_corner_at (place_of page.now.tree (seen_size viewport) scrolls.now node.0) (box_of page.now.tree (seen_size viewport) node.0) }
+    ensures left { IsEdge result.left }
+    ensures top { IsEdge result.top }
+{
+    let place = place_of(page, boxes, scrolls, viewport, node);
+    match own_box(page, boxes, node) {
+        Some(own) => beside(place, own.inner()),
+        None => place,
+    }
+}
+
+/// What the command `read` shows: an element's border box in the viewport of its document, all zeros without a box, or the
+/// viewport of the document; and the scroll offset in force. It is so where the boxes of the page are held as they are now
+/// with this size of the viewport of `top`. No memory.
+pub fn read<B: Boxes>(
+    page: &PageTree,
+    boxes: &B,
+    scrolls: &Scrolls,
+    viewport: Size,
+    container: Container,
+) -> Reading
+    requires { IsNatural viewport }
+    ensures value { (names : List Name) → IsFresh page.now.tree (seen_size viewport) (B.held boxes.now) →
+        reading_of names page.now.tree (seen_size viewport) scrolls.now (seen_container container)
         ≡ ReadLine (text_in names (seen_container container)) result.rect result.scroll }
     ensures edges { RectInReach result.rect }
     ensures width { InReach (result.rect.right -ℤ result.rect.left) }
     ensures height { InReach (result.rect.bottom -ℤ result.rect.top) }
-    ensures scroll { result.scroll ≡ record { left = pos 0; top = pos 0 } }
+    ensures scroll { IsOffset result.scroll }
 {
-    // `top` is the only document, as its root element tells.
-    let _root = page.root();
     match container {
         Container::Element(node) => Reading {
-            rect: rect_at(
-                place_of(page, boxes, node),
-                size_of(page, boxes, node, BoxKind::Border),
-            ),
-            scroll: scroll_of(page, node),
+            rect: border_rect(page, boxes, scrolls, viewport, node),
+            scroll: offset_of(page, boxes, scrolls, viewport, ScrollTarget::Node(node)),
         },
-        Container::Document(_) => Reading {
-            rect: rect_at(ORIGIN, viewport),
-            scroll: ORIGIN,
+        Container::Document(document) => Reading {
+            rect: rect_at(ORIGIN, viewport_of(page, boxes, viewport, document)),
+            scroll: offset_of(
+                page,
+                boxes,
+                scrolls,
+                viewport,
+                ScrollTarget::Document(document),
+            ),
         },
     }
 }

@@ -1,13 +1,17 @@
 //! Readings of a page with the numbers that an independent program for the same rules gives.
 
-ghost use Rattle.std.specs.Prelude.{◌≡◌, ◌<◌, ◌≤◌, length};
+ghost use Rattle.std.specs.Prelude.{◌≡◌, ◌==◌, ◌<◌, ◌≤◌, cond, length};
 ghost use Rattle.page_tree.specs.Items.{IsKind, IsNatural};
 
-use crate::{Reading, corner_of, has_box, read, refresh, size_of};
+use crate::{
+    Reading, border_rect, content_origin, corner_of, has_box, is_scroller, offset_of, padding_rect,
+    range_of, read, refresh, refresh_for, size_of,
+};
 use block_layout::{FreshBoxes, ItemKind};
 use element_tree::NodeId;
 use page_tree::{Container, PageTree};
 use px_units::{BoxKind, Point, Rect, Size};
+use scrolling::{ScrollTarget, Scrolls};
 use std::alloc::Global;
 use std::marker::Brand;
 use std::process::Abort;
@@ -95,19 +99,13 @@ fn set(rt: &impl Abort, page: &mut PageTree, node: u32, property: &str, value: &
     }
 }
 
-fn put(rt: &impl Abort, page: &mut PageTree, parent: Option<u32>, node: u32) {
+fn put(rt: &impl Abort, page: &mut PageTree, container: Container, node: u32) {
     assert!(rt; page.holds(NodeId(node)));
-    match parent {
-        Some(number) => {
-            assert!(rt; page.holds(NodeId(number)));
-            let container = Container::Element(NodeId(number));
-            assert!(rt; page.place(container, NodeId(node), None).is_ok());
-        }
-        None => assert!(rt;
-            page.place(Container::Document(0), NodeId(node), None)
-                .is_ok()
-        ),
+    match container {
+        Container::Element(parent) => assert!(rt; page.holds(parent)),
+        Container::Document(document) => assert!(rt; document < page.document_count()),
     }
+    assert!(rt; page.place(container, NodeId(node), None).is_ok());
 }
 
 fn kind_of(node: u32) -> ItemKind
@@ -124,14 +122,14 @@ fn kind_of(node: u32) -> ItemKind
 }
 
 fn page_of(rt: &impl Abort, alloc: Global) -> Result<PageTree, Fail> {
-    let mut page = PageTree::new(alloc);
+    let mut page = PageTree::new(alloc)?;
     let name = Name::read(b"a").expect(rt, "a name");
     for number in 0..8 {
-        assert_eq!(rt; page.make(name, kind_of(number))?, NodeId(number));
+        assert_eq!(rt; page.make(0, name, kind_of(number))?, NodeId(number));
     }
-    put(rt, &mut page, None, 0);
+    put(rt, &mut page, Container::Document(0), 0);
     for (parent, child) in PLACES {
-        put(rt, &mut page, Some(parent), child);
+        put(rt, &mut page, Container::Element(NodeId(parent)), child);
     }
     for (node, property, value) in STYLES {
         set(rt, &mut page, node, property, value);
@@ -151,7 +149,8 @@ fn renew<L: Ledger>(blank: Blank, boxes: &mut FreshBoxes, page: &PageTree, viewp
     refresh(boxes, page, viewport, &mut steps);
 }
 
-fn reading(left: i64, top: i64, right: i64, bottom: i64) -> Reading {
+fn reading(edges: (i64, i64, i64, i64), scrolled: i64) -> Reading {
+    let (left, top, right, bottom) = edges;
     Reading {
         rect: Rect {
             left,
@@ -159,7 +158,10 @@ fn reading(left: i64, top: i64, right: i64, bottom: i64) -> Reading {
             right,
             bottom,
         },
-        scroll: Point { left: 0, top: 0 },
+        scroll: Point {
+            left: 0,
+            top: scrolled,
+        },
     }
 }
 
@@ -183,6 +185,7 @@ fn screen(is_narrow: bool) -> Size
 fn pages_are_read_as_they_are(rt: HostRuntime) -> Result<(), Fail> {
     let mut page = page_of(&rt, rt.alloc())?;
     let mut boxes = FreshBoxes::new(rt.alloc());
+    let scrolls = Scrolls::new(rt.alloc());
     let mut is_narrow = false;
     for step in STEPS {
         boxes.add(NodeId(7))?;
@@ -196,10 +199,11 @@ fn pages_are_read_as_they_are(rt: HostRuntime) -> Result<(), Fail> {
                 assert!(rt; page.holds(NodeId(node)));
                 page.remove(NodeId(node));
             }
-            Step::Read(node, (left, top, right, bottom)) => {
-                let found = read(&page, &boxes, viewport, Container::Element(NodeId(node)));
-                assert_eq!(rt; found, reading(left, top, right, bottom), "{node}");
-                assert_eq!(rt; has_box(&page, NodeId(node)), right != 0, "{node}");
+            Step::Read(node, edges) => {
+                let at = Container::Element(NodeId(node));
+                let found = read(&page, &boxes, &scrolls, viewport, at);
+                assert_eq!(rt; found, reading(edges, 0), "{node}");
+                assert_eq!(rt; has_box(&page, NodeId(node)), edges.2 != 0, "{node}");
             }
             Step::Content(node, (left, top, width, height)) => {
                 let corner = corner_of(&page, &boxes, NodeId(node));
@@ -208,10 +212,344 @@ fn pages_are_read_as_they_are(rt: HostRuntime) -> Result<(), Fail> {
                 assert_eq!(rt; size, Size { width, height }, "{node}");
             }
             Step::Top(width, height) => {
-                let found = read(&page, &boxes, viewport, Container::Document(0));
-                assert_eq!(rt; found, reading(0, 0, width, height));
+                let found = read(&page, &boxes, &scrolls, viewport, Container::Document(0));
+                assert_eq!(rt; found, reading((0, 0, width, height), 0));
             }
         }
     }
+    Ok(())
+}
+
+/// Where elements are put: 1 is the frame of document 1, and 3 that of document 2. All are made in `top`.
+const NESTED: [(Container, u32); 8] = [
+    (Container::Document(0), 0),
+    (Container::Element(NodeId(0)), 1),
+    (Container::Document(1), 2),
+    (Container::Element(NodeId(2)), 6),
+    (Container::Element(NodeId(2)), 3),
+    (Container::Document(2), 4),
+    (Container::Element(NodeId(4)), 5),
+    (Container::Element(NodeId(5)), 7),
+];
+
+const NESTED_STYLES: [(u32, &str, &str); 24] = [
+    (0, "padding", "5px"),
+    (0, "border", "1px"),
+    (1, "width", "80%"),
+    (1, "height", "200px"),
+    (1, "padding", "3px"),
+    (1, "border", "2px"),
+    (1, "margin-left", "10px"),
+    (2, "margin", "4px"),
+    (2, "height", "100%"),
+    (6, "height", "20px"),
+    (6, "margin-top", "10%"),
+    (3, "width", "50%"),
+    (3, "height", "75%"),
+    (3, "margin-left", "7.5px"),
+    (3, "border", "1px"),
+    (4, "width", "50%"),
+    (4, "margin-left", "10%"),
+    (4, "margin-top", "2px"),
+    (5, "height", "30px"),
+    (5, "margin-top", "7px"),
+    (5, "overflow", "scroll"),
+    (5, "padding-left", "2px"),
+    (7, "height", "90px"),
+    (7, "width", "40%"),
+];
+
+/// What is done to the page, or what a reading of it gives, in 1/64 pixel.
+#[derive(Clone, Copy)]
+enum Look {
+    /// Element 5 and document 1 are scrolled downwards to these positions, as far as they can be.
+    Scroll(u16, u16),
+    Narrow,
+    Set(u32, &'static str, &'static str),
+    Append(u32, u32),
+    /// The left, top, right and bottom edges, and how far it is scrolled downwards.
+    Read(u32, (i64, i64, i64, i64), i64),
+    /// The width and height of a document's viewport, and how far it is scrolled downwards.
+    Viewport(u32, (i64, i64), i64),
+}
+
+const LOOKS: [Look; 61] = [
+    Look::Read(0, (0, 0, 40960, 14208), 0),
+    Look::Read(1, (1024, 384, 33817, 13824), 0),
+    Look::Read(2, (256, 256, 31897, 13056), 0),
+    Look::Read(3, (736, 4700, 16684, 14428), 0),
+    Look::Read(4, (1582, 128, 9492, 2496), 0),
+    Look::Read(5, (1582, 576, 9492, 2496), 0),
+    Look::Read(6, (256, 3420, 31897, 4700), 0),
+    Look::Read(7, (1710, 576, 4822, 6336), 0),
+    Look::Viewport(0, (40960, 30720), 0),
+    Look::Viewport(1, (32153, 12800), 0),
+    Look::Viewport(2, (15820, 9600), 0),
+    Look::Scroll(1000, 700),
+    Look::Read(0, (0, 0, 40960, 14208), 0),
+    Look::Read(1, (1024, 384, 33817, 13824), 0),
+    Look::Read(2, (256, -444, 31897, 12356), 0),
+    Look::Read(3, (736, 4000, 16684, 13728), 0),
+    Look::Read(4, (1582, 128, 9492, 2496), 0),
+    Look::Read(5, (1582, 576, 9492, 2496), 1000),
+    Look::Read(6, (256, 2720, 31897, 4000), 0),
+    Look::Read(7, (1710, -424, 4822, 5336), 0),
+    Look::Viewport(0, (40960, 30720), 0),
+    Look::Viewport(1, (32153, 12800), 700),
+    Look::Viewport(2, (15820, 9600), 0),
+    Look::Scroll(0, 0),
+    Look::Narrow,
+    Look::Read(0, (0, 0, 20480, 14208), 0),
+    Look::Read(1, (1024, 384, 17433, 13824), 0),
+    Look::Read(2, (256, 256, 15513, 13056), 0),
+    Look::Read(3, (736, 3061, 8492, 12789), 0),
+    Look::Read(4, (762, 128, 4576, 2496), 0),
+    Look::Read(5, (762, 576, 4576, 2496), 0),
+    Look::Read(6, (256, 1781, 15513, 3061), 0),
+    Look::Read(7, (890, 576, 2364, 6336), 0),
+    Look::Viewport(0, (20480, 12800), 0),
+    Look::Viewport(1, (15769, 12800), 0),
+    Look::Viewport(2, (7628, 9600), 0),
+    Look::Set(1, "display", "none"),
+    Look::Read(0, (0, 0, 20480, 768), 0),
+    Look::Read(1, (0, 0, 0, 0), 0),
+    Look::Read(2, (0, 0, 0, 0), 0),
+    Look::Read(3, (0, 0, 0, 0), 0),
+    Look::Read(4, (0, 0, 0, 0), 0),
+    Look::Read(5, (0, 0, 0, 0), 0),
+    Look::Read(6, (0, 0, 0, 0), 0),
+    Look::Read(7, (0, 0, 0, 0), 0),
+    Look::Viewport(0, (20480, 12800), 0),
+    Look::Viewport(1, (0, 0), 0),
+    Look::Viewport(2, (0, 0), 0),
+    Look::Set(1, "display", "block"),
+    Look::Append(0, 3),
+    Look::Read(0, (0, 0, 20480, 23936), 0),
+    Look::Read(1, (1024, 384, 17433, 13824), 0),
+    Look::Read(2, (256, 256, 15513, 13056), 0),
+    Look::Read(3, (864, 13824, 10848, 23552), 0),
+    Look::Read(4, (0, 0, 0, 0), 0),
+    Look::Read(5, (0, 0, 0, 0), 0),
+    Look::Read(6, (256, 1781, 15513, 3061), 0),
+    Look::Read(7, (0, 0, 0, 0), 0),
+    Look::Viewport(0, (20480, 12800), 0),
+    Look::Viewport(1, (15769, 12800), 0),
+    Look::Viewport(2, (9856, 9600), 0),
+];
+
+/// What is scrolled beyond its range, and what becomes of it as the ranges change.
+const SCROLLED: [Look; 40] = [
+    Look::Scroll(64000, 64000),
+    Look::Read(2, (256, -1372, 31897, 11428), 0),
+    Look::Read(3, (736, 3072, 16684, 12800), 0),
+    Look::Read(5, (1582, 576, 9492, 2496), 3840),
+    Look::Read(6, (256, 1792, 31897, 3072), 0),
+    Look::Read(7, (1710, -3264, 4822, 2496), 0),
+    Look::Viewport(1, (32153, 12800), 1628),
+    Look::Viewport(2, (15820, 9600), 0),
+    Look::Set(7, "height", "50px"),
+    Look::Read(5, (1582, 576, 9492, 2496), 1280),
+    Look::Read(7, (1710, -704, 4822, 2496), 0),
+    Look::Set(7, "height", "90px"),
+    Look::Read(5, (1582, 576, 9492, 2496), 3840),
+    Look::Read(7, (1710, -3264, 4822, 2496), 0),
+    Look::Set(5, "overflow", "clip"),
+    Look::Read(5, (1582, 576, 9492, 2496), 0),
+    Look::Read(7, (1710, 576, 4822, 6336), 0),
+    Look::Set(5, "overflow", "hidden"),
+    Look::Read(5, (1582, 576, 9492, 2496), 3840),
+    Look::Read(7, (1710, -3264, 4822, 2496), 0),
+    Look::Set(2, "overflow", "hidden"),
+    Look::Viewport(1, (32153, 12800), 1628),
+    Look::Read(2, (256, -1372, 31897, 11428), 0),
+    Look::Read(3, (736, 3072, 16684, 12800), 0),
+    Look::Set(2, "height", "80%"),
+    Look::Viewport(1, (32153, 12800), 0),
+    Look::Read(2, (256, 256, 31897, 10496), 0),
+    Look::Read(3, (736, 4700, 16684, 12508), 0),
+    Look::Set(1, "height", "240px"),
+    Look::Viewport(1, (32153, 15360), 0),
+    Look::Read(2, (256, 256, 31897, 12544), 0),
+    Look::Read(3, (736, 4700, 16684, 14044), 0),
+    Look::Set(1, "display", "none"),
+    Look::Read(5, (0, 0, 0, 0), 0),
+    Look::Viewport(1, (0, 0), 0),
+    Look::Set(1, "display", "block"),
+    Look::Scroll(256, 0),
+    Look::Read(5, (1582, 576, 9492, 2496), 256),
+    Look::Read(7, (1710, 320, 4822, 6080), 0),
+    Look::Viewport(1, (32153, 15360), 0),
+];
+
+/// The scroll container.
+const INNER: ScrollTarget = ScrollTarget::Node(NodeId(5));
+
+/// The nested viewport.
+const OUTER: ScrollTarget = ScrollTarget::Document(1);
+
+fn nested_page(rt: &impl Abort, alloc: Global) -> Result<PageTree, Fail> {
+    let mut page = PageTree::new(alloc)?;
+    let name = Name::read(b"a").expect(rt, "a name");
+    for number in 0..8 {
+        if number == 1 || number == 3 {
+            let made = page.make_frame(0, name)?;
+            assert_eq!(rt; made.0, NodeId(number));
+        } else {
+            assert_eq!(rt; page.make(0, name, ItemKind::Block)?, NodeId(number));
+        }
+    }
+    for (container, node) in NESTED {
+        put(rt, &mut page, container, node);
+    }
+    for (node, property, value) in NESTED_STYLES {
+        set(rt, &mut page, node, property, value);
+    }
+    Ok(page)
+}
+
+fn renew_for<L: Ledger>(
+    blank: Blank,
+    boxes: &mut FreshBoxes,
+    page: &PageTree,
+    viewport: Size,
+    container: Container,
+)
+    requires name { blank.name ≡ L.name }
+    requires parts { blank.parts ≡ L.parts }
+    requires one_part { 0 < blank.parts }
+    requires places { length page.now.tree.elements ≤ length boxes.old }
+{
+    let mut steps = Steps::<L>::new(blank);
+    refresh_for(boxes, page, viewport, container, &mut steps);
+}
+
+fn all_boxes(
+    rt: &impl Abort,
+    alloc: Global,
+    page: &PageTree,
+    viewport: Size,
+) -> Result<FreshBoxes, Fail> {
+    let mut boxes = FreshBoxes::new(alloc);
+    boxes.add(NodeId(7))?;
+    assert!(rt; !page.holds(NodeId(8)));
+    renew::<Brand>(Blank::new(1), &mut boxes, page, viewport);
+    Ok(boxes)
+}
+
+// What is read of an element, from boxes that are all computed, and again from those of its document and of those around it.
+fn read_twice(
+    rt: &impl Abort,
+    alloc: Global,
+    page: &PageTree,
+    scrolls: &Scrolls,
+    is_narrow: bool,
+    node: u32,
+) -> Result<Reading, Fail> {
+    let viewport = screen(is_narrow);
+    let container = Container::Element(NodeId(node));
+    let all = all_boxes(rt, alloc, page, viewport)?;
+    let found = read(page, &all, scrolls, viewport, container);
+    let mut some = FreshBoxes::new(alloc);
+    some.add(NodeId(7))?;
+    assert!(rt; !page.holds(NodeId(8)));
+    renew_for::<Brand>(Blank::new(1), &mut some, page, viewport, container);
+    let again = read(page, &some, scrolls, viewport, container);
+    assert_eq!(rt; found, again);
+    let rect = border_rect(page, &all, scrolls, viewport, NodeId(node));
+    assert_eq!(rt; rect, found.rect);
+    Ok(found)
+}
+
+// Scrolls downwards to a position, as far as it goes.
+fn scroll(
+    rt: &impl Abort,
+    alloc: Global,
+    page: &PageTree,
+    scrolls: &mut Scrolls,
+    is_narrow: bool,
+    target: ScrollTarget,
+    down: u16,
+) -> Result<(), Fail> {
+    let viewport = screen(is_narrow);
+    let boxes = all_boxes(rt, alloc, page, viewport)?;
+    let range = range_of(page, &boxes, viewport, target);
+    let wanted = Point {
+        left: 0,
+        top: i64::from(down),
+    };
+    let _outcome = scrolls.scroll_to(0, target, wanted, range)?;
+    let offset = offset_of(page, &boxes, scrolls, viewport, target);
+    assert_eq!(rt; offset.top, i64::from(down).min(range.height));
+    Ok(())
+}
+
+fn follow(rt: &impl Abort, alloc: Global, steps: &[Look]) -> Result<(), Fail> {
+    let mut page = nested_page(rt, alloc)?;
+    let mut scrolls = Scrolls::new(alloc);
+    let mut is_narrow = false;
+    for step in steps {
+        match *step {
+            Look::Scroll(inner, outer) => {
+                scroll(rt, alloc, &page, &mut scrolls, is_narrow, INNER, inner)?;
+                scroll(rt, alloc, &page, &mut scrolls, is_narrow, OUTER, outer)?;
+            }
+            Look::Narrow => is_narrow = true,
+            Look::Set(node, property, value) => set(rt, &mut page, node, property, value),
+            Look::Append(parent, node) => {
+                put(rt, &mut page, Container::Element(NodeId(parent)), node);
+            }
+            Look::Read(node, edges, down) => {
+                let found = read_twice(rt, alloc, &page, &scrolls, is_narrow, node)?;
+                assert_eq!(rt; found, reading(edges, down), "{node}");
+            }
+            Look::Viewport(document, (width, height), down) => {
+                let viewport = screen(is_narrow);
+                let boxes = all_boxes(rt, alloc, &page, viewport)?;
+                let found = read(
+                    &page,
+                    &boxes,
+                    &scrolls,
+                    viewport,
+                    Container::Document(document),
+                );
+                assert_eq!(rt; found, reading((0, 0, width, height), down), "{document}");
+            }
+        }
+    }
+    Ok(())
+}
+
+#[test]
+fn documents_in_frames_are_read_as_they_are(rt: HostRuntime) -> Result<(), Fail> {
+    follow(&rt, rt.alloc(), &LOOKS)
+}
+
+#[test]
+fn what_is_scrolled_is_read_as_it_is(rt: HostRuntime) -> Result<(), Fail> {
+    follow(&rt, rt.alloc(), &SCROLLED)
+}
+
+/// The left, top, right and bottom edges of a frame's padding box, and the corner of its content.
+const FRAMES: [(u32, (i64, i64, i64, i64), (i64, i64)); 2] = [
+    (1, (1152, 512, 33689, 13696), (1344, 704)),
+    (3, (800, 4076, 16620, 13676), (800, 4076)),
+];
+
+#[test]
+fn frames_have_their_places(rt: HostRuntime) -> Result<(), Fail> {
+    let page = nested_page(&rt, rt.alloc())?;
+    let mut scrolls = Scrolls::new(rt.alloc());
+    scroll(&rt, rt.alloc(), &page, &mut scrolls, false, OUTER, 688)?;
+    let viewport = screen(false);
+    let boxes = all_boxes(&rt, rt.alloc(), &page, viewport)?;
+    for (number, edges, (left, top)) in FRAMES {
+        let node = NodeId(number);
+        let padding = padding_rect(&page, &boxes, &scrolls, viewport, node);
+        assert_eq!(rt; padding, reading(edges, 0).rect, "{number}");
+        let corner = content_origin(&page, &boxes, &scrolls, viewport, node);
+        assert_eq!(rt; corner, Point { left, top }, "{number}");
+        assert!(rt; !is_scroller(&page, node), "{number}");
+    }
+    assert!(rt; is_scroller(&page, NodeId(5)));
     Ok(())
 }

@@ -20,6 +20,11 @@ pub record IsHeld (documents : List Document) (most : ℕ) : Type 0 where
   pub bounded : most ≤ 64
   pub frames : HasFrames documents
 
+-- and the room for as many is made
+pub record IsKept (documents : List Document) (most capacity : ℕ) : Type 0 where
+  pub held : IsHeld documents most
+  pub room : most ≤ capacity
+
 -- whether one more document may be made
 abbrev pub has_room : HeldDocuments → Bool
 has_room it = nat_lt (length it.held) it.most

@@ -1,6 +1,6 @@
 //! The documents of a page.
 
-ghost use Rattle.std.specs.Prelude.{◌≡◌, ◌≢◌, ℕ, Option, ◌<◌, ◌≤◌, ◌+◌, ◌++◌, ◌∷◌, [], length, option_map, Some, None, IfOk, OnOk, OnErr, Ok, Err, IsSome, true, false, nat_lt};
+ghost use Rattle.std.specs.Prelude.{◌≡◌, ◌≢◌, ℕ, Option, ◌<◌, ◌≤◌, ◌+◌, ◌++◌, ◌∷◌, [], length, option_map, Some, None, IfOk, not, IsSome, false, true, nat_lt};
 ghost use Rattle.smallvec.specs.SmallVec.{small_vec_len};
 ghost use Rattle.element_tree.specs.Links.{number};
 ghost use Rattle.page_model.specs.World.{Active, Dead, Tree as TreeModel};
@@ -18,7 +18,6 @@ ghost use Rattle.page_documents.specs.Adoption.{adopted_in};
 
 use crate::adoption::{adopt, stands_in_active, tree_document};
 use crate::entry::{DocumentState, Entry};
-use crate::fault::DocumentFault;
 use crate::finding::{LEVELS, find_from, find_in, is_in};
 use crate::found::{Listed, Marks};
 use crate::owned::Owned;
@@ -38,17 +37,19 @@ pub struct Documents {
 }
 
 impl Model for Documents {
-    ghost use Rattle.page_documents.specs.Held.{HeldDocuments, IsHeld};
+    ghost use Rattle.std.specs.Prelude.{vec_capacity};
+    ghost use Rattle.page_documents.specs.Held.{HeldDocuments, IsKept};
 
     ghost Value = { HeldDocuments };
 
     ghost view = { λ d. record { held = d.held.items; most = d.most } };
 
-    ghost invariant = { λ d. IsHeld d.held.items d.most };
+    ghost invariant = { λ d. IsKept d.held.items d.most (vec_capacity d.held) };
 }
 
 impl Documents {
-    /// The document `top` alone, which is Active. At most `most` documents are held, from 1 to 64.
+    /// The document `top` alone, which is Active. At most `most` documents are held, from 1 to 64; the room for all of them is
+    /// made here.
     ///
     /// # Errors
     ///
@@ -58,36 +59,34 @@ impl Documents {
         requires bounded { most ≤ 64 }
         ensures { IfOk result (λ documents. documents ≡ record { held = record { state = Active; frame = None; root = None } ∷ []; most = most }) }
     {
-        let mut held = Vec::new(alloc);
-        held.push(Entry::top())?;
+        let mut held = Vec::with_capacity(alloc, most as usize)?;
+        held.push_reserved(Entry::top());
         Ok(Documents { held, most })
     }
 
-    /// Makes a Fresh document for a frame, and gives its number, which is `count` before (HTML, 7.3: content navigables).
-    ///
-    /// # Errors
-    ///
-    /// `Limit` exactly where `most` documents are held; else `Memory` where there is none. Nothing is changed then.
-    pub fn make(&mut self, frame: NodeId) -> Result<u32, DocumentFault>
-        ensures number { IfOk result (λ document. document ≡ length self.old.held) }
-        ensures made { OnOk result (self.new ≡ record self.old { held = self.old.held ++ new_document frame.0 ∷ [] }) }
-        ensures same { OnErr result (self.new ≡ self.old) }
-        ensures full { has_room self.old ≡ false → result ≡ Err DocumentFault.Limit }
-        ensures limit { result ≡ Err DocumentFault.Limit → has_room self.old ≡ false }
+    /// Whether as many documents are held as may be, so that no further one can be made.
+    pub fn is_full(&self) -> bool
+        ensures { result ≡ not (has_room self.now) }
     {
-        let number = self.count();
-        if number >= self.most {
-            return Err(DocumentFault::Limit);
-        }
-        let Ok(()) = self.held.push(Entry::framed_by(frame)) else {
-            return Err(DocumentFault::Memory);
-        };
-        Ok(number)
+        self.count() >= self.most
     }
 
-    /// How many documents are held.
+    /// Makes a Fresh document for a frame, and gives its number, which is `count` before (HTML, 7.3: content navigables). It
+    /// takes no memory. There has to be room for it, as `is_full` tells.
+    pub fn make(&mut self, frame: NodeId) -> u32
+        requires { has_room self.old ≡ true }
+        ensures number { result ≡ length self.old.held }
+        ensures made { self.new ≡ record self.old { held = self.old.held ++ new_document frame.0 ∷ [] } }
+    {
+        let number = self.count();
+        self.held.push_reserved(Entry::framed_by(frame));
+        number
+    }
+
+    /// How many documents are held, which is never more than `most`.
     pub fn count(&self) -> u32
-        ensures { result ≡ length self.now.held }
+        ensures value { result ≡ length self.now.held }
+        ensures bound { length self.now.held ≤ self.now.most }
     {
         self.held.len() as u32
     }

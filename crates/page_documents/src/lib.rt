@@ -5,7 +5,6 @@
 mod adoption;
 mod documents;
 mod entry;
-mod fault;
 mod finding;
 mod found;
 mod laws;
@@ -15,7 +14,6 @@ mod tests;
 
 pub use documents::Documents;
 pub use entry::DocumentState;
-pub use fault::DocumentFault;
 pub use laws::{
     making_elements_keeps_frames, making_frames_keeps_frames, placing_keeps_frames,
     removing_keeps_frames, styles_keep_frames, the_opening_tree_is_framed,

@@ -3,7 +3,7 @@
 ghost use Rattle.std.specs.Prelude.{◌≡◌, ℕ, refl};
 ghost use Rattle.page_model.specs.Lookups.{no_element};
 
-use crate::{DocumentFault, DocumentState, Documents, Owned};
+use crate::{DocumentState, Documents, Owned};
 use DocumentState::{Active, Dead, Fresh};
 use Move::{Append, Remove, Root};
 use element_tree::{NodeId, Tree};
@@ -63,7 +63,8 @@ impl Site {
     // A frame with its document, made in a document.
     fn frame(&mut self, rt: &impl Abort, owner: u32) -> Result<NodeId, Fail> {
         let node = self.tree.reserve()?;
-        let document = self.documents.make(node)?;
+        assert!(rt; !self.documents.is_full());
+        let document = self.documents.make(node);
         let made = self.add(owner, Some(document))?;
         assert_eq!(rt; made, node);
         Ok(node)
@@ -272,10 +273,10 @@ fn a_subtree_is_adopted_without_the_documents_in_its_frames(rt: HostRuntime) -> 
 #[test]
 fn no_more_documents_are_made_than_there_may_be(rt: HostRuntime) -> Result<(), Fail> {
     let mut documents = Documents::new(rt.alloc(), 3)?;
-    assert_eq!(rt; documents.make(NodeId(7))?, 1);
-    assert_eq!(rt; documents.make(NodeId(8))?, 2);
-    let refused = documents.make(NodeId(9)).err();
-    assert_eq!(rt; refused, Some(DocumentFault::Limit));
+    assert!(rt; !documents.is_full());
+    assert_eq!(rt; documents.make(NodeId(7)), 1);
+    assert_eq!(rt; documents.make(NodeId(8)), 2);
+    assert!(rt; documents.is_full());
     assert_eq!(rt; documents.count(), 3);
     Ok(())
 }

@@ -1,5 +1,5 @@
 -- What commands come to once their operands are found.
-use Rattle.std.proofs.Common.{◌≡◌, ℕ, List, [], ◌∷◌, Some, None, Result, Ok, Err, refl, ap, sym, subst}
+use Rattle.std.proofs.Common.{◌≡◌, ℕ, List, [], ◌∷◌, Some, None, Result, Ok, Err, refl, ap, sym, subst, ◌<◌, Option, length, ℤ, ◌∙◌}
 use Rattle.script_model.specs.Syntax.{Operand, Append, Before, Remove, Read, Say}
 use Rattle.page_model.specs.World.{Tree, World}
 use Rattle.page_model.specs.Documents.{Container, removed}
@@ -12,7 +12,22 @@ use Rattle.page_tree.specs.declared.faults.PlaceFault.TheVariants as place
 use Rattle.page_tree.specs.Faults.{refusal}
 use Rattle.page_tree.specs.Views.{PageElements}
 use Rattle.page_state.specs.declared.answers.Effect.{Effect}
-use Rattle.page_state.specs.declared.answers.Effect.TheVariants.{Nothing, Line}
+use Rattle.page_state.specs.declared.answers.Effect.TheVariants.{Nothing, Line, Taken}
+use Rattle.intersection_observer.specs.declared.root.WatcherId.{WatcherId}
+use Rattle.intersection_observer.specs.Watchers.{HeldWatchers}
+use Rattle.intersection_update.specs.Watching.{AreWritten}
+use Rattle.intersection_update.proofs.Watching.{queue_written}
+use Rattle.script_model.specs.TraceLines.{TakeLine}
+use Rattle.page_model.specs.World.{Entry, ScrollTarget}
+use Rattle.page_model.specs.EntryLines.{intersection_lines}
+use Rattle.page_model.specs.Names.{intersection_observer_text}
+use Rattle.page_model.specs.IntersectionObserving.{without_queue}
+use Rattle.page_model.specs.Lookups.{intersection_observer_at}
+use Rattle.page_model.specs.Operands.{intersection_observer_named}
+use Rattle.page_model.specs.Commands.{taking}
+use Rattle.page_model.specs.Scrolling.{scrolled_thing, scrolled_to, scrolled_by}
+use Rattle.script_model.specs.Syntax.{TakeIntersections, ScrollTo, ScrollBy}
+use Rattle.page_state.specs.Whole.{IsPage}
 use Rattle.trace_text.specs.declared.TraceLine.TheVariants as trace
 use Rattle.page_model.specs.Gathering.{gathering, sight_of}
 use Rattle.page_model.specs.Loop.{gather}
@@ -47,11 +62,11 @@ module _ (handlers : Handlers) (world : World) (present : Present) where
 
 -- what holds whatever handlers there are holds with these
 pub kept_at : {old new : PageView} {result : Result Effect PageFault} {step : Handlers → Step ModelEffect} (handlers : Handlers) → Keeps old new result step → Kept old new result (step handlers)
-kept_at handlers keeps = record { applied = keeps.applied handlers; begun = keeps.begun; reach = keeps.reach }
+kept_at handlers keeps = record { applied = keeps.applied handlers; begun = keeps.begun; handed = keeps.handed }
 
 pub says : (handlers : Handlers) (view : PageView) (present : Present) (word : List ℕ) → Kept view view (Ok (Line (trace.Say word))) (does handlers view.world present (Say word))
 unfolding does
-says handlers view present word = record { applied = refl; begun = refl; reach = (tt, tt) }
+says handlers view present word = record { applied = refl; begun = refl; handed = tt }
 
 pub gathers : (document depth : ℕ) (world : World) → record world { resize_observers = gathering (sight_of world) document depth (world.resize_observers) } ≡ gather document depth world
 unfolding gather
@@ -63,7 +78,7 @@ pub keeps_by : {old new : PageView} {result : Result Effect PageFault} {step ste
 keeps_by {old} {new} {result} keeps same = record {
   applied = λ handlers. subst (Applied result old.world new.world) (sym (same handlers)) (keeps.applied handlers);
   begun = keeps.begun;
-  reach = keeps.reach;
+  handed = keeps.handed;
 }
 
 -- the tree is asked to be edited
@@ -89,10 +104,58 @@ module _ (inside : Inside) (now : PageView) (view_is : record { world = world_of
       (record {
         applied = λ handlers. refused_so fault (world_of inside) (world_of (record inside { tree = after })) (step (inside.tree.tree)) e (ap (λ (it : PageElements). world_of (record inside { tree = it })) same);
         begun = refl;
-        reach = tt;
+        handed = tt;
       }))
 
   pub edit_done : step (inside.tree.tree) ≡ Did (after.tree) → Keeps now then_is (Ok Nothing) (λ handlers. with_tree now.world (step now.world.tree))
   edit_done e =
       subst (λ (v : PageView). Keeps v then_is (Ok Nothing) (λ handlers. with_tree v.world (step v.world.tree))) view_is
-      (record { applied = λ handlers. done_so (world_of inside) (step (inside.tree.tree)) (after.tree) e; begun = refl; reach = tt })
+      (record { applied = λ handlers. done_so (world_of inside) (step (inside.tree.tree)) (after.tree) e; begun = refl; handed = tt })
+
+-- entries are taken out of a queue
+
+takes : (handlers : Handlers) (world : World) (present : Present) (name : List ℕ) (o : ℕ) → intersection_observer_named world.names name ≡ Did o
+    → does handlers world present (TakeIntersections name) ≡ taking world o (intersection_observer_at (world.intersection_observers) o).queue
+unfolding does
+takes handlers world present name o found = λ i. found i >>= λ (m : ℕ). taking world m (intersection_observer_at (world.intersection_observers) m).queue
+
+module _ (page : Inside) (now : PageView) (view_is : record { world = world_of page; begun = page.begun } ≡ now) (is : IsPage page) (present : Present) (name : List ℕ)
+    (watcher : WatcherId) (entries : List Entry) (after : HeldWatchers) (found : intersection_observer_named now.world.names name ≡ Did watcher.0)
+    (there : watcher.0 < length now.world.intersection_observers.made) (taken : entries ≡ (intersection_observer_at page.watchers.part watcher.0).queue)
+    (emptied : after ≡ record (page.watchers) { part = without_queue watcher.0 (page.watchers.part) }) (count : length after.part.made ≡ length page.watchers.part.made) where
+  abbrev emptied_is : PageView
+  emptied_is = record { world = world_of (record page { watchers = after }); begun = page.begun }
+
+  names_here : intersection_observer_named page.names.list name ≡ Did watcher.0
+  names_here = subst (λ (v : PageView). intersection_observer_named v.world.names name ≡ Did watcher.0) (sym view_is) found
+
+  watcher_here : watcher.0 < length after.part.made
+  watcher_here = subst (λ (most : ℕ). watcher.0 < most) (sym count) (subst (λ (v : PageView). watcher.0 < length v.world.intersection_observers.made) (sym view_is) there)
+
+  pub taken_so : Keeps now emptied_is (Ok (Taken watcher entries)) (λ handlers. does handlers now.world present (TakeIntersections name))
+  taken_so =
+      subst (λ (v : PageView). Keeps v emptied_is (Ok (Taken watcher entries)) (λ handlers. does handlers v.world present (TakeIntersections name))) view_is
+      (record {
+        applied = λ handlers. takes handlers (world_of page) present name watcher.0 names_here
+            ∙ (λ i. writes
+            (TakeLine (intersection_observer_text page.names.list watcher.0) (length (sym taken i)) ∷ intersection_lines page.names.list watcher.0 (sym taken i))
+            (world_of (record page { watchers = sym emptied i })));
+        begun = refl;
+        handed = (watcher_here, subst (λ (it : List Entry). AreWritten (length page.tree.tree.elements) it) (sym taken) (queue_written (length page.tree.tree.elements) watcher.0 page.watchers.part is.watched));
+      })
+
+-- something is scrolled
+
+module _ (handlers : Handlers) (world : World) (present : Present) (of : Operand) (container : Container) (there : container_meant world.names present of ≡ Did container)
+    (target : Option ScrollTarget) (thing : scrolled_thing world.tree world.viewports.size container ≡ target) (left top : ℤ) where
+  pub scrolls_to : does handlers world present (ScrollTo of left top) ≡ becomes (scrolled_to left top target world)
+  unfolding does
+  scrolls_to =
+      (λ i. there i >>= λ (within : Container). becomes (scrolled_to left top (scrolled_thing (world.tree) (world.viewports.size) within) world))
+      ∙ ap (λ (it : Option ScrollTarget). becomes (scrolled_to left top it world)) thing
+
+  pub scrolls_by : does handlers world present (ScrollBy of left top) ≡ becomes (scrolled_by left top target world)
+  unfolding does
+  scrolls_by =
+      (λ i. there i >>= λ (within : Container). becomes (scrolled_by left top (scrolled_thing (world.tree) (world.viewports.size) within) world))
+      ∙ ap (λ (it : Option ScrollTarget). becomes (scrolled_by left top it world)) thing

@@ -132,3 +132,16 @@ entered name thing entries after list seen free made =
 pub some_named : (found : Option Name) → is_some found ≡ true → is_some (option_map (λ (it : Name). it.text) found) ≡ true
 some_named None some = some
 some_named (Some named) some = refl
+
+-- another name stays free
+
+free_step : (passes : Bool) (named : Name) (found more : Option Name) → (option_map (λ (it : Name). it.thing) found ≡ None → option_map (λ (it : Name). it.thing) more ≡ None)
+    → option_map (λ (it : Name). it.thing) (cond passes (Some named) found) ≡ None → option_map (λ (it : Name). it.thing) (cond passes (Some named) more) ≡ None
+free_step true named found more rest none = cc
+free_step false named found more rest none = rest none
+
+pub still_free : (names : List Name) (text : List ℕ) (last : Name) → named_thing names text ≡ None → bytes_eq last.text text ≡ false → named_thing (names ++ last ∷ []) text ≡ None
+still_free [] text last none other = ap (λ b. option_map (λ (it : Name). it.thing) (cond {A = Option Name} b (Some last) None)) other
+still_free (named ∷ names) text last none other =
+    free_step (bytes_eq named.text text) named (find (λ (it : Name). bytes_eq it.text text) names) (find (λ (it : Name). bytes_eq it.text text) (names ++ last ∷ []))
+    (λ rest. still_free names text last rest other) none

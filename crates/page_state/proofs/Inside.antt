@@ -1,14 +1,21 @@
 -- What a page keeps true once a part of it was changed.
-use Rattle.std.proofs.Common.{◌≡◌, ℕ, zero, suc, ◌<◌, ◌≤◌, ◌+◌, List, [], ◌∷◌, ◌++◌, Option, None, Result, Ok, Err, IfOk, length, ◌-◌, replicate, sym, subst, ap, refl, ◌∙◌, arith, length-append}
+use Rattle.std.proofs.Common.{◌≡◌, ℕ, suc, ◌<◌, ◌≤◌, ◌+◌, List, [], ◌∷◌, ◌++◌, Option, None, Result, Ok, Err, IfOk, length, ◌-◌, replicate, sym, subst, ap, refl, ◌∙◌, arith, length-append}
 use Rattle.std.specs.Prelude.{slice_get}
 use Rattle.std.proofs.lemmas.List.{length-replicate}
 use Rattle.std.specs.List.{AllByRecursion}
 use Rattle.layout_model.specs.Boxes.{Box}
 use Rattle.text_io.specs.declared.kinds.ThrowKind.{ThrowKind}
-use Rattle.page_model.specs.World.{ElementThing, ResizeObserverThing, QueryListThing, Name, World}
+use Rattle.page_model.specs.World.{DocumentThing, ElementThing, ResizeObserverThing, IntersectionObserverThing, QueryListThing, Name}
+use Rattle.page_model.specs.Ranges.{Counts}
+use Rattle.page_model.specs.IntersectionObserving.{with_intersection_observer}
+use Rattle.script_model.specs.Margins.{Margins}
+use Rattle.page_model.specs.World.{Root}
 use Rattle.page_model.specs.ResizeObserving.{with_resize_observer}
 use Rattle.block_layout.specs.Held.{with_place}
 use Rattle.resize_observer.specs.Observers.{HeldObservers}
+use Rattle.intersection_observer.specs.Watchers.{HeldWatchers}
+use Rattle.intersection_update.specs.Watching.{AreWatchers}
+use Rattle.intersection_update.proofs.Watching.{kept_grown, kept_made}
 use Rattle.page_tree.specs.declared.page.Container.{Container}
 use Rattle.page_tree.specs.declared.page.Container.TheVariants.{Element, Document}
 use Rattle.page_tree.specs.Views.{PageElements}
@@ -19,21 +26,19 @@ use Rattle.page_state.specs.Whole.{AreKnown, AreElementNames, AreAsked, IsPage}
 use Rattle.page_state.specs.Worlds.{world_of, counts_in}
 use Rattle.page_state.specs.declared.page.Page.TheInside.{Inside}
 use Rattle.page_state.specs.declared.queries.QueryList.{QueryList}
-use Rattle.page_state.proofs.Parts.{known_more, names_made, names_more, next_element, next_observer, next_query}
+use Rattle.page_state.proofs.Parts.{known_more, names_made, names_more, next_document, next_element, next_observer, next_watcher, next_query}
 
 pub container_in : (inside : Inside) (found : Result Container ThrowKind) → IfOk found (IsContainerBelow (counts_in inside)) → IfOk found (λ container. IsIn (world_of inside) container)
 container_in inside (Ok (Element node)) below = below
-container_in inside (Ok (Document document)) below = omega (arith, below)
+container_in inside (Ok (Document document)) below = below
 container_in inside (Err kind) below = tt
 
-pub only_top : (found : Result ℕ ThrowKind) → IfOk found (λ document. document < 1) → IfOk found (λ document. document ≡ 0)
-only_top (Ok document) below = omega (arith, below)
-only_top (Err kind) below = tt
-
--- the tree is edited, with as many elements as before
-pub edited : (page : Inside) (after : PageElements) → IsPage page → after.names ≡ page.tree.names → length after.tree.elements ≡ length page.tree.tree.elements → IsPage (record page { tree = after })
-edited page after is kept count = record {
-  known = subst (λ (n : ℕ). AreKnown page.names.list (record (counts_in page) { elements = n })) (sym count) is.known;
+-- the tree is edited, with as many elements and documents as before
+pub edited : (page : Inside) (after : PageElements) → IsPage page → after.names ≡ page.tree.names → length after.tree.elements ≡ length page.tree.tree.elements
+    → length after.tree.documents ≡ length page.tree.tree.documents → IsPage (record page { tree = after })
+edited page after is kept count framed = record {
+  known = subst (λ (n : ℕ). AreKnown page.names.list (record (counts_in page) { elements = n; documents = length after.tree.documents })) (sym count)
+      (subst (λ (n : ℕ). AreKnown page.names.list (record (counts_in page) { documents = n })) (sym framed) is.known);
   elements = record {
     count = ap (λ (it : List (List ℕ)). length it) kept ∙ (is.elements.count ∙ sym count);
     each = λ n below. ap (λ (it : List (List ℕ)). slice_get it n) kept ∙ is.elements.each n (subst (λ (most : ℕ). n < most) count below);
@@ -41,42 +46,80 @@ edited page after is kept count = record {
   placed = subst (λ (n : ℕ). n ≤ length page.boxes) (sym count) is.placed;
   limited = is.limited;
   observations = is.observations;
+  registrations = is.registrations;
   listeners = is.listeners;
   frame_callbacks = is.frame_callbacks;
   timers = is.timers;
-  unscrolled = is.unscrolled;
-  asked = is.asked;
+  watched = subst (λ (n : ℕ). AreWatchers n page.watchers.part.made) (sym count) is.watched;
+  asked = subst (λ (n : ℕ). AreAsked page.queries.items n) (sym framed) is.asked;
   sized = is.sized;
   noted = is.noted;
   time = is.time;
 }
 
--- an element is made, last, with its name and its place
-pub enlarged : (page : Inside) (names : KnownNames) (after : PageElements) (places : List (Option Box)) (text : List ℕ) (n : ℕ) → IsPage page
-    → names.list ≡ page.names.list ++ record { text = text; thing = ElementThing n } ∷ [] → n ≡ length page.tree.tree.elements
-    → after.names ≡ page.tree.names ++ text ∷ [] → length after.tree.elements ≡ length page.tree.tree.elements + 1 → length page.tree.tree.elements + 1 ≤ length places
-    → IsPage (record page { names = names; tree = after; boxes = places })
-enlarged page names after places text n is given number last count room =
-    let elements : ℕ = length page.tree.tree.elements in
-    let list : List Name = page.names.list ++ record { text = text; thing = ElementThing elements } ∷ [] in
-    let listed : names.list ≡ list = given ∙ ap (λ (m : ℕ). page.names.list ++ record { text = text; thing = ElementThing m } ∷ []) number in
-    record {
-      known = subst (λ (it : List Name). AreKnown it (record (counts_in page) { elements = length after.tree.elements })) (sym listed)
-          (subst (λ (m : ℕ). AreKnown list (record (counts_in page) { elements = m })) (sym count)
-          (known_more page.names.list text (ElementThing elements) (counts_in page) (record (counts_in page) { elements = elements + 1 }) (next_element (counts_in page)) is.known));
-      elements = subst (λ (it : List Name). AreElementNames it after) (sym listed) (names_made page.names.list page.tree after is.elements (counts_in page) refl is.known text last count);
-      placed = subst (λ (m : ℕ). m ≤ length places) (sym count) room;
-      limited = is.limited;
-      observations = is.observations;
-      listeners = is.listeners;
-      frame_callbacks = is.frame_callbacks;
-      timers = is.timers;
-      unscrolled = is.unscrolled;
-      asked = is.asked;
-      sized = is.sized;
-      noted = is.noted;
-      time = is.time;
-    }
+asked_grown : (queries : List QueryList) (documents more : ℕ) → documents ≤ more → AreAsked queries documents → AreAsked queries more
+asked_grown queries documents more grown asked = record { documents = all queries asked.documents; few = asked.few }
+  where
+    all : (queries : List QueryList) → AllByRecursion (λ (it : QueryList). it.document < documents) queries → AllByRecursion (λ (it : QueryList). it.document < more) queries
+    all [] are = tt
+    all (first ∷ others) are = (omega (arith, are.0, grown), all others are.1)
+
+-- an element is made, last, with its name and its place, and a document with its own where it is a frame
+module _ (page : Inside) (is : IsPage page) (after : PageElements) (names : KnownNames) (places : List (Option Box)) (text : List ℕ)
+    (last : after.names ≡ page.tree.names ++ text ∷ []) (count : length after.tree.elements ≡ length page.tree.tree.elements + 1)
+    (room : length page.tree.tree.elements + 1 ≤ length places) where
+  abbrev elements : ℕ
+  elements = length page.tree.tree.elements
+
+  abbrev documents : ℕ
+  documents = length page.tree.tree.documents
+
+  abbrev one : List Name
+  one = page.names.list ++ record { text = text; thing = ElementThing elements } ∷ []
+
+  known_one : AreKnown one (record (counts_in page) { elements = elements + 1 })
+  known_one = known_more page.names.list text (ElementThing elements) (counts_in page) (record (counts_in page) { elements = elements + 1 }) (next_element (counts_in page)) is.known
+
+  names_one : AreElementNames one after
+  names_one = names_made page.names.list page.tree after is.elements (counts_in page) refl is.known text last count
+
+  grown : (list : List Name) (framed : ℕ) → documents ≤ framed → names.list ≡ list → length after.tree.documents ≡ framed
+      → AreKnown list (record (counts_in page) { elements = elements + 1; documents = framed }) → AreElementNames list after
+      → IsPage (record page { names = names; tree = after; boxes = places })
+  grown list framed more listed are known named = record {
+    known = subst (λ (it : List Name). AreKnown it (record (counts_in page) { elements = length after.tree.elements; documents = length after.tree.documents })) (sym listed)
+        (subst (λ (n : ℕ). AreKnown list (record (counts_in page) { elements = n; documents = length after.tree.documents })) (sym count)
+        (subst (λ (n : ℕ). AreKnown list (record (counts_in page) { elements = elements + 1; documents = n })) (sym are) known));
+    elements = subst (λ (it : List Name). AreElementNames it after) (sym listed) named;
+    placed = subst (λ (m : ℕ). m ≤ length places) (sym count) room;
+    limited = is.limited;
+    observations = is.observations;
+    registrations = is.registrations;
+    listeners = is.listeners;
+    frame_callbacks = is.frame_callbacks;
+    timers = is.timers;
+    watched = subst (λ (n : ℕ). AreWatchers n page.watchers.part.made) (sym count) (kept_grown elements (elements + 1) (omega arith) page.watchers.part.made is.watched);
+    asked = subst (λ (n : ℕ). AreAsked page.queries.items n) (sym are) (asked_grown page.queries.items documents framed more is.asked);
+    sized = is.sized;
+    noted = is.noted;
+    time = is.time;
+  }
+
+  pub enlarged : (n : ℕ) → n ≡ elements → names.list ≡ page.names.list ++ record { text = text; thing = ElementThing n } ∷ []
+      → length after.tree.documents ≡ documents → IsPage (record page { names = names; tree = after; boxes = places })
+  enlarged n number given same =
+      grown one documents (omega arith) (given ∙ ap (λ (m : ℕ). page.names.list ++ record { text = text; thing = ElementThing m } ∷ []) number) same known_one names_one
+
+  pub framed_page : (n document : ℕ) (inside : List ℕ) → n ≡ elements → document ≡ documents
+      → names.list ≡ (page.names.list ++ record { text = text; thing = ElementThing n } ∷ []) ++ record { text = inside; thing = DocumentThing document } ∷ []
+      → length after.tree.documents ≡ documents + 1 → IsPage (record page { names = names; tree = after; boxes = places })
+  framed_page n document inside number framed given more =
+      let counts : Counts = record (counts_in page) { elements = elements + 1 } in
+      grown (one ++ record { text = inside; thing = DocumentThing documents } ∷ []) (documents + 1) (omega arith)
+      (given ∙ (λ i. (page.names.list ++ record { text = text; thing = ElementThing (number i) } ∷ []) ++ record { text = inside; thing = DocumentThing (framed i) } ∷ []))
+      more
+      (known_more one inside (DocumentThing documents) counts (record counts { documents = documents + 1 }) (next_document counts) known_one)
+      (names_more one after counts (record { text = inside; thing = DocumentThing documents }) (sym count) known_one names_one)
 
 one_longer : {A : Type 0} (xs : List A) (x : A) → length (xs ++ x ∷ []) ≡ length xs + 1
 one_longer [] x = refl
@@ -100,22 +143,71 @@ watched_page page names after text document n handler is given number made =
           (known_more page.names.list text thing (counts_in page) (record (counts_in page) { resize_observers = observers + 1 }) (next_observer (counts_in page)) is.known));
       elements = subst (λ (it : List Name). AreElementNames it page.tree) (sym listed) (names_more page.names.list page.tree (counts_in page) _ refl is.known is.elements);
       placed = is.placed;
-      limited = record { observers = is.limited.observers; observations = is.limited.observations; listeners = is.limited.listeners; frame_callbacks = is.limited.frame_callbacks; timers = is.limited.timers; tasks = is.limited.tasks };
+      limited = record {
+        observers = is.limited.observers;
+        observations = is.limited.observations;
+        watchers = is.limited.watchers;
+        registrations = is.limited.registrations;
+        listeners = is.limited.listeners;
+        frame_callbacks = is.limited.frame_callbacks;
+        timers = is.limited.timers;
+        tasks = is.limited.tasks;
+      };
       observations = is.observations;
+      registrations = is.registrations;
       listeners = is.listeners;
       frame_callbacks = is.frame_callbacks;
       timers = is.timers;
-      unscrolled = is.unscrolled;
+      watched = is.watched;
       asked = is.asked;
       sized = is.sized;
       noted = is.noted;
       time = is.time;
     })
 
-all_asked : (queries : List QueryList) (last : QueryList) → AllByRecursion (λ (it : QueryList). it.document < 1) queries → last.document < 1
-    → AllByRecursion (λ (it : QueryList). it.document < 1) (queries ++ last ∷ [])
-all_asked [] last all is = (is, tt)
-all_asked (first ∷ others) last all is = (all.0, all_asked others last all.1 is)
+-- an intersection observer is made, last, with its name
+pub seeing_page : (page : Inside) (names : KnownNames) (after : HeldWatchers) (text : List ℕ) (document n : ℕ) (handler : Option ℕ) (root : Root) (margins : Margins) (thresholds : List ℕ) → IsPage page
+    → names.list ≡ page.names.list ++ record { text = text; thing = IntersectionObserverThing n } ∷ [] → n ≡ length page.watchers.part.made
+    → after ≡ record (page.watchers) { part = with_intersection_observer document handler root margins thresholds (page.watchers.part) } → IsPage (record page { names = names; watchers = after })
+seeing_page page names after text document n handler root margins thresholds is given number made =
+    let watchers : ℕ = length page.watchers.part.made in
+    let list : List Name = page.names.list ++ record { text = text; thing = IntersectionObserverThing watchers } ∷ [] in
+    let listed : names.list ≡ list = given ∙ ap (λ (m : ℕ). page.names.list ++ record { text = text; thing = IntersectionObserverThing m } ∷ []) number in
+    let new : HeldWatchers = record (page.watchers) { part = with_intersection_observer document handler root margins thresholds (page.watchers.part) } in
+    let count : length new.part.made ≡ watchers + 1 = one_longer page.watchers.part.made _ in
+    subst (λ (it : HeldWatchers). IsPage (record page { names = names; watchers = it })) (sym made)
+    (record {
+      known = subst (λ (it : List Name). AreKnown it (record (counts_in page) { intersection_observers = length new.part.made })) (sym listed)
+          (subst (λ (m : ℕ). AreKnown list (record (counts_in page) { intersection_observers = m })) (sym count)
+          (known_more page.names.list text (IntersectionObserverThing watchers) (counts_in page) (record (counts_in page) { intersection_observers = watchers + 1 }) (next_watcher (counts_in page)) is.known));
+      elements = subst (λ (it : List Name). AreElementNames it page.tree) (sym listed) (names_more page.names.list page.tree (counts_in page) _ refl is.known is.elements);
+      placed = is.placed;
+      limited = record {
+        observers = is.limited.observers;
+        observations = is.limited.observations;
+        watchers = is.limited.watchers;
+        registrations = is.limited.registrations;
+        listeners = is.limited.listeners;
+        frame_callbacks = is.limited.frame_callbacks;
+        timers = is.limited.timers;
+        tasks = is.limited.tasks;
+      };
+      observations = is.observations;
+      registrations = is.registrations;
+      listeners = is.listeners;
+      frame_callbacks = is.frame_callbacks;
+      timers = is.timers;
+      watched = kept_made (length page.tree.tree.elements) document handler root margins thresholds page.watchers.part is.watched;
+      asked = is.asked;
+      sized = is.sized;
+      noted = is.noted;
+      time = is.time;
+    })
+
+all_asked : (most : ℕ) (queries : List QueryList) (last : QueryList) → AllByRecursion (λ (it : QueryList). it.document < most) queries → last.document < most
+    → AllByRecursion (λ (it : QueryList). it.document < most) (queries ++ last ∷ [])
+all_asked most [] last all is = (is, tt)
+all_asked most (first ∷ others) last all is = (all.0, all_asked most others last all.1 is)
 
 -- the facts on query lists once one is made, last, with its name
 module _ (page : Inside) (names : KnownNames) (queries : List QueryList) (text : List ℕ) (last : QueryList) (n : ℕ) (is : IsPage page)
@@ -139,9 +231,10 @@ module _ (page : Inside) (names : KnownNames) (queries : List QueryList) (text :
   pub query_elements : AreElementNames names.list page.tree
   query_elements = subst (λ (it : List Name). AreElementNames it page.tree) (sym listed) (names_more page.names.list page.tree (counts_in page) _ refl is.known is.elements)
 
-  pub query_asked : last.document < 1 → length page.queries.items < 4096 → AreAsked queries
+  pub query_asked : last.document < length page.tree.tree.documents → length page.queries.items < 4096 → AreAsked queries (length page.tree.tree.documents)
   query_asked of few = record {
-    documents = subst (λ (it : List QueryList). AllByRecursion (λ (each : QueryList). each.document < 1) it) (sym made) (all_asked page.queries.items last is.asked.documents of);
+    documents = subst (λ (it : List QueryList). AllByRecursion (λ (each : QueryList). each.document < length page.tree.tree.documents) it) (sym made)
+        (all_asked (length page.tree.tree.documents) page.queries.items last is.asked.documents of);
     few = omega (arith, few, more);
   }
 

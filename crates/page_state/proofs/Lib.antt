@@ -4,10 +4,12 @@ mod Found
 mod Parts
 mod Inside
 mod Doing
-mod Top
+mod Noted
 mod Handlers
 mod QueryLists
 mod Missing
-mod Nobody
 mod Asking
 mod Opening
+mod Puts
+mod Watched
+mod Updated

@@ -1,8 +1,8 @@
 -- An element that isn't there.
-use Rattle.std.proofs.Common.{◌≡◌, ℕ, zero, suc, ◌≤◌, ◌<◌, false, nat_lt, List, [], ◌∷◌, length, Option, None, slice_get, unwrap_or, refl, ap, ◌∙◌, arith, tests}
+use Rattle.std.proofs.Common.{◌≡◌, ℕ, zero, suc, ◌≤◌, false, nat_lt, List, [], ◌∷◌, length, Option, None, slice_get, unwrap_or, refl, ap, arith, tests}
 use Rattle.layout_model.specs.Nodes.{path_above, path_up}
 use Rattle.page_model.specs.World.{Element, Tree}
-use Rattle.page_model.specs.Lookups.{element_at, no_element}
+use Rattle.page_model.specs.Lookups.{no_element}
 use Rattle.page_model.specs.Documents.{element_depth, nodes_of}
 
 pub at_least : (n most : ℕ) → false ≡ nat_lt n most → most ≤ n

@@ -1,5 +1,5 @@
 -- A page in which there is nothing but the document `top`.
-use Rattle.std.proofs.Common.{◌≡◌, ℕ, ◌<◌, ◌==◌, List, [], ◌∷◌, Option, Some, None, length, cond, is_some, find, refl, sym, ap, ◌∙◌, subst, arith, tests, true}
+use Rattle.std.proofs.Common.{◌≡◌, ℕ, ◌==◌, List, [], ◌∷◌, Option, Some, None, length, cond, is_some, find, sym, ap, ◌∙◌, subst, arith, tests, true}
 use Rattle.page_model.specs.World.{Thing, DocumentThing, ElementThing, ResizeObserverThing, IntersectionObserverThing, QueryListThing, Name}
 use Rattle.page_model.specs.Names.{is_same_thing}
 use Rattle.page_model.specs.Ranges.{Counts, IsThingIn}
@@ -23,13 +23,17 @@ first_named text (QueryListThing n) is = absurd (omega (arith, is))
 first_known : (text : List ℕ) → AreKnown (top_alone text) (record { elements = 0; documents = 1; resize_observers = 0; intersection_observers = 0; queries = 0; handlers = 0 })
 first_known text = record { there = (omega arith, tt); named = first_named text }
 
-pub known_first : (text : List ℕ) (names : List Name) (elements observers queries : ℕ) → names ≡ top_alone text → elements ≡ 0 → observers ≡ 0 → queries ≡ 0
-    → AreKnown names (record { elements = elements; documents = 1; resize_observers = observers; intersection_observers = 0; queries = queries; handlers = 0 })
-known_first text names elements observers queries is e o q =
-    subst (λ (it : List Name). AreKnown it (record { elements = elements; documents = 1; resize_observers = observers; intersection_observers = 0; queries = queries; handlers = 0 })) (sym is)
-    (subst (λ (n : ℕ). AreKnown (top_alone text) (record { elements = n; documents = 1; resize_observers = observers; intersection_observers = 0; queries = queries; handlers = 0 })) (sym e)
-    (subst (λ (n : ℕ). AreKnown (top_alone text) (record { elements = 0; documents = 1; resize_observers = n; intersection_observers = 0; queries = queries; handlers = 0 })) (sym o)
-    (subst (λ (n : ℕ). AreKnown (top_alone text) (record { elements = 0; documents = 1; resize_observers = 0; intersection_observers = 0; queries = n; handlers = 0 })) (sym q) (first_known text))))
+pub known_first : (text : List ℕ) (names : List Name) (elements documents observers watchers queries : ℕ) → names ≡ top_alone text → elements ≡ 0 → documents ≡ 1 → observers ≡ 0 → watchers ≡ 0 → queries ≡ 0
+    → AreKnown names (record { elements = elements; documents = documents; resize_observers = observers; intersection_observers = watchers; queries = queries; handlers = 0 })
+known_first text names elements documents observers watchers queries is e d o w q =
+    let counts : ℕ → ℕ → ℕ → ℕ → ℕ → Counts =
+    λ (els docs obs seen asked : ℕ). record { elements = els; documents = docs; resize_observers = obs; intersection_observers = seen; queries = asked; handlers = 0 } in
+    subst (λ (it : List Name). AreKnown it (counts elements documents observers watchers queries)) (sym is)
+    (subst (λ (n : ℕ). AreKnown (top_alone text) (counts n documents observers watchers queries)) (sym e)
+    (subst (λ (n : ℕ). AreKnown (top_alone text) (counts 0 n observers watchers queries)) (sym d)
+    (subst (λ (n : ℕ). AreKnown (top_alone text) (counts 0 1 n watchers queries)) (sym o)
+    (subst (λ (n : ℕ). AreKnown (top_alone text) (counts 0 1 0 n queries)) (sym w)
+    (subst (λ (n : ℕ). AreKnown (top_alone text) (counts 0 1 0 0 n)) (sym q) (first_known text))))))
 
 pub no_elements : (names : List Name) (tree : PageElements) → tree.names ≡ [] → length tree.tree.elements ≡ 0 → AreElementNames names tree
 no_elements names tree none count = record {
@@ -37,5 +41,5 @@ no_elements names tree none count = record {
   each = λ n below. absurd (omega (arith, below, count));
 }
 
-pub none_asked : (queries : List QueryList) → queries ≡ [] → AreAsked queries
-none_asked queries none = subst AreAsked (sym none) (record { documents = tt; few = omega arith })
+pub none_asked : (queries : List QueryList) (documents : ℕ) → queries ≡ [] → AreAsked queries documents
+none_asked queries documents none = subst (λ (it : List QueryList). AreAsked it documents) (sym none) (record { documents = tt; few = omega arith })

@@ -1,5 +1,5 @@
 -- What a page keeps true, once a part of it was changed.
-use Rattle.std.proofs.Common.{◌≡◌, ℕ, zero, suc, ◌+◌, ◌<◌, ◌≤◌, ℤ, pos, ◌≤ℤ◌, Bool, true, false, List, [], ◌∷◌, ◌++◌, Option, Some, length, find, is_some, slice_get, unwrap_or, option_map, ◌==◌, refl, sym, ap, ◌∙◌, subst, arith, tests}
+use Rattle.std.proofs.Common.{◌≡◌, ℕ, zero, suc, ◌+◌, ◌<◌, ℤ, pos, ◌≤ℤ◌, Bool, true, false, List, [], ◌∷◌, ◌++◌, Option, Some, length, find, is_some, slice_get, unwrap_or, option_map, ◌==◌, refl, sym, ap, ◌∙◌, subst, arith, tests}
 use Rattle.std.proofs.lemmas.Int.{ints}
 use Rattle.px_units.specs.declared.Size.{Size}
 use Rattle.page_model.specs.World.{Thing, DocumentThing, ElementThing, ResizeObserverThing, IntersectionObserverThing, QueryListThing, Name}
@@ -64,6 +64,12 @@ module _ (counts : Counts) where
   abbrev one_observer : Counts
   one_observer = record counts { resize_observers = counts.resize_observers + 1 }
 
+  abbrev one_document : Counts
+  one_document = record counts { documents = counts.documents + 1 }
+
+  abbrev one_watcher : Counts
+  one_watcher = record counts { intersection_observers = counts.intersection_observers + 1 }
+
   abbrev one_query : Counts
   one_query = record counts { queries = counts.queries + 1 }
 
@@ -100,6 +106,40 @@ module _ (counts : Counts) where
 
   pub next_observer : IsNext (ResizeObserverThing counts.resize_observers) counts one_observer
   next_observer = record { there = omega arith; others = other_observers; more = more_observers }
+
+  other_documents : (other : Thing) → IsThingIn one_document other → is_same_thing (DocumentThing counts.documents) other ≡ false → IsThingIn counts other
+  other_documents (ElementThing n) is same = is
+  other_documents (DocumentThing n) is same = lower n counts.documents same is
+  other_documents (ResizeObserverThing n) is same = is
+  other_documents (IntersectionObserverThing n) is same = is
+  other_documents (QueryListThing n) is same = is
+
+  more_documents : (other : Thing) → IsThingIn counts other → IsThingIn one_document other
+  more_documents (ElementThing n) is = is
+  more_documents (DocumentThing n) is = omega (arith, is)
+  more_documents (ResizeObserverThing n) is = is
+  more_documents (IntersectionObserverThing n) is = is
+  more_documents (QueryListThing n) is = is
+
+  pub next_document : IsNext (DocumentThing counts.documents) counts one_document
+  next_document = record { there = omega arith; others = other_documents; more = more_documents }
+
+  other_watchers : (other : Thing) → IsThingIn one_watcher other → is_same_thing (IntersectionObserverThing counts.intersection_observers) other ≡ false → IsThingIn counts other
+  other_watchers (ElementThing n) is same = is
+  other_watchers (DocumentThing n) is same = is
+  other_watchers (ResizeObserverThing n) is same = is
+  other_watchers (IntersectionObserverThing n) is same = lower n counts.intersection_observers same is
+  other_watchers (QueryListThing n) is same = is
+
+  more_watchers : (other : Thing) → IsThingIn counts other → IsThingIn one_watcher other
+  more_watchers (ElementThing n) is = is
+  more_watchers (DocumentThing n) is = is
+  more_watchers (ResizeObserverThing n) is = is
+  more_watchers (IntersectionObserverThing n) is = omega (arith, is)
+  more_watchers (QueryListThing n) is = is
+
+  pub next_watcher : IsNext (IntersectionObserverThing counts.intersection_observers) counts one_watcher
+  next_watcher = record { there = omega arith; others = other_watchers; more = more_watchers }
 
   other_queries : (other : Thing) → IsThingIn one_query other → is_same_thing (QueryListThing counts.queries) other ≡ false → IsThingIn counts other
   other_queries (QueryListThing n) is same = lower n counts.queries same is

@@ -162,5 +162,5 @@ module _ (inside : Inside) (text : List ℕ) (query : List MediaQuery) (owner : 
         applied = λ handlers. asks handlers (world_of inside) present text document query owner free found room
             ∙ (λ i. becomes (record (world_of inside) { names = sym name_given i; queries = sym list_made i }));
         begun = refl;
-        reach = tt;
+        handed = tt;
       })

@@ -1,31 +1,42 @@
 -- What the answers of a page's calls say of the steps of the definitions. A refused call leaves the world as it was.
-use Rattle.std.specs.Prelude.{◌≡◌, true, List, [], ◌∷◌, Result, Ok, Err, IfOk}
-use Rattle.std.specs.List.{AllByRecursion}
+use Rattle.std.specs.Prelude.{◌≡◌, ◌<◌, true, List, [], ◌∷◌, length, Result, Ok, Err, IfOk}
 use Rattle.text_io.specs.declared.kinds.ThrowKind.{ThrowKind}
-use Rattle.script_model.specs.TraceLines.{TraceLine}
+use Rattle.script_model.specs.TraceLines.{TraceLine, TakeLine}
 use Rattle.page_model.specs.World.{World}
+use Rattle.page_model.specs.EntryLines.{intersection_lines}
+use Rattle.page_model.specs.Names.{intersection_observer_text}
 use Rattle.page_model.specs.Operands.{Handlers}
 use Rattle.page_model.specs.Steps.{Step, Did, Threw, Met, is_did, Effect as ModelEffect}
 use Rattle.trace_text.specs.Seen.{seen_line}
 use Rattle.trace_text.specs.Ranges.{HasReach}
 use Rattle.page_state.specs.Views.{PageView}
+use Rattle.intersection_update.specs.Watching.{AreWritten}
 use Rattle.page_state.specs.declared.answers.Effect.{Effect}
-use Rattle.page_state.specs.declared.answers.Effect.TheVariants.{Nothing, Line}
+use Rattle.page_state.specs.declared.answers.Effect.TheVariants.{Nothing, Line, Taken}
 use Rattle.page_state.specs.declared.answers.PageFault.{PageFault}
 use Rattle.page_state.specs.declared.answers.PageFault.TheVariants.{Throw, Limit, Memory}
 
-abbrev pub lines_of : Effect → List TraceLine
-lines_of Nothing = []
-lines_of (Line line) = seen_line line ∷ []
+abbrev pub lines_of : World → Effect → List TraceLine
+lines_of world Nothing = []
+lines_of world (Line line) = seen_line line ∷ []
+lines_of world (Taken observer entries) =
+    TakeLine (intersection_observer_text (world.names) observer.0) (length entries) ∷ intersection_lines (world.names) observer.0 entries
 
 -- a value that is found, or the exception
 abbrev pub Finds : {A B : Type 0} → (A → B) → Result A ThrowKind → Step B → Type 0
 Finds seen (Ok value) step = step ≡ Did (seen value)
 Finds seen (Err kind) step = step ≡ Threw kind
 
+-- a value that is found, or why it isn't; want of memory comes last
+abbrev pub Gives : {A : Type 0} → Result A PageFault → Step A → Type 0
+Gives (Ok value) step = step ≡ Did value
+Gives (Err (Throw kind)) step = step ≡ Threw kind
+Gives (Err (Limit kind)) step = step ≡ Met kind
+Gives (Err Memory) step = is_did step ≡ true
+
 -- what a command does, or why it does nothing. Want of memory comes last: the command would have been done
 abbrev pub Applied : Result Effect PageFault → World → World → Step ModelEffect → Type 0
-Applied (Ok effect) old new step = step ≡ Did (record { world = new; lines = lines_of effect })
+Applied (Ok effect) old new step = step ≡ Did (record { world = new; lines = lines_of new effect })
 Applied (Err (Throw kind)) old new step = (step ≡ Threw kind) × (new ≡ old)
 Applied (Err (Limit kind)) old new step = (step ≡ Met kind) × (new ≡ old)
 Applied (Err Memory) old new step = (is_did step ≡ true) × (new ≡ old)
@@ -37,18 +48,21 @@ Moved (Err (Throw kind)) old new step = (step ≡ Threw kind) × (new ≡ old)
 Moved (Err (Limit kind)) old new step = (step ≡ Met kind) × (new ≡ old)
 Moved (Err Memory) old new step = ⊥
 
--- the lengths of the lines can be written
-abbrev pub ReachesFar : Effect → Type 0
-ReachesFar effect = AllByRecursion HasReach (lines_of effect)
+-- what is handed out is there, and the lengths of its lines can be written
+abbrev pub IsHanded : World → Effect → Type 0
+IsHanded world Nothing = Unit {0}
+IsHanded world (Line line) = HasReach (seen_line line)
+IsHanded world (Taken observer entries) =
+    (observer.0 < length world.intersection_observers.made) × AreWritten (length world.tree.elements) entries
 
 -- what each command promises, which does this step
 pub record Kept (old new : PageView) (result : Result Effect PageFault) (step : Step ModelEffect) : Type 0 where
   pub applied : Applied result old.world new.world step
   pub begun : new.begun ≡ old.begun
-  pub reach : IfOk result ReachesFar
+  pub handed : IfOk result (IsHanded new.world)
 
 -- the same of a command that calls no handler, so that it does the same whatever handlers there are
 pub record Keeps (old new : PageView) (result : Result Effect PageFault) (step : Handlers → Step ModelEffect) : Type 0 where
   pub applied : (handlers : Handlers) → Applied result old.world new.world (step handlers)
   pub begun : new.begun ≡ old.begun
-  pub reach : IfOk result ReachesFar
+  pub handed : IfOk result (IsHanded new.world)

@@ -1,14 +1,14 @@
 -- The names of what there is in a page, and whose it is.
-use Rattle.std.specs.Prelude.{◌≡◌, ℕ, ◌<◌, List, length, Option, None}
+use Rattle.std.specs.Prelude.{ℕ, ◌<◌, List, length, Option, None}
 use Rattle.page_model.specs.World.{World, EventTarget as ModelTarget, ElementTarget, DocumentTarget, WindowTarget, QueryTarget}
-use Rattle.page_model.specs.Lookups.{resize_observer_at}
-use Rattle.page_model.specs.Names.{element_text, document_text, resize_observer_text, query_list_text}
+use Rattle.page_model.specs.Lookups.{resize_observer_at, intersection_observer_at}
+use Rattle.page_model.specs.Names.{element_text, document_text, resize_observer_text, intersection_observer_text, query_list_text}
 use Rattle.page_model.specs.Callbacks.{document_of_target}
 use Rattle.event_tables.specs.Seen.{seen_target}
 use Rattle.page_tree.specs.declared.page.Container.{Container}
 use Rattle.page_tree.specs.declared.page.Container.TheVariants.{Element as Inside, Document as Top}
 use Rattle.page_state.specs.declared.labels.Label.{Label}
-use Rattle.page_state.specs.declared.labels.Label.TheVariants.{Target, Observer}
+use Rattle.page_state.specs.declared.labels.Label.TheVariants.{Target, Observer, Watcher}
 
 -- a window has its document's name
 abbrev pub target_text : World → ModelTarget → List ℕ
@@ -20,6 +20,7 @@ target_text world (QueryTarget query) = query_list_text world.names query
 abbrev pub label_text : World → Label → List ℕ
 label_text world (Target target) = target_text world (seen_target target)
 label_text world (Observer observer) = resize_observer_text world.names observer.0
+label_text world (Watcher watcher) = intersection_observer_text world.names watcher.0
 
 abbrev pub IsTargetIn : World → ModelTarget → Type 0
 IsTargetIn world (ElementTarget n) = n < length world.tree.elements
@@ -31,23 +32,27 @@ IsTargetIn world (QueryTarget query) = query < length world.queries
 abbrev pub IsLabelIn : World → Label → Type 0
 IsLabelIn world (Target target) = IsTargetIn world (seen_target target)
 IsLabelIn world (Observer observer) = observer.0 < length world.resize_observers.made
+IsLabelIn world (Watcher watcher) = watcher.0 < length world.intersection_observers.made
 
 -- an observer that is asked for its callback is there
 abbrev pub IsCallerIn : World → Label → Type 0
 IsCallerIn world (Target target) = Unit {0}
 IsCallerIn world (Observer observer) = observer.0 < length world.resize_observers.made
+IsCallerIn world (Watcher watcher) = watcher.0 < length world.intersection_observers.made
 
 -- the document that decides whether its callbacks are called
 abbrev pub label_document : World → Label → ℕ
 label_document world (Target target) = document_of_target world (seen_target target)
 label_document world (Observer observer) = (resize_observer_at world.resize_observers observer.0).document
+label_document world (Watcher watcher) = (intersection_observer_at world.intersection_observers watcher.0).document
 
 -- an observer's handler, if it has one
 abbrev pub label_handler : World → Label → Option ℕ
 label_handler world (Target target) = None
 label_handler world (Observer observer) = (resize_observer_at world.resize_observers observer.0).handler
+label_handler world (Watcher watcher) = (intersection_observer_at world.intersection_observers watcher.0).handler
 
--- where an element can be put: `top` is the only document
+-- an element or a document that there is
 abbrev pub IsIn : World → Container → Type 0
 IsIn world (Inside node) = node.0 < length world.tree.elements
-IsIn world (Top document) = document ≡ 0
+IsIn world (Top document) = document < length world.tree.documents

@@ -5,7 +5,7 @@ pub mod Views
 pub mod Worlds
 pub mod Faults
 pub mod Answers
-pub mod Applied
 pub mod Whole
 pub mod Labels
 pub mod Rounds
+pub mod Watchers

@@ -1,5 +1,5 @@
 -- The resize observers of a page as it is now (Resize Observer, 3.4).
-use Rattle.std.specs.Prelude.{ℕ, Option, List, option_map}
+use Rattle.std.specs.Prelude.{ℕ, Option}
 use Rattle.page_model.specs.World.{World}
 use Rattle.page_model.specs.Gathering.{sight_of}
 use Rattle.depth_gather.specs.Deliveries.{Turn, turn_from, reporting_turn}

@@ -2,7 +2,7 @@
 use Rattle.std.specs.Prelude.{ℕ, ◌<◌, Bool, List, Option, Some, None}
 use Rattle.std.specs.List.{AllByRecursion}
 use Rattle.element_tree.specs.declared.node.NodeId.{NodeId}
-use Rattle.page_model.specs.World.{Thing as ModelThing, DocumentThing, ElementThing, ResizeObserverThing, QueryListThing, Name}
+use Rattle.page_model.specs.World.{Thing as ModelThing, DocumentThing, ElementThing, ResizeObserverThing, IntersectionObserverThing, QueryListThing, Name}
 use Rattle.page_model.specs.Operands.{Present, NoEntry, ResizeEntry, IntersectionEntry}
 use Rattle.page_model.specs.Ranges.{Counts, IsThingIn}
 use Rattle.block_layout.specs.declared.ItemKind.{ItemKind}
@@ -11,12 +11,13 @@ use Rattle.page_tree.specs.Items.{IsNatural}
 use Rattle.page_tree.specs.declared.page.Container.{Container}
 use Rattle.page_tree.specs.declared.page.Container.TheVariants.{Element as Inside, Document as Top}
 use Rattle.page_state.specs.declared.names.Thing.{Thing}
-use Rattle.page_state.specs.declared.names.Thing.TheVariants.{Document, Element, ResizeObserver, QueryList}
+use Rattle.page_state.specs.declared.names.Thing.TheVariants.{Document, Element, ResizeObserver, IntersectionObserver, QueryList}
 
 abbrev pub seen_thing : Thing → ModelThing
 seen_thing (Document document) = DocumentThing document
 seen_thing (Element node) = ElementThing node.0
 seen_thing (ResizeObserver observer) = ResizeObserverThing observer.0
+seen_thing (IntersectionObserver watcher) = IntersectionObserverThing watcher.0
 seen_thing (QueryList query) = QueryListThing query
 
 -- a name with the thing that it stands for

@@ -11,10 +11,12 @@ use Rattle.page_model.specs.Ranges.{Counts, IsThingIn}
 use Rattle.event_tables.specs.Tables.{Bounded}
 use Rattle.event_tables.specs.Tasks.{WaitingTasks}
 use Rattle.resize_observer.specs.Observers.{HeldObservers}
+use Rattle.intersection_observer.specs.Watchers.{HeldWatchers}
 use Rattle.page_tree.specs.Items.{IsNatural}
+use Rattle.px_units.specs.declared.Size.{Size}
 use Rattle.page_tree.specs.Views.{PageElements}
-use Rattle.scrolling.specs.Held.{unscrolled}
 use Rattle.page_state.specs.Things.{AreIn}
+use Rattle.intersection_update.specs.Watching.{AreWatchers}
 use Rattle.page_state.specs.Worlds.{counts_in}
 use Rattle.page_state.specs.declared.page.Page.TheInside.{Inside}
 use Rattle.page_state.specs.declared.queries.QueryList.{QueryList}
@@ -34,9 +36,11 @@ abbrev pub ArePlaced : List (Option Box) → PageElements → Type 0
 ArePlaced boxes tree = length tree.tree.elements ≤ length boxes
 
 -- the parts have the limits of a page
-pub record AreLimited (watching : HeldObservers) (hearing : Bounded Listener) (requested : Bounded FrameCallback) (set : Bounded Timer) (waiting : WaitingTasks) : Type 0 where
+pub record AreLimited (watching : HeldObservers) (seeing : HeldWatchers) (hearing : Bounded Listener) (requested : Bounded FrameCallback) (set : Bounded Timer) (waiting : WaitingTasks) : Type 0 where
   pub observers : watching.most_observers ≡ limit_number limits.ResizeObservers
   pub observations : watching.most_observations ≡ limit_number limits.ResizeObservations
+  pub watchers : seeing.most_watchers ≡ limit_number limits.IntersectionObservers
+  pub registrations : seeing.most_registrations ≡ limit_number limits.IntersectionObservations
   pub listeners : hearing.most ≡ limit_number limits.Listeners
   pub frame_callbacks : requested.most ≡ limit_number limits.FrameCallbacks
   pub timers : set.most ≡ limit_number limits.Timers
@@ -47,23 +51,23 @@ pub record IsCounted (serials begun : ℕ) (flag : Bool) : Type 0 where
   pub given : serials + cond flag 1 0 ≤ begun
   pub limited : begun ≤ limit_number limits.Commands
 
--- the query lists are of `top`, and no more than a page may have
-pub record AreAsked (queries : List QueryList) : Type 0 where
-  pub documents : AllByRecursion (λ (it : QueryList). it.document < 1) queries
+-- query lists and documents: each list is of a document that there is, and there are no more than a page may have
+pub record AreAsked (queries : List QueryList) (count : ℕ) : Type 0 where
+  pub documents : AllByRecursion (λ (it : QueryList). it.document < count) queries
   pub few : length queries ≤ limit_number limits.Queries
 
--- besides, no command scrolls yet
 pub record IsPage (page : Inside) : Type 0 where
   pub known : AreKnown page.names.list (counts_in page)
   pub elements : AreElementNames page.names.list page.tree
   pub placed : ArePlaced page.boxes page.tree
-  pub limited : AreLimited page.observers page.listeners page.frame_callbacks page.timers page.tasks
+  pub limited : AreLimited page.observers page.watchers page.listeners page.frame_callbacks page.timers page.tasks
   pub observations : IsCounted page.observers.part.given page.count page.begun
+  pub registrations : IsCounted page.watchers.part.given page.count page.begun
   pub listeners : IsCounted page.listeners.part.given page.count page.begun
   pub frame_callbacks : IsCounted page.frame_callbacks.part.given page.count page.begun
   pub timers : IsCounted page.timers.part.given page.count page.begun
-  pub unscrolled : page.scrolls ≡ unscrolled
-  pub asked : AreAsked page.queries.items
+  pub watched : AreWatchers (length page.tree.tree.elements) page.watchers.part.made
+  pub asked : AreAsked page.queries.items (length page.tree.tree.documents)
   pub sized : IsNatural page.size
-  pub noted : ForSome page.noted IsNatural
+  pub noted : AllByRecursion (λ (it : Option Size). ForSome it IsNatural) page.noted
   pub time : page.clock ≤ 1000000000000

@@ -1,22 +1,20 @@
 -- The world that a page's parts are.
-use Rattle.std.specs.Prelude.{ℕ, [], map, length, option_map}
+use Rattle.std.specs.Prelude.{map, length, option_map}
 use Rattle.page_model.specs.World.{World}
 use Rattle.page_model.specs.Ranges.{Counts}
 use Rattle.page_boxes.specs.Pages.{seen_size}
-use Rattle.page_state.specs.Views.{noted_list}
 use Rattle.page_state.specs.Queries.{seen_query_list}
 use Rattle.page_state.specs.declared.page.Page.TheInside.{Inside}
 
--- there is no intersection observer, since no command of a page makes one yet
 abbrev pub world_of : Inside → World
 world_of p = record {
   tree = p.tree.tree;
   names = p.names.list;
-  viewports = record { size = seen_size p.size; noted = noted_list (option_map seen_size p.noted) };
+  viewports = record { size = seen_size p.size; noted = map (option_map seen_size) p.noted };
   scrolls = p.scrolls;
   resize_observers = p.observers.part;
-  intersection_observers = record { given = 0; made = [] };
-  notifying = [];
+  intersection_observers = p.watchers.part;
+  notifying = p.notifying;
   queries = map seen_query_list p.queries.items;
   listeners = p.listeners.part;
   frame_callbacks = p.frame_callbacks.part;
@@ -30,9 +28,9 @@ world_of p = record {
 abbrev pub counts_in : Inside → Counts
 counts_in p = record {
   elements = length p.tree.tree.elements;
-  documents = 1;
+  documents = length p.tree.tree.documents;
   resize_observers = length p.observers.part.made;
-  intersection_observers = 0;
+  intersection_observers = length p.watchers.part.made;
   queries = length p.queries.items;
   handlers = 0;
 }

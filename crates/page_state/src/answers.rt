@@ -1,5 +1,6 @@
 //! What a page's calls answer.
 
+use intersection_observer::{EntryList, WatcherId};
 use page_tree::MakeFault;
 use std::alloc::AllocError;
 use text_io::{LimitKind, ThrowKind};
@@ -7,11 +8,14 @@ use thiserror::Error;
 use trace_text::TraceLine;
 
 /// What a command that was applied asks of its caller.
-#[derive(Clone, Copy, Debug)]
+#[derive(Drop)]
 pub enum Effect {
     Nothing,
     /// To write this line.
     Line(TraceLine),
+    /// To write how many entries were taken of an intersection observer's queue, and then a line for each (Intersection
+    /// Observer, 2.2: `takeRecords`).
+    Taken(WatcherId, EntryList),
 }
 
 /// Why a call is refused. The page's world is then as it was.

@@ -4,7 +4,7 @@ ghost use Rattle.std.specs.Prelude.{◌≡◌, ◌<◌, length, option_map, unsi
 ghost use Rattle.std.specs.Option.{ForSome};
 ghost use Rattle.style_values.specs.Ranges.{IsAllowed};
 ghost use Rattle.style_values.specs.Seen.{seen_declaration};
-ghost use Rattle.script_model.specs.Syntax.{Viewport, MakeBlock, MakeImage, Append, Before, Remove, SetStyle, Grow, Load};
+ghost use Rattle.script_model.specs.Syntax.{Viewport, MakeBlock, MakeImage, MakeFrame, Append, Before, Remove, SetStyle, Grow, Load};
 ghost use Rattle.block_layout.specs.Seen.{seen_kind};
 ghost use Rattle.page_model.specs.Commands.{does, making, placing, with_tree};
 ghost use Rattle.page_model.specs.Documents.{removed};
@@ -27,7 +27,7 @@ use page_tree::{Container, PlaceFault};
 use px_units::{Px, Size};
 use script_syntax::{Axis, Operand};
 use style_values::Declaration;
-use text_io::Name;
+use text_io::{LimitKind, Name};
 
 #[tactic(auto, unfolding(page_model::specs::Commands::does))]
 impl Page {
@@ -63,11 +63,39 @@ impl Page {
         ensures { Keeps self.old self.new result (λ handlers. making self.old.world name document (seen_kind kind)) }
     {
         self.names.check_free(name)?;
-        let _top = self.document(document)?;
+        let document = self.document(document)?;
         let node = self.tree.reserve()?;
         self.boxes.add(node)?;
         self.names.insert(name, Thing::Element(node))?;
-        let _node = self.tree.make(name, kind)?;
+        let _node = self.tree.make(document, name, kind)?;
+        Ok(Effect::Nothing)
+    }
+
+    // The room for the frame, its box and both names comes first, so that nothing is refused behind it.
+    pub(crate) fn make_frame(
+        &mut self,
+        name: Name,
+        document: Name,
+        inside: Name,
+    ) -> Result<Effect, PageFault>
+        ensures { (present : Present) → Keeps self.old self.new result (λ handlers. does handlers self.old.world present (MakeFrame name document inside)) }
+    {
+        self.names.check_free(name)?;
+        let document = self.document(document)?;
+        self.names.check_also_free(name, inside)?;
+        if self.tree.is_full() {
+            return Err(PageFault::Limit(LimitKind::Nodes));
+        }
+        if self.tree.is_full_of_documents() {
+            return Err(PageFault::Limit(LimitKind::Documents));
+        }
+        let node = self.tree.reserve()?;
+        self.boxes.add(node)?;
+        self.names.reserve(2)?;
+        let framed = self.tree.document_count();
+        self.names.insert(name, Thing::Element(node))?;
+        self.names.insert(inside, Thing::Document(framed))?;
+        let _made = self.tree.make_frame(document, name)?;
         Ok(Effect::Nothing)
     }
 

@@ -71,7 +71,7 @@ impl Page {
             }
             Test::Matches(query) => {
                 let query = self.query_list(query)?;
-                Ok(self.matches_now(query))
+                Ok(self.matches_now(query, steps))
             }
             Test::Attached(node) => {
                 let node = self.element(node, subject)?;

@@ -5,6 +5,7 @@ ghost use Rattle.page_state.specs.Labels.{label_text, label_document, label_hand
 
 use crate::page::Page;
 use event_tables::{EventTarget, HandlerId};
+use intersection_observer::WatcherId;
 use resize_observer::ObserverId;
 use text_io::Name;
 
@@ -15,6 +16,8 @@ pub enum Label {
     Target(EventTarget),
     /// A resize observer.
     Observer(ObserverId),
+    /// An intersection observer.
+    Watcher(WatcherId),
 }
 
 impl Page {
@@ -30,6 +33,7 @@ impl Page {
             }
             Label::Target(EventTarget::Query(query)) => self.query_list_name(query),
             Label::Observer(observer) => self.observer_name(observer),
+            Label::Watcher(watcher) => self.watcher_name(watcher),
         }
     }
 
@@ -40,10 +44,8 @@ impl Page {
         ensures document { result.0 ≡ label_document self.now.world of }
         ensures handler { option_map (λ handler. handler.0) result.1 ≡ label_handler self.now.world of }
     {
-        // Each element is one of `top`, as its root element tells.
-        let _root = self.tree.root();
         match of {
-            Label::Target(EventTarget::Node(_)) => (0, None),
+            Label::Target(EventTarget::Node(node)) => (self.tree.document_of(node), None),
             Label::Target(EventTarget::Document(document) | EventTarget::Window(document)) => {
                 (document, None)
             }
@@ -54,6 +56,10 @@ impl Page {
             Label::Observer(observer) => {
                 let handler = self.observers.handler(observer);
                 (self.observers.document(observer), handler.map(HandlerId))
+            }
+            Label::Watcher(watcher) => {
+                let handler = self.watchers.handler_of(watcher);
+                (self.watchers.document_of(watcher), handler.map(HandlerId))
             }
         }
     }

@@ -1,11 +1,13 @@
-//! The state of a page, and its commands: its names, the tree of its elements, its resize observers, query lists and event
-//! tables, and its boxes. A contract sees a page as the world of the definitions. Lengths are in units of 1/64 CSS pixel.
+//! The state of a page, and its commands: its names, the tree of its elements and its documents, its scroll positions,
+//! observers of both kinds, query lists and event tables, and its boxes. A contract sees a page as the world of the definitions. Lengths are in units of 1/64 CSS pixel.
 #![tactic(auto)]
 
 mod answers;
+mod by_document;
 mod callbacks;
 mod commands;
 mod conditions;
+mod intersections;
 mod labels;
 mod lookups;
 mod names;
@@ -14,6 +16,7 @@ mod queries;
 mod readings;
 mod resize;
 mod rounds;
+mod scrolls;
 mod tables;
 mod ticks;
 

@@ -1,13 +1,15 @@
 //! Operands looked up on a page: what is found is there.
 
-ghost use Rattle.std.specs.Prelude.{◌≡◌, ◌<◌, length, IfOk};
+ghost use Rattle.std.specs.Prelude.{◌≡◌, ◌<◌, length, option_map, IfOk};
 ghost use Rattle.element_tree.specs.Links.{number};
-ghost use Rattle.page_model.specs.Operands.{document_named, element_meant, container_meant, resize_observer_named, query_list_named, event_target_meant, handler_named, handler_given};
+ghost use Rattle.page_model.specs.Operands.{document_named, element_meant, container_meant, resize_observer_named, intersection_observer_named, query_list_named, root_meant, event_target_meant, handler_named, handler_given};
 ghost use Rattle.page_model.specs.Callbacks.{handler_names};
 ghost use Rattle.page_tree.specs.Steps.{seen_container};
 ghost use Rattle.event_tables.specs.Seen.{seen_target};
 ghost use Rattle.script_model.specs.Scripts.{handlers_in};
 ghost use Rattle.page_state.specs.Labels.{IsIn};
+ghost use Rattle.intersection_observer.specs.declared.root.WatcherId.{WatcherId};
+ghost use Rattle.intersection_observer.specs.Seen.{seen_root};
 ghost use Rattle.resize_observer.specs.declared.observation.ObserverId.{ObserverId};
 ghost use Rattle.event_tables.specs.declared.events.HandlerId.{HandlerId};
 ghost use Rattle.script_syntax.specs.Seen.{operand_of, aim_of};
@@ -17,20 +19,17 @@ ghost use Rattle.page_state.specs.Things.{present_of, IsSubject};
 use crate::page::Page;
 use element_tree::NodeId;
 use event_tables::{EventTarget, HandlerId};
+use intersection_observer::{Root, WatcherId};
 use page_tree::Container;
 use resize_observer::ObserverId;
 use script_syntax::{Aim, Operand, Script};
 use text_io::{Name, ThrowKind};
 
 impl Page {
-    // A document: `top` is the only one.
     pub(crate) fn document(&self, name: Name) -> Result<u32, ThrowKind>
         ensures answer { Finds (λ document. document) result (document_named self.now.world.names name) }
         ensures there { IfOk result (λ document. document < length self.now.world.tree.documents) }
-        ensures top { IfOk result (λ document. document ≡ 0) }
     {
-        // As its root element tells.
-        let _root = self.tree.root();
         self.names.document(name)
     }
 
@@ -63,6 +62,32 @@ impl Page {
         ensures there { IfOk result (λ observer. observer.0 < length self.now.world.resize_observers.made) }
     {
         self.names.observer(name)
+    }
+
+    pub(crate) fn watcher(&self, name: Name) -> Result<WatcherId, ThrowKind>
+        ensures answer { Finds (λ (watcher : WatcherId). watcher.0) result (intersection_observer_named self.now.world.names name) }
+        ensures there { IfOk result (λ watcher. watcher.0 < length self.now.world.intersection_observers.made) }
+    {
+        self.names.watcher(name)
+    }
+
+    // The root of an intersection observer, the implicit one where none is named.
+    pub(crate) fn root(
+        &self,
+        operand: Option<Operand>,
+        subject: Option<NodeId>,
+    ) -> Result<Root, ThrowKind>
+        requires { IsSubject (length self.now.world.tree.elements) subject }
+        ensures { Finds seen_root result (root_meant self.now.world.names (present_of subject) (option_map operand_of operand)) }
+    {
+        let Some(operand) = operand else {
+            return Ok(Root::Implicit);
+        };
+        match self.container(operand, subject) {
+            Ok(Container::Element(node)) => Ok(Root::Node(node)),
+            Ok(Container::Document(document)) => Ok(Root::Document(document)),
+            Err(kind) => Err(kind),
+        }
     }
 
     pub(crate) fn query_list(&self, name: Name) -> Result<u32, ThrowKind>

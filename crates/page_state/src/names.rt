@@ -1,11 +1,11 @@
 //! The names of things, and looking them up. A name that was given stands for its thing for good.
 
-ghost use Rattle.std.specs.Prelude.{◌≡◌, ◌<◌, ◌++◌, ◌∷◌, [], find, option_map, None, IfOk, OnOk, OnErr, IsOk};
+ghost use Rattle.std.specs.Prelude.{◌≡◌, ◌+◌, ◌<◌, ◌≤◌, ◌++◌, bytes_eq, false, ◌∷◌, [], find, option_map, None, IfOk, OnOk, OnErr, IsOk};
 ghost use Rattle.std.specs.List.{AllByRecursion};
 ghost use Rattle.element_tree.specs.Links.{number};
 ghost use Rattle.page_model.specs.World.{Name as ModelName};
 ghost use Rattle.page_model.specs.Names.{named_thing, is_same_thing};
-ghost use Rattle.page_model.specs.Operands.{new_name, thing_named, as_document, as_element, as_container, as_resize_observer, as_query_list, as_event_target, operand_thing, document_named, element_meant, container_meant, resize_observer_named, query_list_named, event_target_meant};
+ghost use Rattle.page_model.specs.Operands.{new_name, thing_named, as_document, as_element, other_new_name, as_container, as_resize_observer, as_intersection_observer, as_query_list, as_event_target, operand_thing, document_named, element_meant, container_meant, resize_observer_named, intersection_observer_named, query_list_named, event_target_meant};
 ghost use Rattle.page_model.specs.Ranges.{Counts, IsThingIn, IsEventTargetIn};
 ghost use Rattle.page_tree.specs.Steps.{seen_container};
 ghost use Rattle.event_tables.specs.Seen.{seen_target};
@@ -16,6 +16,7 @@ ghost use Rattle.page_state.specs.Things.{seen_thing, present_of, AreIn, IsSubje
 use element_tree::NodeId;
 use event_tables::EventTarget;
 use indexmap::IndexMap;
+use intersection_observer::WatcherId;
 use page_tree::Container;
 use resize_observer::ObserverId;
 use script_syntax::{Aim, Operand};
@@ -29,6 +30,7 @@ pub(crate) enum Thing {
     Document(u32),
     Element(NodeId),
     ResizeObserver(ObserverId),
+    IntersectionObserver(WatcherId),
     QueryList(u32),
 }
 
@@ -70,12 +72,12 @@ impl Names {
         }
     }
 
-    // Makes room for a name, so that giving it takes no memory.
-    pub(crate) fn reserve(&mut self) -> Result<(), AllocError>
-        ensures roomy { OnOk result (0 < self.new.room) }
+    // Makes room for so many names, so that giving them takes no memory.
+    pub(crate) fn reserve(&mut self, count: usize) -> Result<(), AllocError>
+        ensures roomy { OnOk result (count ≤ self.new.room) }
         ensures same { self.new.list ≡ self.old.list }
     {
-        self.things.reserve(1)
+        self.things.reserve(count)
     }
 
     // Gives a name that is free.
@@ -84,6 +86,7 @@ impl Names {
         ensures given { OnOk result (self.new.list ≡ self.old.list ++ record { text = name; thing = seen_thing thing } ∷ []) }
         ensures same { OnErr result (self.new.list ≡ self.old.list) }
         ensures roomy { 0 < self.old.room → IsOk result }
+        ensures left { self.old.room ≤ self.new.room + 1 }
     {
         let Ok(_) = self.things.insert(name, thing) else {
             return Err(AllocError);
@@ -114,6 +117,18 @@ impl Names {
         }
     }
 
+    // A second new name of one command has to be free too, and another one than the first.
+    pub(crate) fn check_also_free(&self, first: Name, name: Name) -> Result<(), ThrowKind>
+        ensures answer { Finds (λ done. done) result (other_new_name self.now.list first name) }
+        ensures free { OnOk result (named_thing self.now.list name ≡ None) }
+        ensures other { OnOk result (bytes_eq first name ≡ false) }
+    {
+        if first == name {
+            return Err(ThrowKind::TypeError);
+        }
+        self.check_free(name)
+    }
+
     fn thing_named(&self, name: Name) -> Result<Thing, ThrowKind>
         ensures answer { Finds seen_thing result (thing_named self.now.list name) }
         ensures held { (counts : Counts) → AreIn counts self.now.list → IfOk result (λ thing. IsThingIn counts (seen_thing thing)) }
@@ -140,6 +155,16 @@ impl Names {
     {
         match self.thing_named(name) {
             Ok(thing) => as_observer(thing),
+            Err(kind) => Err(kind),
+        }
+    }
+
+    pub(crate) fn watcher(&self, name: Name) -> Result<WatcherId, ThrowKind>
+        ensures answer { Finds (λ (watcher : WatcherId). watcher.0) result (intersection_observer_named self.now.list name) }
+        ensures held { (counts : Counts) → AreIn counts self.now.list → IfOk result (λ watcher. watcher.0 < counts.intersection_observers) }
+    {
+        match self.thing_named(name) {
+            Ok(thing) => as_watcher(thing),
             Err(kind) => Err(kind),
         }
     }
@@ -225,6 +250,9 @@ fn is_same(a: Thing, b: Thing) -> bool
         (Thing::Document(one), Thing::Document(other)) => one == other,
         (Thing::Element(one), Thing::Element(other)) => one.0 == other.0,
         (Thing::ResizeObserver(one), Thing::ResizeObserver(other)) => one.0 == other.0,
+        (Thing::IntersectionObserver(one), Thing::IntersectionObserver(other)) => {
+            one.0 == other.0
+        }
         (Thing::QueryList(one), Thing::QueryList(other)) => one == other,
         _ => false,
     }
@@ -236,9 +264,10 @@ fn as_document(thing: Thing) -> Result<u32, ThrowKind>
 {
     match thing {
         Thing::Document(document) => Ok(document),
-        Thing::Element(_) | Thing::ResizeObserver(_) | Thing::QueryList(_) => {
-            Err(ThrowKind::TypeError)
-        }
+        Thing::Element(_)
+        | Thing::ResizeObserver(_)
+        | Thing::IntersectionObserver(_)
+        | Thing::QueryList(_) => Err(ThrowKind::TypeError),
     }
 }
 
@@ -248,7 +277,22 @@ fn as_observer(thing: Thing) -> Result<ObserverId, ThrowKind>
 {
     match thing {
         Thing::ResizeObserver(observer) => Ok(observer),
-        Thing::Document(_) | Thing::Element(_) | Thing::QueryList(_) => Err(ThrowKind::TypeError),
+        Thing::Document(_)
+        | Thing::Element(_)
+        | Thing::IntersectionObserver(_)
+        | Thing::QueryList(_) => Err(ThrowKind::TypeError),
+    }
+}
+
+fn as_watcher(thing: Thing) -> Result<WatcherId, ThrowKind>
+    ensures answer { Finds (λ (watcher : WatcherId). watcher.0) result (as_intersection_observer (seen_thing thing)) }
+    ensures held { (counts : Counts) → IsThingIn counts (seen_thing thing) → IfOk result (λ watcher. watcher.0 < counts.intersection_observers) }
+{
+    match thing {
+        Thing::IntersectionObserver(watcher) => Ok(watcher),
+        Thing::Document(_) | Thing::Element(_) | Thing::ResizeObserver(_) | Thing::QueryList(_) => {
+            Err(ThrowKind::TypeError)
+        }
     }
 }
 
@@ -258,9 +302,10 @@ fn as_element(thing: Thing) -> Result<NodeId, ThrowKind>
 {
     match thing {
         Thing::Element(node) => Ok(node),
-        Thing::Document(_) | Thing::ResizeObserver(_) | Thing::QueryList(_) => {
-            Err(ThrowKind::TypeError)
-        }
+        Thing::Document(_)
+        | Thing::ResizeObserver(_)
+        | Thing::IntersectionObserver(_)
+        | Thing::QueryList(_) => Err(ThrowKind::TypeError),
     }
 }
 
@@ -271,7 +316,9 @@ fn as_container(thing: Thing) -> Result<Container, ThrowKind>
     match thing {
         Thing::Element(node) => Ok(Container::Element(node)),
         Thing::Document(document) => Ok(Container::Document(document)),
-        Thing::ResizeObserver(_) | Thing::QueryList(_) => Err(ThrowKind::TypeError),
+        Thing::ResizeObserver(_) | Thing::IntersectionObserver(_) | Thing::QueryList(_) => {
+            Err(ThrowKind::TypeError)
+        }
     }
 }
 
@@ -281,9 +328,10 @@ fn as_query_list(thing: Thing) -> Result<u32, ThrowKind>
 {
     match thing {
         Thing::QueryList(query) => Ok(query),
-        Thing::Document(_) | Thing::Element(_) | Thing::ResizeObserver(_) => {
-            Err(ThrowKind::TypeError)
-        }
+        Thing::Document(_)
+        | Thing::Element(_)
+        | Thing::ResizeObserver(_)
+        | Thing::IntersectionObserver(_) => Err(ThrowKind::TypeError),
     }
 }
 
@@ -295,6 +343,6 @@ fn as_event_target(thing: Thing) -> Result<EventTarget, ThrowKind>
         Thing::Element(node) => Ok(EventTarget::Node(node)),
         Thing::Document(document) => Ok(EventTarget::Document(document)),
         Thing::QueryList(query) => Ok(EventTarget::Query(query)),
-        Thing::ResizeObserver(_) => Err(ThrowKind::TypeError),
+        Thing::ResizeObserver(_) | Thing::IntersectionObserver(_) => Err(ThrowKind::TypeError),
     }
 }

@@ -2,7 +2,7 @@
 
 ghost use Rattle.std.specs.Prelude.{◌≡◌, ◌<◌, ◌≤◌, true, false, length, IfOk, OnOk, OnErr};
 ghost use Rattle.script_model.specs.Scripts.{handlers_in};
-ghost use Rattle.page_model.specs.Names.{document_text, resize_observer_text, query_list_text};
+ghost use Rattle.page_model.specs.Names.{document_text, resize_observer_text, intersection_observer_text, query_list_text};
 ghost use Rattle.page_model.specs.Callbacks.{handler_names};
 ghost use Rattle.page_model.specs.Commands.{begun_in, does};
 ghost use Rattle.page_model.specs.Outcome.{opening_world};
@@ -12,17 +12,19 @@ ghost use Rattle.page_boxes.specs.Pages.{seen_size};
 ghost use Rattle.page_tree.specs.Items.{IsNatural};
 ghost use Rattle.script_syntax.specs.Allowed.{ActionAllowed, IsTime};
 ghost use Rattle.script_syntax.specs.Seen.{action_of};
-ghost use Rattle.page_state.specs.Answers.{Applied, Moved, Kept, ReachesFar};
-ghost use Rattle.page_state.specs.Applied.{is_applied};
+ghost use Rattle.page_state.specs.Answers.{Applied, Moved, Kept, IsHanded};
 ghost use Rattle.page_state.specs.Things.{present_of, IsSubject};
 
 use crate::answers::{Effect, PageFault};
+use crate::by_document::ByDocument;
 use crate::names::{Names, Thing};
 use crate::queries::QueryList;
 use block_layout::FreshBoxes;
 use element_tree::NodeId;
 use event_tables::{FrameCallbacks, Listeners, Tasks, Timers};
-use page_tree::PageTree;
+use intersection_observer::{WatcherId, Watchers};
+use page_boxes::{refresh_for, viewport_of};
+use page_tree::{Container, PageTree};
 use px_units::Size;
 use resize_observer::{ObserverId, Observers};
 use script_syntax::{Command, Script, What};
@@ -42,6 +44,12 @@ const MOST_OBSERVERS: u32 = 4096;
 
 /// As many resize observations as these may hold, in all.
 const MOST_OBSERVATIONS: u32 = 50_000;
+
+/// As many intersection observers as a page may have.
+const MOST_WATCHERS: u32 = 4096;
+
+/// As many registrations of targets as these may hold, in all.
+const MOST_REGISTRATIONS: u32 = 50_000;
 
 /// As many listeners, frame callbacks and timers as may be held, and posted tasks as may wait.
 const MOST_CALLBACKS: u32 = 4096;
@@ -64,6 +72,9 @@ pub struct Page {
     // A place for each element, whose room is made with it.
     pub(crate) boxes: FreshBoxes,
     pub(crate) observers: Observers,
+    pub(crate) watchers: Watchers,
+    // Whether a notify task of a document is queued.
+    pub(crate) notifying: ByDocument<bool>,
     pub(crate) scrolls: Scrolls,
     pub(crate) queries: Vec<QueryList>,
     pub(crate) listeners: Listeners,
@@ -71,8 +82,8 @@ pub struct Page {
     pub(crate) timers: Timers,
     pub(crate) tasks: Tasks,
     pub(crate) size: Size,
-    // The size of the viewport at the last resize steps.
-    pub(crate) noted: Option<Size>,
+    // The size of a document's viewport at its last resize steps.
+    pub(crate) noted: ByDocument<Option<Size>>,
     pub(crate) clock: u64,
     pub(crate) count: u32,
     pub(crate) begun: bool,
@@ -104,9 +115,11 @@ impl Page {
         }
         Ok(Page {
             names,
-            tree: PageTree::new(alloc),
+            tree: PageTree::new(alloc)?,
             boxes: FreshBoxes::new(alloc),
             observers: Observers::new(alloc, MOST_OBSERVERS, MOST_OBSERVATIONS),
+            watchers: Watchers::new(alloc, MOST_WATCHERS, MOST_REGISTRATIONS),
+            notifying: ByDocument::new(alloc)?,
             scrolls: Scrolls::new(alloc),
             queries: Vec::new(alloc),
             listeners: Listeners::new(alloc, MOST_CALLBACKS),
@@ -114,7 +127,7 @@ impl Page {
             timers: Timers::new(alloc, MOST_CALLBACKS),
             tasks: Tasks::new(alloc, MOST_CALLBACKS),
             size: FIRST_SIZE,
-            noted: None,
+            noted: ByDocument::new(alloc)?,
             clock: 0,
             count: 0,
             begun: false,
@@ -157,8 +170,7 @@ impl Page {
     }
 
     /// Applies a command that was begun: what it does is in the definition of commands, for the target of the present
-    /// entry if there is one. All are built but those of frames, of scrolling and of intersection observers; `tick`, `each`
-    /// and `when` aren't applied.
+    /// entry if there is one. `tick`, `each` and `when` aren't applied.
     ///
     /// # Errors
     /// `Throw` and `Limit` exactly where the definition says so, and `Memory`. The world is then as it was.
@@ -171,12 +183,11 @@ impl Page {
     ) -> Result<Effect, PageFault>
         requires begun { self.old.begun ≡ true }
         requires allowed { ActionAllowed command.now.what }
-        requires built { is_applied (action_of command.now.what) ≡ true }
         requires subject { IsSubject (length self.old.world.tree.elements) subject }
         ensures applied { Applied result self.old.world self.new.world
             (does (handler_names (handlers_in script.now)) self.old.world (present_of subject) (action_of command.now.what)) }
         ensures begun { self.new.begun ≡ false }
-        ensures reach { IfOk result ReachesFar }
+        ensures handed { IfOk result (IsHanded self.new.world) }
     {
         self.begun = false;
         self.act(script, &command.what, subject, steps)
@@ -193,11 +204,11 @@ impl Page {
     ) -> Result<Effect, PageFault>
         requires flag { self.old.begun ≡ false }
         requires observations { self.old.world.resize_observers.given < self.old.world.begun }
+        requires registrations { self.old.world.intersection_observers.given < self.old.world.begun }
         requires listeners { self.old.world.listeners.given < self.old.world.begun }
         requires frame_callbacks { self.old.world.frame_callbacks.given < self.old.world.begun }
         requires timers { self.old.world.timers.given < self.old.world.begun }
         requires allowed { ActionAllowed what.now }
-        requires built { is_applied (action_of what.now) ≡ true }
         requires subject { IsSubject (length self.old.world.tree.elements) subject }
         ensures { Kept self.old self.new result (does (handler_names (handlers_in script.now)) self.old.world (present_of subject) (action_of what.now)) }
     {
@@ -225,7 +236,9 @@ impl Page {
             What::Unlisten(aim, event, handler) => {
                 self.unlisten(script, *aim, *event, *handler, subject)
             }
-            What::Media(name, document, query) => self.make_query_list(*name, *document, query),
+            What::Media(name, document, query) => {
+                self.make_query_list(*name, *document, query, steps)
+            }
             What::Raf(document, key, handler) => {
                 self.request_frame(script, *document, *key, *handler)
             }
@@ -237,27 +250,22 @@ impl Page {
             What::Post(document, handler) => self.post(script, *document, *handler),
             What::Say(word) => Ok(Effect::Line(TraceLine::Say(*word))),
             What::Read(node) => self.read(*node, subject, steps),
-            What::Frame(_, _, _)
-            | What::Io(_)
-            | What::IoObserve(_, _)
-            | What::IoUnobserve(_, _)
-            | What::IoDisconnect(_)
-            | What::IoTake(_)
-            | What::Scroll(_, _)
-            | What::ScrollBy(_, _)
-            | What::Each(_)
-            | What::When(_, _)
-            | What::Tick(_) => unreachable!(),
+            What::Frame(name, document, inside) => self.make_frame(*name, *document, *inside),
+            What::Io(making) => self.make_watcher(script, making, subject),
+            What::IoObserve(observer, node) => self.register(*observer, *node, subject),
+            What::IoUnobserve(observer, node) => self.unregister(*observer, *node, subject),
+            What::IoDisconnect(observer) => self.unregister_all(*observer),
+            What::IoTake(observer) => self.take_entries(*observer),
+            What::Scroll(target, to) => self.scroll_to(*target, *to, subject, steps),
+            What::ScrollBy(target, by) => self.scroll_by(*target, *by, subject, steps),
+            What::Each(_) | What::When(_, _) | What::Tick(_) => unreachable!(),
         }
     }
 
-    // The name of a document: `top` is the only one.
     pub(crate) fn document_name(&self, document: u32) -> Name
         requires { document < length self.now.world.tree.documents }
         ensures { result ≡ document_text self.now.world.names document }
     {
-        // As its root element tells.
-        let _root = self.tree.root();
         self.names.name_of(Thing::Document(document)).unwrap()
     }
 
@@ -268,20 +276,37 @@ impl Page {
         self.names.name_of(Thing::ResizeObserver(observer)).unwrap()
     }
 
+    pub(crate) fn watcher_name(&self, watcher: WatcherId) -> Name
+        requires { watcher.0 < length self.now.world.intersection_observers.made }
+        ensures { result ≡ intersection_observer_text self.now.world.names watcher.0 }
+    {
+        self.names
+            .name_of(Thing::IntersectionObserver(watcher))
+            .unwrap()
+    }
+
     pub(crate) fn query_list_name(&self, query: u32) -> Name
         requires { query < length self.now.world.queries }
         ensures { result ≡ query_list_text self.now.world.names query }
     {
         self.names.name_of(Thing::QueryList(query)).unwrap()
     }
+}
 
-    // The size of the viewport of a document: `top` is the only one, as its root element tells.
-    pub(crate) fn viewport(&self, document: u32) -> Size
-        requires { document < length self.now.world.tree.documents }
-        ensures value { seen_size result ≡ viewport_of self.now.world.tree self.now.world.viewports.size document }
-        ensures natural { IsNatural result }
-    {
-        let _root = self.tree.root();
-        self.size
-    }
+// The size of the viewport of a document, of boxes that are computed anew.
+pub(crate) fn viewport_now<L: Ledger>(
+    boxes: &mut FreshBoxes,
+    tree: &PageTree,
+    size: Size,
+    document: u32,
+    steps: &mut Steps<L>,
+) -> Size
+    requires places { length tree.now.tree.elements ≤ length boxes.old }
+    requires natural { IsNatural size }
+    ensures value { seen_size result ≡ viewport_of tree.now.tree (seen_size size) document }
+    ensures natural { IsNatural result }
+    ensures places { length boxes.new ≡ length boxes.old }
+{
+    refresh_for(boxes, tree, size, Container::Document(document), steps);
+    viewport_of(tree, boxes, size, document)
 }

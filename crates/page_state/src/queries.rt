@@ -11,7 +11,7 @@ ghost use Rattle.page_state.specs.Queries.{seen_query_list, is_changed, changed_
 
 use crate::answers::{Effect, PageFault};
 use crate::names::Thing;
-use crate::page::Page;
+use crate::page::{Page, viewport_now};
 use media_queries::Query;
 use px_units::Size;
 use std::sync::ledger::Ledger;
@@ -65,11 +65,12 @@ fn changed_from(queries: &[QueryList], document: u32, viewport: Size, place: usi
 
 impl Page {
     #[tactic(auto, unfolding(page_model::specs::Commands::does))]
-    pub(crate) fn make_query_list(
+    pub(crate) fn make_query_list<L: Ledger>(
         &mut self,
         name: Name,
         document: Name,
         query: &Query,
+        steps: &mut Steps<L>,
     ) -> Result<Effect, PageFault>
         ensures { (present : Present) → Keeps self.old self.new result (λ handlers. does handlers self.old.world present (MakeQueryList name document query.now)) }
     {
@@ -80,8 +81,9 @@ impl Page {
             return Err(PageFault::Limit(LimitKind::Queries));
         }
         let query = query.copy(*self.queries.allocator())?;
-        self.names.reserve()?;
-        let matched = query.matches(self.viewport(document));
+        self.names.reserve(1)?;
+        let viewport = viewport_now(&mut self.boxes, &self.tree, self.size, document, steps);
+        let matched = query.matches(viewport);
         let list = QueryList {
             document,
             query,
@@ -95,15 +97,15 @@ impl Page {
     }
 
     // Whether a query list matches its document's viewport now.
-    pub(crate) fn matches_now(&self, query: u32) -> bool
-        requires { query < length self.now.world.queries }
-        ensures { let list = query_list_at self.now.world.queries query in
-            result ≡ matches_now self.now.world list.document list.query }
+    pub(crate) fn matches_now<L: Ledger>(&mut self, query: u32, steps: &mut Steps<L>) -> bool
+        requires { query < length self.old.world.queries }
+        ensures value { let list = query_list_at self.old.world.queries query in
+            result ≡ matches_now self.old.world list.document list.query }
+        ensures same { self.new ≡ self.old }
     {
-        // `top` is the only document, as its root element tells.
-        let _root = self.tree.root();
         let list = &self.queries[query as usize];
-        list.query.matches(self.viewport(list.document))
+        let viewport = viewport_now(&mut self.boxes, &self.tree, self.size, list.document, steps);
+        list.query.matches(viewport)
     }
 
     /// Evaluates the query lists of a document from a place on, counted over the lists of all documents, up to the first
@@ -113,7 +115,7 @@ impl Page {
         &mut self,
         document: u32,
         place: usize,
-        _steps: &mut Steps<L>,
+        steps: &mut Steps<L>,
     ) -> Option<Change>
         requires { document < length self.old.world.tree.documents }
         ensures query { option_map (λ change. change.query) result ≡ next_changed document place self.old.world }
@@ -121,7 +123,7 @@ impl Page {
         ensures place { IfSome result (λ change. (change.place ≡ ℕ.suc change.query) × change.query < length self.old.world.queries) }
         ensures evaluated { self.new ≡ record self.old { world = once_evaluated document (next_changed document place self.old.world) (self.old.world) } }
     {
-        let size = self.viewport(document);
+        let size = viewport_now(&mut self.boxes, &self.tree, self.size, document, steps);
         let query = changed_from(self.queries.as_slice(), document, size, place)?;
         let list = &mut self.queries[query];
         list.matched = !list.matched;

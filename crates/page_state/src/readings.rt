@@ -49,7 +49,7 @@ impl Page {
     {
         let target = self.container_name(container);
         refresh(&mut self.boxes, &self.tree, self.size, steps);
-        let shown = read(&self.tree, &self.boxes, self.size, container);
+        let shown = read(&self.tree, &self.boxes, &self.scrolls, self.size, container);
         TraceLine::Read {
             target,
             rect: shown.rect,
@@ -61,8 +61,6 @@ impl Page {
         requires { IsIn self.now.world container }
         ensures { result ≡ text_in self.now.world.names (seen_container container) }
     {
-        // As its root element tells.
-        let _root = self.tree.root();
         match container {
             Container::Element(node) => self.tree.name_of(node),
             Container::Document(document) => self.document_name(document),

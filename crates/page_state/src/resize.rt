@@ -37,7 +37,7 @@ impl Page {
         if self.observers.is_full() {
             return Err(PageFault::Limit(LimitKind::ResizeObservers));
         }
-        self.names.reserve()?;
+        self.names.reserve(1)?;
         let observer = match self.observers.make(document, handler) {
             Ok(observer) => observer,
             Err(ObserveFault::Limit) => return Err(PageFault::Limit(LimitKind::ResizeObservers)),

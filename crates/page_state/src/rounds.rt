@@ -21,7 +21,7 @@ use page_boxes::{corner_of, refresh, size_of};
 use page_tree::PageTree;
 use px_units::{BoxKind, Point, Size};
 use resize_observer::ObserverId;
-use std::alloc::{AllocError, Global};
+use std::alloc::AllocError;
 use std::sync::ledger::Ledger;
 use step_count::Steps;
 
@@ -77,7 +77,6 @@ impl Page {
     /// Want of memory; the world is then as it was.
     pub fn next_delivery<L: Ledger>(
         &mut self,
-        alloc: Global,
         document: u32,
         place: usize,
         steps: &mut Steps<L>,
@@ -96,6 +95,7 @@ impl Page {
             boxes: &self.boxes,
             size: self.size,
         };
+        let alloc = *self.queries.allocator();
         depth_gather::next_delivery(alloc, &mut self.observers, &sizes, document, place)
     }
 

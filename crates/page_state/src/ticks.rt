@@ -1,42 +1,42 @@
-//! What a tick asks of a page before observers are told (HTML, update the rendering).
+//! What a tick asks of a page besides the resize loop and the event tables (HTML, update the rendering).
 
-ghost use Rattle.std.specs.Prelude.{◌≡◌, ◌<◌, length, IfOk, OnErr};
-ghost use Rattle.page_model.specs.Callbacks.{Script};
+ghost use Rattle.std.specs.Prelude.{◌≡◌, ◌<◌, All, length, IfOk, OnOk, OnErr};
 ghost use Rattle.page_model.specs.Documents.{active_documents, is_active};
-ghost use Rattle.page_model.specs.Intersections.{notify, update_intersections};
+ghost use Rattle.page_model.specs.Intersections.{update_intersections, watchers};
+ghost use Rattle.page_model.specs.IntersectionObserving.{without_queue};
+ghost use Rattle.page_model.specs.Lookups.{intersection_observer_at};
 ghost use Rattle.page_model.specs.PageBoxes.{viewport_of};
+ghost use Rattle.page_model.specs.Tasks.{without_notifying};
 ghost use Rattle.page_model.specs.Viewports.{noted_size, with_noted, differs_from};
-ghost use Rattle.page_model.specs.Runs.{silent};
+ghost use Rattle.intersection_update.specs.Watching.{AreWritten, watcher_numbers};
 
-use crate::page::Page;
-use std::alloc::{AllocError, Global};
+use crate::page::{Page, viewport_now};
+use event_tables::Task;
+use intersection_observer::{EntryList, WatcherId};
+use intersection_update::{update, watchers_of};
+use page_boxes::refresh;
+use std::alloc::AllocError;
 use std::sync::ledger::Ledger;
 use step_count::Steps;
 
 impl Page {
-    /// Whether a document is Active: `top` is, and it is the only one so far; a number past it is that of none.
+    /// Whether a document is Active (HTML, 7.3). Not where there is no such document.
     pub fn is_active(&self, document: u32) -> bool
         ensures { result ≡ is_active self.now.world.tree document }
     {
-        // The tree has no frame.
-        let _tree = self.tree.tree();
-        document == 0
+        self.tree.is_active(document)
     }
 
     /// The Active documents, by preorder of the frame tree. The error is want of memory.
-    pub fn active_documents(&self, alloc: Global) -> Result<Vec<u32>, AllocError>
+    pub fn active_documents(&self) -> Result<Vec<u32>, AllocError>
         ensures { IfOk result (λ documents. documents.items ≡ active_documents self.now.world.tree) }
     {
-        // The tree has no frame.
-        let _tree = self.tree.tree();
-        let mut documents = Vec::new(alloc);
-        documents.push(0)?;
-        Ok(documents)
+        self.tree.active_documents()
     }
 
     /// Whether the size of a document's viewport isn't the one noted at the last call for this document; the size is then
     /// noted (CSSOM View, 13: run the resize steps). The first call only notes it. No memory.
-    pub fn viewport_changed<L: Ledger>(&mut self, document: u32, _steps: &mut Steps<L>) -> bool
+    pub fn viewport_changed<L: Ledger>(&mut self, document: u32, steps: &mut Steps<L>) -> bool
         requires { document < length self.old.world.tree.documents }
         ensures value { result ≡ differs_from (viewport_of self.old.world.tree self.old.world.viewports.size document) (noted_size document self.old.world.viewports) }
         ensures noted { self.new.world ≡ record (self.old.world) {
@@ -44,39 +44,80 @@ impl Page {
         } }
         ensures begun { self.new.begun ≡ self.old.begun }
     {
-        // `top` is the only document, as its root element tells.
-        let _root = self.tree.root();
-        let before = self.noted;
-        self.noted = Some(self.size);
+        let size = viewport_now(&mut self.boxes, &self.tree, self.size, document, steps);
+        // There are at most 64 documents.
+        let _count = self.tree.document_count();
+        let before = self.noted.get(document, None);
+        self.noted.set(document, Some(size), None);
         match before {
             None => false,
-            Some(size) => size != self.size,
+            Some(noted) => noted != size,
         }
     }
 
-    /// Updates the intersection observations of a document (Intersection Observer, 3.2.10): no observer of this kind can be
-    /// made yet, so nothing is found.
+    /// Updates the intersection observations of a document (Intersection Observer, 3.2.10): what is found of each target of
+    /// the observers whose root is the document or stands in it is stored, entries are queued where something differs, and a
+    /// notify task where an entry was.
     ///
     /// # Errors
-    /// Want of memory; the world is then as it was.
+    /// Want of memory. Nothing but registrations and queues of intersection observers is changed then: those that came first are
+    /// settled.
     pub fn update_intersections<L: Ledger>(
         &mut self,
         document: u32,
-        _steps: &mut Steps<L>,
+        steps: &mut Steps<L>,
     ) -> Result<(), AllocError>
+        requires { document < length self.old.world.tree.documents }
         ensures updated { IfOk result (λ _. self.new ≡ record self.old { world = update_intersections document (self.old.world) }) }
-        ensures same { OnErr result (self.new ≡ self.old) }
+        ensures rest { OnErr result (self.new ≡ record self.old { world = record (self.old.world) { intersection_observers = self.new.world.intersection_observers } }) }
     {
-        let _root = self.tree.root();
+        refresh(&mut self.boxes, &self.tree, self.size, steps);
+        let queued = update(
+            &self.tree,
+            &self.boxes,
+            &self.scrolls,
+            self.size,
+            &mut self.watchers,
+            document,
+            self.clock,
+        )?;
+        if !queued || self.notifying.get(document, false) {
+            return Ok(());
+        }
+        // There are at most 64 documents.
+        let _count = self.tree.document_count();
+        let Ok(()) = self.tasks.push(Task::Notify(document)) else {
+            return Err(AllocError);
+        };
+        self.notifying.set(document, true, false);
         Ok(())
     }
 
-    /// Runs the notify task of a document (Intersection Observer, 3.2.4): no observer of this kind can be made yet, so
-    /// nobody is told anything.
-    pub fn notify(&mut self, document: u32)
-        ensures said { (script : Script) → notify script document self.old.world ≡ silent (self.new.world) }
-        ensures begun { self.new.begun ≡ self.old.begun }
+    /// The observers that a notify task of a document goes over, in order of making: those whose root is the document or
+    /// stands in it now (Intersection Observer, 3.2.4: notify intersection observers). Its flag is cleared.
+    ///
+    /// # Errors
+    /// Want of memory; nothing is changed then.
+    pub fn notify_list(&mut self, document: u32) -> Result<Vec<WatcherId>, AllocError>
+        ensures list { IfOk result (λ list. watcher_numbers list.items ≡ watchers self.old.world.tree document self.old.world.intersection_observers) }
+        ensures made { IfOk result (λ list. All (λ watcher. watcher.0 < length self.old.world.intersection_observers.made) list.items) }
+        ensures cleared { OnOk result (self.new ≡ record self.old { world = record (self.old.world) { notifying = without_notifying document (self.old.world.notifying) } }) }
+        ensures same { OnErr result (self.new ≡ self.old) }
     {
-        let _root = self.tree.root();
+        let alloc = *self.queries.allocator();
+        let list = watchers_of(alloc, &self.tree, &self.watchers, document)?;
+        self.notifying.reset(document, false);
+        Ok(list)
+    }
+
+    /// Hands the queue of an intersection observer out, and leaves it empty. The entries are of elements that there are, and
+    /// their lines can be written. No memory.
+    pub fn take_records(&mut self, watcher: WatcherId) -> EntryList
+        requires { watcher.0 < length self.old.world.intersection_observers.made }
+        ensures value { result ≡ (intersection_observer_at self.old.world.intersection_observers watcher.0).queue }
+        ensures taken { self.new ≡ record self.old { world = record (self.old.world) { intersection_observers = without_queue watcher.0 (self.old.world.intersection_observers) } } }
+        ensures written { AreWritten (length self.old.world.tree.elements) result }
+    {
+        self.watchers.take_records(watcher)
     }
 }

@@ -1,6 +1,6 @@
 -- Changes at a place of two lists, of which the second shows the first entry by entry.
-use Rattle.std.proofs.Common.{◌≡◌, ℕ, zero, suc, List, [], ◌∷◌, map, Some, slice_get, refl, ap, ◌∙◌}
-use Rattle.page_model.specs.Lookups.{change_at, change_each}
+use Rattle.std.proofs.Common.{◌≡◌, ℕ, zero, suc, List, [], ◌∷◌, map, Some, slice_get, refl, ap}
+use Rattle.page_model.specs.Lookups.{change_at}
 use Rattle.element_tree.specs.Edits.{change_at as changed_at}
 
 module _ {A B : Type 0} (show : A → B) where
@@ -10,17 +10,6 @@ module _ {A B : Type 0} (show : A → B) where
   change_shown f g place [] agree = refl
   change_shown f g zero (x ∷ xs) agree = ap (λ y. y ∷ map show xs) (agree x refl)
   change_shown f g (suc place) (x ∷ xs) agree = ap (λ ys. show x ∷ ys) (change_shown f g place xs agree)
-
-  -- a change that is none of what is shown
-  no_change_shown : (g : B → B) (place : ℕ) (xs : List A) → ((x : A) → slice_get xs place ≡ Some x → g (show x) ≡ show x) → change_at g place (map show xs) ≡ map show xs
-  no_change_shown g place [] none = refl
-  no_change_shown g zero (x ∷ xs) none = ap (λ y. y ∷ map show xs) (none x refl)
-  no_change_shown g (suc place) (x ∷ xs) none = ap (λ ys. show x ∷ ys) (no_change_shown g place xs none)
-
-  pub no_changes_shown : (g : B → B) (places : List ℕ) (xs : List A) → ((place : ℕ) (x : A) → slice_get xs place ≡ Some x → g (show x) ≡ show x)
-      → change_each g places (map show xs) ≡ map show xs
-  no_changes_shown g [] xs none = refl
-  no_changes_shown g (place ∷ places) xs none = ap (change_each g places) (no_change_shown g place xs (none place)) ∙ no_changes_shown g places xs none
 
 -- changes that don't meddle with one another may be made in any order
 pub changes_commute : {A : Type 0} (f g : A → A) → ((x : A) → f (g x) ≡ g (f x)) → (i j : ℕ) (xs : List A)

@@ -1,12 +1,11 @@
 pub mod Changes
-pub mod Homes
 pub mod Siblings
 pub mod Lookups
 pub mod Paths
-pub mod Frames
-pub mod Standing
+pub mod Kept
 pub mod Places
 pub mod Placing
+pub mod Inserting
 pub mod Outcomes
 pub mod Trees
 pub mod Items

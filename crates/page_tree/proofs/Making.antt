@@ -1,47 +1,169 @@
 -- Room that is made, and an element that is made in it and comes last.
-use Rattle.std.proofs.Common.{◌≡◌, ℕ, zero, suc, ◌<◌, ◌++◌, List, [], ◌∷◌, length, length-append, Option, Some, None, Bool, true, false, nat_lt, refl, ap, sym, subst, ◌∙◌, arith}
+use Rattle.std.proofs.Common.{◌≡◌, ◌≢◌, ℕ, ◌<◌, ◌++◌, List, [], ◌∷◌, map, Some, None, length, length-append, Bool, true, false, not, nat_lt, Result, Ok, Err, IfErr, refl, ap, sym, subst, ◌∙◌, arith}
 use Rattle.std.proofs.lemmas.List.{length-map}
 use Rattle.std.proofs.lemmas.Bool.Decides.{nat_tests}
+use Rattle.text_io.specs.declared.kinds.LimitKind.{LimitKind}
 use Rattle.text_io.specs.declared.kinds.LimitKind.TheVariants as limits
-use Rattle.page_model.specs.Steps.{Did, room, met_unless}
-use Rattle.element_tree.specs.Forest.{Knot, Forest, parent_of}
+use Rattle.layout_model.specs.Items.{Kind, FrameKind}
+use Rattle.page_model.specs.World.{Active, Element, Tree}
+use Rattle.page_model.specs.Edits.{new_document}
+use Rattle.page_model.specs.Steps.{Did, Met, ◌>>◌, room, met_unless}
+use Rattle.element_tree.specs.Forest.{Knot, Forest}
 use Rattle.element_tree.specs.Edits.{lone}
-use Rattle.page_tree.specs.Items.{Described}
-use Rattle.page_tree.specs.Views.{PageElements, element_of, home_in, seen_page, IsPage}
-use Rattle.page_tree.proofs.Homes.{lone_grown}
+use Rattle.element_tree.specs.Answers.{IsAddFault}
+use Rattle.element_tree.specs.declared.node.NodeId.{NodeId}
+use Rattle.element_tree.specs.declared.fault.TreeFault.{TreeFault}
+use Rattle.element_tree.specs.declared.fault.TreeFault.TheVariants.{Hierarchy, NotAChild, NodeLimit, DepthLimit, Memory}
+use Rattle.page_documents.specs.Seen.{element_of, seen_tree}
+use Rattle.page_documents.specs.Held.{HeldDocuments}
+use Rattle.page_documents.specs.Frames.{AreFramed}
+use Rattle.page_documents.proofs.Making.{element_framed, frame_framed, opening_framed}
+use Rattle.page_tree.specs.Items.{Described, carried_in, described}
+use Rattle.page_tree.specs.Views.{PageElements, seen_page, IsPage}
+use Rattle.page_tree.specs.Faults.{frame_room, element_room}
 
-did_below : (below : Bool) → met_unless below limits.Nodes ≡ Did tt → below ≡ true
-did_below true e = refl
-did_below false e = cc
+did_below : (below : Bool) (limit : LimitKind) → met_unless below limit ≡ Did tt → below ≡ true
+did_below true limit e = refl
+did_below false limit e = cc
 
 below_limit : (count : ℕ) → room limits.Nodes count ≡ Did tt → count < 20000
-below_limit count e = let below = did_below (nat_lt count 20000) e in grind (arith, nat_tests)
+below_limit count e = let below = did_below (nat_lt count 20000) limits.Nodes e in grind (arith, nat_tests)
 
-parent-grown : (extra : Knot Described) (nodes : List (Knot Described)) (m : ℕ) → m < length nodes → parent_of (nodes ++ extra ∷ []) m ≡ parent_of nodes m
-parent-grown extra [] m inside = absurd (omega arith)
-parent-grown extra (x ∷ xs) zero inside = refl
-parent-grown extra (x ∷ xs) (suc m) inside = parent-grown extra xs m (omega arith)
-
-module _ (forest : Forest Described) (root : Option ℕ) (is : IsPage forest root) (later : Forest Described) where
-  pub IsPage-ready : later ≡ record forest { ready = later.ready } → IsPage later root
-  IsPage-ready same =
-      subst (λ f. IsPage f root) (sym same)
-      (record { most_nodes = is.most_nodes; counted = is.counted; most_depth = is.most_depth; rooted = is.rooted; lone = is.lone })
-
-  pub IsPage-made : (old middle : PageElements) → seen_page forest root ≡ middle → middle ≡ record old { ready = middle.ready } → room limits.Nodes (length old.tree.elements) ≡ Did tt
-      → (payload : Described) → home_in (Some payload) ≡ (0, None) → later ≡ record forest { nodes = forest.nodes ++ lone payload ∷ []; ready = later.ready } → IsPage later root
-  IsPage-made old middle seen same roomy payload home added =
+module _ (forest : Forest Described) (documents : HeldDocuments) (is : IsPage forest documents) (later : Forest Described) where
+  pub IsPage-made : (old middle : PageElements) → seen_page forest documents ≡ middle → middle ≡ record old { ready = middle.ready } → element_room old ≡ Did tt
+      → (payload : Described) → later ≡ record forest { nodes = forest.nodes ++ lone payload ∷ []; ready = later.ready }
+      → (left : HeldDocuments) → left.most ≡ documents.most → AreFramed (seen_tree carried_in later left.held) → IsPage later left
+  IsPage-made old middle seen same roomy payload added left most framed =
       let count : length forest.nodes ≡ length old.tree.elements
-      = sym (length-map forest.nodes element_of) ∙ ap (λ (page : PageElements). length page.tree.elements) (seen ∙ same) in
+      = sym (length-map forest.nodes (element_of carried_in)) ∙ ap (λ (page : PageElements). length page.tree.elements) (seen ∙ same) in
       let below : length old.tree.elements < 20000 = below_limit (length old.tree.elements) roomy in
       let long = length-append forest.nodes (lone payload ∷ []) in
-      subst (λ f. IsPage f root) (sym added)
+      subst (λ f. IsPage f left) (sym added)
       (record {
         most_nodes = is.most_nodes;
         counted = omega arith;
         most_depth = is.most_depth;
-        rooted = λ m e.
-            let was : m < length forest.nodes = (is.rooted m e).0 in
-            (omega arith, parent-grown (lone payload) forest.nodes m was ∙ (is.rooted m e).1);
-        lone = lone_grown payload home forest.nodes is.lone;
+        most_documents = most ∙ is.most_documents;
+        framed = subst (λ f. AreFramed (seen_tree carried_in f left.held)) added framed;
       })
+
+-- what is made comes last among the elements
+last_seen : (nodes : List (Knot Described)) (payload : Described)
+    → map (element_of carried_in) (nodes ++ lone payload ∷ []) ≡ map (element_of carried_in) nodes ++ element_of carried_in (lone payload) ∷ []
+last_seen [] payload = refl
+last_seen (knot ∷ nodes) payload = ap (λ elements. element_of carried_in knot ∷ elements) (last_seen nodes payload)
+
+module _ (forest later : Forest Described) (documents : HeldDocuments) (framed : AreFramed (seen_tree carried_in forest documents.held)) (name : List ℕ) where
+  pub element_made : (kind : Kind) (document : ℕ) (payload : Described) → payload ≡ described name kind document None
+      → later ≡ record forest { nodes = forest.nodes ++ lone payload ∷ []; ready = later.ready } → AreFramed (seen_tree carried_in later documents.held)
+  element_made kind document payload is added =
+      subst AreFramed
+      (sym
+      (ap (λ (it : Forest Described). seen_tree carried_in it documents.held) added
+      ∙ ap (λ (elements : List Element). let it : Tree = record { elements = elements; documents = documents.held } in it) (last_seen forest.nodes payload)
+      ∙ ap (λ (it : Described). let tree : Tree = record {
+        elements = map (element_of carried_in) forest.nodes ++ element_of carried_in (lone it) ∷ [];
+        documents = documents.held;
+      } in tree) is))
+      (element_framed (seen_tree carried_in forest documents.held) kind document framed)
+
+  pub frame_made : (document framed : ℕ) (payload : Described) → framed ≡ length documents.held → payload ≡ described name FrameKind document (Some framed)
+      → later ≡ record forest { nodes = forest.nodes ++ lone payload ∷ []; ready = later.ready }
+      → (number : ℕ) → number ≡ length forest.nodes
+      → (left : HeldDocuments) → left ≡ record documents { held = documents.held ++ new_document number ∷ [] } → length documents.held < 65536
+      → AreFramed (seen_tree carried_in later left.held)
+  frame_made document inside payload next is added number counted left made few =
+      subst AreFramed
+      (sym
+      (ap (λ (it : Forest Described). seen_tree carried_in it left.held) added
+      ∙ ap (λ (it : HeldDocuments). seen_tree carried_in (record forest { nodes = forest.nodes ++ lone payload ∷ [] }) it.held) made
+      ∙ ap (λ (elements : List Element). let it : Tree = record { elements = elements; documents = documents.held ++ new_document number ∷ [] } in it)
+      (last_seen forest.nodes payload ∙ ap (λ (it : Described). map (element_of carried_in) forest.nodes ++ element_of carried_in (lone it) ∷ []) is)
+      ∙ ap (λ (d : ℕ). let tree : Tree = record {
+        elements = map (element_of carried_in) forest.nodes ++ element_of carried_in (lone (described name FrameKind document (Some d))) ∷ [];
+        documents = documents.held ++ new_document number ∷ [];
+      } in tree) next
+      ∙ ap (λ (n : ℕ). let tree : Tree = record {
+        elements = map (element_of carried_in) forest.nodes ++ element_of carried_in (lone (described name FrameKind document (Some (length documents.held)))) ∷ [];
+        documents = documents.held ++ new_document n ∷ [];
+      } in tree) (counted ∙ sym (length-map forest.nodes (element_of carried_in)))))
+      (frame_framed (seen_tree carried_in forest documents.held) document framed few)
+
+-- room for a frame is room for an element, and then for a document
+both : (elements documents : Bool) (full : Bool) → full ≡ not elements → full ≡ false → (other : Bool) → other ≡ not documents → other ≡ false
+    → met_unless elements limits.Nodes >> met_unless documents limits.Documents ≡ Did tt
+unfolding ◌>>◌
+both true true full a b other c d = refl
+both true false full a b other c d = cc
+both false documents full a b other c d = cc
+
+elements_full : (elements documents : Bool) (full : Bool) → full ≡ not elements → full ≡ true
+    → met_unless elements limits.Nodes >> met_unless documents limits.Documents ≡ Met limits.Nodes
+unfolding ◌>>◌
+elements_full true documents full a b = cc
+elements_full false documents full a b = refl
+
+documents_full : (elements documents : Bool) (full : Bool) → full ≡ not elements → full ≡ false → (other : Bool) → other ≡ not documents → other ≡ true
+    → met_unless elements limits.Nodes >> met_unless documents limits.Documents ≡ Met limits.Documents
+unfolding ◌>>◌
+documents_full true true full a b other c d = cc
+documents_full true false full a b other c d = refl
+documents_full false documents full a b other c d = cc
+
+module _ (page : PageElements) (full : Bool) (says : full ≡ not (nat_lt (length page.tree.elements) 20000)) where
+  pub frame_met_nodes : full ≡ true → frame_room page ≡ Met limits.Nodes
+  frame_met_nodes is = elements_full _ _ full says is
+
+  module _ (is : full ≡ false) (other : Bool) (tells : other ≡ not (nat_lt (length page.tree.documents) 64)) where
+    pub frame_met_documents : other ≡ true → frame_room page ≡ Met limits.Documents
+    frame_met_documents so = documents_full _ _ full says is other tells so
+
+    pub frame_roomy : other ≡ false → frame_room page ≡ Did tt
+    frame_roomy so = both _ _ full says is other tells so
+
+-- an element that isn't added where there is a number for it found no room
+unready : (forest : Forest Described) (outcome : Result NodeId (TreeFault × Described)) → IfErr outcome (λ refused. IsAddFault forest (refused.0))
+    → ((node : NodeId) → outcome ≡ Ok node → ⊥) → length forest.nodes ≢ forest.most_nodes → forest.ready ≡ false
+unready forest (Ok node) why not_added below = absurd (not_added node refl)
+unready forest (Err (Hierarchy, it)) why not_added below = absurd why
+unready forest (Err (NotAChild, it)) why not_added below = absurd why
+unready forest (Err (NodeLimit, it)) why not_added below = absurd (below why)
+unready forest (Err (DepthLimit, it)) why not_added below = absurd why
+unready forest (Err (Memory, it)) why not_added below = why.1
+
+pub frame_unready : (old : PageElements) (forest : Forest Described) (documents : HeldDocuments) → seen_page forest documents ≡ old → IsPage forest documents
+    → (full : Bool) → full ≡ not (nat_lt (length old.tree.elements) 20000) → full ≡ false
+    → (outcome : Result NodeId (TreeFault × Described)) → IfErr outcome (λ refused. IsAddFault forest (refused.0)) → ((node : NodeId) → outcome ≡ Ok node → ⊥)
+    → old.ready ≡ false
+frame_unready old forest documents seen is full says so outcome why not_added =
+    let count : length forest.nodes ≡ length old.tree.elements
+    = sym (length-map forest.nodes (element_of carried_in)) ∙ ap (λ (page : PageElements). length page.tree.elements) seen in
+    let below : length old.tree.elements < 20000 = grind (arith, nat_tests) in
+    let most = is.most_nodes in
+    sym (ap (λ (page : PageElements). page.ready) seen) ∙ unready forest outcome why not_added (λ same. omega arith)
+
+pub element_roomy : (page : PageElements) (full : Bool) → full ≡ not (nat_lt (length page.tree.elements) 20000) → full ≡ false → element_room page ≡ Did tt
+element_roomy page full says is = roomy (nat_lt (length page.tree.elements) 20000) (sym says ∙ is)
+  where
+    roomy : (below : Bool) → not below ≡ false → met_unless below limits.Nodes ≡ Did tt
+    roomy true e = refl
+    roomy false e = cc
+
+pub few_documents : (page : PageElements) (full : Bool) → full ≡ not (nat_lt (length page.tree.documents) 64) → full ≡ false → length page.tree.documents < 65536
+few_documents page full says is = let below : length page.tree.documents < 64 = grind (arith, nat_tests) in omega arith
+
+-- `top` alone
+pub opening_page : (forest : Forest Described) (documents : HeldDocuments) → forest.nodes ≡ [] → forest.most_nodes ≡ 20000 → forest.most_depth ≡ 256
+    → documents ≡ record { held = record { state = Active; frame = None; root = None } ∷ []; most = 64 } → IsPage forest documents
+opening_page forest documents empty nodes depth top = record {
+  most_nodes = nodes;
+  counted = let none : length forest.nodes ≡ 0 = ap length empty in omega arith;
+  most_depth = depth;
+  most_documents = ap (λ (it : HeldDocuments). it.most) top;
+  framed =
+      subst AreFramed
+      (sym
+      (ap (λ (nodes : List (Knot Described)). let tree : Tree = record { elements = map (element_of carried_in) nodes; documents = documents.held } in tree) empty
+      ∙ ap (λ (it : HeldDocuments). let tree : Tree = record { elements = []; documents = it.held } in tree) top))
+      opening_framed;
+}

@@ -1,15 +1,16 @@
 -- The trees of the page are what the laws of layout ask for.
-use Rattle.std.proofs.Common.{◌≡◌, ◌≢◌, ℕ, zero, suc, ◌<◌, ◌≤◌, List, [], ◌∷◌, map, length, Option, true, get_or, sym, subst, ◌∙◌, arith}
+use Rattle.std.proofs.Common.{◌≡◌, ◌≢◌, ℕ, zero, suc, ◌<◌, ◌≤◌, List, [], ◌∷◌, length, true, get_or, sym, subst, ◌∙◌, arith}
 use Rattle.std.specs.Prelude.{Contains, AllPairs}
 use Rattle.std.proofs.lemmas.Bool.Decides.{nat_tests}
-use Rattle.layout_model.specs.Nodes.{IsLinked, IsShallow, IsDistinct}
+use Rattle.layout_model.specs.Nodes.{Node, IsLinked, IsShallow, IsDistinct}
+use Rattle.page_model.specs.World.{Document}
 use Rattle.page_model.specs.Documents.{nodes_of}
-use Rattle.element_tree.specs.Forest.{Knot, IsForest, IsOnce, has, children_of}
+use Rattle.element_tree.specs.Forest.{Forest, IsForest, IsOnce, has, children_of}
 use Rattle.element_tree.proofs.Levels.{kid_parent, low_enough}
-use Rattle.page_tree.specs.Items.{Described}
-use Rattle.page_tree.specs.Views.{element_of, spread}
+use Rattle.page_documents.specs.Seen.{seen_tree}
+use Rattle.page_documents.proofs.Seen.{parent_seen, children_seen}
+use Rattle.page_tree.specs.Items.{Described, carried_in}
 use Rattle.page_tree.specs.Trees.{AreTrees}
-use Rattle.page_tree.proofs.Lookups.{parent_found, children_found}
 use Rattle.page_tree.proofs.Paths.{depth_same}
 
 listed_at : (xs : List ℕ) (i d : ℕ) → i < length xs → has xs (get_or xs i d) ≡ true
@@ -31,17 +32,20 @@ apart (x ∷ xs) once zero (suc j) d before inside = λ same. differs (subst (λ
     differs h = let no = once.0 in cc
 apart (x ∷ xs) once (suc i) (suc j) d before inside = apart xs once.1 i j d (omega arith) (omega arith)
 
-module _ {most : ℕ} (nodes : List (Knot Described)) (forest : IsForest most nodes) (root : Option ℕ) where
-  linked : IsLinked (nodes_of (spread (map element_of nodes) root))
-  linked p c at =
-      parent_found nodes root c
-      ∙ kid_parent forest p c (listed (children_of nodes p) c (subst (λ xs. Contains xs c) (children_found nodes root p) at))
+module _ {most : ℕ} (forest : Forest Described) (trees : IsForest most forest.nodes) (documents : List Document) where
+  abbrev at : ℕ → Node
+  at = nodes_of (seen_tree carried_in forest documents)
 
-  shallow : IsShallow (nodes_of (spread (map element_of nodes) root))
-  shallow n = subst (λ depth. depth ≤ 65536) (sym (depth_same forest (nodes_of (spread (map element_of nodes) root)) (parent_found nodes root) n)) (low_enough forest n)
+  linked : IsLinked at
+  linked p c held =
+      parent_seen carried_in forest documents c
+      ∙ kid_parent trees p c (listed (children_of forest.nodes p) c (subst (λ xs. Contains xs c) (children_seen carried_in forest documents p) held))
 
-  distinct : IsDistinct (nodes_of (spread (map element_of nodes) root))
-  distinct p = subst (AllPairs (λ a b. a ≢ b)) (sym (children_found nodes root p)) (apart (children_of nodes p) (forest.once p))
+  shallow : IsShallow at
+  shallow n = subst (λ depth. depth ≤ 65536) (sym (depth_same trees at (parent_seen carried_in forest documents) n)) (low_enough trees n)
 
-  pub trees_of_page : AreTrees (nodes_of (spread (map element_of nodes) root))
+  distinct : IsDistinct at
+  distinct p = subst (AllPairs (λ a b. a ≢ b)) (sym (children_seen carried_in forest documents p)) (apart (children_of forest.nodes p) (trees.once p))
+
+  pub trees_of_page : AreTrees (nodes_of (seen_tree carried_in forest documents))
   trees_of_page = record { linked = linked; shallow = shallow; distinct = distinct }

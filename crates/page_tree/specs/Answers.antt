@@ -4,10 +4,9 @@ use Rattle.text_io.specs.declared.kinds.LimitKind.TheVariants.{Nodes, Depth}
 use Rattle.text_io.specs.declared.kinds.ThrowKind.TheVariants.{HierarchyRequestError, NotFoundError}
 use Rattle.element_tree.specs.declared.fault.TreeFault.{TreeFault}
 use Rattle.element_tree.specs.declared.fault.TreeFault.TheVariants.{Hierarchy, NotAChild, NodeLimit, DepthLimit, Memory}
-use Rattle.element_tree.specs.Forest.{Knot, Forest}
+use Rattle.element_tree.specs.Forest.{Knot, Forest, names, parent_of}
 use Rattle.element_tree.specs.Edits.{mark_of}
 use Rattle.element_tree.specs.Answers.{append_fault, insert_fault}
-use Rattle.page_model.specs.Documents.{is_number}
 use Rattle.page_tree.specs.declared.faults.PlaceFault.{PlaceFault}
 use Rattle.page_tree.specs.declared.faults.PlaceFault.TheVariants.{Throw, Limit}
 use Rattle.page_tree.specs.declared.faults.MakeFault.{MakeFault}
@@ -40,7 +39,7 @@ unmade_of NodeLimit = made.Limit Nodes
 unmade_of DepthLimit = made.Memory
 unmade_of Memory = made.Memory
 
--- whether a sibling is named that isn't the root element
-abbrev pub is_absent : Option ℕ → Option ℕ → Bool
-is_absent root None = false
-is_absent root (Some sibling) = not (is_number root sibling)
+-- whether a sibling is named that isn't a child of the parent
+abbrev pub is_elsewhere : List (Knot Described) → ℕ → Option ℕ → Bool
+is_elsewhere nodes p None = false
+is_elsewhere nodes p (Some sibling) = not (names (parent_of nodes sibling) p)

@@ -1,8 +1,9 @@
 -- What refusals stand for in the definitions of the page.
-use Rattle.std.specs.Prelude.{◌≡◌, false, length}
+use Rattle.std.specs.Prelude.{◌≡◌, Bool, false, nat_lt, length}
+use Rattle.text_io.specs.Limits.{limit_number}
 use Rattle.text_io.specs.declared.kinds.LimitKind.TheVariants as limits
 use Rattle.page_model.specs.World.{Tree}
-use Rattle.page_model.specs.Steps.{Step, Did, Threw, Met, room}
+use Rattle.page_model.specs.Steps.{Step, Did, Threw, Met, ◌>>◌, room}
 use Rattle.page_tree.specs.declared.faults.PlaceFault.{PlaceFault}
 use Rattle.page_tree.specs.declared.faults.PlaceFault.TheVariants.{Throw, Limit}
 use Rattle.page_tree.specs.declared.faults.MakeFault.{MakeFault}
@@ -14,7 +15,27 @@ abbrev pub refusal : PlaceFault → Step Tree
 refusal (Throw kind) = Threw kind
 refusal (Limit kind) = Met kind
 
--- why no element can be made: the limit is met, or memory was needed and there was none
+-- whether one more element, or one more document, may be made
+abbrev pub has_element_room : PageElements → Bool
+has_element_room page = nat_lt (length page.tree.elements) (limit_number limits.Nodes)
+
+abbrev pub has_document_room : PageElements → Bool
+has_document_room page = nat_lt (length page.tree.documents) (limit_number limits.Documents)
+
+-- room for one more element, and for a frame with its document
+abbrev pub element_room : PageElements → Step (Unit {0})
+element_room page = room limits.Nodes (length page.tree.elements)
+
+abbrev pub frame_room : PageElements → Step (Unit {0})
+frame_room page = element_room page >> room limits.Documents (length page.tree.documents)
+
+-- why something isn't made for which there has to be this room: the limit is met, or memory was needed and there was none
+abbrev pub IsUnmade : Step (Unit {0}) → PageElements → MakeFault → Type 0
+IsUnmade step page (made.Limit kind) = step ≡ Met kind
+IsUnmade step page made.Memory = (step ≡ Did tt) × (page.ready ≡ false)
+
 abbrev pub IsMakeFault : PageElements → MakeFault → Type 0
-IsMakeFault page (made.Limit kind) = room limits.Nodes (length page.tree.elements) ≡ Met kind
-IsMakeFault page made.Memory = (room limits.Nodes (length page.tree.elements) ≡ Did tt) × (page.ready ≡ false)
+IsMakeFault page fault = IsUnmade (element_room page) page fault
+
+abbrev pub IsFrameFault : PageElements → MakeFault → Type 0
+IsFrameFault page fault = IsUnmade (frame_room page) page fault

@@ -1,8 +1,9 @@
 -- What an element of the page is by itself: its name, its style and its kind, and the documents that it belongs to and holds.
-use Rattle.std.specs.Prelude.{ℕ, ℤ, pos, ◌≤ℤ◌, List, Option, None, unsigned_abs}
+use Rattle.std.specs.Prelude.{ℕ, ℤ, pos, ◌≤ℤ◌, List, Option, unsigned_abs}
 use Rattle.px_units.specs.declared.Size.{Size}
 use Rattle.layout_model.specs.Styles.{Style, first_style, declared, Declaration}
 use Rattle.layout_model.specs.Items.{Kind, ImageKind, Item}
+use Rattle.page_documents.specs.Seen.{Carried}
 use Rattle.block_layout.specs.declared.ItemKind.{ItemKind}
 use Rattle.block_layout.specs.declared.ItemKind.TheVariants.{Block, Image, Frame}
 
@@ -32,14 +33,22 @@ IsKind Block = Unit {0}
 IsKind (Image size) = IsNatural size
 IsKind Frame = Unit {0}
 
--- an element just made in a document, and no frame with one
-abbrev pub described : List ℕ → Kind → ℕ → Described
-described name kind document = record {
+-- what it carries besides its name
+abbrev pub carried_in : Described → Carried
+carried_in it = record { item = it.item; document = it.document; framed = it.framed }
+
+-- an element just made in a document, and the frame of another one, if there is one
+abbrev pub described : List ℕ → Kind → ℕ → Option ℕ → Described
+described name kind document framed = record {
   name = name;
   item = record { style = first_style; kind = kind };
   document = document;
-  framed = None;
+  framed = framed;
 }
+
+-- an element given to a document
+abbrev pub owned_by : ℕ → Described → Described
+owned_by document it = record it { document = document }
 
 abbrev pub with_item : (Item → Item) → Described → Described
 with_item change it = record it { item = change (it.item) }

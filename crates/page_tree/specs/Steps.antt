@@ -1,5 +1,5 @@
 -- Where elements are put and what grows, as the definitions have them.
-use Rattle.std.specs.Prelude.{◌≡◌, ◌<◌, length}
+use Rattle.std.specs.Prelude.{ℕ, ◌<◌, length}
 use Rattle.script_model.specs.Syntax.{Dimension, WidthDimension, HeightDimension}
 use Rattle.page_model.specs.Documents.{Container, InElement, InDocument}
 use Rattle.page_tree.specs.declared.page.Container.{Container as Place}
@@ -16,7 +16,12 @@ abbrev pub seen_axis : Axis → Dimension
 seen_axis Width = WidthDimension
 seen_axis Height = HeightDimension
 
--- `top` is the only document, and an element is one that the page holds
+-- an element or a document that the page holds
 abbrev pub IsContainerIn : PageElements → Place → Type 0
 IsContainerIn page (Element node) = node.0 < length page.tree.elements
-IsContainerIn page (Document document) = document ≡ 0
+IsContainerIn page (Document document) = document < length page.tree.documents
+
+-- a document is one of so many
+abbrev pub IsBelow : ℕ → Place → Type 0
+IsBelow count (Element node) = Unit {0}
+IsBelow count (Document document) = document < count

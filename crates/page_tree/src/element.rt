@@ -1,13 +1,14 @@
 //! What the tree carries of an element.
 
-ghost use Rattle.std.specs.Prelude.{◌≡◌, unsigned_abs};
+ghost use Rattle.std.specs.Prelude.{◌≡◌, refl};
 ghost use Rattle.px_units.specs.declared.Size.{Size};
 ghost use Rattle.style_values.specs.Ranges.{IsAllowed, IsStyle};
 ghost use Rattle.style_values.specs.Seen.{seen_style, seen_declaration};
 ghost use Rattle.block_layout.specs.Seen.{seen_kind};
-ghost use Rattle.page_tree.specs.Items.{IsNatural, IsKind, described, with_item, declared_in, sized_in};
+ghost use Rattle.page_tree.specs.Items.{IsNatural, IsKind, described, owned_by, with_item, declared_in, sized_in};
 
 use block_layout::{ItemKind, Styled};
+use page_documents::Owned;
 use px_units::Size;
 use std::marker::Model;
 use style_values::{Declaration, Style};
@@ -38,17 +39,17 @@ impl Model for Element {
 }
 
 impl Element {
-    // Made in this document, and no frame with a document.
-    pub(crate) fn new(name: Name, kind: ItemKind, document: u32) -> Element
+    // Made in this document, and the frame of the other one, if there is one.
+    pub(crate) fn new(name: Name, kind: ItemKind, document: u32, framed: Option<u32>) -> Element
         requires { IsKind kind }
-        ensures { result ≡ described name (seen_kind kind) document }
+        ensures { result ≡ described name (seen_kind kind) document framed }
     {
         Element {
             name,
             kind,
             style: Style::new(),
             document,
-            framed: None,
+            framed,
         }
     }
 
@@ -57,20 +58,6 @@ impl Element {
         ensures { result ≡ self.now.name }
     {
         self.name
-    }
-
-    /// The number of its node document.
-    pub fn document(&self) -> u32
-        ensures { result ≡ self.now.document }
-    {
-        self.document
-    }
-
-    /// The number of the document in it, where it is a frame with one.
-    pub fn framed(&self) -> Option<u32>
-        ensures { result ≡ self.now.framed }
-    {
-        self.framed
     }
 
     pub(crate) fn apply(&mut self, declaration: Declaration)
@@ -108,4 +95,26 @@ impl Styled for Element {
     {
         self.kind
     }
+}
+
+impl Owned for Element {
+    ghost use Rattle.page_tree.specs.Items.{carried_in};
+
+    ghost carried = { carried_in };
+
+    ghost adopted = { owned_by };
+
+    fn document(&self) -> u32 {
+        self.document
+    }
+
+    fn set_document(&mut self, document: u32) {
+        self.document = document;
+    }
+
+    fn framed(&self) -> Option<u32> {
+        self.framed
+    }
+
+    ghost adopts = { λ document it. refl };
 }

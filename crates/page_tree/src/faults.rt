@@ -14,10 +14,10 @@ pub enum PlaceFault {
     Limit(LimitKind),
 }
 
-/// Why no element is made. Nothing is changed then, but that room may have been made.
+/// Why no element, and no frame with its document, is made. Nothing is changed then, but that room may have been made.
 #[derive(Debug, Drop, Error)]
 pub enum MakeFault {
-    /// As many elements as a page may have were made.
+    /// As many elements, or documents, as a page may have were made.
     #[error("Limit")]
     Limit(LimitKind),
     /// There is no memory.

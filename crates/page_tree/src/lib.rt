@@ -1,11 +1,12 @@
-//! The elements of a page: their tree, their styles and kinds, and the commands that change them. Every call is said in
-//! terms of the definitions' elements and documents, of which `top` is the only document yet.
+//! The elements and documents of a page: their trees, styles and kinds, and the commands that change them. Every call is said in
+//! terms of the definitions' elements and documents.
 #![tactic(auto)]
 
 mod element;
 mod faults;
 mod page;
 mod readings;
+mod standing;
 #[cfg(test)]
 mod tests;
 

@@ -1,32 +1,32 @@
-//! The tree of the page, and the commands that change it.
+//! The elements and documents of the page, and the commands that change them.
 
-ghost use Rattle.std.specs.Prelude.{◌≡◌, ◌+◌, ◌<◌, ◌++◌, ◌∷◌, [], length, map, option_map, unsigned_abs, Some, None, Ok, Err, IfOk, IfErr, IfSome, OnOk, OnErr, MatchResult, true};
+ghost use Rattle.std.specs.Prelude.{◌≡◌, ◌+◌, ◌<◌, ◌++◌, ◌∷◌, [], not, length, option_map, unsigned_abs, Some, None, Ok, Err, IfOk, IfErr, IfSome, OnOk, OnErr, MatchResult, true};
 ghost use Rattle.std.specs.Option.{ForSome};
 ghost use Rattle.px_units.specs.Lengths.{Pixels};
-ghost use Rattle.text_io.specs.declared.kinds.LimitKind.TheVariants as limits;
 ghost use Rattle.style_values.specs.Ranges.{IsAllowed, IsUnits};
 ghost use Rattle.style_values.specs.Seen.{seen_declaration};
 ghost use Rattle.element_tree.specs.Links.{number};
 ghost use Rattle.element_tree.specs.Edits.{inserted, with_nodes};
 ghost use Rattle.page_model.specs.Lookups.{element_at};
 ghost use Rattle.page_model.specs.Outcome.{opening_world};
-ghost use Rattle.page_model.specs.Documents.{InElement, InDocument, removed, is_number};
-ghost use Rattle.page_model.specs.Steps.{Did, Met, Threw, room};
-ghost use Rattle.page_model.specs.Edits.{with_element, with_declaration, set_dimension, pixels_of, dimension_of, grown as grown_by};
+ghost use Rattle.page_model.specs.Documents.{InElement, InDocument, removed};
+ghost use Rattle.page_model.specs.Steps.{Did, Met, Threw};
+ghost use Rattle.page_model.specs.Edits.{with_element, with_frame, with_declaration, set_dimension, pixels_of, dimension_of, grown as grown_by};
 ghost use Rattle.page_model.specs.Commands.{placing, growing, loading};
 ghost use Rattle.block_layout.specs.Seen.{seen_kind};
 ghost use Rattle.page_tree.specs.Items.{IsKind, IsNatural};
-ghost use Rattle.page_tree.specs.Views.{root_without};
-ghost use Rattle.page_tree.specs.Faults.{refusal, IsMakeFault};
-ghost use Rattle.page_tree.specs.Answers.{put_fault, mark_for, refusal_of, unmade_of, is_absent};
+ghost use Rattle.page_tree.specs.Faults.{refusal, element_room, frame_room, has_element_room, has_document_room, IsMakeFault, IsFrameFault};
+ghost use Rattle.page_tree.specs.Answers.{put_fault, mark_for, refusal_of, unmade_of, is_elsewhere};
 ghost use Rattle.page_tree.specs.Steps.{seen_container, seen_axis, IsContainerIn};
 
 use crate::element::Element;
 use crate::faults::{MakeFault, PlaceFault};
+use crate::standing::{is_no_root, leave};
 use block_layout::{ItemKind, Styled};
 use element_tree::{NodeId, Tree, TreeFault};
+use page_documents::{Documents, Owned};
 use px_units::{Length, Px, Size};
-use std::alloc::Global;
+use std::alloc::{AllocError, Global};
 use std::marker::Model;
 use style_values::Declaration;
 use text_io::{LimitKind, Name, ThrowKind};
@@ -37,8 +37,8 @@ const MOST_NODES: u32 = 20000;
 /// As many elements as a path to a root may have.
 const MOST_DEPTH: u32 = 256;
 
-/// The number of the document `top`, which is the only one yet.
-const TOP: u32 = 0;
+/// As many documents as a page may have, in all.
+const MOST_DOCUMENTS: u32 = 64;
 
 /// The greatest length of a style, in units of 1/64 pixel: 1,000,000 pixels.
 const MOST_UNITS: i64 = 64_000_000;
@@ -61,45 +61,62 @@ pub enum Axis {
     Height,
 }
 
-/// The elements of a page, in trees of which one may be that of the document `top`. A contract sees them as the lists
-/// of a world (`specs/Views.antt`). Elements are numbered from 0 in order of making, and stay for good.
+/// The elements and documents of a page. A contract sees them as the lists of a world (`specs/Views.antt`). Both are numbered
+/// from 0 in order of making, and stay for good; `top` is document 0.
 #[derive(Drop)]
 pub struct PageTree {
     pub(crate) tree: Tree<Element>,
-    pub(crate) root: Option<NodeId>,
+    pub(crate) documents: Documents,
 }
 
 impl Model for PageTree {
-    ghost use Rattle.std.specs.Prelude.{option_map};
-    ghost use Rattle.element_tree.specs.Links.{number};
     ghost use Rattle.page_tree.specs.Views.{PageElements, seen_page, IsPage};
 
     ghost Value = { PageElements };
 
-    ghost view = { λ p. seen_page p.tree (option_map number p.root) };
+    ghost view = { λ p. seen_page p.tree p.documents };
 
-    ghost invariant = { λ p. IsPage p.tree (option_map number p.root) };
+    ghost invariant = { λ p. IsPage p.tree p.documents };
 }
 
 impl PageTree {
-    /// No element. It takes no memory yet.
-    pub fn new(alloc: Global) -> PageTree
-        ensures tree { result.tree ≡ opening_world.tree }
-        ensures names { result.names ≡ [] }
+    /// No element, and `top` alone, which is Active. The room for all documents is made here.
+    ///
+    /// # Errors
+    ///
+    /// Where there is no memory.
+    pub fn new(alloc: Global) -> Result<PageTree, AllocError>
+        ensures tree { IfOk result (λ page. page.tree ≡ opening_world.tree) }
+        ensures names { IfOk result (λ page. page.names ≡ []) }
     {
-        PageTree {
+        let documents = Documents::new(alloc, MOST_DOCUMENTS)?;
+        Ok(PageTree {
             tree: Tree::new(alloc, MOST_NODES, MOST_DEPTH),
-            root: None,
-        }
+            documents,
+        })
     }
 
-    /// Makes room for one element, and tells the number that the next `make` gives.
+    /// Whether as many elements were made as a page may have: 20,000.
+    pub fn is_full(&self) -> bool
+        ensures { result ≡ not (has_element_room self.now) }
+    {
+        self.tree.holds(NodeId(MOST_NODES - 1))
+    }
+
+    /// Whether as many documents were made as a page may have: 64.
+    pub fn is_full_of_documents(&self) -> bool
+        ensures { result ≡ not (has_document_room self.now) }
+    {
+        self.documents.is_full()
+    }
+
+    /// Makes room for one element, and tells the number that the next `make` or `make_frame` gives it.
     ///
-    /// That `make` doesn't answer `Memory`. `Limit` comes exactly where 20,000 elements were made; else `Memory` where there is
+    /// That call doesn't answer `Memory`. `Limit` comes exactly where 20,000 elements were made; else `Memory` where there is
     /// none. Besides the room nothing changes.
     pub fn reserve(&mut self) -> Result<NodeId, MakeFault>
         ensures node { IfOk result (λ node. node.0 ≡ length self.old.tree.elements) }
-        ensures roomy { OnOk result (room limits.Nodes (length self.old.tree.elements) ≡ Did tt) }
+        ensures roomy { OnOk result (element_room self.old ≡ Did tt) }
         ensures ready { OnOk result (self.new.ready ≡ true) }
         ensures kept { self.old.ready ≡ true → self.new.ready ≡ true }
         ensures same { self.new ≡ record self.old { ready = self.new.ready } }
@@ -111,20 +128,21 @@ impl PageTree {
         }
     }
 
-    /// Makes an element with this name and kind, in `top` and standing nowhere, and gives its number. It has no style set.
+    /// Makes an element with this name and kind, in a document and standing nowhere, and gives its number. It has no style set.
     ///
     /// `Limit` comes exactly where 20,000 elements were made; else `Memory` where there is none, which isn't after
     /// `reserve`. Nothing is changed then but that room may have been made.
-    pub fn make(&mut self, name: Name, kind: ItemKind) -> Result<NodeId, MakeFault>
+    pub fn make(&mut self, document: u32, name: Name, kind: ItemKind) -> Result<NodeId, MakeFault>
         requires { IsKind kind }
         ensures node { IfOk result (λ node. node.0 ≡ length self.old.tree.elements) }
-        ensures roomy { OnOk result (room limits.Nodes (length self.old.tree.elements) ≡ Did tt) }
+        ensures roomy { OnOk result (element_room self.old ≡ Did tt) }
         ensures made { OnOk result (self.new ≡ record self.old {
-          tree = with_element (seen_kind kind) 0 None (self.old.tree);
+          tree = with_element (seen_kind kind) document None (self.old.tree);
           names = self.old.names ++ name ∷ [];
           ready = self.new.ready;
         }) }
         ensures count { OnOk result (length self.new.tree.elements ≡ length self.old.tree.elements + 1) }
+        ensures documents { OnOk result (length self.new.tree.documents ≡ length self.old.tree.documents) }
         ensures kept { OnErr result (self.old.ready ≡ true → self.new.ready ≡ true) }
         ensures same { OnErr result (self.new ≡ record self.old { ready = self.new.ready }) }
         ensures refused { IfErr result (IsMakeFault self.old) }
@@ -132,15 +150,51 @@ impl PageTree {
         if let Err(fault) = self.reserve() {
             return Err(fault);
         }
-        let Ok(node) = self.tree.add(Element::new(name, kind, TOP)) else {
+        let Ok(node) = self.tree.add(Element::new(name, kind, document, None)) else {
             return Err(MakeFault::Memory);
         };
         Ok(node)
     }
 
+    /// Makes a frame with this name, in a document and standing nowhere, and the Fresh document in it, which has no root element
+    /// (HTML, 4.8.5 and 7.3), and gives both numbers. The frame has no style set.
+    ///
+    /// `Limit(Nodes)` comes exactly where 20,000 elements were made, then `Limit(Documents)` where 64 documents were; else
+    /// `Memory` where there is none, which isn't after `reserve`. Nothing is changed then but that room may have been made.
+    pub fn make_frame(&mut self, document: u32, name: Name) -> Result<(NodeId, u32), MakeFault>
+        ensures node { IfOk result (λ made. made.0.0 ≡ length self.old.tree.elements) }
+        ensures document { IfOk result (λ made. made.1 ≡ length self.old.tree.documents) }
+        ensures roomy { OnOk result (frame_room self.old ≡ Did tt) }
+        ensures made { OnOk result (self.new ≡ record self.old {
+          tree = with_frame document (self.old.tree);
+          names = self.old.names ++ name ∷ [];
+          ready = self.new.ready;
+        }) }
+        ensures count { OnOk result (length self.new.tree.elements ≡ length self.old.tree.elements + 1) }
+        ensures documents { OnOk result (length self.new.tree.documents ≡ length self.old.tree.documents + 1) }
+        ensures kept { OnErr result (self.old.ready ≡ true → self.new.ready ≡ true) }
+        ensures same { OnErr result (self.new ≡ record self.old { ready = self.new.ready }) }
+        ensures refused { IfErr result (IsFrameFault self.old) }
+    {
+        if self.is_full() {
+            return Err(MakeFault::Limit(LimitKind::Nodes));
+        }
+        if self.is_full_of_documents() {
+            return Err(MakeFault::Limit(LimitKind::Documents));
+        }
+        let framed = self.documents.count();
+        let element = Element::new(name, ItemKind::Frame, document, Some(framed));
+        let Ok(node) = self.tree.add(element) else {
+            return Err(MakeFault::Memory);
+        };
+        let _framed = self.documents.make(node);
+        Ok((node, framed))
+    }
+
     /// Puts an element, with its subtree, among the children of an element, before a sibling or last, or makes it the
-    /// root element of `top` (DOM, 4.2.3 pre-insert). It leaves where it stood. Where the named sibling is the element
-    /// itself, its next sibling takes its place.
+    /// root element of a document (DOM, 4.2.3 pre-insert). It leaves where it stood. Where the named sibling is the element
+    /// itself, its next sibling takes its place. It is adopted with its subtree (DOM, 4.5); documents in frames of the subtree end
+    /// where it stood in the tree of an Active document, and those that are Fresh become Active where it comes to stand in one.
     ///
     /// Refused, with nothing changed, by HierarchyRequestError where it would stand in itself, then by NotFoundError
     /// where the sibling isn't a child there, then by HierarchyRequestError where the document has its root element,
@@ -158,28 +212,31 @@ impl PageTree {
             ≡ Did (self.new.tree)) }
         ensures rest { OnOk result (self.new ≡ record self.old { tree = self.new.tree }) }
         ensures count { length self.new.tree.elements ≡ length self.old.tree.elements }
+        ensures documents { length self.new.tree.documents ≡ length self.old.tree.documents }
         ensures refused { IfErr result (λ fault. placing (seen_container container) node.0 (option_map number sibling) (self.old.tree)
             ≡ refusal fault) }
         ensures same { OnErr result (self.new ≡ self.old) }
     {
         match container {
             Container::Element(parent) => self.place_in(parent, node, sibling),
-            Container::Document(_) => self.place_on_top(node, sibling),
+            Container::Document(document) => self.place_on_top(document, node, sibling),
         }
     }
 
     /// Takes an element, with its subtree, out of its parent's children, or as root element out of its document (DOM,
-    /// 4.2.3 remove). Nothing where it stands nowhere.
+    /// 4.2.3 remove). Where it stood in the tree of an Active document, the Active documents in frames of the subtree become Dead
+    /// for good, with those inside. Nothing where it stands nowhere. No memory.
     pub fn remove(&mut self, node: NodeId)
         requires { node.0 < length self.old.tree.elements }
         ensures done { self.new.tree ≡ removed (self.old.tree) node.0 }
         ensures rest { self.new ≡ record self.old { tree = self.new.tree } }
         ensures count { length self.new.tree.elements ≡ length self.old.tree.elements }
+        ensures documents { length self.new.tree.documents ≡ length self.old.tree.documents }
     {
-        match self.tree.parent(node) {
-            Some(_) => self.tree.remove(node),
-            None => self.root = left(self.root, node),
-        }
+        let held = self.tree.holds(node);
+        prove!(held);
+        leave(&self.tree, &mut self.documents, node);
+        self.tree.remove(node);
     }
 
     /// Sets a property of an element's style (CSSOM, 6.6).
@@ -189,6 +246,7 @@ impl PageTree {
         ensures done { self.new.tree ≡ with_declaration (seen_declaration declaration) node.0 (self.old.tree) }
         ensures rest { self.new ≡ record self.old { tree = self.new.tree } }
         ensures count { length self.new.tree.elements ≡ length self.old.tree.elements }
+        ensures documents { length self.new.tree.documents ≡ length self.old.tree.documents }
     {
         self.tree.payload_mut(node).apply(declaration);
     }
@@ -201,6 +259,7 @@ impl PageTree {
         ensures done { OnOk result (growing (seen_axis axis) node.0 by.0 (self.old.tree) ≡ Did (self.new.tree)) }
         ensures rest { OnOk result (self.new ≡ record self.old { tree = self.new.tree }) }
         ensures count { length self.new.tree.elements ≡ length self.old.tree.elements }
+        ensures documents { length self.new.tree.documents ≡ length self.old.tree.documents }
         ensures refused { IfErr result (λ kind. growing (seen_axis axis) node.0 by.0 (self.old.tree) ≡ Threw kind) }
         ensures same { OnErr result (self.new ≡ self.old) }
     {
@@ -221,6 +280,7 @@ impl PageTree {
             ≡ Did (self.new.tree)) }
         ensures rest { OnOk result (self.new ≡ record self.old { tree = self.new.tree }) }
         ensures count { length self.new.tree.elements ≡ length self.old.tree.elements }
+        ensures documents { length self.new.tree.documents ≡ length self.old.tree.documents }
         ensures refused { IfErr result (λ kind. loading node.0 (unsigned_abs size.width) (unsigned_abs size.height) (self.old.tree)
             ≡ Threw kind) }
         ensures same { OnErr result (self.new ≡ self.old) }
@@ -246,40 +306,53 @@ impl PageTree {
             ≡ Did (self.new.tree)) }
         ensures rest { OnOk result (self.new ≡ record self.old { tree = self.new.tree }) }
         ensures count { length self.new.tree.elements ≡ length self.old.tree.elements }
+        ensures documents { length self.new.tree.documents ≡ length self.old.tree.documents }
         ensures refused { IfErr result (λ fault. placing (InElement parent.0) node.0 (option_map number sibling) (self.old.tree)
             ≡ refusal fault) }
         ensures same { OnErr result (self.new ≡ self.old) }
     {
         let held = self.tree.holds(node);
         prove!(held);
-        if let Err(fault) = put(&mut self.tree, parent, node, sibling) {
+        if let Err(fault) = check(&self.tree, parent, node, sibling) {
             return Err(refused(fault));
         }
-        self.root = left(self.root, node);
+        let document = self.tree.payload(parent).document();
+        leave(&self.tree, &mut self.documents, node);
+        put(&mut self.tree, parent, node, sibling);
+        self.documents.entered(&mut self.tree, node, document);
         Ok(())
     }
 
-    // Makes an element the root element of `top`.
-    fn place_on_top(&mut self, node: NodeId, sibling: Option<NodeId>) -> Result<(), PlaceFault>
-        requires { node.0 < length self.old.tree.elements }
-        ensures done { OnOk result (placing (InDocument 0) node.0 (option_map number sibling) (self.old.tree)
+    // Makes an element the root element of a document.
+    fn place_on_top(
+        &mut self,
+        document: u32,
+        node: NodeId,
+        sibling: Option<NodeId>,
+    ) -> Result<(), PlaceFault>
+        requires document { document < length self.old.tree.documents }
+        requires node { node.0 < length self.old.tree.elements }
+        ensures done { OnOk result (placing (InDocument document) node.0 (option_map number sibling) (self.old.tree)
             ≡ Did (self.new.tree)) }
         ensures rest { OnOk result (self.new ≡ record self.old { tree = self.new.tree }) }
         ensures count { length self.new.tree.elements ≡ length self.old.tree.elements }
-        ensures refused { IfErr result (λ fault. placing (InDocument 0) node.0 (option_map number sibling) (self.old.tree)
+        ensures documents { length self.new.tree.documents ≡ length self.old.tree.documents }
+        ensures refused { IfErr result (λ fault. placing (InDocument document) node.0 (option_map number sibling) (self.old.tree)
             ≡ refusal fault) }
         ensures same { OnErr result (self.new ≡ self.old) }
     {
         let held = self.tree.holds(node);
         prove!(held);
-        if is_missing(self.root, sibling) {
+        if is_no_root(&self.tree, &self.documents, document, sibling) {
             return Err(PlaceFault::Throw(ThrowKind::NotFoundError));
         }
-        if self.root.is_some() {
+        if self.documents.root_of(document).is_some() {
             return Err(PlaceFault::Throw(ThrowKind::HierarchyRequestError));
         }
+        leave(&self.tree, &mut self.documents, node);
         self.tree.remove(node);
-        self.root = Some(node);
+        self.documents.set_root(document, Some(node));
+        self.documents.entered(&mut self.tree, node, document);
         Ok(())
     }
 
@@ -302,55 +375,58 @@ impl PageTree {
     }
 }
 
-// Whether this is the node that is named.
-pub(crate) fn is_named(named: Option<NodeId>, node: NodeId) -> bool
-    ensures { result ≡ is_number (option_map number named) node.0 }
-{
-    match named {
-        Some(found) => found.0 == node.0,
-        None => false,
-    }
-}
-
-// The root element once a node isn't where it stood.
-fn left(root: Option<NodeId>, node: NodeId) -> Option<NodeId>
-    ensures { option_map number result ≡ root_without node.0 (option_map number root) }
-{
-    if is_named(root, node) { None } else { root }
-}
-
-// Whether a sibling is named that isn't the root element.
-fn is_missing(root: Option<NodeId>, sibling: Option<NodeId>) -> bool
-    ensures { result ≡ is_absent (option_map number root) (option_map number sibling) }
-{
-    match sibling {
-        Some(named) => !is_named(root, named),
-        None => false,
-    }
-}
-
-// Puts a node among the children of another one, before a sibling or last.
-fn put(
-    tree: &mut Tree<Element>,
+// Why a node can't be put among the children of another one, before a sibling or last.
+fn check(
+    tree: &Tree<Element>,
     parent: NodeId,
     node: NodeId,
     sibling: Option<NodeId>,
 ) -> Result<(), TreeFault>
+    requires { tree.now.most_depth ≡ 256 }
+    ensures { MatchResult result
+        (λ _. put_fault tree.now parent.0 node.0 (option_map number sibling) ≡ None)
+        (λ fault. put_fault tree.now parent.0 node.0 (option_map number sibling) ≡ Some fault) }
+{
+    if tree.is_ancestor(node, parent) {
+        return Err(TreeFault::Hierarchy);
+    }
+    if is_no_child(tree, parent, sibling) {
+        return Err(TreeFault::NotAChild);
+    }
+    if tree.depth(parent) + tree.height(node) > MOST_DEPTH {
+        return Err(TreeFault::DepthLimit);
+    }
+    Ok(())
+}
+
+// Whether a sibling is named that isn't a child of the parent.
+fn is_no_child(tree: &Tree<Element>, parent: NodeId, sibling: Option<NodeId>) -> bool
+    ensures { result ≡ is_elsewhere (tree.now.nodes) parent.0 (option_map number sibling) }
+{
+    let Some(named) = sibling else {
+        return false;
+    };
+    match tree.parent(named) {
+        Some(found) => found.0 != parent.0,
+        None => true,
+    }
+}
+
+// Puts a node among the children of another one, before a sibling or last.
+fn put(tree: &mut Tree<Element>, parent: NodeId, node: NodeId, sibling: Option<NodeId>)
     requires parent { parent.0 < length tree.old.nodes }
     requires node { node.0 < length tree.old.nodes }
     requires sibling { ForSome sibling (λ s. s.0 < length tree.old.nodes) }
-    ensures answer { MatchResult result
-        (λ _. put_fault tree.old parent.0 node.0 (option_map number sibling) ≡ None)
-        (λ fault. put_fault tree.old parent.0 node.0 (option_map number sibling) ≡ Some fault) }
-    ensures done { OnOk result (tree.new ≡ with_nodes
-        (inserted parent.0 node.0 (mark_for node.0 (option_map number sibling) tree.old.nodes)) tree.old) }
-    ensures same { OnErr result (tree.new ≡ tree.old) }
+    requires fits { put_fault tree.old parent.0 node.0 (option_map number sibling) ≡ None }
+    ensures done { tree.new ≡ with_nodes
+        (inserted parent.0 node.0 (mark_for node.0 (option_map number sibling) tree.old.nodes)) tree.old }
     ensures count { length tree.new.nodes ≡ length tree.old.nodes }
 {
-    match sibling {
-        None => tree.append(parent, node),
-        Some(named) => tree.insert_before(parent, node, named),
-    }
+    let done = match sibling {
+        None => tree.append(parent, node).is_ok(),
+        Some(named) => tree.insert_before(parent, node, named).is_ok(),
+    };
+    prove!(done);
 }
 
 // What a refusal of room for one more node comes to; there are but two.

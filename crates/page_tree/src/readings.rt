@@ -1,41 +1,150 @@
-//! What is asked of the elements of a page.
+//! What is asked of the elements and documents of a page.
 
-ghost use Rattle.std.specs.Prelude.{◌≡◌, ◌<◌, ℕ, nat_lt, length, option_map, slice_get, Some, is_some};
-ghost use Rattle.element_tree.specs.Links.{node_ids};
+ghost use Rattle.std.specs.Prelude.{◌≡◌, ◌≢◌, ℕ, ◌<◌, ◌≤◌, nat_lt, length, option_map, slice_get, Some, None, IfOk, IfSome, IsSome, is_some, true};
+ghost use Rattle.text_io.specs.Limits.{limit_number};
+ghost use Rattle.text_io.specs.declared.kinds.LimitKind.TheVariants as limits;
+ghost use Rattle.element_tree.specs.Links.{number};
 ghost use Rattle.style_values.specs.Ranges.{IsStyle};
 ghost use Rattle.style_values.specs.Seen.{seen_style};
-ghost use Rattle.page_model.specs.Lookups.{element_at};
-ghost use Rattle.page_model.specs.Documents.{nodes_of, element_depth, container_of};
+ghost use Rattle.page_model.specs.Lookups.{element_at, document_at};
+ghost use Rattle.page_model.specs.Documents.{nodes_of, element_depth, container_of, is_active, active_documents, tree_document, first_of_list};
+ghost use Rattle.page_documents.specs.States.{seen_state};
+ghost use Rattle.page_documents.specs.Paths.{path_to};
+ghost use Rattle.page_documents.specs.Frames.{AreFramed};
 ghost use Rattle.block_layout.specs.Seen.{seen_kind};
 ghost use Rattle.block_layout.specs.Trees.{layout_tree as tree_in};
 ghost use Rattle.page_tree.specs.Items.{IsKind, style_in, kind_in};
-ghost use Rattle.page_tree.specs.Views.{top_root, seen_page, IsLone};
+ghost use Rattle.page_tree.specs.Views.{seen_with};
+ghost use Rattle.page_tree.specs.Steps.{seen_container};
 ghost use Rattle.page_tree.specs.Trees.{AreTrees};
 
 use crate::element::Element;
-use crate::page::{PageTree, is_named};
+use crate::page::{Container, PageTree};
+use crate::standing::{container_of, document_of, root_of};
 use block_layout::{ItemKind, Styled};
 use element_tree::{NodeId, Tree};
+use page_documents::{DocumentState, Owned};
+use smallvec::SmallVec;
+use std::alloc::AllocError;
 use style_values::Style;
 use text_io::Name;
 
+/// Documents.
 impl PageTree {
-    /// Whether this page gave the element.
+    /// How many documents there are, which is the number of the next one. Documents and frames belong together, which is told here for
+    /// what rests on it.
+    pub fn document_count(&self) -> u32
+        ensures value { result ≡ length self.now.tree.documents }
+        ensures bound { length self.now.tree.documents ≤ limit_number limits.Documents }
+        ensures framed { AreFramed (self.now.tree) }
+    {
+        self.documents.count()
+    }
+
+    /// The state of a document. Dead where there is no such document.
+    pub fn state(&self, document: u32) -> DocumentState
+        ensures { seen_state result ≡ (document_at (self.now.tree) document).state }
+    {
+        if document < self.documents.count() {
+            self.documents.state(document)
+        } else {
+            DocumentState::Dead
+        }
+    }
+
+    /// Whether a document is Active (HTML, 7.3: active document). Not where there is no such document.
+    pub fn is_active(&self, document: u32) -> bool
+        ensures value { result ≡ is_active (self.now.tree) document }
+        ensures bound { result ≡ true → document < limit_number limits.Documents }
+    {
+        if document >= self.document_count() {
+            return false;
+        }
+        match self.state(document) {
+            DocumentState::Active => true,
+            DocumentState::Fresh | DocumentState::Dead => false,
+        }
+    }
+
+    /// The Active documents by preorder of the frame tree, the frames of one document in tree order.
+    ///
+    /// # Errors
+    ///
+    /// Where there is no memory.
+    pub fn active_documents(&self) -> Result<Vec<u32>, AllocError>
+        ensures { IfOk result (λ found. found.items ≡ active_documents (self.now.tree)) }
+    {
+        self.documents.active(&self.tree)
+    }
+
+    /// The root element of a document, none where it has none or there is no such document. It has no parent.
+    pub fn root(&self, document: u32) -> Option<NodeId>
+        ensures value { option_map number result ≡ (document_at (self.now.tree) document).root }
+        ensures alone { (n : ℕ) → (document_at (self.now.tree) document).root ≡ Some n → (element_at (self.now.tree) n).parent ≡ None }
+        ensures held { IfSome result (λ root. root.0 < length self.now.tree.elements) }
+        ensures framed { AreFramed (self.now.tree) }
+    {
+        root_of(&self.tree, &self.documents, document)
+    }
+
+    /// The frame of a document (HTML, 7.3: container). None exactly for `top` and where there is no such document.
+    pub fn frame_of(&self, document: u32) -> Option<NodeId>
+        ensures value { option_map number result ≡ (document_at (self.now.tree) document).frame }
+        ensures top { document ≡ 0 → result ≡ None }
+        ensures framed { document ≢ 0 → document < length self.now.tree.documents → IsSome result }
+    {
+        if document < self.documents.count() {
+            self.documents.frame_of(document)
+        } else {
+            None
+        }
+    }
+
+    /// The documents from `top` to this one, each the one that holds the frame of the next. It takes no memory.
+    pub fn path(&self, document: u32) -> SmallVec<u32, 64>
+        requires { document < length self.now.tree.documents }
+        ensures path { result.items ≡ path_to (self.now.tree) document }
+        ensures top { is_active (self.now.tree) document ≡ true → first_of_list result.items ≡ Some 0 }
+    {
+        self.documents.path(&self.tree, document)
+    }
+
+    /// The node document of an element (DOM, 4.4). `top` where there is no such element.
+    pub fn document_of(&self, node: NodeId) -> u32
+        ensures { result ≡ (element_at (self.now.tree) node.0).document }
+    {
+        document_of(&self.tree, &self.documents, node)
+    }
+
+    /// The document in whose tree an element stands, none where it stands in no document's tree (DOM, 4.2.1: in a document tree).
+    pub fn tree_document(&self, node: NodeId) -> Option<u32>
+        requires { node.0 < length self.now.tree.elements }
+        ensures { result ≡ tree_document (self.now.tree) node.0 }
+    {
+        self.documents.tree_document(&self.tree, node)
+    }
+
+    /// The document in a frame (HTML, 4.8.5: content navigable), none for another element.
+    pub fn framed(&self, node: NodeId) -> Option<u32>
+        ensures { result ≡ (element_at (self.now.tree) node.0).framed }
+    {
+        if self.tree.holds(node) {
+            self.tree.payload(node).framed()
+        } else {
+            None
+        }
+    }
+}
+
+/// Elements.
+impl PageTree {
+    /// Whether this page gave the element. No element stands deeper than the limit, which is told here for what rests on it.
     pub fn holds(&self, node: NodeId) -> bool
         ensures value { result ≡ nat_lt node.0 (length self.now.tree.elements) }
         ensures trees { AreTrees (nodes_of (self.now.tree)) }
+        ensures deep { (n : ℕ) → element_depth (self.now.tree) n ≤ limit_number limits.Depth }
     {
         self.tree.holds(node)
-    }
-
-    /// The root element of `top`, none where it has none. It has no parent.
-    pub fn root(&self) -> Option<NodeId>
-        ensures value { result ≡ node_ids (top_root self.now) }
-        ensures alone { (n : ℕ) → top_root self.now ≡ Some n → (element_at (self.now.tree) n).parent ≡ None }
-        ensures held { (n : ℕ) → top_root self.now ≡ Some n → n < length self.now.tree.elements }
-        ensures lone { IsLone self.now.tree }
-    {
-        self.root
     }
 
     /// The name of an element.
@@ -72,21 +181,26 @@ impl PageTree {
         self.tree.depth(node)
     }
 
+    /// Where an element stands: under its parent, or as the root element of its node document; none where it stands nowhere.
+    pub fn container_of(&self, node: NodeId) -> Option<Container>
+        ensures { option_map seen_container result ≡ container_of (self.now.tree) node.0 }
+    {
+        container_of(&self.tree, &self.documents, node)
+    }
+
     /// Whether an element has a parent or is a root element.
     pub fn is_attached(&self, node: NodeId) -> bool
         ensures { result ≡ is_some (container_of (self.now.tree) node.0) }
     {
-        match self.tree.parent(node) {
-            Some(_) => true,
-            None => is_named(self.root, node),
-        }
+        self.container_of(node).is_some()
     }
 
-    /// The tree by itself, as layout reads it.
+    /// The tree by itself, as layout reads it. No element stands more than 256 deep in it.
     pub fn tree(&self) -> &Tree<Element>
-        ensures value { seen_page result.now (top_root self.now) ≡ self.now }
+        ensures value { seen_with result.now self.now.tree.documents ≡ self.now }
         ensures nodes { nodes_of (self.now.tree) ≡ tree_in style_in kind_in result.now.nodes }
-        ensures lone { IsLone self.now.tree }
+        ensures depth { result.now.most_depth ≡ limit_number limits.Depth }
+        ensures framed { AreFramed (self.now.tree) }
     {
         &self.tree
     }

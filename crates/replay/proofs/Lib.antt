@@ -1,4 +1,0 @@
-mod Building
-mod Playing
-mod Endings
-mod Taking

@@ -9,9 +9,9 @@ use Rattle.script_model.specs.Readers.{is_empty}
 use Rattle.script_model.specs.Syntax as syntax
 use Rattle.script_model.specs.Syntax.{NoMore, Then, Block}
 use Rattle.script_syntax.proofs.Reversed.{count_reversed, counted_first, reversed}
-use Rattle.script_syntax.specs.Allowed.{ActionAllowed, WhatAllowed, IsAllowed, ItemAllowed}
+use Rattle.script_syntax.specs.Allowed.{ActionAllowed, InnerAllowed, ItemAllowed}
 use Rattle.script_syntax.specs.Frames.{frame_of, opening_of, OpeningAllowed, FrameAllowed}
-use Rattle.script_syntax.specs.Seen.{action_of, command_at, item_at, block_of, command_of}
+use Rattle.script_syntax.specs.Seen.{action_of, command_at, block_of, command_of}
 use Rattle.script_syntax.specs.declared.commands.Command.{Command}
 use Rattle.script_syntax.specs.declared.commands.Item.{Item}
 use Rattle.script_syntax.specs.declared.commands.What.{What}
@@ -23,18 +23,6 @@ simple_command line (Each body) a = absurd a
 simple_command line (When condition body) a = absurd a
 simple_command line (Tick time) a = absurd a
 simple_command line other a = refl
-
-pub simple_item : (line : ℕ) (what : What) → ActionAllowed what → item_at line what ≡ syntax.Outside (command_at line what)
-simple_item line (Each body) a = absurd a
-simple_item line (When condition body) a = absurd a
-simple_item line (Tick time) a = absurd a
-simple_item line other a = refl
-
-pub action_allowed : (what : What) → ActionAllowed what → WhatAllowed what
-action_allowed (Each body) a = absurd a
-action_allowed (When condition body) a = absurd a
-action_allowed (Tick time) a = absurd a
-action_allowed other a = a
 
 empty_last : {A : Type 0} (xs : List A) (x : A) → is_empty (xs ++ (x ∷ [])) ≡ false
 unfolding is_empty
@@ -72,14 +60,14 @@ block_closed (c ∷ cs) =
     ∙ joined (reverse (map command_of cs)) (command_of c ∷ []) NoMore
     ∙ ap (λ (block : Block). Then (command_of c) block) (block_closed cs)
 
-pub frame_pushed : (frames : List Frame) (frame : Frame) → All FrameAllowed frames → OpeningAllowed frame.opening → All IsAllowed frame.commands.items → All FrameAllowed (frames ++ (frame ∷ []))
+pub frame_pushed : (frames : List Frame) (frame : Frame) → All FrameAllowed frames → OpeningAllowed frame.opening → All InnerAllowed frame.commands.items → All FrameAllowed (frames ++ (frame ∷ []))
 frame_pushed frames frame all o c = All-push FrameAllowed frames frame all (o, c)
 
 pub frame_opened : (frames : List Frame) (frame : Frame) → All FrameAllowed frames → OpeningAllowed frame.opening → frame.commands.items ≡ [] → All FrameAllowed (frames ++ (frame ∷ []))
-frame_opened frames frame all o e = All-push FrameAllowed frames frame all (o, subst (All IsAllowed) (sym e) (All-nil IsAllowed))
+frame_opened frames frame all o e = All-push FrameAllowed frames frame all (o, subst (All InnerAllowed) (sym e) (All-nil InnerAllowed))
 
-pub command_pushed : (commands : List Command) (command : Command) → All IsAllowed commands → IsAllowed command → All IsAllowed (commands ++ (command ∷ []))
-command_pushed commands command all a = All-push IsAllowed commands command all a
+pub command_pushed : (commands : List Command) (command : Command) → All InnerAllowed commands → InnerAllowed command → All InnerAllowed (commands ++ (command ∷ []))
+command_pushed commands command all a = All-push InnerAllowed commands command all a
 
 pub item_pushed : (items : List Item) (item : Item) → All ItemAllowed items → ItemAllowed item → All ItemAllowed (items ++ (item ∷ []))
 item_pushed items item all a = All-push ItemAllowed items item all a

@@ -57,6 +57,15 @@ ActionAllowed other = WhatAllowed other
 abbrev pub IsAllowed : Command → Type 0
 IsAllowed command = WhatAllowed command.what
 
+-- what can stand in a block or a handler: anything but `tick`
+abbrev pub IsInner : What → Type 0
+IsInner (what.Tick time) = ⊥
+IsInner other = Unit {0}
+
+-- a command of a block or handler
+abbrev pub InnerAllowed : Command → Type 0
+InnerAllowed command = IsAllowed command × IsInner command.what
+
 abbrev pub ItemAllowed : Item → Type 0
 ItemAllowed (item.Command command) = IsAllowed command
 ItemAllowed (item.Handler line name commands end_line) = Unit {0}

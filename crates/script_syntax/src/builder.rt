@@ -51,10 +51,9 @@ impl Builder {
     ghost use Rattle.std.specs.Prelude.{reverse, map, IfOk};
     ghost use Rattle.std.specs.List.{All};
     ghost use Rattle.script_model.specs.Readers.{is_empty};
-    ghost use Rattle.script_model.specs.Syntax as syntax;
-    ghost use Rattle.script_syntax.specs.Allowed.{IsAllowed, ItemAllowed};
+    ghost use Rattle.script_syntax.specs.Allowed.{InnerAllowed, ItemAllowed};
     ghost use Rattle.script_syntax.specs.Parsing.{Answers};
-    ghost use Rattle.script_syntax.specs.Seen.{command_of, item_of, item_at, command_at};
+    ghost use Rattle.script_syntax.specs.Seen.{command_of, item_of};
     ghost use Rattle.script_syntax.specs.Frames.{OpeningAllowed};
     ghost use Rattle.script_syntax.specs.Statements.{statement_of, StatementAllowed};
 
@@ -94,7 +93,7 @@ impl Builder {
     }
 
     /// A line's statement takes effect.
-    #[tactic(auto, unfolding(script_model::specs::Reading::placed), using(crate::proofs::Opened::simple_command, crate::proofs::Opened::simple_item, crate::proofs::Opened::action_allowed))]
+    #[tactic(auto, unfolding(script_model::specs::Reading::placed), using(crate::proofs::Opened::simple_command, crate::proofs::Inner::action_allowed, crate::proofs::Inner::action_inner))]
     pub fn place(&mut self, line: u32, statement: Statement) -> Result<(), ParseFault>
         requires { StatementAllowed statement }
         ensures { Answers (λ placed. self.new) result (model.placed line (statement_of statement) self.old) }
@@ -120,10 +119,9 @@ impl Builder {
     }
 
     /// A command belongs to the innermost block or handler that is open, or is an item.
-    #[tactic(auto, unfolding(script_model::specs::Reading::put), using(crate::proofs::Opened::frame_pushed, crate::proofs::Opened::command_pushed, crate::proofs::Opened::item_pushed))]
+    #[tactic(auto, unfolding(script_model::specs::Reading::put), using(crate::proofs::Inner::inner_item, crate::proofs::Opened::frame_pushed, crate::proofs::Opened::command_pushed, crate::proofs::Opened::item_pushed))]
     fn put(&mut self, command: Command) -> Result<(), AllocError>
-        requires allowed { IsAllowed command }
-        requires outside { item_at command.line command.what ≡ syntax.Outside (command_of command) }
+        requires { InnerAllowed command }
         ensures { IfOk result (λ put. self.new ≡ model.put (command_of command) self.old) }
     {
         if let Some(mut frame) = self.frames.pop() {

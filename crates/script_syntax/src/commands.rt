@@ -102,7 +102,7 @@ pub struct Body {
     pub end_line: u32,
 }
 
-/// Commands in order. A contract sees them as a block of commands.
+/// The commands of a block or a handler, in order, none of them a `tick`. A contract sees them as a block of commands.
 #[cycle(commands)]
 #[derive(Drop)]
 pub struct CommandList {
@@ -119,11 +119,11 @@ impl Model for CommandList {
 
     ghost use Rattle.std.specs.List.{All};
     ghost use Rattle.script_syntax.specs.Seen.{block_of, block_size};
-    ghost use Rattle.script_syntax.specs.Allowed.{IsAllowed};
+    ghost use Rattle.script_syntax.specs.Allowed.{InnerAllowed};
 
     ghost view = { λ list. block_of list.commands.items };
 
-    ghost invariant = { λ list. All IsAllowed list.commands.items };
+    ghost invariant = { λ list. All InnerAllowed list.commands.items };
 
     ghost size = { block_size };
 
@@ -134,20 +134,20 @@ impl Model for CommandList {
 
 impl CommandList {
     ghost use Rattle.script_syntax.specs.Seen.{block_of};
-    ghost use Rattle.script_syntax.specs.Allowed.{IsAllowed};
+    ghost use Rattle.script_syntax.specs.Allowed.{InnerAllowed};
 
-    /// The list of these commands.
+    /// The list of these commands, none of which is a `tick`.
     pub fn new(commands: Vec<Command>) -> CommandList
-        requires { All IsAllowed commands.items }
+        requires { All InnerAllowed commands.items }
         ensures { result ≡ block_of commands.items }
     {
         CommandList { commands }
     }
 
-    /// Its commands.
+    /// Its commands, none of which is a `tick`.
     pub fn commands(&self) -> &[Command]
         ensures value { block_of result.now ≡ self.now }
-        ensures allowed { All IsAllowed result.now }
+        ensures allowed { All InnerAllowed result.now }
     {
         self.commands.as_slice()
     }
@@ -155,7 +155,7 @@ impl CommandList {
     /// Its commands, given back.
     pub fn into_commands(self) -> Vec<Command>
         ensures value { block_of result.items ≡ self }
-        ensures allowed { All IsAllowed result.items }
+        ensures allowed { All InnerAllowed result.items }
     {
         self.commands
     }

@@ -16,3 +16,10 @@ margin_fits a h = omega (arith, ints)
 
 pub width_fits : (a b : ℤ) → IsRootEdge a → IsRootEdge b → cast_signed w64 (cast_unsigned w64 (cast_signed w64 (cast_unsigned w64 a) -ℤ cast_signed w64 (cast_unsigned w64 b))) ≡ a -ℤ b
 width_fits a b h g = omega (arith, ints)
+
+-- how far an edge is moved
+pub lessened : (a b m : ℤ) → a ≡ b -ℤ m → IsMargin m → IsMargin (a -ℤ b)
+lessened a b m is it = record { low = omega (arith, ints); high = omega (arith, ints) }
+
+pub increased : (a b m : ℤ) → a ≡ b +ℤ m → IsMargin m → IsMargin (a -ℤ b)
+increased a b m is it = record { low = omega (arith, ints); high = omega (arith, ints) }

@@ -23,3 +23,10 @@ pub record IsRootRect (root : Rect) : Type 0 where
 pub record IsMargin (units : ℤ) : Type 0 where
   pub low : negsuc 439804651110399 ≤ℤ units
   pub high : units ≤ℤ pos 439804651110400
+
+-- a rectangle each of whose edges is moved by at most so much
+pub record IsNear (root moved : Rect) : Type 0 where
+  pub left : IsMargin (moved.left -ℤ root.left)
+  pub top : IsMargin (moved.top -ℤ root.top)
+  pub right : IsMargin (moved.right -ℤ root.right)
+  pub bottom : IsMargin (moved.bottom -ℤ root.bottom)

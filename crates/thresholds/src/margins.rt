@@ -3,7 +3,7 @@ ghost use Rattle.script_model.specs.MarginText.{completed, margins_of};
 ghost use Rattle.page_model.specs.Chains.{moved_out};
 ghost use Rattle.px_units.specs.Rects.{RectInReach};
 ghost use Rattle.thresholds.specs.Parts.{seen_part, IsWithinForm, read_all, after};
-ghost use Rattle.thresholds.specs.Roots.{IsRootRect, IsMargin};
+ghost use Rattle.thresholds.specs.Roots.{IsRootRect, IsMargin, IsNear};
 ghost use Rattle.thresholds.specs.declared.ThresholdFault.TheVariants.{MarginSyntax};
 
 use crate::ThresholdFault;
@@ -64,6 +64,7 @@ fn outward(root: Rect, left: i64, top: i64, right: i64, bottom: i64) -> Rect
     requires bottom { IsMargin bottom }
     ensures moved { result ≡ record { left = root.left -ℤ left; top = root.top -ℤ top; right = root.right +ℤ right; bottom = root.bottom +ℤ bottom } }
     ensures bound { RectInReach result }
+    ensures near { IsNear root result }
 {
     Rect {
         left: root.left - left,
@@ -155,11 +156,12 @@ impl Margins {
     /// itself.
     ///
     /// The edges of the rectangle lie between -2^48 and 2^48 and its width between -2^42 and 2^42; the edges of the
-    /// answer lie between -2^50 and 2^50.
+    /// answer lie between -2^50 and 2^50, each at most 439,804,651,110,400 units from that of the rectangle.
     pub fn dilate(&self, root: Rect) -> Rect
         requires { IsRootRect root }
         ensures moved { result ≡ moved_out self.now root }
         ensures bound { RectInReach result }
+        ensures near { IsNear root result }
     {
         let width = root.right - root.left;
         let left = units(self.left, width);

@@ -8,8 +8,10 @@ use Rattle.frame_update.proofs.Ready.{ready_called, ready_next}
 use Rattle.frame_update.proofs.rounds.call_observer.Goals as goal
 use Rattle.frame_update.proofs.rounds.call_observer.Goals.{then-is_active, else-is_active}
 
-pub run_handler-requires-clause-handed : goal.run_handler-requires-clause-handed
-run_handler-requires-clause-handed g c = are_handed _ c.args.delivery.observer.0 c.args.delivery.entries c.requires.observer c.requires.entries c.requires.lengths
+pub run_handler-requires : goal.run_handler-requires
+run_handler-requires g c = record {
+  handed = are_handed _ c.args.delivery.observer.0 c.args.delivery.entries c.requires.observer c.requires.entries c.requires.lengths;
+}
 
 pub end_delivery-requires : goal.end_delivery-requires
 end_delivery-requires g c = called_within _ _ _ _ _ _ c.in_ok-run_handler.ensures.ended.state_is c.args.delivery.observer.0 c.requires.observer

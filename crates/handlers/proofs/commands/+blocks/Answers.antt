@@ -1,16 +1,16 @@
-use Rattle.std.proofs.Common.{◌≡◌, ◌+◌, ◌≤◌, true, ap, arith, refl, rules, subst, sym, ◌∙◌}
+use Rattle.std.proofs.Common.{◌≡◌, ◌+◌, ◌≤◌, ap, arith, refl, rules, ◌∙◌}
 use Rattle.script_syntax.specs.Seen.{command_of, command_size, block_size, block_of}
 use Rattle.trace_runs.proofs.Following.{begin, rest_same, go_on, end_thrown, end_cut, done}
 use Rattle.trace_runs.proofs.Loops.{each_more, each_none}
 use Rattle.trace_runs.proofs.Runs.{run_same, silent_run}
 use Rattle.page_state.specs.Views.{PageView}
-use Rattle.handlers.specs.Blocks.{are_run}
 use Rattle.page_model.specs.Callbacks.{presents, run_block}
 use Rattle.script_model.specs.Scripts.{handlers_in}
 use Rattle.handlers.specs.Entries.{entries_of, present_at}
 use Rattle.trace_runs.proofs.Answered.{threw_run}
 use Rattle.handlers.proofs.Answered.{apply_same, begun_is, found_same, held_is, unheld_is, unbegun_run}
-use Rattle.handlers.proofs.Blocks.{action_allowed, action_applied, block_more, block_same, block_none, command_begins, command_runs, each_does, each_runs, each_size, others_run, simple_does, simple_is, size_within, test_allowed, when_does, when_runs, when_size}
+use Rattle.script_syntax.proofs.Inner.{inner_action}
+use Rattle.handlers.proofs.Blocks.{block_more, block_same, block_none, command_begins, each_does, each_size, simple_does, simple_is, size_within, test_allowed, when_does, when_size}
 use Rattle.handlers.proofs.Growing.{in_after_begun, in_after_block, in_after_command}
 use Rattle.handlers.proofs.Places.{present_is, subject_in}
 use Rattle.handlers.proofs.commands.+blocks.Goals as goal
@@ -24,7 +24,6 @@ pub run_command-run_each-requires : goal.run_command-run_each-requires
 run_command-run_each-requires g t c =
     let size : command_size (command_of c.args.command.now) ≡ block_size c.in-Each.body.commands + 1 =
     each_size c.args.command.now.line c.args.command.now.what c.in-Each.body c.in-Each.is in
-    let built = each_runs c.args.command.now.line c.args.command.now.what c.requires.built c.in-Each.body c.in-Each.is in
     let targets = in_after_begun c.args.page.now.world _ _ c.in_default.ensures.counted c.requires.targets in
     λ lives within. (omega arith, search rules)
 
@@ -32,8 +31,7 @@ pub run_command-apply-requires : goal.run_command-apply-requires
 run_command-apply-requires g t c =
     record {
       begun = c.in_default.ensures.begun;
-      allowed = action_allowed c.args.command.now.line c.args.command.now.what c.in_default-what.not-Each c.in_default-what.not-When c.requires.built c.requires.allowed;
-      built = action_applied c.args.command.now.line c.args.command.now.what c.in_default-what.not-Each c.in_default-what.not-When c.requires.built;
+      allowed = inner_action c.args.command.now.what c.in_default-what.not-Each c.in_default-what.not-When c.requires.allowed.0 c.requires.allowed.1;
       subject = subject_in c.begin_command.new.self.world _ _ _ _ c.subject_at-present.ensures (in_after_begun c.args.page.now.world _ _ c.in_default.ensures.counted c.requires.targets);
     }
 
@@ -94,7 +92,6 @@ pub run_block-loop-command-init : goal.run_block-loop-command-init
 run_block-loop-command-init g t c =
     record {
       following = rest_same (block_same _ _ _ _ c.commands-command-items.ensures.value) begin;
-      runs = subst (λ block. are_run block ≡ true) (sym c.commands-command-items.ensures.value) c.requires.built;
       targets = c.requires.targets;
     }
 
@@ -103,15 +100,13 @@ run_block-run_command-requires g t c =
     let size : command_size (command_of c.command-item.result) ≤ block_size (block_of c.commands-command-items.result.now) =
     size_within c.commands-command-items.result.now c.loop-command.command-index _ _ (omega arith) c.command-item.is in
     let same = ap block_size c.commands-command-items.ensures.value in
-    let built = command_runs c.commands-command-items.result.now _ _ (omega arith) c.command-item.is c.loop-command.invariant.runs in
     λ lives within. (omega arith, search rules)
 
 pub run_command-run_when-requires : goal.run_command-run_when-requires
 run_command-run_when-requires g t c =
     let size : command_size (command_of c.args.command.now) ≡ block_size c.in-When.body.commands + 1 =
     when_size c.args.command.now.line c.args.command.now.what c.in-When.condition c.in-When.body c.in-When.is in
-    let allowed = test_allowed c.args.command.now.what c.in-When.condition c.in-When.body c.in-When.is c.requires.allowed in
-    let built = when_runs c.args.command.now.line c.args.command.now.what c.requires.built c.in-When.condition c.in-When.body c.in-When.is in
+    let allowed = test_allowed c.args.command.now.what c.in-When.condition c.in-When.body c.in-When.is c.requires.allowed.0 in
     let targets = in_after_begun c.args.page.now.world _ _ c.in_default.ensures.counted c.requires.targets in
     λ lives within. (omega arith, search rules)
 
@@ -134,7 +129,6 @@ run_block-loop-command-preserved g t c =
           go_on _ refl
           (rest_same (block_more c.commands-command-items.result.now _ _ (omega arith) c.command-item.is _ _ _ _) c.loop-command.invariant.following)
           (rw c.in-Ok-Next.field-0-is at c.in-Ok-Next.ensures);
-      runs = others_run c.commands-command-items.result.now _ _ (omega arith) c.command-item.is c.loop-command.invariant.runs;
       targets = in_after_command c.runs_take_nothing_back.ensures.commands _ _ _ _ _ _ c.in-Ok-Next.ensures.ended.state_is c.loop-command.invariant.targets;
     }
 

@@ -1,10 +1,9 @@
-use Rattle.std.proofs.Common.{◌≡◌, ◌+◌, ◌*◌, drop, true}
+use Rattle.std.proofs.Common.{◌+◌, ◌*◌, drop}
 use Rattle.script_model.specs.Scripts.{handlers_in}
 use Rattle.script_syntax.specs.Seen.{command_of, block_of, command_size, block_size}
 use Rattle.page_model.specs.Callbacks.{presents, run_block}
 use Rattle.page_model.specs.Runs.{for_each}
 use Rattle.trace_runs.proofs.Following.{Following}
-use Rattle.handlers.specs.Blocks.{are_run}
 use Rattle.handlers.specs.Entries.{entries_of, present_at, AreIn}
 use Rattle.handlers.proofs.commands.+blocks.Given as goal
 
@@ -35,6 +34,5 @@ invariant-run_block-loop-command g l = record {
   following : Following (g.K.Sink.taken l.fn.sink) (g.K.Sink.taken l.sink) (g.K.Sink.faults l.fn.sink) (g.K.Sink.faults l.sink)
       (run_block (handlers_in l.script) (presents (entries_of l.entries)) l.block (present_at (presents (entries_of l.entries)) l.subject) l.fn.page.world)
       (run_block (handlers_in l.script) (presents (entries_of l.entries)) (block_of (drop l.command-index l.command-items)) (present_at (presents (entries_of l.entries)) l.subject) l.page.world);
-  runs : are_run (block_of (drop l.command-index l.command-items)) ≡ true;
   targets : AreIn l.page.world (presents (entries_of l.entries));
 }

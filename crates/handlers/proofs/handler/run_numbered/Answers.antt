@@ -1,10 +1,8 @@
-use Rattle.std.proofs.Common.{◌≡◌, ap, refl, subst, sym, true, ◌∙◌}
+use Rattle.std.proofs.Common.{ap, refl, sym, ◌∙◌}
 use Rattle.std.specs.Prelude.{Some}
-use Rattle.script_model.specs.Scripts.{handlers_in}
 use Rattle.script_syntax.specs.Seen.{item_of}
 use Rattle.trace_runs.proofs.Runs.{caught_cut, caught_ended, run_same, silent_run}
-use Rattle.handlers.specs.Blocks.{are_run}
-use Rattle.handlers.proofs.Handlers.{handler_is, handler_runs, named_is, no_command, no_handler_is, unnamed_is}
+use Rattle.handlers.proofs.Handlers.{handler_is, named_is, no_command, no_handler_is, unnamed_is}
 use Rattle.handlers.proofs.handler.run_numbered.Goals as goal
 
 pub returns-in-None : goal.returns-in-None
@@ -14,12 +12,6 @@ pub unreachable-requires : goal.unreachable-requires
 unreachable-requires g c =
     no_command c.args.script.now c.args.number c.in-Some-Command.field-0-0.line c.in-Some-Command.field-0-0.what
     (ap (λ item. Some (item_of item)) (sym c.in-Some-Command.field-0-is) ∙ c.in-Some-Command.ensures)
-
-pub run_block-requires-clause-built : goal.run_block-requires-clause-built
-run_block-requires-clause-built g c =
-    subst (λ block. are_run block ≡ true)
-    (handler_is c.args.script.now c.args.number _ _ _ _ (ap (λ item. Some (item_of item)) (sym c.in-Some-Handler.field-0-is) ∙ c.in-Some-Handler.ensures))
-    (handler_runs (handlers_in c.args.script.now) c.args.number c.requires.built)
 
 pub returns-in-Ok : goal.returns-in-Ok
 returns-in-Ok g c =

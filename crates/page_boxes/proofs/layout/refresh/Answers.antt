@@ -1,36 +1,56 @@
-use Rattle.std.proofs.Common.{◌≡◌, Some, ap, sym, ◌∙◌, arith}
-use Rattle.layout_model.specs.Boxes.{box_of_node}
+use Rattle.std.proofs.Common.{◌≡◌, ◌+◌, length, true, refl, ap, sym, subst, ◌∙◌, arith}
+use borrow.Author.Count.{below_more}
+use Rattle.page_model.specs.Documents.{first_of_list, is_active}
+use Rattle.page_documents.specs.Paths.{way_down}
 use Rattle.block_layout.specs.Held.{held_in}
-use Rattle.block_layout.specs.Trees.{layout_tree}
-use Rattle.page_tree.specs.Items.{style_in, kind_in}
-use Rattle.page_tree.specs.Views.{top_root}
 use Rattle.page_boxes.specs.Pages.{seen_size}
-use Rattle.element_tree.proofs.Depths.{some_of_ids, none_of_ids}
-use Rattle.page_boxes.proofs.Renewed.{count_here, fresh_rootless, boxes_rootless, boxes_here, fresh_filled}
+use Rattle.page_boxes.specs.Filled.{is_filled, AreFilled, filled_number}
+use Rattle.page_boxes.proofs.Views.{path_leads}
+use Rattle.page_boxes.proofs.Going.{none_filled, none_number, fresh_in, active_known, all_number}
 use Rattle.page_boxes.proofs.layout.refresh.Goals as goal
 
-pub fill-requires : goal.fill-requires
-fill-requires g c =
-    let rooted : top_root c.args.page.now ≡ Some (c.in-Some.root.0) = some_of_ids _ c.in-Some.root (sym c.root.ensures.value ∙ c.in-Some.is) in
-    omega (arith, c.root.ensures.held (c.in-Some.root.0) rooted, count_here c.args.page.now c.tree.result.now c.tree.ensures.value)
+pub loop-document-init : goal.loop-document-init
+loop-document-init g c =
+    let nothing = ap (filled_number c.args.page.now.tree (seen_size c.args.viewport)) c.new-filled.ensures ∙ none_number c.args.page.now.tree (seen_size c.args.viewport) in
+    record {
+      places = refl;
+      count = ap (λ marks. length marks) c.new-filled.ensures;
+      filled = subst (λ marks. AreFilled c.args.page.now.tree (seen_size c.args.viewport) marks (held_in c.args.boxes.now)) (sym c.new-filled.ensures)
+          (none_filled c.args.page.now.tree (seen_size c.args.viewport) (held_in c.args.boxes.now));
+      done = λ document low. absurd (omega arith);
+      ticks = omega (arith, nothing);
+    }
 
-pub returns-in_default-clause-fresh : goal.returns-in_default-clause-fresh
-returns-in_default-clause-fresh g c =
-    fresh_rootless c.args.page.now.tree c.root.ensures.lone (none_of_ids _ (sym c.root.ensures.value ∙ c.in_default.is)) (seen_size c.args.viewport) (held_in c.args.boxes.now)
+pub fill_up-requires-clause-leads : goal.fill_up-requires-clause-leads
+fill_up-requires-clause-leads g c active =
+    ap (λ count. first_of_list (way_down count c.args.page.now.tree c.loop-document.document)) c.document_count-count.ensures.value
+    ∙ path_leads c.args.page.now.tree c.document_count-count.ensures.framed c.loop-document.document active
 
-pub returns-in_default-clause-ticks : goal.returns-in_default-clause-ticks
-returns-in_default-clause-ticks g c = boxes_rootless c.args.page.now.tree (none_of_ids _ (sym c.root.ensures.value ∙ c.in_default.is)) c.args.steps.now
+pub loop-document-preserved : goal.loop-document-preserved
+loop-document-preserved g c = record {
+  places = c.fill_up.ensures.places ∙ c.loop-document.invariant.places;
+  count = c.fill_up.ensures.goes.count;
+  filled = c.fill_up.ensures.goes.filled;
+  done =
+      below_more (λ document. is_active c.args.page.now.tree document ≡ true → is_filled c.fill_up.new.filled document ≡ true) c.loop-document.document
+      (λ document low active. c.fill_up.ensures.goes.more document (c.loop-document.invariant.done document low active)) c.fill_up.ensures.marked;
+  ticks = omega (arith, c.fill_up.ensures.ticks, c.loop-document.invariant.ticks);
+}
 
 pub returns-clause-fresh : goal.returns-clause-fresh
-returns-clause-fresh g c =
-    let rooted = some_of_ids _ c.in-Some.root (sym c.root.ensures.value ∙ c.in-Some.is) in
-    fresh_filled c.args.page.now.tree c.tree.ensures.lone (layout_tree style_in kind_in c.tree.result.now.nodes) c.tree.ensures.nodes (c.in-Some.root.0) rooted (seen_size c.args.viewport)
-    (held_in c.fill.new.self) _ c.requires
-    (λ n made inside.
-    c.fill.ensures.boxes (sym (ap (λ at. (at (c.in-Some.root.0)).parent) c.tree.ensures.nodes) ∙ c.root.ensures.alone (c.in-Some.root.0) rooted) n made inside
-    ∙ ap (λ inputs. box_of_node (layout_tree style_in kind_in c.tree.result.now.nodes) (c.in-Some.root.0) inputs n) c.root_inputs.ensures)
+returns-clause-fresh g c = record {
+  documents = λ document.
+      fresh_in c.args.page.now.tree (seen_size c.args.viewport) c.loop-document.filled (held_in c.loop-document.boxes) c.loop-document.invariant.filled document
+      (λ active.
+      let known = active_known c.args.page.now.tree (seen_size c.args.viewport) document active in
+      c.loop-document.invariant.done document (omega (arith, known, c.document_count-count.ensures.value, c.loop-document-test.false)) active);
+}
 
 pub returns-clause-ticks : goal.returns-clause-ticks
 returns-clause-ticks g c =
-    let rooted = some_of_ids _ c.in-Some.root (sym c.root.ensures.value ∙ c.in-Some.is) in
-    c.fill.ensures.ticks ∙ boxes_here c.args.page.now.tree c.tree.ensures.lone (layout_tree style_in kind_in c.tree.result.now.nodes) c.tree.ensures.nodes (c.in-Some.root.0) rooted c.args.steps.now
+    c.loop-document.invariant.ticks
+    ∙ ap (λ n. c.args.steps.now + n)
+    (all_number c.args.page.now.tree (seen_size c.args.viewport) c.document_count-count.ensures.bound c.loop-document.filled
+    (λ document active.
+    let known = active_known c.args.page.now.tree (seen_size c.args.viewport) document active in
+    c.loop-document.invariant.done document (omega (arith, known, c.document_count-count.ensures.value, c.loop-document-test.false)) active))

@@ -4,7 +4,6 @@ use Rattle.layout_model.specs.Places.{offset_of}
 use Rattle.layout_model.proofs.Paths.{path_self, ancestors_child, ancestors_top}
 use Rattle.element_tree.specs.Forest.{parent_of}
 use Rattle.element_tree.proofs.Depths.{some_of_ids, none_of_ids, depth_positive}
-use Rattle.element_tree.proofs.Levels.{low_enough}
 use Rattle.block_layout.specs.Trees.{layout_tree}
 use Rattle.block_layout.proofs.Nodes.{parent_is}
 use Rattle.block_layout.proofs.Forests.{shallow}
@@ -58,8 +57,8 @@ returns-clause-value g c view holds boxed =
 
 pub returns-clause-across : goal.returns-clause-across
 returns-clause-across g c =
-    omega (arith, c.loop-parent.invariant.across, low_enough c.parent.ensures.forest (c.args.node.0), depth_positive c.args.tree.now.nodes (c.loop-parent.at.0))
+    omega (arith, c.loop-parent.invariant.across, c.parent.ensures.forest.within (c.args.node.0), depth_positive c.args.tree.now.nodes (c.loop-parent.at.0))
 
 pub returns-clause-down : goal.returns-clause-down
 returns-clause-down g c =
-    omega (arith, c.loop-parent.invariant.down, low_enough c.parent.ensures.forest (c.args.node.0), depth_positive c.args.tree.now.nodes (c.loop-parent.at.0))
+    omega (arith, c.loop-parent.invariant.down, c.parent.ensures.forest.within (c.args.node.0), depth_positive c.args.tree.now.nodes (c.loop-parent.at.0))

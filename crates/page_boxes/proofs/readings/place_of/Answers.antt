@@ -1,21 +1,45 @@
-use Rattle.std.proofs.Common.{sym, ◌∙◌}
-use Rattle.std.specs.Prelude.{pos}
-use Rattle.block_layout.specs.Trees.{layout_tree}
+use Rattle.std.proofs.Common.{ap, sym, subst, ◌∙◌, arith}
+use Rattle.std.specs.Prelude.{is_some}
+use Rattle.layout_model.specs.Nodes.{path_of, ancestors_of}
+use Rattle.layout_model.specs.Points.{sum_points}
+use Rattle.layout_model.specs.Reach.{inputs_in_view, offset_in_force}
+use Rattle.layout_model.specs.Places.{offset_of}
+use Rattle.page_model.specs.World.{ScrolledDocument}
+use Rattle.page_model.specs.Lookups.{element_at}
+use Rattle.page_model.specs.Documents.{nodes_of}
+use Rattle.page_model.specs.Scrolls.{position_of}
+use Rattle.page_model.specs.PageBoxes.{pair_of, stored_in, view_of, point_of, scroll_offset}
 use Rattle.page_tree.specs.Items.{style_in, kind_in}
-use Rattle.page_boxes.proofs.Pages.{top_view, holds_all, has_box_here, place_here}
-use Rattle.page_boxes.proofs.Shown.{point_is, place_none}
+use Rattle.page_boxes.specs.Fresh.{HoldsAll}
+use Rattle.page_boxes.specs.Pages.{seen_size}
+use Rattle.page_boxes.proofs.InForce.{document_offset}
+use Rattle.page_boxes.proofs.Pages.{boxed_is, as_pair}
+use Rattle.page_boxes.proofs.Shown.{place_none, place_there, place_found}
 use Rattle.page_boxes.proofs.readings.place_of.Goals as goal
 
 pub returns-then-not-has_box-clause-value : goal.returns-then-not-has_box-clause-value
-returns-then-not-has_box-clause-value g c size scrolls fresh still =
-    place_none c.args.page.now.tree size scrolls (c.args.node.0) (sym (c.has_box.ensures size) ∙ c.if-not-has_box.true)
+returns-then-not-has_box-clause-value g c fresh =
+    place_none c.args.page.now.tree (seen_size c.args.viewport) c.args.scrolls.now (c.args.node.0) (sym (c.has_box.ensures (seen_size c.args.viewport)) ∙ c.if-not-has_box.true)
 
 pub returns-clause-value : goal.returns-clause-value
-returns-clause-value g c size scrolls fresh still =
+returns-clause-value g c fresh =
+    let tree = c.args.page.now.tree in
+    let size = seen_size c.args.viewport in
+    let scrolls = c.args.scrolls.now in
+    let n = c.args.node.0 in
+    let own = (element_at tree n).document in
+    let view = view_of tree size own in
+    let nodes = c.tree-tree.ensures.nodes in
     let there = sym (c.has_box.ensures size) ∙ c.if-not-has_box.false in
-    let at = layout_tree style_in kind_in c.tree.result.now.nodes in
-    point_is c.as_point.result (pos c.place.result.across) (pos c.place.result.down) c.as_point.ensures.left c.as_point.ensures.top
-    ∙ place_here c.args.page.now.tree c.tree.ensures.lone size at c.tree.ensures.nodes scrolls still (c.args.node.0) there (c.place.result.across) (c.place.result.down)
-    (c.place.ensures.value (top_view c.args.page.now.tree size)
-    (holds_all c.args.page.now.tree c.tree.ensures.lone size at c.tree.ensures.nodes (g.B.Boxes.held c.args.boxes.now) fresh)
-    (sym (has_box_here c.args.page.now.tree c.tree.ensures.lone size at c.tree.ensures.nodes (c.args.node.0)) ∙ there))
+    let boxed = sym (ap (λ at. is_some (inputs_in_view at view n)) nodes) ∙ sym (boxed_is tree size n) ∙ there in
+    let holds = subst (λ at. HoldsAll at view (g.B.Boxes.held c.args.boxes.now)) nodes (fresh.documents own) in
+    c.moved_back.ensures.value
+    ∙ ap point_of
+    (place_found (nodes_of tree) (stored_in scrolls) view (pair_of (position_of (ScrolledDocument own) scrolls)) n
+    c.place.result.across c.place.result.down c.scrolled.result.across c.scrolled.result.down c.unsigned.result.across c.unsigned.result.down
+    (c.place.ensures.value view holds boxed ∙ ap (λ at. sum_points (offset_of at view) (path_of at n)) (sym nodes))
+    (c.scrolled.ensures.value view holds boxed ∙ ap (λ at. sum_points (offset_in_force at (stored_in scrolls) view) (ancestors_of at n)) (sym nodes))
+    (as_pair c.view_offset-view.result _ (c.view_offset-view.ensures.value (λ frame is. fresh.documents (element_at tree frame).document) (fresh.documents c.document_of.result))
+    c.unsigned.result.across c.unsigned.result.down c.unsigned.ensures.across c.unsigned.ensures.down
+    ∙ ap (λ document. pair_of (scroll_offset tree size scrolls (ScrolledDocument document))) c.document_of.ensures ∙ sym (document_offset tree size scrolls own)))
+    ∙ place_there tree size scrolls n there

@@ -1,8 +1,4 @@
 -- A handler that is named.
-use Rattle.std.proofs.Common.{◌≡◌, ℕ, List, Option, sym, subst}
-use Rattle.page_model.specs.Callbacks.{handler_names}
-use Rattle.page_model.specs.Operands.{handler_given}
-use Rattle.page_state.specs.Answers.{Finds}
 use Rattle.page_state.proofs.Handlers.{given_found, given_missing}
 use Rattle.page_state.proofs.lookups.handler_given.Goals as goal
 

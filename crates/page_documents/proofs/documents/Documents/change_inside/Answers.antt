@@ -22,7 +22,7 @@ pub returns : goal.returns
 returns g c =
     let held = c.as_slice.ensures.value ∙ ap (λ (it : HeldDocuments). it.held) c.self.view_is in
     let count = ap (λ (it : HeldDocuments). length it.held) c.self.view_is in
-    let few : length c.args.self.now.held ≤ 64 = omega (arith, count, c.self.invariant.within, c.self.invariant.bounded) in
+    let few : length c.args.self.now.held ≤ 64 = omega (arith, count, c.self.invariant.held.within, c.self.invariant.held.bounded) in
     c.set_states.ensures
     ∙ ap (λ (held : List Document). let it : HeldDocuments = record c.args.self.now { held = held } in it)
     (inside_changed (put_in c.args.to) (λ it. refl) (is_in c.args.from) (seen_tree (g.P.Owned.carried) c.args.tree.now c.as_slice.result.now)

@@ -9,7 +9,7 @@ pub returns-clause-path : goal.returns-clause-path
 returns-clause-path g c =
     c.climb.ensures.path
     ∙ ap (λ xs. xs ++ way_down c.count.result (seen_tree (g.P.Owned.carried) c.args.tree.now c.args.self.now.held) c.args.document) c.new-path.ensures.items
-    ∙ ap (λ n. way_down n (seen_tree (g.P.Owned.carried) c.args.tree.now c.args.self.now.held) c.args.document) c.count.ensures
+    ∙ ap (λ n. way_down n (seen_tree (g.P.Owned.carried) c.args.tree.now c.args.self.now.held) c.args.document) c.count.ensures.value
     ∙ path_whole (seen_tree (g.P.Owned.carried) c.args.tree.now c.args.self.now.held) c.args.document
 
 pub returns-clause-top : goal.returns-clause-top

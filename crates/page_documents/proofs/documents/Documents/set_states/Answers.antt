@@ -16,7 +16,7 @@ loop-document-preserved c =
     let now = c.loop-document.self-inside.held.items in
     let inside : c.loop-document.document < length now = omega (arith, c.loop-document.invariant.count, c.len-document-end.ensures) in
     let marked : c.loop-document.document < length c.args.found.now = omega
-    (arith, c.self.invariant.within, c.self.invariant.bounded, c.len-document-end.ensures) in
+    (arith, c.self.invariant.held.within, c.self.invariant.held.bounded, c.len-document-end.ensures) in
     elim c.if-has.branch [
       | then-has w ↦
           let here = held_set c.loop-document.invariant.is_held c.loop-document.document w.index_mut.result.now w.set_state.new.self inside

@@ -71,3 +71,18 @@ pub returns-in-Say : goal.returns-in-Say
 returns-in-Say g c =
     subst (λ (it : What). Kept c.args.self.now c.args.self.now (Ok (Line (trace.Say c.in-Say.word))) (does (handler_names (handlers_in c.args.script.now)) c.args.self.now.world (present_of c.args.subject) (action_of it)))
     (sym c.in-Say.is) (says (handler_names (handlers_in c.args.script.now)) c.args.self.now (present_of c.args.subject) c.in-Say.word)
+
+pub returns-in-Frame : goal.returns-in-Frame
+returns-in-Frame g c =
+    subst (λ (it : What). Kept c.args.self.now c.make_frame.new.self c.make_frame.result (does (handler_names (handlers_in c.args.script.now)) c.args.self.now.world (present_of c.args.subject) (action_of it)))
+    (sym c.in-Frame.is) (kept_at (handler_names (handlers_in c.args.script.now)) (c.make_frame.ensures (present_of c.args.subject)))
+
+pub returns-in-IoDisconnect : goal.returns-in-IoDisconnect
+returns-in-IoDisconnect g c =
+    subst (λ (it : What). Kept c.args.self.now c.unregister_all.new.self c.unregister_all.result (does (handler_names (handlers_in c.args.script.now)) c.args.self.now.world (present_of c.args.subject) (action_of it)))
+    (sym c.in-IoDisconnect.is) (kept_at (handler_names (handlers_in c.args.script.now)) (c.unregister_all.ensures (present_of c.args.subject)))
+
+pub returns-in-IoTake : goal.returns-in-IoTake
+returns-in-IoTake g c =
+    subst (λ (it : What). Kept c.args.self.now c.take_entries.new.self c.take_entries.result (does (handler_names (handlers_in c.args.script.now)) c.args.self.now.world (present_of c.args.subject) (action_of it)))
+    (sym c.in-IoTake.is) (kept_at (handler_names (handlers_in c.args.script.now)) (c.take_entries.ensures (present_of c.args.subject)))

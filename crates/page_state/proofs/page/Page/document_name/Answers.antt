@@ -5,7 +5,6 @@ use Rattle.page_model.specs.World.{DocumentThing, Name}
 use Rattle.page_model.specs.Names.{is_same_thing}
 use Rattle.page_state.specs.Views.{PageView}
 use Rattle.page_state.proofs.Found.{some_named}
-use Rattle.page_state.proofs.Top.{counted_one}
 use Rattle.page_state.proofs.page.Page.document_name.Goals as goal
 
 pub unwrap-requires : goal.unwrap-requires
@@ -13,5 +12,4 @@ unwrap-requires c =
     subst (λ (it : Option (List ℕ)). IsSome it) (sym c.name_of.ensures)
     (some_named (find (λ (it : Name). is_same_thing it.thing (DocumentThing c.args.document)) c.self.inside.names.list)
     (c.self.invariant.known.named (DocumentThing c.args.document)
-    (subst (λ (count : ℕ). c.args.document < count) (counted_one c.self.inside.tree.tree c.root-root.ensures.lone)
-    (subst (λ (v : PageView). c.args.document < length v.world.tree.documents) (sym c.self.view_is) c.requires))))
+    (subst (λ (v : PageView). c.args.document < length v.world.tree.documents) (sym c.self.view_is) c.requires)))

@@ -1,19 +1,20 @@
 -- A query list is asked in the viewport of its document.
-use Rattle.std.proofs.Common.{◌≡◌, ◌<◌, ℕ, length, refl, sym, ap, subst, ◌∙◌}
+use Rattle.std.proofs.Common.{◌≡◌, ◌<◌, ℕ, length, sym, ap, subst, ◌∙◌}
 use Rattle.std.proofs.lemmas.List.{length-map}
 use Rattle.page_model.specs.Lookups.{query_list_at}
+use Rattle.page_model.specs.PageBoxes.{viewport_of}
 use Rattle.page_boxes.specs.Pages.{seen_size}
 use Rattle.page_state.specs.Queries.{seen_query_list}
 use Rattle.page_state.specs.Views.{PageView}
 use Rattle.page_state.proofs.QueryLists.{list_here, matches_here}
 use Rattle.page_state.proofs.page.Page.matches_now.Goals as goal
 
-pub returns : goal.returns
-returns c =
+pub returns-clause-value : goal.returns-clause-value
+returns-clause-value g c =
     let list = c.index-list.result.now in
     let below : c.args.query < length c.self.inside.queries.items =
     subst (λ (count : ℕ). c.args.query < count) (length-map c.self.inside.queries.items seen_query_list)
     (subst (λ (v : PageView). c.args.query < length v.world.queries) (sym c.self.view_is) c.requires) in
     let at : query_list_at c.args.self.now.world.queries c.args.query ≡ seen_query_list list =
     subst (λ (v : PageView). query_list_at v.world.queries c.args.query ≡ seen_query_list list) c.self.view_is (list_here c.self.inside c.args.query list below c.index-list.ensures) in
-    matches_here c.args.self.now.world c.args.query (seen_query_list list) (seen_size c.viewport.result) at c.matches.result c.matches.ensures c.viewport.ensures.value
+    matches_here c.args.self.now.world c.args.query (seen_query_list list) (seen_size c.viewport_now-viewport.result) at c.matches.result c.matches.ensures (c.viewport_now-viewport.ensures.value ∙ ap (λ (v : PageView). viewport_of v.world.tree v.world.viewports.size list.document) c.self.view_is)

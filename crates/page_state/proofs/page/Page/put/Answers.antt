@@ -9,10 +9,10 @@ use Rattle.page_state.proofs.Doing.{edit_refused, edit_done}
 use Rattle.page_state.proofs.page.Page.put.Goals as goal
 
 pub invariant_of-self : goal.invariant_of-self
-invariant_of-self c = edited c.self.inside c.place.new.self c.self.invariant (ap (λ (it : PageElements). it.names) c.in-Err.ensures.same) c.place.ensures.count
+invariant_of-self c = edited c.self.inside c.place.new.self c.self.invariant (ap (λ (it : PageElements). it.names) c.in-Err.ensures.same) c.place.ensures.count c.place.ensures.documents
 
 pub invariant_of-self-2 : goal.invariant_of-self-2
-invariant_of-self-2 c = edited c.self.inside c.place.new.self c.self.invariant (ap (λ (it : PageElements). it.names) c.in_default.ensures.rest) c.place.ensures.count
+invariant_of-self-2 c = edited c.self.inside c.place.new.self c.self.invariant (ap (λ (it : PageElements). it.names) c.in_default.ensures.rest) c.place.ensures.count c.place.ensures.documents
 
 pub returns-in-Err : goal.returns-in-Err
 returns-in-Err c =

@@ -1,7 +1,6 @@
 -- What is found is there.
-use Rattle.std.proofs.Common.{◌<◌, ℕ, List, Result, Ok, Err, IfOk, length, map, sym, subst}
+use Rattle.std.proofs.Common.{◌<◌, ℕ, IfOk, length, sym, subst}
 use Rattle.std.proofs.lemmas.List.{length-map}
-use Rattle.text_io.specs.declared.kinds.ThrowKind.{ThrowKind}
 use Rattle.page_state.specs.Queries.{seen_query_list}
 use Rattle.page_state.specs.Views.{PageView}
 use Rattle.page_state.specs.Worlds.{counts_in}

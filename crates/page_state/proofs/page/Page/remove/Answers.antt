@@ -13,5 +13,5 @@ returns c = record {
       removes handlers c.args.self.now.world (present_of c.args.subject) (operand_of c.args.node) c.in_ok-node.node.0 c.in_ok-node.ensures.answer
       ∙ ap (λ (v : PageView). becomes v.world) (sym c.take_out.ensures);
   begun = ap (λ (v : PageView). v.begun) c.take_out.ensures;
-  reach = tt;
+  handed = tt;
 }

@@ -1,32 +1,55 @@
 -- The size of the viewport is noted.
-use Rattle.std.proofs.Common.{◌≡◌, ◌<◌, Option, length, sym, ap, ◌∙◌, subst}
+use Rattle.std.proofs.Common.{◌≡◌, ◌<◌, ◌≤◌, Option, Some, None, List, length, option_map, rules, sym, ap, ◌∙◌, subst, arith}
+use Rattle.std.specs.List.{AllByRecursion}
+use Rattle.std.specs.Option.{ForSome}
 use Rattle.px_units.specs.declared.Size.{Size}
+use Rattle.page_model.specs.World.{Extent}
 use Rattle.page_model.specs.PageBoxes.{viewport_of}
 use Rattle.page_model.specs.Viewports.{noted_size, with_noted, differs_from}
 use Rattle.page_boxes.specs.Pages.{seen_size}
-use Rattle.std.proofs.Common.{option_map}
+use Rattle.page_tree.specs.Items.{IsNatural}
+use Rattle.scrolling.proofs.Puts.{map-put}
 use Rattle.page_state.specs.Views.{PageView}
-use Rattle.page_state.proofs.Top.{sizes_differ, differs_here, noted_here}
+use Rattle.page_state.specs.Worlds.{world_of}
+use Rattle.page_state.proofs.Noted.{noted_seen, natural_at, natural_put, natural_some, sizes_differ}
 use Rattle.page_state.proofs.page.Page.viewport_changed.Goals.{in-None, in-Some}
 use Rattle.page_state.proofs.page.Page.viewport_changed.Goals as goal
+
+pub set-requires : goal.set-requires
+set-requires g c =
+    let there : c.args.document < length c.self.inside.tree.tree.documents = subst (λ (v : PageView). c.args.document < length v.world.tree.documents) (sym c.self.view_is) c.requires in
+    let few : length c.self.inside.tree.tree.documents ≤ 64 = c.document_count-count.ensures.bound in
+    omega (arith, there, few)
+
+pub invariant_of-self : goal.invariant_of-self
+invariant_of-self g c =
+    let size = c.viewport_now-size.result in
+    let noted : AllByRecursion (λ (it : Option Size). ForSome it IsNatural) c.set.new.self =
+    subst (λ (it : List (Option Size)). AllByRecursion (λ (each : Option Size). ForSome each IsNatural) it) (sym c.set.ensures)
+    (natural_put c.args.document (Some size) c.self.inside.noted (natural_some size c.viewport_now-size.ensures.natural) c.self.invariant.noted) in
+    search rules
 
 pub returns-clause-value : goal.returns-clause-value
 returns-clause-value g c =
     let p = c.self.inside in
-    let there : c.args.document < length p.tree.tree.documents = subst (λ (v : PageView). c.args.document < length v.world.tree.documents) (sym c.self.view_is) c.requires in
-    let value : c.match-before.result ≡ differs_from (seen_size p.size) (option_map seen_size p.noted) =
+    let size = c.viewport_now-size.result in
+    let value : c.match-before.result ≡ differs_from (seen_size size) (option_map seen_size c.get-before.result) =
     elim c.match-before.branch [
-      | in-None w ↦ w.result-is ∙ ap (λ (last : Option Size). differs_from (seen_size p.size) (option_map seen_size last)) (sym w.in-None.is)
+      | in-None w ↦ w.result-is ∙ ap (λ (last : Option Size). differs_from (seen_size size) (option_map seen_size last)) (sym w.in-None.is)
       | in-Some w ↦ w.result-is ∙ (w.ne.ensures
-          ∙ (sizes_differ w.in-Some.size p.size (c.self.invariant.noted w.in-Some.size w.in-Some.is) c.self.invariant.sized
-          ∙ ap (λ (last : Option Size). differs_from (seen_size p.size) (option_map seen_size last)) (sym w.in-Some.is)))
+          ∙ (sizes_differ w.in-Some.noted size (natural_at p.noted c.args.document w.in-Some.noted c.self.invariant.noted (sym c.get-before.ensures ∙ w.in-Some.is)) c.viewport_now-size.ensures.natural
+          ∙ ap (λ (last : Option Size). differs_from (seen_size size) (option_map seen_size last)) (sym w.in-Some.is)))
     ] in
-    subst (λ (v : PageView). c.match-before.result ≡ differs_from (viewport_of v.world.tree v.world.viewports.size c.args.document) (noted_size c.args.document v.world.viewports)) c.self.view_is
-    (value ∙ differs_here p c.root-root.ensures.lone c.args.document there)
+    value
+    ∙ ap (λ (last : Option Extent). differs_from (seen_size size) last) (ap (option_map seen_size) c.get-before.ensures ∙ noted_seen p.noted c.args.document)
+    ∙ ap (λ (now : Extent). differs_from now (noted_size c.args.document ((world_of p).viewports))) c.viewport_now-size.ensures.value
+    ∙ ap (λ (v : PageView). differs_from (viewport_of v.world.tree v.world.viewports.size c.args.document) (noted_size c.args.document v.world.viewports)) c.self.view_is
 
 pub returns-clause-noted : goal.returns-clause-noted
 returns-clause-noted g c =
     let p = c.self.inside in
-    let there : c.args.document < length p.tree.tree.documents = subst (λ (v : PageView). c.args.document < length v.world.tree.documents) (sym c.self.view_is) c.requires in
-    noted_here p c.root-root.ensures.lone c.args.document there
+    (λ i. world_of (record p { noted = c.set.ensures i }))
+    ∙ ap (λ (noted : List (Option Extent)). record (world_of p) { viewports = record { size = seen_size p.size; noted = noted } })
+    (map-put (option_map seen_size) None (Some c.viewport_now-size.result) c.args.document p.noted)
+    ∙ ap (λ (now : Extent). record (world_of p) { viewports = with_noted c.args.document now ((world_of p).viewports) }) c.viewport_now-size.ensures.value
     ∙ ap (λ (v : PageView). record (v.world) { viewports = with_noted c.args.document (viewport_of (v.world.tree) (v.world.viewports.size) c.args.document) (v.world.viewports) }) c.self.view_is

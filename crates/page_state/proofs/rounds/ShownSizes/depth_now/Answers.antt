@@ -1,5 +1,5 @@
 -- What isn't there stands alone.
-use Rattle.std.proofs.Common.{sym, arith, tests}
+use Rattle.std.proofs.Common.{sym}
 use Rattle.page_state.proofs.Missing.{depth_missing, at_least}
 use Rattle.page_state.proofs.rounds.ShownSizes.depth_now.Goals as goal
 

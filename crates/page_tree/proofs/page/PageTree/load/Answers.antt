@@ -1,5 +1,4 @@
-use Rattle.std.proofs.Common.{option_map, refl, unsigned_abs}
-use Rattle.element_tree.specs.Links.{number}
+use Rattle.std.proofs.Common.{refl, unsigned_abs}
 use Rattle.element_tree.specs.Edits.{change_at, with_nodes, with_payload}
 use Rattle.page_tree.specs.Items.{sized_in}
 use Rattle.page_tree.specs.Views.{seen_page}
@@ -12,6 +11,7 @@ returns-in_default c = record {
   done = tt;
   rest = tt;
   count = refl;
+  documents = refl;
   refused = load_refused (c.args.self.now.tree) (c.args.node.0) (unsigned_abs (c.args.size.width)) (unsigned_abs (c.args.size.height))
       c.kind.result (c.kind.ensures.value) c.in_default.not-Image;
   same = refl;
@@ -19,22 +19,22 @@ returns-in_default c = record {
 
 pub invariant_of-self : goal.invariant_of-self
 invariant_of-self c =
-    IsPage-written c.args.self.now c.self.inside.tree (option_map number c.self.inside.root) c.self.view_is c.self.invariant
+    IsPage-written c.args.self.now c.self.inside.tree c.self.inside.documents c.self.view_is c.self.invariant
     (c.args.node.0) c.payload_mut.result.now c.set_natural_size.new.self c.payload_mut.ensures.value (sized_in c.args.size) c.set_natural_size.ensures
 
 pub returns-clause-done : goal.returns-clause-done
 returns-clause-done c = load_done (c.args.self.now.tree) (c.args.node.0) (unsigned_abs (c.args.size.width)) (unsigned_abs (c.args.size.height))
     c.kind.result c.in-Image.field-0 (c.kind.ensures.value) c.in-Image.is
-    ((seen_page (with_nodes (change_at (with_payload c.set_natural_size.new.self) (c.args.node.0)) c.self.inside.tree) (option_map number c.self.inside.root)).tree)
-    (written_done c.args.self.now c.self.inside.tree (option_map number c.self.inside.root) c.self.view_is c.self.invariant
+    ((seen_page (with_nodes (change_at (with_payload c.set_natural_size.new.self) (c.args.node.0)) c.self.inside.tree) c.self.inside.documents).tree)
+    (written_done c.args.self.now c.self.inside.tree c.self.inside.documents c.self.view_is c.self.invariant
     (c.args.node.0) c.payload_mut.result.now c.set_natural_size.new.self c.payload_mut.ensures.value (sized_in c.args.size) c.set_natural_size.ensures)
 
 pub returns-clause-rest : goal.returns-clause-rest
 returns-clause-rest c =
-    written_rest c.args.self.now c.self.inside.tree (option_map number c.self.inside.root) c.self.view_is c.self.invariant
+    written_rest c.args.self.now c.self.inside.tree c.self.inside.documents c.self.view_is c.self.invariant
     (c.args.node.0) c.payload_mut.result.now c.set_natural_size.new.self c.payload_mut.ensures.value (sized_in c.args.size) c.set_natural_size.ensures
 
 pub returns-clause-count : goal.returns-clause-count
 returns-clause-count c =
-    written_count c.args.self.now c.self.inside.tree (option_map number c.self.inside.root) c.self.view_is c.self.invariant
+    written_count c.args.self.now c.self.inside.tree c.self.inside.documents c.self.view_is c.self.invariant
     (c.args.node.0) c.payload_mut.result.now c.set_natural_size.new.self c.payload_mut.ensures.value (sized_in c.args.size) c.set_natural_size.ensures

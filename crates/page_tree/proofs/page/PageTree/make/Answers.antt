@@ -1,10 +1,12 @@
-use Rattle.std.proofs.Common.{option_map, Some, ap}
-use Rattle.page_tree.specs.Views.{home_in}
-use Rattle.element_tree.specs.Links.{number}
-use Rattle.page_tree.proofs.Making.{IsPage-made}
+use Rattle.std.proofs.Common.{refl}
+use Rattle.block_layout.specs.Seen.{seen_kind}
+use Rattle.page_tree.proofs.Making.{IsPage-made, element_made}
 use Rattle.page_tree.proofs.page.PageTree.make.Goals as goal
 
 pub invariant_of-self-2 : goal.invariant_of-self-2
 invariant_of-self-2 c =
-    IsPage-made c.self.inside.tree (option_map number c.self.inside.root) c.self.invariant c.add.new.self
-    c.args.self.now c.reserve.new.self c.self.view_is c.in_default.ensures.same c.in_default.ensures.roomy c.new.result (ap (λ it. home_in (Some it)) c.new.ensures) c.in-Ok.ensures.added
+    IsPage-made c.self.inside.tree c.self.inside.documents c.self.invariant c.add.new.self
+    c.args.self.now c.reserve.new.self c.self.view_is c.in_default.ensures.same c.in_default.ensures.roomy c.new.result c.in-Ok.ensures.added
+    c.self.inside.documents refl
+    (element_made c.self.inside.tree c.add.new.self c.self.inside.documents c.self.invariant.framed c.args.name (seen_kind c.args.kind) c.args.document
+    c.new.result c.new.ensures c.in-Ok.ensures.added)

@@ -1,34 +1,39 @@
-use Rattle.std.proofs.Common.{option_map}
-use Rattle.element_tree.specs.Links.{number}
-use Rattle.page_tree.proofs.Outcomes.{child_stays, lone_stays, IsPage-removed, removed_done, removed_rest}
+use Rattle.std.proofs.Common.{ap, sym, subst, ◌∙◌, length}
+use Rattle.page_model.specs.Documents.{removed}
+use Rattle.page_documents.specs.Seen.{seen_tree}
+use Rattle.page_documents.specs.Held.{HeldDocuments}
+use Rattle.page_documents.specs.Frames.{AreFramed}
+use Rattle.page_documents.proofs.Removing.{removed_framed}
+use Rattle.page_tree.specs.Items.{carried_in}
+use Rattle.page_tree.specs.Views.{PageElements}
+use Rattle.page_tree.proofs.Places.{removed_count}
+use Rattle.page_tree.proofs.Inserting.{removed_done}
+use Rattle.page_tree.proofs.Outcomes.{kept_removed, kept_rest, IsPage-kept}
 use Rattle.page_tree.proofs.page.PageTree.remove.Goals as goal
 
 pub invariant_of-self : goal.invariant_of-self
 invariant_of-self c =
-    IsPage-removed c.args.self.now c.self.inside.tree (option_map number c.self.inside.root) c.self.view_is c.self.invariant c.parent.ensures.forest (c.args.node.0) c.requires
-    c.remove.new.self (option_map number c.self.inside.root) c.remove.ensures.removed
-    (child_stays c.args.self.now c.self.inside.tree (option_map number c.self.inside.root) c.self.view_is c.self.invariant c.parent.ensures.forest (c.args.node.0) c.requires c.parent.result c.parent.ensures.value c.in-Some.field-0 c.in-Some.is)
+    IsPage-kept c.args.self.now c.self.inside.tree c.self.inside.documents c.self.view_is c.remove.new.self c.leave.new.documents
+    (kept_removed (c.args.node.0) c.self.inside.tree c.remove.new.self c.remove.ensures.removed)
+    c.self.invariant (ap (λ (it : HeldDocuments). it.most) c.leave.ensures)
+    (subst AreFramed
+    (sym (removed_done c.self.inside.tree c.self.inside.documents c.holds-held.ensures.forest (c.args.node.0) c.leave.new.documents c.leave.ensures
+    c.remove.new.self c.remove.ensures.removed))
+    (removed_framed (seen_tree carried_in c.self.inside.tree c.self.inside.documents.held) (c.args.node.0) c.self.invariant.framed))
 
-pub invariant_of-self-in-None : goal.invariant_of-self-in-None
-invariant_of-self-in-None c =
-    IsPage-removed c.args.self.now c.self.inside.tree (option_map number c.self.inside.root) c.self.view_is c.self.invariant c.parent.ensures.forest (c.args.node.0) c.requires
-    c.self.inside.tree (option_map number c.left-self-inside.result)
-    (lone_stays c.args.self.now c.self.inside.tree (option_map number c.self.inside.root) c.self.view_is c.self.invariant c.parent.ensures.forest (c.args.node.0) c.requires c.parent.result c.parent.ensures.value c.in-None.is) c.left-self-inside.ensures
+pub returns-clause-done : goal.returns-clause-done
+returns-clause-done c =
+    removed_done c.self.inside.tree c.self.inside.documents c.holds-held.ensures.forest (c.args.node.0) c.leave.new.documents c.leave.ensures
+    c.remove.new.self c.remove.ensures.removed
+    ∙ ap (λ (page : PageElements). removed (page.tree) (c.args.node.0)) c.self.view_is
 
-pub returns-in-Some-clause-done : goal.returns-in-Some-clause-done
-returns-in-Some-clause-done c =
-    removed_done c.args.self.now c.self.inside.tree (option_map number c.self.inside.root) c.self.view_is c.self.invariant c.parent.ensures.forest (c.args.node.0) c.requires
-    c.remove.new.self (option_map number c.self.inside.root) c.remove.ensures.removed
-    (child_stays c.args.self.now c.self.inside.tree (option_map number c.self.inside.root) c.self.view_is c.self.invariant c.parent.ensures.forest (c.args.node.0) c.requires c.parent.result c.parent.ensures.value c.in-Some.field-0 c.in-Some.is)
+pub returns-clause-rest : goal.returns-clause-rest
+returns-clause-rest c =
+    kept_rest c.args.self.now c.self.inside.tree c.self.inside.documents c.self.view_is c.remove.new.self c.leave.new.documents
+    (kept_removed (c.args.node.0) c.self.inside.tree c.remove.new.self c.remove.ensures.removed)
 
-pub returns-in-Some-clause-rest : goal.returns-in-Some-clause-rest
-returns-in-Some-clause-rest c =
-    removed_rest c.args.self.now c.self.inside.tree (option_map number c.self.inside.root) c.self.view_is c.self.invariant c.parent.ensures.forest (c.args.node.0) c.requires
-    c.remove.new.self (option_map number c.self.inside.root) c.remove.ensures.removed
-    (child_stays c.args.self.now c.self.inside.tree (option_map number c.self.inside.root) c.self.view_is c.self.invariant c.parent.ensures.forest (c.args.node.0) c.requires c.parent.result c.parent.ensures.value c.in-Some.field-0 c.in-Some.is)
-
-pub returns-in-None-clause-done : goal.returns-in-None-clause-done
-returns-in-None-clause-done c =
-    removed_done c.args.self.now c.self.inside.tree (option_map number c.self.inside.root) c.self.view_is c.self.invariant c.parent.ensures.forest (c.args.node.0) c.requires
-    c.self.inside.tree (option_map number c.left-self-inside.result)
-    (lone_stays c.args.self.now c.self.inside.tree (option_map number c.self.inside.root) c.self.view_is c.self.invariant c.parent.ensures.forest (c.args.node.0) c.requires c.parent.result c.parent.ensures.value c.in-None.is) c.left-self-inside.ensures
+pub returns-clause-documents : goal.returns-clause-documents
+returns-clause-documents c =
+    ap (λ (it : HeldDocuments). length it.held) c.leave.ensures
+    ∙ removed_count _ (c.args.node.0)
+    ∙ ap (λ (page : PageElements). length page.tree.documents) c.self.view_is

@@ -1,5 +1,3 @@
-use Rattle.std.proofs.Common.{option_map}
-use Rattle.element_tree.specs.Links.{number}
 use Rattle.style_values.specs.Seen.{seen_declaration}
 use Rattle.page_tree.specs.Items.{declared_in}
 use Rattle.page_tree.proofs.Items.{IsPage-written, written_done, written_rest, written_count}
@@ -7,20 +5,20 @@ use Rattle.page_tree.proofs.page.PageTree.set.Goals as goal
 
 pub invariant_of-self : goal.invariant_of-self
 invariant_of-self c =
-    IsPage-written c.args.self.now c.self.inside.tree (option_map number c.self.inside.root) c.self.view_is c.self.invariant
+    IsPage-written c.args.self.now c.self.inside.tree c.self.inside.documents c.self.view_is c.self.invariant
     (c.args.node.0) c.payload_mut.result.now c.apply.new.self c.payload_mut.ensures.value (declared_in (seen_declaration c.args.declaration)) c.apply.ensures
 
 pub returns-clause-done : goal.returns-clause-done
 returns-clause-done c =
-    written_done c.args.self.now c.self.inside.tree (option_map number c.self.inside.root) c.self.view_is c.self.invariant
+    written_done c.args.self.now c.self.inside.tree c.self.inside.documents c.self.view_is c.self.invariant
     (c.args.node.0) c.payload_mut.result.now c.apply.new.self c.payload_mut.ensures.value (declared_in (seen_declaration c.args.declaration)) c.apply.ensures
 
 pub returns-clause-rest : goal.returns-clause-rest
 returns-clause-rest c =
-    written_rest c.args.self.now c.self.inside.tree (option_map number c.self.inside.root) c.self.view_is c.self.invariant
+    written_rest c.args.self.now c.self.inside.tree c.self.inside.documents c.self.view_is c.self.invariant
     (c.args.node.0) c.payload_mut.result.now c.apply.new.self c.payload_mut.ensures.value (declared_in (seen_declaration c.args.declaration)) c.apply.ensures
 
 pub returns-clause-count : goal.returns-clause-count
 returns-clause-count c =
-    written_count c.args.self.now c.self.inside.tree (option_map number c.self.inside.root) c.self.view_is c.self.invariant
+    written_count c.args.self.now c.self.inside.tree c.self.inside.documents c.self.view_is c.self.invariant
     (c.args.node.0) c.payload_mut.result.now c.apply.new.self c.payload_mut.ensures.value (declared_in (seen_declaration c.args.declaration)) c.apply.ensures

@@ -1,0 +1,11 @@
+//! What an update of a document finds of each registration is settled at its observer (Intersection Observer, 3.2.10: run
+//! the update intersection observations steps). All lengths are in units of 1/64 CSS pixel, times in milliseconds.
+#![tactic(auto)]
+
+mod rooted;
+mod settling;
+#[cfg(test)]
+mod tests;
+
+pub use rooted::watchers_of;
+pub use settling::update;

@@ -1,0 +1,64 @@
+//! Which observers are looked at with a document.
+
+ghost use Rattle.std.specs.Prelude.{◌≡◌, ◌<◌, ℕ, All, IfOk, length};
+ghost use Rattle.page_model.specs.Documents.{is_number, tree_document};
+ghost use Rattle.page_model.specs.Intersections.{is_rooted_in, watchers as numbers_of};
+ghost use Rattle.intersection_observer.specs.Seen.{seen_root};
+ghost use Rattle.intersection_observer.specs.declared.root.WatcherId.{WatcherId};
+ghost use Rattle.intersection_update.specs.Watching.{watcher_numbers};
+
+use element_tree::NodeId;
+use intersection_observer::{Root, WatcherId, Watchers};
+use page_tree::PageTree;
+use std::alloc::{AllocError, Global};
+
+// Whether an element stands in the tree of a document: not where there is no such element.
+fn stands_in(page: &PageTree, node: NodeId, document: u32) -> bool
+    ensures { result ≡ is_number (tree_document page.now.tree node.0) document }
+{
+    if !page.tree().holds(node) {
+        return false;
+    }
+    match page.tree_document(node) {
+        Some(own) => own == document,
+        None => false,
+    }
+}
+
+/// Whether an observer with this root is looked at with a document: where the root is the document or stands in its tree;
+/// with the implicit root, for the top document. No memory.
+pub(crate) fn is_rooted_in(page: &PageTree, root: Root, document: u32) -> bool
+    ensures { result ≡ is_rooted_in page.now.tree document (seen_root root) }
+{
+    match root {
+        Root::Implicit => document == 0,
+        Root::Document(own) => own == document,
+        Root::Node(node) => stands_in(page, node, document),
+    }
+}
+
+/// The observers that are looked at with a document, in order of creation: those whose root is the document or stands in
+/// its tree, and for the top document those with the implicit root (Intersection Observer, 3.2.10: run the update
+/// intersection observations steps). For which document an observer was made makes no difference.
+///
+/// # Errors
+///
+/// Where there is no memory.
+pub fn watchers_of(
+    alloc: Global,
+    page: &PageTree,
+    watchers: &Watchers,
+    document: u32,
+) -> Result<Vec<WatcherId>, AllocError>
+    ensures numbers { IfOk result (λ list. watcher_numbers list.items ≡ numbers_of page.now.tree document watchers.now.part) }
+    ensures made { IfOk result (λ list. All (λ watcher. watcher.0 < length watchers.now.part.made) list.items) }
+{
+    let mut found = Vec::new(alloc);
+    for number in 0..watchers.count() {
+        let watcher = WatcherId(number);
+        if is_rooted_in(page, watchers.root_of(watcher), document) {
+            found.push(watcher)?;
+        }
+    }
+    Ok(found)
+}

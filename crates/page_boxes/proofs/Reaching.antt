@@ -1,0 +1,190 @@
+-- How far scroll containers and viewports can be scrolled.
+use Rattle.std.proofs.Common.{◌≡◌, ◌≤◌, ℕ, Bool, true, false, cond, List, Option, Some, None, option_map, refl, ap, sym, subst, ◌∙◌, arith}
+use Rattle.std.specs.Prelude.{◌&&◌, not, is_some, slice_get}
+use Rattle.px_units.specs.declared.Size.{Size}
+use Rattle.px_units.specs.Lengths.{cap}
+use Rattle.layout_model.specs.Styles.{Style}
+use Rattle.layout_model.specs.Items.{Kind}
+use Rattle.layout_model.specs.Nodes.{Node}
+use Rattle.layout_model.specs.Boxes.{Inputs, Box, box_in, padding_size}
+use Rattle.layout_model.specs.Clips.{is_block, is_visible, is_clip, is_scroll_container}
+use Rattle.layout_model.specs.Points.{minus, capped, larger}
+use Rattle.layout_model.specs.Reach.{View, view_size, view_inputs, inputs_in_view, reach_at, reach_of, reach_of_view, far_root, range_at, range_of, range_of_view}
+use Rattle.element_tree.specs.declared.node.NodeId.{NodeId}
+use Rattle.element_tree.specs.Links.{node_ids}
+use Rattle.element_tree.specs.Forest.{Knot, parent_of}
+use Rattle.page_model.specs.World.{Extent, ScrolledElement, ScrolledDocument, Tree}
+use Rattle.page_model.specs.Documents.{nodes_of, is_active}
+use Rattle.page_model.specs.Lookups.{document_at}
+use Rattle.page_model.specs.PageBoxes.{pair_of, extent_of, framed_size, view_with, view_of, view_at, has_box, is_scroller, range_if, scroll_range}
+use Rattle.page_documents.specs.Frames.{AreFramed}
+use Rattle.block_layout.specs.Held.{HoldsBoxes}
+use Rattle.block_layout.specs.Seen.{as_size}
+use Rattle.block_layout.specs.Trees.{layout_tree}
+use Rattle.block_layout.proofs.Nodes.{item_is, parent_is, some_ids}
+use Rattle.page_boxes.specs.Fresh.{HoldsAll, IsFreshIn}
+use Rattle.page_boxes.specs.Pages.{seen_pair}
+use Rattle.page_boxes.proofs.Shifts.{pair_is, some_found, same_box, none_held}
+use Rattle.page_boxes.proofs.Renewed.{rootless_here, view_filled}
+
+-- a scroll container, by what is asked of its node
+regroup : (block visible clip inner : Bool) → ((block && not visible && inner) && not clip) ≡ (block && (not visible && not clip) && inner)
+regroup false visible clip inner = refl
+regroup true true clip inner = refl
+regroup true false true true = refl
+regroup true false true false = refl
+regroup true false false true = refl
+regroup true false false false = refl
+
+no_part : (block inner : Bool) → false ≡ (block && false && inner)
+no_part true inner = refl
+no_part false inner = refl
+
+pub kidless : (at : ℕ → Node) (n : ℕ) → is_block (at n).item.kind ≡ false → false ≡ is_scroll_container (at n)
+kidless at n none = sym (ap (λ b. (b && not (is_visible (at n).item.style.overflow) && is_some (at n).parent) && not (is_clip (at n).item.style.overflow)) none)
+
+module _ {P : Type 0} (style : P → Style) (kind : P → Kind) (nodes : List (Knot P)) (n : ℕ) (carried : P)
+    (is : option_map (λ k. k.payload) (slice_get nodes n) ≡ Some carried) where
+  pub container_is : (block scrolls inner : Bool) → block ≡ is_block (layout_tree style kind nodes n).item.kind
+      → scrolls ≡ (not (is_visible (style carried).overflow) && not (is_clip (style carried).overflow))
+      → (parent : Option NodeId) → parent ≡ node_ids (parent_of nodes n) → inner ≡ is_some parent
+      → (block && scrolls && inner) ≡ is_scroll_container (layout_tree style kind nodes n)
+  container_is block scrolls inner blocks can parent up has =
+      let node = layout_tree style kind nodes n in
+      ap (λ b. b && scrolls && inner) blocks
+      ∙ ap (λ b. is_block node.item.kind && b && inner) (can ∙ sym (ap (λ item. not (is_visible item.style.overflow) && not (is_clip item.style.overflow)) (item_is style kind nodes n carried is)))
+      ∙ ap (λ b. is_block node.item.kind && (not (is_visible node.item.style.overflow) && not (is_clip node.item.style.overflow)) && b)
+      (has ∙ ap is_some up ∙ some_ids (parent_of nodes n) ∙ sym (ap is_some (parent_is style kind nodes n)))
+      ∙ sym (regroup (is_block node.item.kind) (is_visible node.item.style.overflow) (is_clip node.item.style.overflow) (is_some node.parent))
+
+  pub unscrollable : (scrolls : Bool) → scrolls ≡ (not (is_visible (style carried).overflow) && not (is_clip (style carried).overflow)) → scrolls ≡ false
+      → false ≡ is_scroll_container (layout_tree style kind nodes n)
+  unscrollable scrolls can none =
+      let block = is_block (layout_tree style kind nodes n).item.kind in
+      let inner = is_some (node_ids (parent_of nodes n)) in
+      no_part block inner
+      ∙ sym (ap (λ b. block && b && inner) none)
+      ∙ container_is block scrolls inner refl can (node_ids (parent_of nodes n)) refl refl
+
+-- what something reaches is capped, so that what is left of it is too
+low : (x : ℕ) → cap x ≤ 2147483647
+low x = omega arith
+
+capped_less : (reach shown : ℕ × ℕ) → reach.0 ≤ 2147483647 → reach.1 ≤ 2147483647 → capped (minus reach shown) ≡ minus reach shown
+capped_less reach shown wide tall = pair_is _ _ (minus reach shown) (omega arith) (omega arith)
+
+left_of : (reach shown found : Size) (far inside : ℕ × ℕ) → reach ≡ as_size far → far.0 ≤ 2147483647 → far.1 ≤ 2147483647 → seen_pair shown ≡ inside
+    → found ≡ as_size (capped (minus (seen_pair reach) (seen_pair shown))) → found ≡ as_size (minus far inside)
+left_of reach shown found far inside reached wide tall shows is =
+    is
+    ∙ ap (λ r. as_size (capped (minus (seen_pair r) (seen_pair shown)))) reached
+    ∙ ap (λ p. as_size (capped (minus far p))) shows
+    ∙ ap as_size (capped_less far inside wide tall)
+
+module _ (at : ℕ → Node) (view : View) (n : ℕ) where
+  low_at : (found : Option Inputs) → ((reach_at at n found).0 ≤ 2147483647) × ((reach_at at n found).1 ≤ 2147483647)
+  low_at None = (omega arith, omega arith)
+  low_at (Some inputs) = (low _, low _)
+
+  low_reach : ((reach_of at view n).0 ≤ 2147483647) × ((reach_of at view n).1 ≤ 2147483647)
+  unfolding reach_of
+  low_reach = low_at (inputs_in_view at view n)
+
+  range_found : (inputs : Inputs) → inputs_in_view at view n ≡ Some inputs → range_of at view n ≡ minus (reach_of at view n) (padding_size (box_in at inputs n))
+  unfolding range_of
+  range_found inputs is = ap (range_at at view n) is
+
+  pub holds_boxes : (held : ℕ → Option Box) → HoldsAll at view held → HoldsBoxes at view n held
+  holds_boxes held holds d inputs inside is = holds.boxes d inputs is
+
+  -- a node that is no scroll container, and one that is
+  pub range_none : is_scroll_container (at n) ≡ false → as_size (0, 0) ≡ as_size (cond (is_scroll_container (at n)) (range_of at view n) (0, 0))
+  range_none none = sym (ap (λ b. as_size (cond b (range_of at view n) (0, 0))) none)
+
+  module _ (held : ℕ → Option Box) (holds : HoldsAll at view held) (boxed : is_some (inputs_in_view at view n) ≡ true) where
+    pub box_missing : None ≡ held n → ⊥
+    box_missing none =
+        let found = some_found (inputs_in_view at view n) boxed in
+        none_held (held n) (box_in at found.0 n) none (holds.boxes n found.0 found.1)
+
+    pub range_boxed : is_scroll_container (at n) ≡ true → (own : Box) → Some own ≡ held n → (reach shown found : Size)
+        → ((inputs : Inputs) → inputs_in_view at view n ≡ Some inputs → HoldsBoxes at view n held → reach ≡ as_size (reach_of at view n))
+        → shown ≡ as_size (padding_size own) → found ≡ as_size (capped (minus (seen_pair reach) (seen_pair shown)))
+        → found ≡ as_size (cond (is_scroll_container (at n)) (range_of at view n) (0, 0))
+    range_boxed scrolls own its reach shown found reached shows is =
+        let there = some_found (inputs_in_view at view n) boxed in
+        let same : own ≡ box_in at there.0 n = same_box (held n) own (box_in at there.0 n) its (holds.boxes n there.0 there.1) in
+        left_of reach shown found (reach_of at view n) (padding_size (box_in at there.0 n)) (reached there.0 there.1 (holds_boxes held holds)) low_reach.0 low_reach.1
+        (ap seen_pair shows ∙ ap padding_size same) is
+        ∙ ap as_size (sym (range_found there.0 there.1))
+        ∙ sym (ap (λ b. as_size (cond b (range_of at view n) (0, 0))) scrolls)
+
+-- viewports
+rootless_range : (at : ℕ → Node) (view : View) → view.root ≡ None → (0, 0) ≡ range_of_view at view
+unfolding range_of_view reach_of_view
+rootless_range at view none =
+    pair_is 0 0 (minus (capped (larger (view_size view) (0, 0))) (view_size view)) (omega arith) (omega arith)
+    ∙ sym (ap (λ root. minus (capped (larger (view_size view) (far_root at (view_inputs view) root))) (view_size view)) none)
+
+low_view : (at : ℕ → Node) (view : View) → ((reach_of_view at view).0 ≤ 2147483647) × ((reach_of_view at view).1 ≤ 2147483647)
+unfolding reach_of_view
+low_view at view = (low _, low _)
+
+range_viewed : (at : ℕ → Node) (view : View) (reach shown found : Size) → reach ≡ as_size (reach_of_view at view) → seen_pair shown ≡ view_size view
+    → found ≡ as_size (capped (minus (seen_pair reach) (seen_pair shown))) → found ≡ as_size (range_of_view at view)
+unfolding range_of_view
+range_viewed at view reach shown found reached shows is =
+    left_of reach shown found (reach_of_view at view) (view_size view) reached (low_view at view).0 (low_view at view).1 shows is
+
+module _ (tree : Tree) (size : Extent) where
+  -- ranges of elements
+  pub scroller_is : (n : ℕ) → has_box tree size n ≡ true → is_scroller tree size n ≡ is_scroll_container (nodes_of tree n)
+  unfolding is_scroller
+  scroller_is n boxed = ap (λ b. b && is_scroll_container (nodes_of tree n)) boxed
+
+  pub no_scroller : (n : ℕ) → has_box tree size n ≡ false → is_scroller tree size n ≡ false
+  unfolding is_scroller
+  no_scroller n none = ap (λ b. b && is_scroll_container (nodes_of tree n)) none
+
+  range_by_test : (n : ℕ) (scrolls : Bool) → cond scrolls (range_of (nodes_of tree) (view_at tree size n) n) (0, 0) ≡ range_if tree size n scrolls
+  range_by_test n true = refl
+  range_by_test n false = refl
+
+  pub element_range : (n : ℕ) → has_box tree size n ≡ true
+      → cond (is_scroll_container (nodes_of tree n)) (range_of (nodes_of tree) (view_at tree size n) n) (0, 0) ≡ pair_of (scroll_range tree size (ScrolledElement n))
+  unfolding scroll_range
+  element_range n boxed = range_by_test n (is_scroll_container (nodes_of tree n)) ∙ ap (range_if tree size n) (sym (scroller_is n boxed))
+
+  pub element_rangeless : (n : ℕ) → has_box tree size n ≡ false → (0, 0) ≡ pair_of (scroll_range tree size (ScrolledElement n))
+  unfolding scroll_range
+  element_rangeless n none = ap (range_if tree size n) (sym (no_scroller n none))
+
+  -- ranges of documents' viewports
+  view_range : (document : ℕ) → range_of_view (nodes_of tree) (view_of tree size document) ≡ pair_of (scroll_range tree size (ScrolledDocument document))
+  unfolding scroll_range
+  view_range document = refl
+
+  pub view_rangeless : (document : ℕ) → (view_of tree size document).root ≡ None → as_size (0, 0) ≡ as_size (pair_of (scroll_range tree size (ScrolledDocument document)))
+  view_rangeless document none = ap as_size (rootless_range (nodes_of tree) (view_of tree size document) none ∙ view_range document)
+
+  module _ (framed : AreFramed tree) (document : ℕ) (active : is_active tree document ≡ true)
+      (pair : ℕ × ℕ) (shown : Some pair ≡ framed_size tree size (view_of tree size) (document_at tree document).frame)
+      (at : ℕ → Node) (nodes : nodes_of tree ≡ at) (root : ℕ) (rooted : (document_at tree document).root ≡ Some root) where
+    view_here : view_of tree size document ≡ view_with (Some root) (Some pair)
+    view_here = view_filled tree framed size document active pair shown at nodes root rooted
+
+    top_here : (at root).parent ≡ None
+    top_here = sym (ap (λ at. (at root).parent) nodes) ∙ (framed.owners.roots document root rooted).top
+
+    pub view_ranged : (held : ℕ → Option Box) → IsFreshIn tree size held document → (reach inside found : Size)
+        → ((at root).parent ≡ None → (view : View) → view.root ≡ Some root → view.width ≡ pair.0 → view.height ≡ pair.1 → HoldsBoxes at view root held → reach ≡ as_size (reach_of_view at view))
+        → seen_pair inside ≡ pair → found ≡ as_size (capped (minus (seen_pair reach) (seen_pair inside)))
+        → found ≡ as_size (pair_of (scroll_range tree size (ScrolledDocument document)))
+    view_ranged held fresh reach inside found reached shows is =
+        let view = view_of tree size document in
+        let holds : HoldsAll at view held = subst (λ at. HoldsAll at view held) nodes fresh in
+        let far : reach ≡ as_size (reach_of_view at view)
+        = reached top_here view (ap (λ (v : View). v.root) view_here) (ap (λ (v : View). v.width) view_here) (ap (λ (v : View). v.height) view_here) (holds_boxes at view root held holds) in
+        range_viewed at view reach inside found far (shows ∙ sym (ap view_size view_here)) is
+        ∙ ap (λ at. as_size (range_of_view at view)) (sym nodes)
+        ∙ ap as_size (view_range document)

@@ -1,0 +1,21 @@
+use Rattle.std.proofs.Common.{ap, sym, ◌∙◌, arith}
+use Rattle.layout_model.specs.Clips.{is_scroll_container}
+use Rattle.page_boxes.proofs.Pages.{made_if_boxed}
+use Rattle.page_boxes.proofs.Reaching.{scroller_is, no_scroller}
+use Rattle.page_boxes.proofs.Renewed.{count_here}
+use Rattle.page_boxes.proofs.ranges.is_scroller.Goals as goal
+
+pub is_scroll_container-requires : goal.is_scroll_container-requires
+is_scroll_container-requires c =
+    let made = made_if_boxed c.args.page.now.tree (c.args.node.0) c.has_box.result c.has_box.ensures c.if-has_box.true in
+    omega (arith, made, count_here c.args.page.now c.tree.result.now c.tree.ensures.value)
+
+pub returns-then-has_box : goal.returns-then-has_box
+returns-then-has_box c size =
+    c.is_scroll_container.ensures
+    ∙ ap (λ at. is_scroll_container (at (c.args.node.0))) (sym c.tree.ensures.nodes)
+    ∙ sym (scroller_is c.args.page.now.tree size (c.args.node.0) (sym (c.has_box.ensures size) ∙ c.if-has_box.true))
+
+pub returns-else-has_box : goal.returns-else-has_box
+returns-else-has_box c size =
+    c.if-has_box.false ∙ sym (no_scroller c.args.page.now.tree size (c.args.node.0) (sym (c.has_box.ensures size) ∙ c.if-has_box.false))

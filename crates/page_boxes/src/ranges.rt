@@ -1,0 +1,155 @@
+//! How far elements and viewports can be scrolled (CSS Overflow 3, 2.2; CSSOM View: scrolling area).
+
+ghost use Rattle.std.specs.Prelude.{◌≡◌, ◌<◌, ◌-◌, ◌&&◌, pos, cond, true, not, length, is_some, unsigned_abs};
+ghost use Rattle.px_units.specs.Lengths.{cap};
+ghost use Rattle.layout_model.specs.Clips.{is_visible, is_clip, is_scroll_container};
+ghost use Rattle.layout_model.specs.Points.{minus, capped};
+ghost use Rattle.layout_model.specs.Reach.{View, inputs_in_view, range_of as range_in};
+ghost use Rattle.style_values.specs.Seen.{seen_style};
+ghost use Rattle.page_model.specs.World.{Extent, ScrolledElement, ScrolledDocument};
+ghost use Rattle.page_model.specs.Lookups.{element_at};
+ghost use Rattle.page_model.specs.PageBoxes.{pair_of, is_scroller, scroll_range};
+ghost use Rattle.scrolling.specs.Ranges.{IsLength, IsRange};
+ghost use Rattle.scrolling.specs.Seen.{seen_target};
+ghost use Rattle.block_layout.specs.Seen.{as_size};
+ghost use Rattle.block_layout.specs.Trees.{layout_tree};
+ghost use Rattle.page_tree.specs.Items.{IsNatural};
+ghost use Rattle.page_boxes.specs.Fresh.{HoldsAll, IsFresh, IsFreshIn, IsFreshAbove};
+ghost use Rattle.page_boxes.specs.Pages.{seen_size, seen_pair};
+
+use crate::climb::has_kids;
+use crate::documents::{framed_size, has_box};
+use block_layout::{Boxes, Styled, overflow_reach};
+use element_tree::{NodeId, Tree};
+use layout_model::capped;
+use page_tree::PageTree;
+use px_units::Size;
+use scrolling::ScrollTarget;
+use style_values::{Overflow, Style};
+
+const NO_SIZE: Size = Size {
+    width: 0,
+    height: 0,
+};
+
+// Whether content that doesn't fit can be scrolled to (CSS Overflow 3, 3.1).
+fn is_scrollable(style: &Style) -> bool
+    ensures { let overflow = (seen_style style.now).overflow in result ≡ (not (is_visible overflow) && not (is_clip overflow)) }
+{
+    match style.overflow {
+        Overflow::Visible | Overflow::Clip => false,
+        Overflow::Hidden | Overflow::Scroll | Overflow::Auto => true,
+    }
+}
+
+// Whether the node's box is a scroll container. What `overflow` says at a root element is the viewport's (CSS Overflow 3, 3.3).
+fn is_scroll_container<P: Styled>(tree: &Tree<P>, node: NodeId) -> bool
+    requires { node.0 < length tree.now.nodes }
+    ensures { result ≡ is_scroll_container (layout_tree P.style P.kind tree.now.nodes node.0) }
+{
+    if !has_kids(tree, node) {
+        return false;
+    }
+    if !is_scrollable(tree.payload(node).style()) {
+        return false;
+    }
+    tree.parent(node).is_some()
+}
+
+/// Whether an element is a scroll container with a box (CSS Overflow 3, 3.1). A root element is none.
+pub fn is_scroller(page: &PageTree, node: NodeId) -> bool
+    ensures { (size : Extent) → result ≡ is_scroller page.now.tree size node.0 }
+{
+    has_box(page, node) && is_scroll_container(page.tree(), node)
+}
+
+// What is left of how far something reaches behind so much of it.
+fn behind(reach: i64, shown: i64) -> i64
+    ensures value { result ≡ pos (cap (unsigned_abs reach - unsigned_abs shown)) }
+    ensures range { IsLength result }
+{
+    capped(reach.unsigned_abs().saturating_sub(shown.unsigned_abs())) as i64
+}
+
+// The scrolling range of something that reaches so far and shows so much.
+fn range_between(reach: Size, shown: Size) -> Size
+    ensures value { result ≡ as_size (capped (minus (seen_pair reach) (seen_pair shown))) }
+    ensures range { IsRange result }
+{
+    Size {
+        width: behind(reach.width, shown.width),
+        height: behind(reach.height, shown.height),
+    }
+}
+
+// The scrolling range of a node that has a box.
+pub(crate) fn boxed_range<P: Styled, B: Boxes>(tree: &Tree<P>, boxes: &B, node: NodeId) -> Size
+    requires { node.0 < length tree.now.nodes }
+    ensures value { let at = layout_tree P.style P.kind tree.now.nodes in (view : View) →
+        HoldsAll at view (B.held boxes.now) → is_some (inputs_in_view at view node.0) ≡ true →
+        result ≡ as_size (cond (is_scroll_container (at node.0)) (range_in at view node.0) (0, 0)) }
+    ensures range { IsRange result }
+{
+    if !is_scroll_container(tree, node) {
+        return NO_SIZE;
+    }
+    let Some(own) = boxes.box_of(node) else {
+        return NO_SIZE;
+    };
+    range_between(overflow_reach(tree, boxes, node, None), own.padding_size())
+}
+
+// The scrolling range of an element.
+fn element_range<B: Boxes>(page: &PageTree, boxes: &B, node: NodeId) -> Size
+    ensures value { (size : Extent) → IsFreshIn page.now.tree size (B.held boxes.now) (element_at page.now.tree node.0).document →
+        result ≡ as_size (pair_of (scroll_range page.now.tree size (ScrolledElement node.0))) }
+    ensures range { IsRange result }
+{
+    if has_box(page, node) {
+        boxed_range(page.tree(), boxes, node)
+    } else {
+        NO_SIZE
+    }
+}
+
+// The scrolling range of a document's viewport.
+pub(crate) fn view_range<B: Boxes>(
+    page: &PageTree,
+    boxes: &B,
+    viewport: Size,
+    document: u32,
+) -> Size
+    ensures value { IsFreshAbove page.now.tree (seen_size viewport) (B.held boxes.now) document →
+        IsFreshIn page.now.tree (seen_size viewport) (B.held boxes.now) document →
+        result ≡ as_size (pair_of (scroll_range page.now.tree (seen_size viewport) (ScrolledDocument document))) }
+    ensures range { IsRange result }
+{
+    if !page.is_active(document) {
+        return NO_SIZE;
+    }
+    let Some(root) = page.root(document) else {
+        return NO_SIZE;
+    };
+    let Some(shown) = framed_size(page, boxes, viewport, document) else {
+        return NO_SIZE;
+    };
+    range_between(overflow_reach(page.tree(), boxes, root, Some(shown)), shown)
+}
+
+/// How far an element or the viewport of a document can be scrolled (CSS Overflow 3, 2.2; CSSOM View: scrolling area): how
+/// far its content reaches beyond its padding box, or beyond the viewport. It is 0 by 0 for an element that isn't a scroll
+/// container with a box, and for what isn't there. It is so where the boxes of the page are held as they are now with this
+/// size of the viewport of `top`. No memory.
+///
+/// It calls itself once a level of the tree below.
+pub fn range_of<B: Boxes>(page: &PageTree, boxes: &B, viewport: Size, target: ScrollTarget) -> Size
+    requires { IsNatural viewport }
+    ensures value { IsFresh page.now.tree (seen_size viewport) (B.held boxes.now) →
+        result ≡ as_size (pair_of (scroll_range page.now.tree (seen_size viewport) (seen_target target))) }
+    ensures range { IsRange result }
+{
+    match target {
+        ScrollTarget::Node(node) => element_range(page, boxes, node),
+        ScrollTarget::Document(document) => view_range(page, boxes, viewport, document),
+    }
+}

@@ -1,0 +1,201 @@
+-- Chains of containers on a page: they lead outwards, and from a target that isn't apart from a root they lead to it.
+use Rattle.std.proofs.Common.{◌≡◌, ◌≤◌, ◌⊎◌, inl, inr, ℕ, zero, suc, Bool, true, false, cond, List, [], ◌∷◌, ◌++◌, length, Option, Some, None, refl, ap, sym, subst, ◌∙◌, nat_eq, eqb-true, arith}
+use Rattle.std.proofs.lemmas.Bool.Decides.{nat_tests}
+use Rattle.std.specs.Prelude.{◌||◌, not, ◌==◌, option_map}
+use Rattle.layout_model.specs.Nodes.{path_of, is_among, is_in_path}
+use Rattle.layout_model.proofs.Paths.{path_child, path_top, depth_child, depth_least}
+use Rattle.page_model.specs.World.{Extent, Tree, Scrolls, Root, ImplicitRoot, DocumentRoot, ElementRoot}
+use Rattle.page_model.specs.Lookups.{element_at, document_at}
+use Rattle.page_model.specs.Documents.{InElement, container_by, container_of, is_root_element, first_of_list, nodes_of, element_depth, is_inclusive_ancestor}
+use Rattle.page_model.specs.PageBoxes.{has_box}
+use Rattle.page_model.specs.Findings.{is_proper_ancestor, is_apart}
+use Rattle.page_documents.specs.Paths.{owner_of, way_above, way_down}
+use Rattle.page_documents.specs.Frames.{AreFramed}
+use Rattle.clip_chain.specs.declared.spot.Spot.{Spot}
+use Rattle.clip_chain.specs.declared.spot.Spot.TheVariants.{Node, View}
+use Rattle.clip_chain.specs.Scenes.{Scene}
+use Rattle.clip_chain.specs.Chains.{Leads, IsAbove}
+use Rattle.clip_chain.specs.Worlds.{element_spot, spot_of, spot_of_root, scene_of}
+use Rattle.clip_chain.proofs.Leading.{above_inwards}
+use Rattle.page_geometry.specs.Worlds.{world_with}
+use Rattle.page_geometry.proofs.Shown.{active, parent_boxed, root_is, frame_boxed}
+use Rattle.page_geometry.proofs.Levels.{count_is}
+use Rattle.page_boxes.proofs.Views.{way_less, no_way}
+
+abbrev number_of : Spot → ℕ
+number_of (Node node) = node.0
+number_of (View document) = document
+
+node_number : (a b : Spot) → a ≡ b → number_of a ≡ number_of b
+node_number a b same = ap number_of same
+
+number_same : (a b : ℕ) → a ≡ b → nat_eq a b ≡ true
+number_same a b same = grind (arith, nat_tests)
+
+-- spots are the same or not
+spot_same : (a b : Spot) → (a ≡ b) ⊎ (¬ a ≡ b)
+spot_same (Node a) (Node b) = by_number (nat_eq a.0 b.0) refl
+  where
+    by_number : (same : Bool) → nat_eq a.0 b.0 ≡ same → (Node a ≡ Node b) ⊎ (¬ Node a ≡ Node b)
+    by_number true is = inl (ap element_spot (eqb-true a.0 b.0 is))
+    by_number false is = inr (λ same. let clash : nat_eq a.0 b.0 ≡ true = number_same a.0 b.0 (node_number (Node a) (Node b) same) in let no : true ≡ false = sym clash ∙ is in cc)
+spot_same (Node a) (View b) = inr (λ same. cc)
+spot_same (View a) (Node b) = inr (λ same. cc)
+spot_same (View a) (View b) = by_number (nat_eq a b) refl
+  where
+    by_number : (same : Bool) → nat_eq a b ≡ same → (View a ≡ View b) ⊎ (¬ View a ≡ View b)
+    by_number true is = inl (ap View (eqb-true a b is))
+    by_number false is = inr (λ same. let clash : nat_eq a b ≡ true = number_same a b (node_number (View a) (View b) same) in let no : true ≡ false = sym clash ∙ is in cc)
+
+-- a root above what is above a spot is above it
+over : (scene : Scene) (low high from : Spot) (between : List Spot) → Leads scene from between low → (¬ low ≡ high) → IsAbove scene high low → IsAbove scene high from
+over scene low high from [] leads apart above = above_inwards scene high from low leads apart above
+over scene low high from (next ∷ others) leads apart above =
+    elim (spot_same next high) [
+      | inl same ↦ ([], leads.0 ∙ ap Some same)
+      | inr differs ↦ above_inwards scene high from next leads.0 differs (over scene low high next others leads.2 apart above)
+    ]
+
+some_same : (a b : ℕ) → Some a ≡ Some b → a ≡ b
+some_same a b is = cc
+
+not_false : (b : Bool) → not b ≡ false → b ≡ true
+not_false true is = refl
+not_false false is = cc
+
+second_true : (a b c d : Bool) → (not a || not b || c || d) ≡ false → b ≡ true
+second_true true true c d is = refl
+second_true true false c d is = cc
+second_true false b c d is = cc
+
+proper_is : (same inside : Bool) → cond same false inside ≡ true → (same ≡ false) × (inside ≡ true)
+proper_is true inside is = absurd (let no : ⊥ = cc in no)
+proper_is false inside is = (refl, is)
+
+module _ (tree : Tree) (size : Extent) (scrolls : Scrolls) (framed : AreFramed tree) where
+  abbrev scene : Scene
+  scene = scene_of (world_with tree size scrolls)
+
+  abbrev own : ℕ → ℕ
+  own n = (element_at tree n).document
+
+  -- what an element with a box stands in
+  module _ (n : ℕ) (boxed : has_box tree size n ≡ true) where
+    pub in_parent : (p : ℕ) → (element_at tree n).parent ≡ Some p → scene.container (element_spot n) ≡ Some (element_spot p)
+    in_parent p is =
+        ap (λ b. cond b (option_map spot_of (container_of tree n)) None) boxed
+        ∙ ap (λ o. option_map spot_of (container_by o (is_root_element tree n) (own n))) is
+
+    pub in_view : (element_at tree n).parent ≡ None → scene.container (element_spot n) ≡ Some (View (own n))
+    in_view is =
+        ap (λ b. cond b (option_map spot_of (container_of tree n)) None) boxed
+        ∙ ap (λ o. option_map spot_of (container_by o (is_root_element tree n) (own n))) is
+        ∙ ap (λ b. option_map spot_of (container_by None b (own n))) (root_is tree size n boxed framed is)
+
+  pub in_frame : (document frame : ℕ) → (document_at tree document).frame ≡ Some frame → scene.container (View document) ≡ Some (element_spot frame)
+  in_frame document frame is = ap (λ o. option_map spot_of (option_map InElement o)) is
+
+  -- the viewport of its document is above it
+  view_step : (n : ℕ) → has_box tree size n ≡ true → ((p : ℕ) → (element_at tree n).parent ≡ Some p → IsAbove scene (View (own p)) (element_spot p))
+      → (parent : Option ℕ) → (element_at tree n).parent ≡ parent → IsAbove scene (View (own n)) (element_spot n)
+  view_step n boxed below None is = ([], in_view n boxed is)
+  view_step n boxed below (Some p) is =
+      above_inwards scene (View (own n)) (element_spot n) (element_spot p) (in_parent n boxed p is) (λ same. cc)
+      (subst (λ d. IsAbove scene (View d) (element_spot p)) (sym (framed.owners.owned n p is)) (below p is))
+
+  depth_falls : (most n p : ℕ) → element_depth tree n ≤ suc most → (element_at tree n).parent ≡ Some p → element_depth tree p ≤ most
+  unfolding element_depth
+  depth_falls most n p short is = omega (arith, depth_child (nodes_of tree) n p is (framed.trees.shallow p))
+
+  depth_some : (n : ℕ) → 1 ≤ element_depth tree n
+  unfolding element_depth
+  depth_some n = depth_least (nodes_of tree) n
+
+  to_view : (most n : ℕ) → element_depth tree n ≤ most → has_box tree size n ≡ true → IsAbove scene (View (own n)) (element_spot n)
+  to_view zero n short boxed = absurd (omega (arith, depth_some n))
+  to_view (suc most) n short boxed =
+      view_step n boxed (λ p is. to_view most p (depth_falls most n p short is) (parent_boxed tree size n boxed framed p is)) (element_at tree n).parent refl
+
+  -- so is an element that is an ancestor
+  ancestor_step : (a n : ℕ) → is_inclusive_ancestor tree a n ≡ true → nat_eq a n ≡ false
+      → (parent : Option ℕ) → (element_at tree n).parent ≡ parent → (p : ℕ) × (parent ≡ Some p) × (is_inclusive_ancestor tree a p ≡ true)
+  unfolding is_inclusive_ancestor is_in_path is_among
+  ancestor_step a n inside differs None is =
+      let clash : true ≡ false =
+      sym inside ∙ ap (is_among a) (path_top (nodes_of tree) n is) ∙ ap (λ b. b || false) differs in absurd (let no : ⊥ = cc in no)
+  ancestor_step a n inside differs (Some p) is = (
+    p,
+    refl,
+    sym (ap (λ b. b || is_among a (path_of (nodes_of tree) p)) differs)
+        ∙ sym (ap (is_among a) (path_child (nodes_of tree) n p is (framed.trees.shallow p))) ∙ inside,
+  )
+
+  below_step : (a n : ℕ) → has_box tree size n ≡ true → is_inclusive_ancestor tree a n ≡ true
+      → ((p : ℕ) → (element_at tree n).parent ≡ Some p → is_inclusive_ancestor tree a p ≡ true → (a ≡ p) ⊎ IsAbove scene (element_spot a) (element_spot p))
+      → (same : Bool) → nat_eq a n ≡ same → (a ≡ n) ⊎ IsAbove scene (element_spot a) (element_spot n)
+  below_step a n boxed inside up true same = inl (eqb-true a n same)
+  below_step a n boxed inside up false differs =
+      let found = ancestor_step a n inside differs (element_at tree n).parent refl in
+      let p = found.0 in
+      let out = in_parent n boxed p found.1 in
+      elim (up p found.1 found.2) [
+        | inl same ↦ inr ([], out ∙ ap (λ m. Some (element_spot m)) (sym same))
+        | inr above ↦ inr (elim (spot_same (element_spot p) (element_spot a)) [
+          | inl same ↦ ([], out ∙ ap Some same)
+          | inr apart ↦ above_inwards scene (element_spot a) (element_spot n) (element_spot p) out apart above
+        ])
+      ]
+
+  to_ancestor : (most a n : ℕ) → element_depth tree n ≤ most → has_box tree size n ≡ true → is_inclusive_ancestor tree a n ≡ true
+      → (a ≡ n) ⊎ IsAbove scene (element_spot a) (element_spot n)
+  to_ancestor zero a n short boxed inside = absurd (omega (arith, depth_some n))
+  to_ancestor (suc most) a n short boxed inside =
+      below_step a n boxed inside
+      (λ p is. to_ancestor most a p (depth_falls most n p short is) (parent_boxed tree size n boxed framed p is))
+      (nat_eq a n) refl
+
+  -- and the viewport of `top`
+  way_unframed : (high document : ℕ) → (document_at tree document).frame ≡ None → first_of_list (way_down (suc high) tree document) ≡ Some document
+  unfolding way_down
+  way_unframed high document is = ap (λ frame. first_of_list (way_above (way_down high tree) (owner_of tree frame) ++ document ∷ [])) is
+
+  not_top : (document frame : ℕ) → (document_at tree document).frame ≡ Some frame → ¬ View document ≡ View 0
+  not_top document frame is = λ same.
+      let at : document ≡ 0 = node_number (View document) (View 0) same in
+      let clash : None ≡ Some frame = sym framed.top.unframed ∙ ap (λ d. (document_at tree d).frame) (sym at) ∙ is in cc
+
+  top_step : (n : ℕ) → has_box tree size n ≡ true → IsAbove scene (View (own n)) (element_spot n) → (high : ℕ) → first_of_list (way_down (suc high) tree (own n)) ≡ Some 0
+      → ((frame : ℕ) → (document_at tree (own n)).frame ≡ Some frame → IsAbove scene (View 0) (element_spot frame))
+      → (frame : Option ℕ) → (document_at tree (own n)).frame ≡ frame → IsAbove scene (View 0) (element_spot n)
+  top_step n boxed below high leads up None is =
+      let at : own n ≡ 0 = some_same (own n) 0 (sym (way_unframed high (own n) is) ∙ leads) in
+      subst (λ d. IsAbove scene (View d) (element_spot n)) at below
+  top_step n boxed below high leads up (Some frame) is =
+      over scene (View (own n)) (View 0) (element_spot n) below.0 below.1 (not_top (own n) frame is)
+      (above_inwards scene (View 0) (View (own n)) (element_spot frame) (in_frame (own n) frame is) (λ same. cc) (up frame is))
+
+  to_top : (high n : ℕ) → has_box tree size n ≡ true → first_of_list (way_down (suc high) tree (own n)) ≡ Some 0 → IsAbove scene (View 0) (element_spot n)
+  to_top zero n boxed leads =
+      top_step n boxed (to_view (element_depth tree n) n (omega arith) boxed) 0 leads
+      (λ frame is. absurd (no_way tree framed 0 (own frame) refl (way_less tree framed (own n) frame is 1 0 refl leads)))
+      (document_at tree (own n)).frame refl
+  to_top (suc high) n boxed leads =
+      top_step n boxed (to_view (element_depth tree n) n (omega arith) boxed) (suc high) leads
+      (λ frame is. to_top high frame (frame_boxed tree size n boxed framed frame is) (way_less tree framed (own n) frame is (suc (suc high)) (suc high) refl leads))
+      (document_at tree (own n)).frame refl
+
+  -- a root that a target isn't apart from is above it
+  pub above : (root : Root) (n : ℕ) → has_box tree size n ≡ true → is_apart (world_with tree size scrolls) root n ≡ false → IsAbove scene (spot_of_root root) (element_spot n)
+  above ImplicitRoot n boxed near =
+      let counted = count_is tree framed (own n) (active tree size n boxed) (length tree.documents) refl in
+      to_top counted.0 n boxed counted.2
+  above (DocumentRoot document) n boxed near =
+      subst (λ d. IsAbove scene (View d) (element_spot n)) (eqb-true (own n) document (not_false (own n == document) near))
+      (to_view (element_depth tree n) n (omega arith) boxed)
+  above (ElementRoot a) n boxed near =
+      let proper : is_proper_ancestor tree a n ≡ true = second_true (own n == own a) (is_proper_ancestor tree a n) (not (has_box tree size a)) (not (has_box tree size n)) near in
+      let kept = proper_is (a == n) (is_inclusive_ancestor tree a n) proper in
+      elim (to_ancestor (element_depth tree n) a n (omega arith) boxed kept.1) [
+        | inl same ↦ absurd (let clash : true ≡ false = sym (number_same a n same) ∙ kept.0 in let no : ⊥ = cc in no)
+        | inr found ↦ found
+      ]

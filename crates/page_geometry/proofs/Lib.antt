@@ -1,0 +1,12 @@
+pub mod Parts
+pub mod Shown
+pub mod Levels
+pub mod Chains
+pub mod Ends
+pub mod Cuts
+pub mod Moves
+pub mod Beginnings
+pub mod Found
+pub mod Containers
+pub mod Results
+pub mod Ancestors

@@ -1,0 +1,36 @@
+use Rattle.std.proofs.Common.{◌≤◌, ◌∷◌, sym, subst, ◌∙◌}
+use Rattle.page_model.specs.Chains.{border_rect, clips_between}
+use Rattle.clip_chain.specs.Chains.{Leads, IsAbove}
+use Rattle.clip_chain.specs.Worlds.{scene_of, element_spot, spot_of_root}
+use Rattle.clip_chain.proofs.Worlds.{part_is}
+use Rattle.intersection_observer.specs.Seen.{seen_root}
+use Rattle.page_boxes.specs.Pages.{seen_size}
+use Rattle.page_geometry.specs.Worlds.{world_with}
+use Rattle.page_geometry.proofs.Chains.{above}
+use Rattle.page_geometry.proofs.Ends.{few_between}
+use Rattle.page_geometry.proofs.Cuts.{cut_inside}
+use Rattle.page_geometry.proofs.findings.cut_of.Goals as goal
+
+pub visible_rect-requires : goal.visible_rect-requires
+visible_rect-requires g c =
+    let it = c.args.geometry.now in
+    let world = world_with (c.args.geometry.now.page.now.tree) (seen_size c.args.geometry.now.viewport) (c.args.geometry.now.scrolls.now) in
+    subst (λ root. IsAbove (scene_of world) root (element_spot (c.args.target.0))) (sym c.spot_of_root.ensures)
+    (above (it.page.now.tree) (seen_size it.viewport) (it.scrolls.now) it.framed (seen_root c.args.root) (c.args.target.0) c.requires.boxed c.requires.near)
+
+pub returns-clause-value : goal.returns-clause-value
+returns-clause-value g c =
+    let it = c.args.geometry.now in
+    let world = world_with (c.args.geometry.now.page.now.tree) (seen_size c.args.geometry.now.viewport) (c.args.geometry.now.scrolls.now) in
+    let root = seen_root c.args.root in
+    let n = c.args.target.0 in
+    let chain = above (it.page.now.tree) (seen_size it.viewport) (it.scrolls.now) it.framed root n c.requires.boxed c.requires.near in
+    let few = few_between (it.page.now.tree) (seen_size it.viewport) (it.scrolls.now) it.framed (subst (λ n. n ≤ 64) it.counted it.few) it.deep n (spot_of_root root) chain.0 c.requires.boxed chain.1 in
+    c.visible_rect.ensures.part chain.0 (subst (λ spot. Leads (scene_of world) (element_spot n) chain.0 spot) (sym c.spot_of_root.ensures) chain.1)
+    ∙ part_is world root n chain.0 c.args.limits chain.1 few
+
+pub returns-clause-inside : goal.returns-clause-inside
+returns-clause-inside g c =
+    let world = world_with (c.args.geometry.now.page.now.tree) (seen_size c.args.geometry.now.viewport) (c.args.geometry.now.scrolls.now) in
+    cut_inside (border_rect world (c.args.target.0)) (c.args.limits ∷ clips_between world (seen_root c.args.root) (c.args.target.0)) c.visible_rect.result
+    (returns-clause-value g c) c.visible_rect.ensures.range

@@ -1,0 +1,31 @@
+use Rattle.std.proofs.Common.{◌≤◌, ◌<◌, option_map, ap, sym, subst, ◌∙◌, Some}
+use Rattle.element_tree.specs.Links.{number}
+use Rattle.clip_chain.specs.declared.spot.Spot.TheVariants.{Node, View}
+use Rattle.clip_chain.specs.Worlds.{element_spot, spot_of}
+use Rattle.page_tree.specs.Steps.{seen_container}
+use Rattle.page_boxes.specs.Pages.{seen_size}
+use Rattle.page_geometry.specs.Ranks.{rank_of}
+use Rattle.page_geometry.proofs.Containers.{container_is, view_container, ends}
+use Rattle.page_geometry.proofs.geometry.PageGeometryGeometry.container.Goals as goal
+
+pub returns-in-Some-clause-end : goal.returns-in-Some-clause-end
+returns-in-Some-clause-end g c =
+    let it = c.args.self.now in
+    let tree = it.page.now.tree in
+    let size = seen_size it.viewport in
+    let n = c.in-Node.node.0 in
+    subst (λ spot. rank_of tree size c.spot_of.result < rank_of tree size spot) (sym c.in-Node.is)
+    (ends tree size (it.scrolls.now) it.framed (subst (λ n. n ≤ 64) it.counted it.few) it.deep (Node c.in-Node.node) (Some c.spot_of.result)
+    (container_is tree size (it.scrolls.now) n (Some c.spot_of.result) (sym (c.has_box.ensures size) ∙ c.if-not-has_box.false)
+    (ap Some c.spot_of.ensures ∙ ap (option_map spot_of) (sym (ap (option_map seen_container) c.in-Some.is) ∙ c.container_of.ensures))))
+
+pub returns-in-Some-frame_of-clause-end : goal.returns-in-Some-frame_of-clause-end
+returns-in-Some-frame_of-clause-end g c =
+    let it = c.args.self.now in
+    let tree = it.page.now.tree in
+    let size = seen_size it.viewport in
+    let frame = element_spot (c.in-Some-frame_of.frame.0) in
+    subst (λ spot. rank_of tree size frame < rank_of tree size spot) (sym c.in-View.is)
+    (ends tree size (it.scrolls.now) it.framed (subst (λ n. n ≤ 64) it.counted it.few) it.deep (View c.in-View.document) (Some frame)
+    (view_container tree size (it.scrolls.now) c.in-View.document (Some frame)
+    (ap (option_map element_spot) (sym (ap (option_map number) c.in-Some-frame_of.is) ∙ c.frame_of.ensures.value))))

@@ -1,0 +1,29 @@
+-- How far outwards a chain can lead from a spot: a document stands higher than the one that holds its frame, and an element
+-- higher than its parent.
+use Rattle.std.specs.Prelude.{ℕ, zero, suc, ◌+◌, ◌*◌, cond, Option, Some, None}
+use Rattle.text_io.specs.Limits.{limit_number}
+use Rattle.text_io.specs.declared.kinds.LimitKind.TheVariants as limits
+use Rattle.page_model.specs.World.{Extent, Tree}
+use Rattle.page_model.specs.Lookups.{element_at, document_at}
+use Rattle.page_model.specs.Documents.{element_depth}
+use Rattle.page_model.specs.PageBoxes.{has_box}
+use Rattle.clip_chain.specs.declared.spot.Spot.{Spot}
+use Rattle.clip_chain.specs.declared.spot.Spot.TheVariants.{Node, View}
+
+abbrev pub level_by : (ℕ → ℕ) → Tree → Option ℕ → ℕ
+level_by above tree None = 0
+level_by above tree (Some frame) = suc (above (element_at tree frame).document)
+
+-- how many frames a document stands in, of so many that are looked at
+unfoldable pub level_up : ℕ → Tree → ℕ → ℕ
+level_up zero tree document = 0
+level_up (suc high) tree document = level_by (level_up high tree) tree (document_at tree document).frame
+
+abbrev pub level_of : Tree → ℕ → ℕ
+level_of tree document = level_up (limit_number limits.Documents) tree document
+
+-- a level of documents has room for all depths of elements
+abbrev pub rank_of : Tree → Extent → Spot → ℕ
+rank_of tree size (View document) = 257 * level_of tree document
+rank_of tree size (Node node) =
+    cond (has_box tree size (node.0)) (257 * level_of tree (element_at tree (node.0)).document + element_depth tree (node.0)) 0

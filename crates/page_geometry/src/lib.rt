@@ -1,0 +1,20 @@
+//! The containers, clips and boxes of a page as they are now, in the coordinates of the top document's viewport, and what an
+//! intersection observer finds of a target (Intersection Observer, 2.2, 3.2.7 and 3.2.10). All lengths are in units of 1/64 CSS
+//! pixel.
+//!
+//! Boxes, elements and scroll positions are lent, nothing is kept, and nothing takes memory.
+#![tactic(auto)]
+
+mod findings;
+mod geometry;
+mod laws;
+mod origins;
+mod ratios;
+mod rects;
+mod relations;
+#[cfg(test)]
+mod tests;
+
+pub use findings::find;
+pub use geometry::PageGeometry;
+pub use laws::findings_read_these_parts_alone;

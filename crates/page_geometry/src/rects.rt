@@ -1,0 +1,90 @@
+//! Rectangles in the coordinates of the viewport of `top`.
+
+ghost use Rattle.std.specs.Prelude.{◌≡◌, ◌-ℤ◌};
+ghost use Rattle.page_model.specs.Chains.{moved_by, moved_back, viewport_rect, border_rect, padding_rect};
+ghost use Rattle.clip_chain.specs.Ranges.{IsBounds};
+ghost use Rattle.page_boxes.specs.Pages.{seen_size};
+ghost use Rattle.page_boxes.specs.Ranges.{AreEdges, IsSpan};
+ghost use Rattle.page_geometry.specs.Worlds.{world_with};
+ghost use Rattle.page_geometry.specs.Ranges.{IsOrigin, IsMoved, IsRectReached};
+
+use crate::geometry::PageGeometry;
+use crate::origins::origin;
+use block_layout::Boxes;
+use element_tree::NodeId;
+use page_boxes::viewport_of;
+use px_units::{Point, Rect, shift};
+
+pub(crate) const NO_RECT: Rect = Rect {
+    left: 0,
+    top: 0,
+    right: 0,
+    bottom: 0,
+};
+
+// A rectangle in the viewport of a document that begins there.
+fn moved_by(by: Point, rect: Rect) -> Rect
+    requires by { IsOrigin 64 by }
+    requires edges { AreEdges rect }
+    requires width { IsSpan (rect.right -ℤ rect.left) }
+    requires height { IsSpan (rect.bottom -ℤ rect.top) }
+    ensures value { result ≡ moved_by by rect }
+    ensures range { IsBounds result }
+{
+    shift(rect, by.left, by.top)
+}
+
+// A rectangle as it is in the viewport of a document that begins there.
+pub(crate) fn moved_back(from: Point, rect: Rect) -> Rect
+    requires from { IsOrigin 64 from }
+    requires rect { IsMoved rect }
+    ensures value { result ≡ moved_back from rect }
+    ensures range { IsRectReached result }
+{
+    shift(rect, -from.left, -from.top)
+}
+
+// The viewport of a document.
+pub(crate) fn viewport_rect<B: Boxes>(geometry: &PageGeometry<'_, B>, document: u32) -> Rect
+    ensures value { result ≡ viewport_rect (world_with geometry.now.page.now.tree (seen_size geometry.now.viewport) geometry.now.scrolls.now) document }
+    ensures range { IsBounds result }
+{
+    let size = viewport_of(geometry.page, geometry.boxes, geometry.viewport, document);
+    let own = Rect {
+        left: 0,
+        top: 0,
+        right: size.width,
+        bottom: size.height,
+    };
+    moved_by(origin(geometry, document), own)
+}
+
+// The border box of an element.
+pub(crate) fn border_rect<B: Boxes>(geometry: &PageGeometry<'_, B>, node: NodeId) -> Rect
+    ensures value { result ≡ border_rect (world_with geometry.now.page.now.tree (seen_size geometry.now.viewport) geometry.now.scrolls.now) node.0 }
+    ensures range { IsBounds result }
+{
+    let own = page_boxes::border_rect(
+        geometry.page,
+        geometry.boxes,
+        geometry.scrolls,
+        geometry.viewport,
+        node,
+    );
+    moved_by(origin(geometry, geometry.page.document_of(node)), own)
+}
+
+// The padding box of an element.
+pub(crate) fn padding_rect<B: Boxes>(geometry: &PageGeometry<'_, B>, node: NodeId) -> Rect
+    ensures value { result ≡ padding_rect (world_with geometry.now.page.now.tree (seen_size geometry.now.viewport) geometry.now.scrolls.now) node.0 }
+    ensures range { IsBounds result }
+{
+    let own = page_boxes::padding_rect(
+        geometry.page,
+        geometry.boxes,
+        geometry.scrolls,
+        geometry.viewport,
+        node,
+    );
+    moved_by(origin(geometry, geometry.page.document_of(node)), own)
+}

@@ -1,0 +1,17 @@
+-- How far something is scrolled and can be, of boxes as they are now.
+use Rattle.std.proofs.Common.{ap, ◌∙◌}
+use Rattle.page_model.specs.PageBoxes.{scroll_range, scroll_offset}
+use Rattle.page_boxes.specs.Pages.{seen_size}
+use Rattle.scrolling.specs.Seen.{seen_target, point_of}
+use Rattle.page_state.specs.Views.{PageView}
+use Rattle.page_state.proofs.page.Page.reach.Goals as goal
+
+pub returns-clause-offset : goal.returns-clause-offset
+returns-clause-offset g c =
+    c.offset_of.ensures.value c.refresh.ensures.fresh
+    ∙ ap (λ (v : PageView). point_of (scroll_offset v.world.tree v.world.viewports.size v.world.scrolls (seen_target c.args.target))) c.self.view_is
+
+pub returns-clause-range : goal.returns-clause-range
+returns-clause-range g c =
+    ap seen_size (c.range_of.ensures.value c.refresh.ensures.fresh)
+    ∙ ap (λ (v : PageView). scroll_range v.world.tree v.world.viewports.size (seen_target c.args.target)) c.self.view_is

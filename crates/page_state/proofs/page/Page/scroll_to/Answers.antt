@@ -1,0 +1,21 @@
+-- Something is scrolled to a position.
+use Rattle.std.proofs.Common.{◌≡◌, Some, option_map, sym, ap, subst, ◌∙◌}
+use Rattle.page_model.specs.Scrolling.{scrolled_thing, scrolled_to}
+use Rattle.page_model.specs.Steps.{becomes}
+use Rattle.page_tree.specs.Steps.{seen_container}
+use Rattle.scrolling.specs.Seen.{seen_target}
+use Rattle.script_syntax.specs.Seen.{operand_of}
+use Rattle.page_state.specs.Answers.{Keeps}
+use Rattle.page_state.specs.Things.{present_of}
+use Rattle.page_state.specs.Views.{PageView}
+use Rattle.page_state.proofs.Doing.{keeps_by, scrolls_to}
+use Rattle.page_state.proofs.page.Page.scroll_to.Goals as goal
+
+pub returns : goal.returns
+returns g c =
+    let world = c.args.self.now.world in
+    let target = Some (seen_target c.in-Some.target) in
+    let thing : scrolled_thing world.tree world.viewports.size (seen_container c.in_ok-container.container) ≡ target = sym c.scrolled_thing.ensures ∙ ap (option_map seen_target) c.in-Some.is in
+    keeps_by
+    (subst (λ (v : PageView). Keeps v c.move_to.new.self c.move_to.result (λ handlers. becomes (scrolled_to c.args.to.left c.args.to.top target v.world))) c.reach-reach.ensures.same c.move_to.ensures)
+    (λ handlers. scrolls_to handlers world (present_of c.args.subject) (operand_of c.args.of) (seen_container c.in_ok-container.container) c.in_ok-container.ensures.answer target thing c.args.to.left c.args.to.top)

@@ -1,0 +1,14 @@
+-- Each intersection observer has a name.
+use Rattle.std.proofs.Common.{◌<◌, ℕ, List, Option, find, length, sym, subst}
+use Rattle.std.specs.Option.{IsSome}
+use Rattle.page_model.specs.World.{IntersectionObserverThing, Name}
+use Rattle.page_model.specs.Names.{is_same_thing}
+use Rattle.page_state.specs.Views.{PageView}
+use Rattle.page_state.proofs.Found.{some_named}
+use Rattle.page_state.proofs.page.Page.watcher_name.Goals as goal
+
+pub unwrap-requires : goal.unwrap-requires
+unwrap-requires c =
+    subst (λ (it : Option (List ℕ)). IsSome it) (sym c.name_of.ensures)
+    (some_named (find (λ (it : Name). is_same_thing it.thing (IntersectionObserverThing c.args.watcher.0)) c.self.inside.names.list)
+    (c.self.invariant.known.named (IntersectionObserverThing c.args.watcher.0) (subst (λ (v : PageView). c.args.watcher.0 < length v.world.intersection_observers.made) (sym c.self.view_is) c.requires)))

@@ -1,0 +1,71 @@
+//! What is kept of each document, up to the last one of which something is.
+
+ghost use Rattle.std.specs.Prelude.{◌≡◌, ◌<◌, IfOk, []};
+ghost use Rattle.page_model.specs.Lookups.{entry_or, put_at, change_at};
+
+use std::alloc::{AllocError, Global};
+use std::marker::Model;
+
+/// As many documents as a page may have.
+const MOST_DOCUMENTS: usize = 64;
+
+/// An entry for each document. The room for all is made at first, so that setting one takes no memory.
+#[derive(Drop)]
+pub(crate) struct ByDocument<T> {
+    entries: Vec<T>,
+}
+
+impl<T> Model for ByDocument<T> {
+    ghost use Rattle.std.specs.Prelude.{◌≤◌, List, vec_capacity};
+
+    ghost Value = { List T };
+
+    ghost view = { λ it. it.entries.items };
+
+    ghost invariant = { λ it. 64 ≤ vec_capacity it.entries };
+}
+
+impl<T: Copy> ByDocument<T> {
+    pub(crate) fn new(alloc: Global) -> Result<ByDocument<T>, AllocError>
+        ensures { IfOk result (λ it. it ≡ []) }
+    {
+        let entries = Vec::with_capacity(alloc, MOST_DOCUMENTS)?;
+        Ok(ByDocument { entries })
+    }
+
+    // The entry of a document, the default where it has none.
+    pub(crate) fn get(&self, document: u32, default: T) -> T
+        ensures { result ≡ entry_or default self.now document }
+    {
+        match self.entries.get(document as usize) {
+            Some(entry) => *entry,
+            None => default,
+        }
+    }
+
+    // Sets the entry of a document. Documents before it that have none get the default.
+    pub(crate) fn set(&mut self, document: u32, value: T, default: T)
+        requires { document < 64 }
+        ensures { self.new ≡ put_at default document value self.old }
+    {
+        let place = document as usize;
+        if place < self.entries.len() {
+            self.entries[place] = value;
+            return;
+        }
+        let Ok(()) = self.entries.resize(place, default) else {
+            return;
+        };
+        self.entries.push_reserved(value);
+    }
+
+    // Sets the entry of a document that has one.
+    pub(crate) fn reset(&mut self, document: u32, value: T)
+        ensures { self.new ≡ change_at (λ before. value) document self.old }
+    {
+        let place = document as usize;
+        if place < self.entries.len() {
+            self.entries[place] = value;
+        }
+    }
+}

@@ -1,0 +1,131 @@
+//! Commands on the intersection observers of a page (Intersection Observer, 2.2).
+
+ghost use Rattle.std.specs.Prelude.{◌≡◌, ◌<◌, false, length, IfOk};
+ghost use Rattle.script_model.specs.Scripts.{handlers_in};
+ghost use Rattle.script_model.specs.MarginText.{margins_of};
+ghost use Rattle.script_model.specs.Syntax.{MakeIntersectionObserver, ObserveIntersection, UnobserveIntersection, DisconnectIntersection, TakeIntersections};
+ghost use Rattle.text_io.specs.declared.kinds.ThrowKind.TheVariants.{SyntaxError};
+ghost use Rattle.page_model.specs.Callbacks.{handler_names};
+ghost use Rattle.page_model.specs.Commands.{does};
+ghost use Rattle.page_model.specs.Operands.{Present};
+ghost use Rattle.page_model.specs.Steps.{required};
+ghost use Rattle.script_syntax.specs.Seen.{operand_of, making_of};
+ghost use Rattle.page_state.specs.Answers.{Finds, Gives, Keeps, Kept};
+ghost use Rattle.page_state.specs.Things.{present_of, IsSubject};
+ghost use Rattle.page_state.specs.Watchers.{new_thresholds};
+
+use crate::answers::{Effect, PageFault};
+use crate::lookups::handler_given;
+use crate::names::Thing;
+use crate::page::Page;
+use element_tree::NodeId;
+use intersection_observer::WatchFault;
+use script_syntax::{IoMaking, MarginText, Operand, Script};
+use text_io::{LimitKind, Name, ThrowKind};
+use thresholds::{Margins, ThresholdFault, Thresholds};
+
+#[tactic(auto, unfolding(page_model::specs::Commands::does))]
+impl Page {
+    pub(crate) fn make_watcher(
+        &mut self,
+        script: &Script,
+        making: &IoMaking,
+        subject: Option<NodeId>,
+    ) -> Result<Effect, PageFault>
+        requires { IsSubject (length self.old.world.tree.elements) subject }
+        ensures { Kept self.old self.new result (does (handler_names (handlers_in script.now)) self.old.world (present_of subject) (MakeIntersectionObserver (making_of making.now))) }
+    {
+        self.names.check_free(making.name)?;
+        let document = self.document(making.document)?;
+        let handler = handler_given(script, making.handler)?;
+        let root = self.root(making.root, subject)?;
+        let margins = margins_given(&making.margin)?;
+        let thresholds = self.thresholds_given(making.thresholds.numbers())?;
+        self.names.reserve(1)?;
+        let Ok(watcher) = self
+            .watchers
+            .make(document, handler, root, margins, thresholds)
+        else {
+            return Err(PageFault::Memory);
+        };
+        self.names
+            .insert(making.name, Thing::IntersectionObserver(watcher))?;
+        Ok(Effect::Nothing)
+    }
+
+    // The thresholds of values, where there is room for one more observer. Want of memory comes last.
+    fn thresholds_given(&self, values: &[i64]) -> Result<Thresholds, PageFault>
+        ensures { Gives result (new_thresholds values.now self.now.world.intersection_observers) }
+    {
+        match Thresholds::new(*self.queries.allocator(), values) {
+            Err(ThresholdFault::ThresholdRange | ThresholdFault::MarginSyntax) => {
+                Err(PageFault::Throw(ThrowKind::RangeError))
+            }
+            _ if self.watchers.is_full() => {
+                Err(PageFault::Limit(LimitKind::IntersectionObservers))
+            }
+            Err(ThresholdFault::Memory) => Err(PageFault::Memory),
+            Ok(thresholds) => Ok(thresholds),
+        }
+    }
+
+    pub(crate) fn register(
+        &mut self,
+        observer: Name,
+        node: Operand,
+        subject: Option<NodeId>,
+    ) -> Result<Effect, PageFault>
+        requires counted { self.old.world.intersection_observers.given < self.old.world.begun }
+        requires flag { self.old.begun ≡ false }
+        requires subject { IsSubject (length self.old.world.tree.elements) subject }
+        ensures { Keeps self.old self.new result (λ handlers. does handlers self.old.world (present_of subject) (ObserveIntersection observer (operand_of node))) }
+    {
+        let watcher = self.watcher(observer)?;
+        let node = self.element(node, subject)?;
+        match self.watchers.observe(watcher, node) {
+            Ok(_) => Ok(Effect::Nothing),
+            Err(WatchFault::Limit) => Err(PageFault::Limit(LimitKind::IntersectionObservations)),
+            Err(WatchFault::Memory) => Err(PageFault::Memory),
+        }
+    }
+
+    pub(crate) fn unregister(
+        &mut self,
+        observer: Name,
+        node: Operand,
+        subject: Option<NodeId>,
+    ) -> Result<Effect, PageFault>
+        requires { IsSubject (length self.old.world.tree.elements) subject }
+        ensures { Keeps self.old self.new result (λ handlers. does handlers self.old.world (present_of subject) (UnobserveIntersection observer (operand_of node))) }
+    {
+        let watcher = self.watcher(observer)?;
+        let node = self.element(node, subject)?;
+        self.watchers.unobserve(watcher, node);
+        Ok(Effect::Nothing)
+    }
+
+    pub(crate) fn unregister_all(&mut self, observer: Name) -> Result<Effect, PageFault>
+        ensures { (present : Present) → Keeps self.old self.new result (λ handlers. does handlers self.old.world present (DisconnectIntersection observer)) }
+    {
+        let watcher = self.watcher(observer)?;
+        self.watchers.disconnect(watcher);
+        Ok(Effect::Nothing)
+    }
+
+    pub(crate) fn take_entries(&mut self, observer: Name) -> Result<Effect, PageFault>
+        ensures { (present : Present) → Keeps self.old self.new result (λ handlers. does handlers self.old.world present (TakeIntersections observer)) }
+    {
+        let watcher = self.watcher(observer)?;
+        Ok(Effect::Taken(watcher, self.watchers.take_records(watcher)))
+    }
+}
+
+// The margins that a text is.
+fn margins_given(text: &MarginText) -> Result<Margins, ThrowKind>
+    ensures { Finds (λ margins. margins) result (required SyntaxError (margins_of text.now)) }
+{
+    match Margins::parse(text.bytes()) {
+        Ok(margins) => Ok(margins),
+        Err(_) => Err(ThrowKind::SyntaxError),
+    }
+}

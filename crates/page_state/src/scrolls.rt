@@ -1,0 +1,153 @@
+//! Commands that scroll (CSSOM View, 4 to 6).
+
+ghost use Rattle.std.specs.Prelude.{◌≡◌, ◌<◌, ◌+ℤ◌, length, option_map};
+ghost use Rattle.script_model.specs.Syntax.{ScrollTo, ScrollBy};
+ghost use Rattle.page_model.specs.Commands.{does};
+ghost use Rattle.page_model.specs.Documents.{InElement, is_root_element};
+ghost use Rattle.page_model.specs.PageBoxes.{scroll_range, scroll_offset};
+ghost use Rattle.page_model.specs.Scrolling.{scrolled_thing, scroll_document, scrolled_to};
+ghost use Rattle.page_model.specs.Steps.{becomes};
+ghost use Rattle.page_boxes.specs.Pages.{seen_size};
+ghost use Rattle.page_boxes.specs.Ranges.{IsOffset as IsInForce};
+ghost use Rattle.page_tree.specs.Steps.{seen_container};
+ghost use Rattle.scrolling.specs.Ranges.{IsRange};
+ghost use Rattle.scrolling.specs.Seen.{seen_target, point_of};
+ghost use Rattle.script_syntax.specs.Allowed.{IsOffset};
+ghost use Rattle.script_syntax.specs.Seen.{operand_of};
+ghost use Rattle.page_state.specs.Answers.{Keeps};
+ghost use Rattle.page_state.specs.Labels.{IsIn};
+ghost use Rattle.page_state.specs.Things.{present_of, IsSubject};
+
+use crate::answers::{Effect, PageFault};
+use crate::page::Page;
+use element_tree::NodeId;
+use page_boxes::{is_scroller, offset_of, range_of, refresh};
+use page_tree::Container;
+use px_units::{Point, Size};
+use script_syntax::Operand;
+use scrolling::ScrollTarget;
+use std::sync::ledger::Ledger;
+use step_count::Steps;
+
+// How far something is scrolled, and how far it can be.
+#[derive(Clone, Copy)]
+struct Reach {
+    offset: Point,
+    range: Size,
+}
+
+#[tactic(auto, unfolding(page_model::specs::Commands::does))]
+impl Page {
+    pub(crate) fn scroll_to<L: Ledger>(
+        &mut self,
+        of: Operand,
+        to: Point,
+        subject: Option<NodeId>,
+        steps: &mut Steps<L>,
+    ) -> Result<Effect, PageFault>
+        requires { IsSubject (length self.old.world.tree.elements) subject }
+        ensures { Keeps self.old self.new result (λ handlers. does handlers self.old.world (present_of subject) (ScrollTo (operand_of of) to.left to.top)) }
+    {
+        let container = self.container(of, subject)?;
+        let Some(target) = self.scrolled_thing(container) else {
+            return Ok(Effect::Nothing);
+        };
+        let reach = self.reach(target, steps);
+        self.move_to(target, to, reach.range)
+    }
+
+    pub(crate) fn scroll_by<L: Ledger>(
+        &mut self,
+        of: Operand,
+        by: Point,
+        subject: Option<NodeId>,
+        steps: &mut Steps<L>,
+    ) -> Result<Effect, PageFault>
+        requires by { IsOffset by }
+        requires subject { IsSubject (length self.old.world.tree.elements) subject }
+        ensures { Keeps self.old self.new result (λ handlers. does handlers self.old.world (present_of subject) (ScrollBy (operand_of of) by.left by.top)) }
+    {
+        let container = self.container(of, subject)?;
+        let Some(target) = self.scrolled_thing(container) else {
+            return Ok(Effect::Nothing);
+        };
+        let reach = self.reach(target, steps);
+        self.move_to(target, moved(reach.offset, by), reach.range)
+    }
+
+    // What a scroll of an element or a document scrolls: a root element stands for its document's viewport.
+    fn scrolled_thing(&self, container: Container) -> Option<ScrollTarget>
+        requires { IsIn self.now.world container }
+        ensures { option_map seen_target result ≡ scrolled_thing self.now.world.tree self.now.world.viewports.size (seen_container container) }
+    {
+        match container {
+            Container::Document(document) => Some(ScrollTarget::Document(document)),
+            Container::Element(node) => self.scrolled_element(node),
+        }
+    }
+
+    fn scrolled_element(&self, node: NodeId) -> Option<ScrollTarget>
+        ensures { option_map seen_target result ≡ scrolled_thing self.now.world.tree self.now.world.viewports.size (InElement node.0) }
+    {
+        if self.is_root_element(node) {
+            return Some(ScrollTarget::Document(self.tree.document_of(node)));
+        }
+        if is_scroller(&self.tree, node) {
+            Some(ScrollTarget::Node(node))
+        } else {
+            None
+        }
+    }
+
+    // Whether an element is the root element of its node document.
+    fn is_root_element(&self, node: NodeId) -> bool
+        ensures { result ≡ is_root_element self.now.world.tree node.0 }
+    {
+        match self.tree.root(self.tree.document_of(node)) {
+            Some(root) => root.0 == node.0,
+            None => false,
+        }
+    }
+
+    // The scroll offset in force of a target and its range, of boxes that are computed anew.
+    fn reach<L: Ledger>(&mut self, target: ScrollTarget, steps: &mut Steps<L>) -> Reach
+        ensures offset { result.offset ≡ point_of (scroll_offset self.old.world.tree self.old.world.viewports.size self.old.world.scrolls (seen_target target)) }
+        ensures range { seen_size result.range ≡ scroll_range self.old.world.tree self.old.world.viewports.size (seen_target target) }
+        ensures in_force { IsInForce result.offset }
+        ensures bound { IsRange result.range }
+        ensures same { self.new ≡ self.old }
+    {
+        refresh(&mut self.boxes, &self.tree, self.size, steps);
+        Reach {
+            offset: offset_of(&self.tree, &self.boxes, &self.scrolls, self.size, target),
+            range: range_of(&self.tree, &self.boxes, self.size, target),
+        }
+    }
+
+    // Scrolls to a position, kept within the range of the target.
+    fn move_to(&mut self, target: ScrollTarget, to: Point, range: Size) -> Result<Effect, PageFault>
+        requires value { seen_size range ≡ scroll_range self.old.world.tree self.old.world.viewports.size (seen_target target) }
+        requires bound { IsRange range }
+        ensures { Keeps self.old self.new result (λ handlers. becomes (scrolled_to to.left to.top (Some (seen_target target)) self.old.world)) }
+    {
+        let document = match target {
+            ScrollTarget::Node(node) => self.tree.document_of(node),
+            ScrollTarget::Document(document) => document,
+        };
+        self.scrolls.scroll_to(document, target, to, range)?;
+        Ok(Effect::Nothing)
+    }
+}
+
+// A point moved by a distance.
+fn moved(from: Point, by: Point) -> Point
+    requires from { IsInForce from }
+    requires by { IsOffset by }
+    ensures left { result.left ≡ from.left +ℤ by.left }
+    ensures top { result.top ≡ from.top +ℤ by.top }
+{
+    Point {
+        left: from.left + by.left,
+        top: from.top + by.top,
+    }
+}

@@ -1,5 +1,0 @@
-use Rattle.replay.proofs.Endings.{limit_answers}
-use Rattle.replay.proofs.run.meet_limit.Goals as goal
-
-pub returns-clause-answers : goal.returns-clause-answers
-returns-clause-answers g c = rw c.conclude.ensures.report (limit_answers c.write_limit.result c.args.kind _ _ _ _ _ c.write_limit.ensures)

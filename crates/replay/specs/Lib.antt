@@ -1,4 +1,0 @@
-pub mod Building
-pub mod Outcomes
-pub mod Statuses
-pub mod Answers

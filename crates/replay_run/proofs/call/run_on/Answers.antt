@@ -1,0 +1,24 @@
+use Rattle.replay_run.proofs.Endings.{done_answers, done_world, limit_said, memory_answers}
+use Rattle.replay_run.proofs.Playing.{opening_ready}
+use Rattle.replay_run.proofs.call.run_on.Goals as goal
+
+pub play-requires : goal.play-requires
+play-requires g c = record { ready = opening_ready _ _ c.requires.opening }
+
+pub returns-in-Ok-clause-answers : goal.returns-in-Ok-clause-answers
+returns-in-Ok-clause-answers g c = done_answers _ _ c.requires.opening _ _ c.in-Ok.ensures.ended
+
+pub returns-in-Ok-clause-world : goal.returns-in-Ok-clause-world
+returns-in-Ok-clause-world g c = done_world _ _ c.requires.opening _ _ c.in-Ok.ensures.ended
+
+pub returns-in-Err-Limit-clause-answers : goal.returns-in-Err-Limit-clause-answers
+returns-in-Err-Limit-clause-answers g c =
+    let cut = rw c.in-Err-Limit.field-0-is at c.in-Err-Limit.ensures in
+    let wrote = rw c.in-Err-Limit.field-0-is at c.write_limit.ensures in
+    rw c.conclude.ensures.report
+    (limit_said _ _ c.requires.opening _ _ _ _ _ _ cut.cut_off c.write_limit.result _ _ wrote)
+
+pub returns-in-Err-Memory-clause-answers : goal.returns-in-Err-Memory-clause-answers
+returns-in-Err-Memory-clause-answers g c =
+    let cut = rw c.in-Err-Memory.field-0-is at c.in-Err-Memory.ensures in
+    rw c.without_page.ensures (memory_answers _ _ c.requires.opening _ 0 0 cut.cut_off)

@@ -1,0 +1,13 @@
+//! Scripts replayed: the text of a script is read from a source, and what its page is told is written to a sink, line by line.
+//!
+//! `run` is the top call. A host hands it any source and sink, and reads the page that it hands out where the script ran to its end.
+#![tactic(auto)]
+
+mod call;
+mod play;
+mod status;
+#[cfg(test)]
+mod tests;
+
+pub use call::{Report, run, run_uncounted};
+pub use status::Status;

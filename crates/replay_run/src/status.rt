@@ -1,0 +1,40 @@
+//! How a run ends, and why it ends early.
+
+ghost use Rattle.std.specs.Prelude.{◌≡◌};
+ghost use Rattle.replay_run.specs.Statuses.{code_of};
+
+/// How a run ended.
+#[derive(Clone, Copy, Debug, PartialEq, Eq)]
+pub enum Status {
+    /// The script was run to its end; the whole text was written.
+    Done,
+    /// The text is no script; the line that says where was written.
+    Syntax,
+    /// A limit was met; the text up to its line was written.
+    Limit,
+    /// No memory was left; a first part of the text was written.
+    NoMemory,
+    /// A read failed; nothing was written.
+    ReadFault,
+    /// A write failed; a first part of the text was written.
+    WriteFault,
+    /// The words are none that the program has; nothing was read or written.
+    Usage,
+}
+
+impl Status {
+    /// The exit status of the program.
+    pub fn code(&self) -> u8
+        ensures { result ≡ code_of self.now }
+    {
+        match self {
+            Status::Done => 0,
+            Status::Syntax => 1,
+            Status::Limit => 2,
+            Status::NoMemory => 3,
+            Status::ReadFault => 4,
+            Status::WriteFault => 5,
+            Status::Usage => 6,
+        }
+    }
+}
