@@ -32,11 +32,11 @@ taken_whole status None after bytes all end short = tt
 taken_whole status (Some text) after bytes all end short = taken status text after (end ∙ ap Some (sym (nothing-left text bytes all short)))
 
 -- the answer of a text that was read to its end
-pub whole_ends : (status : Status) (left : Option (List ℕ)) (bytes given : List ℕ) (before after : Option (List ℕ)) (f g : ℕ) → IfSome left (λ text. bytes ≡ text) → given ≡ bytes
-    → Answers status (outcome given) before after f g → IfSome left (λ text. Ends status (outcome text).ending (trace text) before after f g)
-whole_ends status None bytes given before after f g all same w = tt
-whole_ends status (Some text) bytes given before after f g all same w =
-    answers_end status text before after f g (subst (λ (it : List ℕ). Answers status (outcome it) before after f g) (same ∙ all) w)
+pub whole_ends : (status : Status) (left : Option (List ℕ)) (bytes : List ℕ) (before after : Option (List ℕ)) (f g : ℕ) → IfSome left (λ text. bytes ≡ text)
+    → Answers status (outcome bytes) before after f g → IfSome left (λ text. Ends status (outcome text).ending (trace text) before after f g)
+whole_ends status None bytes before after f g all w = tt
+whole_ends status (Some text) bytes before after f g all w =
+    answers_end status text before after f g (subst (λ (it : List ℕ). Answers status (outcome it) before after f g) all w)
 
 pub taken_past : (status : Status) (left after : Option (List ℕ)) (feeds : ℕ) → IfSome left (λ text. PassesLimit text after 16777216 feeds)
     → IfSome left (λ text. IsTaken status text after)

@@ -11,6 +11,7 @@ ghost use Rattle.trace_runs.specs.Writes.{Wrote};
 ghost use Rattle.replay_run.specs.Answers.{Answers, Ends, IsTaken};
 ghost use Rattle.replay_run.specs.Statuses.{is_done, status_after, status_of};
 
+use crate::input::feed_all;
 use crate::play::play;
 use crate::status::Status;
 use page_state::Page;
@@ -19,15 +20,9 @@ use script_syntax::{ParseFault, Script, parse};
 use std::alloc::Global;
 use std::sync::ledger::{Blank, Ledger};
 use step_count::Steps;
-use text_io::{LimitKind, Sink, Source, TextFault, read_all};
+use text_io::{LimitKind, Sink, Source, TextFault};
 use trace_runs::{RunFault, write_one};
 use trace_text::TraceLine;
-
-/// The most bytes of a script.
-const MOST_BYTES: usize = 16_777_216;
-
-/// The most bytes of a line.
-const MOST_LINE: usize = 4096;
 
 /// What a run answers.
 #[derive(Drop)]
@@ -89,14 +84,10 @@ fn meet_limit<K: Sink>(alloc: Global, kind: LimitKind, line: u32, sink: &mut K) 
     conclude(write_limit(alloc, kind, line, sink), Status::Limit)
 }
 
-fn parse_text(alloc: Global, text: &[u8]) -> Result<Script, ParseFault>
-    requires { length text.now ≤ 16777216 }
-    ensures { Parses result (reading text.now) }
+fn parse_text(alloc: Global, lexer: Lexer) -> Result<Script, ParseFault>
+    requires { lexer.most_line ≡ 4096 }
+    ensures { Parses result (reading lexer.text) }
 {
-    let mut lexer = Lexer::new(alloc, MOST_LINE);
-    let Ok(()) = lexer.feed(text) else {
-        return Err(ParseFault::Memory);
-    };
     let Ok(text) = lexer.finish() else {
         return Err(ParseFault::Memory);
     };
@@ -165,16 +156,16 @@ fn run_script<K: Sink, L: Ledger>(
 // The script of a text.
 fn replay<K: Sink, L: Ledger>(
     alloc: Global,
-    text: &[u8],
+    lexer: Lexer,
     sink: &mut K,
     steps: &mut Steps<L>,
 ) -> Report
-    requires { length text.now ≤ 16777216 }
-    ensures answers { Answers result.status (outcome text.now) (K.taken sink.old) (K.taken sink.new) (K.faults sink.old) (K.faults sink.new) }
+    requires { lexer.most_line ≡ 4096 }
+    ensures answers { Answers result.status (outcome lexer.text) (K.taken sink.old) (K.taken sink.new) (K.faults sink.old) (K.faults sink.new) }
     ensures page { is_some result.page ≡ is_done result.status }
-    ensures world { IfSome result.page (λ page. page.world ≡ (outcome text.now).world) }
+    ensures world { IfSome result.page (λ page. page.world ≡ (outcome lexer.text).world) }
 {
-    match parse_text(alloc, text) {
+    match parse_text(alloc, lexer) {
         Ok(script) => run_script(alloc, &script, sink, steps),
         Err(fault) => refuse_text(alloc, fault, sink),
     }
@@ -210,8 +201,8 @@ pub fn run<S: Source, K: Sink, L: Ledger>(
     if !words.is_empty() {
         return without_page(Status::Usage);
     }
-    match read_all(alloc, source, MOST_BYTES) {
-        Ok(text) => replay(alloc, &text, sink, steps),
+    match feed_all(alloc, source) {
+        Ok(lexer) => replay(alloc, lexer, sink, steps),
         Err(TextFault::TooLong { feeds }) => meet_limit(alloc, LimitKind::Script, feeds + 1, sink),
         Err(TextFault::ReadFault) => without_page(Status::ReadFault),
         Err(_) => without_page(Status::NoMemory),

@@ -4,7 +4,12 @@
 #![tactic(auto)]
 
 mod call;
+mod input;
+#[cfg(test)]
+mod limits;
 mod play;
+#[cfg(test)]
+mod scripts;
 mod status;
 #[cfg(test)]
 mod tests;

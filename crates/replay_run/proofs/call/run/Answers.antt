@@ -3,11 +3,11 @@ use Rattle.replay_run.proofs.Taking.{long_ends, taken_whole, whole_ends}
 use Rattle.replay_run.proofs.call.run.Goals as goal
 
 pub returns-in-Ok-clause-read : goal.returns-in-Ok-clause-read
-returns-in-Ok-clause-read g c = taken_whole c.replay.result.status _ _ c.in-Ok.text.items c.in-Ok.ensures.all c.in-Ok.ensures.end (omega (arith, c.in-Ok.ensures.within))
+returns-in-Ok-clause-read g c = taken_whole c.replay.result.status _ _ c.in-Ok.lexer.text c.in-Ok.ensures.all c.in-Ok.ensures.end (omega (arith, c.in-Ok.ensures.within))
 
 pub returns-in-Ok-clause-ends : goal.returns-in-Ok-clause-ends
 returns-in-Ok-clause-ends g c =
-    λ none. whole_ends c.replay.result.status _ c.in-Ok.text.items c.deref.result.now _ _ _ _ c.in-Ok.ensures.all c.deref.ensures.value c.replay.ensures.answers
+    λ none. whole_ends c.replay.result.status _ c.in-Ok.lexer.text _ _ _ _ c.in-Ok.ensures.all c.replay.ensures.answers
 
 pub returns-in-Err-TooLong-clause-ends : goal.returns-in-Err-TooLong-clause-ends
 returns-in-Err-TooLong-clause-ends g c =
