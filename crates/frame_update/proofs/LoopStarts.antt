@@ -36,7 +36,7 @@ use Rattle.page_laws.proofs.Changes.{active-in, frame-next, matched-next, noted-
 use Rattle.page_laws.proofs.Keeping.{counted, by_place-keeps, for_each-keeps, only_if-keeps, repeat-keeps, then-keeps, where-keeps}
 use Rattle.page_laws.proofs.Turns.{call-within, gather-within, round-within}
 use Rattle.loop_laws.specs.Moments.{along_each, onward, where_did}
-use Rattle.loop_laws.specs.WholeLoops.{resize_rounds, round_starts, GoesDeeper, has_undelivered, fire_error}
+use Rattle.loop_laws.specs.WholeLoops.{resize_rounds, round_starts, GoesDeeper, HasFewRounds, has_undelivered, fire_error}
 use Rattle.frame_update.specs.Loops.{LoopStart, loop_of, before_loops, loops_of_update, loops_of_tick, IsExact}
 use Rattle.frame_update.proofs.Ready.{within_next}
 
@@ -215,10 +215,11 @@ timed-by time world false within = as-many world within (record world { clock = 
 -- the laws of a resize loop, so of all those of a tick
 pub loops_exact : (script : Script) (time : ℕ) (world : World)
     → ((document : ℕ) (now : World) → IsWithinLimits now → GoesDeeper script document 0 (round_starts script document now))
+    → ((document : ℕ) (now : World) → IsWithinLimits now → HasFewRounds script document now)
     → ((document : ℕ) (now : World) → IsWithinLimits now
     → resize_loop script document now
     ≡ (resize_rounds script document now followed_by (λ last. only_if (fire_error script document) last (is_active (last.tree) document && has_undelivered document last))))
     → IsWithinLimits world → AllByRecursion (IsExact script) (loops_of_tick script time world)
-loops_exact script time world deeper error within =
-    tick_all script (IsExact script) (λ document now held. record { deeper = deeper document now held; error = error document now held }) time world (begun-within world within)
+loops_exact script time world deeper few error within =
+    tick_all script (IsExact script) (λ document now held. record { deeper = deeper document now held; few = few document now held; error = error document now held }) time world (begun-within world within)
     (λ now held. timed-by time now (nat_lt time now.clock) held)

@@ -8,7 +8,7 @@ use Rattle.page_model.specs.Loop.{resize_loop}
 use Rattle.page_model.specs.Runs.{Said, for_each, only_if, ◌followed_by◌}
 use Rattle.page_model.specs.Ticks.{run_timers, resize_steps, scroll_steps, media_steps, frame_steps, time_set}
 use Rattle.loop_laws.specs.Moments.{along_each, following, where_did}
-use Rattle.loop_laws.specs.WholeLoops.{resize_rounds, round_starts, GoesDeeper, has_undelivered, fire_error}
+use Rattle.loop_laws.specs.WholeLoops.{resize_rounds, round_starts, GoesDeeper, HasFewRounds, has_undelivered, fire_error}
 
 -- a document, and the world in which its resize loop begins
 pub record LoopStart : Type 0 where
@@ -38,11 +38,12 @@ abbrev pub loops_of_tick : Script → ℕ → World → List LoopStart
 loops_of_tick script time world =
     where_did (begun_in world) λ begun. where_did (time_set time begun) λ now. following (run_timers script now) (loops_of_update script)
 
--- each round is deeper than the one before, unless a command of it moves an inclusive ancestor of what was gathered in it; and
--- the error is fired exactly where the rounds end with the document Active and a target of one of its observers has a size that
--- differs from its last reported one
+-- each round is deeper than the one before, unless a command of it moves an inclusive ancestor of what was gathered in it; by the
+-- number of such commands and the greatest depth that is delivered there are few rounds; and the error is fired exactly where the
+-- rounds end with the document Active and a target of one of its observers has a size that differs from its last reported one
 pub record IsExact (script : Script) (loop : LoopStart) : Type 0 where
   pub deeper : GoesDeeper script loop.document 0 (round_starts script loop.document loop.world)
+  pub few : HasFewRounds script loop.document loop.world
   pub error : resize_loop script loop.document loop.world
       ≡ (resize_rounds script loop.document loop.world
       followed_by (λ now. only_if (fire_error script loop.document) now (is_active (now.tree) loop.document && has_undelivered loop.document now)))

@@ -16,7 +16,7 @@ ghost use Rattle.frame_update.specs.Ready.{IsReady};
 use crate::tasks::run_tasks;
 use crate::timers::run_timers;
 use crate::update::update_rendering;
-use loop_laws::{loop_errors_are_exact, loops_go_deeper};
+use loop_laws::{loop_errors_are_exact, loops_go_deeper, loops_have_few_rounds};
 use page_state::{Page, PageFault};
 use script_syntax::Script;
 use std::alloc::Global;
@@ -63,8 +63,9 @@ fn refuse<K: Sink>(alloc: Global, line: u32, fault: PageFault, sink: &mut K) -> 
 /// (HTML, event loops).
 ///
 /// In each of its resize loops a round is deeper than the one before, unless a command of that round moves an inclusive ancestor
-/// of what was gathered in it; and the error event is fired exactly where the rounds ended with the document Active and a target
-/// whose size differs from its last reported one (Resize Observer, 3.4).
+/// of what was gathered in it; with m such commands, and H the greatest depth of a target that it delivers, a loop has at most
+/// (m + 1) * H rounds; and the error event is fired exactly where the rounds ended with the document Active and a target whose
+/// size differs from its last reported one (Resize Observer, 3.4).
 ///
 /// # Errors
 /// - `Limit` exactly where a limit is met, with every line up to its own written.
@@ -87,6 +88,7 @@ pub fn tick<K: Sink, L: Ledger>(
     ensures ready { IfOk result (λ _. IsReady script.now page.new.world) }
 {
     loops_go_deeper();
+    loops_have_few_rounds();
     loop_errors_are_exact();
     if let Err(fault) = page.begin_command() {
         return refuse(alloc, line, fault, sink);

@@ -1,5 +1,5 @@
 -- All rounds of a resize loop, with what they deliver, and the error behind them (Resize Observer, 3.4).
-use Rattle.std.specs.Prelude.{◌≡◌, ◌<◌, ℕ, Bool, ◌&&◌, List, [], ◌∷◌, map, fold, max, length, None, ⊤}
+use Rattle.std.specs.Prelude.{◌≡◌, ◌<◌, ◌≤◌, ◌*◌, ℕ, suc, Bool, ◌&&◌, List, [], ◌∷◌, map, fold, max, length, sum_by, flat_map, None, ⊤}
 use Rattle.std.specs.List.{list_any}
 use Rattle.text_io.specs.declared.kinds.EventKind.TheVariants as events
 use Rattle.script_model.specs.TraceLines.{FiredError}
@@ -46,6 +46,14 @@ GoesDeeper script document before [] = ⊤
 GoesDeeper script document before (start ∷ others) =
     (uprootings script document start ≡ 0 → before < round_depth script document start)
     × GoesDeeper script document (round_depth script document start) others
+
+-- with m commands that uproot in all, and the greatest depth H of what is delivered, a loop has at most (m + 1) * H rounds, one that
+-- is broken off counted
+abbrev pub HasFewRounds : Script → ℕ → World → Type 0
+HasFewRounds script document world =
+    length (round_starts script document world)
+    ≤ suc (sum_by (uprootings script document) (round_starts script document world))
+    * greatest (flat_map (delivered_depths script document) (round_starts script document world))
 
 -- whether an observer of a document has a target whose size differs from its last reported one
 abbrev pub has_undelivered : ℕ → World → Bool

@@ -1,12 +1,12 @@
 //! Laws of the depths of rounds, and so of their number.
 
-ghost use Rattle.std.specs.Prelude.{◌≡◌, ◌<◌, ◌≤◌, ◌*◌, ℕ, suc, IsTrue, length, sum_by, flat_map};
+ghost use Rattle.std.specs.Prelude.{◌≡◌, ◌<◌, ℕ, IsTrue};
 ghost use Rattle.page_model.specs.World.{World};
 ghost use Rattle.page_model.specs.Callbacks.{Script};
 ghost use Rattle.page_laws.specs.Bounds.{IsWithinLimits};
 ghost use Rattle.loop_laws.specs.Rounds.{goes_on, round_depth, IsDeeper};
 ghost use Rattle.loop_laws.specs.Uprooting.{uprootings};
-ghost use Rattle.loop_laws.specs.WholeLoops.{round_starts, delivered_depths, greatest, GoesDeeper};
+ghost use Rattle.loop_laws.specs.WholeLoops.{round_starts, GoesDeeper, HasFewRounds};
 
 /// A round that was gathered at a depth delivers only deeper targets, unless a command of that round uproots what was gathered: an
 /// `append`, `before` or `remove` that takes effect and moves an inclusive ancestor of a target that was gathered, as the tree is then.
@@ -26,7 +26,5 @@ pub fn loops_go_deeper()
 /// broken off counted.
 pub fn loops_have_few_rounds()
     ensures { (script : Script) (document : ℕ) (world : World) → IsWithinLimits world →
-        length (round_starts script document world)
-        ≤ suc (sum_by (uprootings script document) (round_starts script document world))
-        * greatest (flat_map (delivered_depths script document) (round_starts script document world)) }
+        HasFewRounds script document world }
 {}

@@ -44,14 +44,14 @@ returns-clause-says g c =
 pub returns-in-Err-clause-loops : goal.returns-in-Err-clause-loops
 returns-in-Err-clause-loops g c =
     loops_exact (handlers_in c.args.script.now) c.args.time c.args.page.now.world (c.loops_go_deeper.ensures (handlers_in c.args.script.now))
-    (c.loop_errors_are_exact.ensures (handlers_in c.args.script.now)) c.requires.ready.limits
+    (c.loops_have_few_rounds.ensures (handlers_in c.args.script.now)) (c.loop_errors_are_exact.ensures (handlers_in c.args.script.now)) c.requires.ready.limits
 
 pub returns-in-Err-set_time-clause-loops : goal.returns-in-Err-set_time-clause-loops
 returns-in-Err-set_time-clause-loops g c =
     loops_exact (handlers_in c.args.script.now) c.args.time c.args.page.now.world (c.loops_go_deeper.ensures (handlers_in c.args.script.now))
-    (c.loop_errors_are_exact.ensures (handlers_in c.args.script.now)) c.requires.ready.limits
+    (c.loops_have_few_rounds.ensures (handlers_in c.args.script.now)) (c.loop_errors_are_exact.ensures (handlers_in c.args.script.now)) c.requires.ready.limits
 
 pub returns-clause-loops : goal.returns-clause-loops
 returns-clause-loops g c =
     loops_exact (handlers_in c.args.script.now) c.args.time c.args.page.now.world (c.loops_go_deeper.ensures (handlers_in c.args.script.now))
-    (c.loop_errors_are_exact.ensures (handlers_in c.args.script.now)) c.requires.ready.limits
+    (c.loops_have_few_rounds.ensures (handlers_in c.args.script.now)) (c.loop_errors_are_exact.ensures (handlers_in c.args.script.now)) c.requires.ready.limits
