@@ -1,3 +1,4 @@
 mod Playing
 mod Endings
 mod Taking
+mod Feeding
