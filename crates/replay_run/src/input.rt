@@ -36,12 +36,13 @@ pub(crate) fn feed_all<S: Source>(alloc: Global, source: &mut S) -> Result<Lexer
             Err(Failed) => return Err(TextFault::ReadFault),
             Ok(0) => return Ok(lexer),
             Ok(given) => {
-                let within = given.min(MOST_BYTES - taken);
-                feeds += line_feeds(&buffer[..within]);
-                lexer
-                    .feed(&buffer[..given])
-                    .map_err(|_| TextFault::Memory)?;
-                taken += given;
+                let piece = &buffer[..given];
+                let within = (MOST_BYTES - taken).min(piece.len());
+                feeds += line_feeds(&piece[..within]);
+                let Ok(()) = lexer.feed(piece) else {
+                    return Err(TextFault::Memory);
+                };
+                taken += piece.len();
             }
         }
     }

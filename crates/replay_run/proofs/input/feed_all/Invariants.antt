@@ -4,8 +4,8 @@ use Rattle.std.specs.Io.KnownBytes.{Consumes}
 use Rattle.replay_run.proofs.Feeding.{feeds_within}
 use Rattle.replay_run.proofs.input.feed_all.Given as goal
 
-abbrev pub invariant-loop-buffer : goal.invariant-loop-buffer
-invariant-loop-buffer g l = record {
+abbrev pub invariant-loop-taken : goal.invariant-loop-taken
+invariant-loop-taken g l = record {
   lines : l.lexer.most_line ≡ 4096;
   counted : l.taken ≡ length l.lexer.text;
   within : l.taken ≤ 16777217;
@@ -15,5 +15,5 @@ invariant-loop-buffer g l = record {
   feeds_before : l.feeds ≤ l.taken;
 }
 
-abbrev pub decreases-loop-buffer : goal.decreases-loop-buffer
-decreases-loop-buffer g l = 16777217 - l.taken
+abbrev pub decreases-loop-taken : goal.decreases-loop-taken
+decreases-loop-taken g l = 16777217 - l.taken
