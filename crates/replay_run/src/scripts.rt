@@ -114,15 +114,9 @@ pub(crate) const RUNS: [(&str, &str); 30] = [
         "tick 0\nresize a x rect 0 0 800 10 border 800 10\nresize b y rect 0 0 800 10 border 800 10\nround top 2\nevent error @top ResizeObserver loop completed with undelivered notifications.\n",
     ),
     // A last line without a line feed: nothing but the head.
-    (
-        "script 1",
-        "",
-    ),
+    ("script 1", ""),
     // A last line that is cut within a name.
-    (
-        "script 1\nblock r to",
-        "throw 2 ReferenceError\n",
-    ),
+    ("script 1\nblock r to", "throw 2 ReferenceError\n"),
     // A last line that is cut behind its number.
     (
         "script 1\nblock r top\nappend top r\nro o top -\nro-observe o r content\ntick 0",
@@ -159,13 +153,25 @@ pub(crate) const REFUSED: [(&str, &str); 13] = [
     ("script 1\nset a colour red\n", "syntax 2 7\n"),
     ("script 1\nhandler h\ntick 0\nend\n", "syntax 3 1\n"),
     ("script 1\nhandler h\n", "syntax 3 1\n"),
-    ("script 1\nblock r top\nappend top r\nro o top -\nro-observe o", "syntax 5 13\n"),
+    (
+        "script 1\nblock r top\nappend top r\nro o top -\nro-observe o",
+        "syntax 5 13\n",
+    ),
     ("script", "syntax 1 7\n"),
     ("script 1\nblo", "syntax 2 1\n"),
     ("script 1\nblock r top\nappend top", "syntax 3 11\n"),
-    ("script 1\nblock r top\nappend top r\nro o top", "syntax 4 9\n"),
-    ("script 1\nblock r top\nappend top r\nro o top -\nro-observe o r con", "syntax 5 16\n"),
-    ("script 1\nblock r top\nappend top r\nro o top -\nro-observe o r content\ntick", "syntax 6 5\n"),
+    (
+        "script 1\nblock r top\nappend top r\nro o top",
+        "syntax 4 9\n",
+    ),
+    (
+        "script 1\nblock r top\nappend top r\nro o top -\nro-observe o r con",
+        "syntax 5 16\n",
+    ),
+    (
+        "script 1\nblock r top\nappend top r\nro o top -\nro-observe o r content\ntick",
+        "syntax 6 5\n",
+    ),
 ];
 
 /// A handler that makes its own target higher: each tick ends with the loop error.
