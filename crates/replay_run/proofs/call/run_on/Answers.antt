@@ -1,4 +1,4 @@
-use Rattle.replay_run.proofs.Endings.{done_answers, done_world, limit_said, memory_answers}
+use Rattle.replay_run.proofs.Endings.{done_answers, done_world, limit_said, memory_answers, failed_answers}
 use Rattle.replay_run.proofs.Playing.{opening_ready}
 use Rattle.replay_run.proofs.call.run_on.Goals as goal
 
@@ -22,3 +22,9 @@ pub returns-in-Err-Memory-clause-answers : goal.returns-in-Err-Memory-clause-ans
 returns-in-Err-Memory-clause-answers g c =
     let cut = rw c.in-Err-Memory.field-0-is at c.in-Err-Memory.ensures in
     rw c.without_page.ensures (memory_answers _ _ c.requires.opening _ 0 0 cut.cut_off)
+
+-- a write that failed: the last arm
+pub returns-clause-answers : goal.returns-clause-answers
+returns-clause-answers g c =
+    let cut = rw c.in-Err-WriteFault.field-0-is at c.in-Err-WriteFault.ensures in
+    rw c.without_page-in-Err-WriteFault.ensures (failed_answers _ _ c.requires.opening _ _ cut.cut_off)
