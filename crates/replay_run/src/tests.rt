@@ -1,5 +1,5 @@
 use crate::scripts::{ENDLESS, GROWING, PAGE, REFUSED, RUNS, TOLD};
-use crate::{Report, Status, run_uncounted};
+use crate::{Status, run_uncounted};
 use std::alloc::{AllocError, Global};
 use std::marker::Brand;
 use std::process::Abort;
@@ -36,20 +36,30 @@ fn in_pieces(piece: usize) -> Streams {
     Streams { piece, ..WHOLE }
 }
 
-// Replays a text, and answers the report and the sink.
+// What a run answered and wrote.
+struct Replayed {
+    status: Status,
+    has_page: bool,
+    sink: MemorySink,
+}
+
 fn replayed(
     alloc: Global,
     words: &[String],
     text: &[u8],
     streams: Streams,
-) -> Result<(Report, MemorySink), AllocError> {
+) -> Result<Replayed, AllocError> {
     let bytes = text.to_vec(alloc)?;
     let failing = numbers(alloc, streams.failing_read)?;
     let mut source = MemorySource::new(bytes, streams.piece, failing);
     let failing = numbers(alloc, streams.failing_write)?;
     let mut sink = MemorySink::new(alloc, streams.room, streams.piece, failing)?;
     let report = run_uncounted::<_, _, Brand>(Blank::new(1), alloc, words, &mut source, &mut sink);
-    Ok((report, sink))
+    Ok(Replayed {
+        status: report.status,
+        has_page: report.page.is_some(),
+        sink,
+    })
 }
 
 // Replays a text without words, and compares all that it answers.
@@ -61,10 +71,10 @@ pub(crate) fn expect(
     status: Status,
     taken: &str,
 ) -> Result<(), Fail> {
-    let (report, sink) = replayed(alloc, &[], text.as_bytes(), streams)?;
-    assert_eq!(rt; report.status, status, "{text}");
-    assert_eq!(rt; report.page.is_some(), status == Status::Done, "{text}");
-    assert_eq!(rt; sink.taken(), taken.as_bytes(), "{text}");
+    let it = replayed(alloc, &[], text.as_bytes(), streams)?;
+    assert_eq!(rt; it.status, status, "{text}");
+    assert_eq!(rt; it.has_page, status == Status::Done, "{text}");
+    assert_eq!(rt; it.sink.taken(), taken.as_bytes(), "{text}");
     Ok(())
 }
 
@@ -146,12 +156,13 @@ fn a_write_that_fails_ends_the_run(rt: HostRuntime) -> Result<(), Fail> {
             failing_write: Some(call),
             ..WHOLE
         };
-        let (report, sink) = replayed(rt.alloc(), &[], text.as_bytes(), streams)?;
-        let feeds = sink.taken().iter().filter(|byte| **byte == b'\n').count();
-        assert_eq!(&rt; report.status, Status::WriteFault);
-        assert!(&rt; told.as_bytes().starts_with(sink.taken()));
+        let it = replayed(rt.alloc(), &[], text.as_bytes(), streams)?;
+        let taken = it.sink.taken();
+        let feeds = taken.iter().filter(|byte| **byte == b'\n').count();
+        assert_eq!(&rt; it.status, Status::WriteFault);
+        assert!(&rt; told.as_bytes().starts_with(taken));
         assert_eq!(&rt; feeds as u64, call);
-        assert_eq!(&rt; sink.taken().last().copied().unwrap_or(b'\n'), b'\n');
+        assert_eq!(&rt; taken.last().copied().unwrap_or(b'\n'), b'\n');
     }
     Ok(())
 }
@@ -192,9 +203,9 @@ fn words_are_refused(rt: HostRuntime) -> Result<(), Fail> {
     let mut words = Vec::new(alloc);
     words.push(String::from_str(alloc, "--check")?)?;
     words.push(String::from_str(alloc, "x")?)?;
-    let (report, sink) = replayed(alloc, &words, PAGE.as_bytes(), WHOLE)?;
-    assert_eq!(&rt; report.status, Status::Usage);
-    assert_eq!(&rt; report.status.code(), 6);
-    assert!(&rt; sink.taken().is_empty());
+    let it = replayed(alloc, &words, PAGE.as_bytes(), WHOLE)?;
+    assert_eq!(&rt; it.status, Status::Usage);
+    assert_eq!(&rt; it.status.code(), 6);
+    assert!(&rt; it.sink.taken().is_empty());
     Ok(())
 }
