@@ -92,6 +92,24 @@ module _ (at : ℕ → Node) (view : View) (n : ℕ) (is : (at n).parent ≡ Non
       pair_is across down (capped (own.margin.left, own.margin.top)) wide tall
       ∙ ap (λ (b : Box). capped (b.margin.left, b.margin.top)) same ∙ sym root_is
 
+pub across_of_root : (own given : Found) → own ≡ given → (across : ℕ) → across ≡ cap given.own.margin.left → across ≡ cap own.own.margin.left
+across_of_root own given is across wide = wide ∙ ap (λ (f : Found). cap f.own.margin.left) (sym is)
+
+pub down_of_root : (own given : Found) → own ≡ given → (down : ℕ) → down ≡ cap given.own.margin.top → down ≡ cap own.own.margin.top
+down_of_root own given is down tall = tall ∙ ap (λ (f : Found). cap f.own.margin.top) (sym is)
+
+pub across_of_child : (own given outer around : Found) → own ≡ given → outer ≡ around → (across : ℕ)
+    → across ≡ cap (around.own.border.left + around.own.padding.left + given.own.margin.left) → across ≡ cap (outer.own.border.left + outer.own.padding.left + own.own.margin.left)
+across_of_child own given outer around is same across wide =
+    wide ∙ ap (λ (f : Found). cap (f.own.border.left + f.own.padding.left + given.own.margin.left)) (sym same)
+    ∙ ap (λ (f : Found). cap (outer.own.border.left + outer.own.padding.left + f.own.margin.left)) (sym is)
+
+pub down_of_child : (own given outer around : Found) → own ≡ given → outer ≡ around → (down : ℕ)
+    → down ≡ cap (around.own.border.top + around.own.padding.top + cap given.above + given.own.margin.top) → down ≡ cap (outer.own.border.top + outer.own.padding.top + cap own.above + own.own.margin.top)
+down_of_child own given outer around is same down tall =
+    tall ∙ ap (λ (f : Found). cap (f.own.border.top + f.own.padding.top + cap given.above + given.own.margin.top)) (sym same)
+    ∙ ap (λ (f : Found). cap (outer.own.border.top + outer.own.padding.top + cap f.above + f.own.margin.top)) (sym is)
+
 -- by what is held for a node and its ancestors
 module _ {P : Type 0} (style : P → Style) (kind : P → Kind) {most : ℕ} {nodes : List (Knot P)} (forest : IsForest most nodes)
     (view : View) (slot : ℕ → Slot) (n : ℕ) (fresh : IsFreshPath (layout_tree style kind nodes) view slot n) where
