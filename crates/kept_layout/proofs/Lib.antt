@@ -1,0 +1,13 @@
+pub mod Lists
+pub mod Shapes
+pub mod Heights
+pub mod Steady
+pub mod Counts
+pub mod Walked
+pub mod Paid
+pub mod Going
+pub mod Exact
+pub mod Climbs
+pub mod Scrollers
+pub mod Climbed
+pub mod Shifted

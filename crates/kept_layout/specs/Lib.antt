@@ -1,0 +1,9 @@
+pub mod Slots
+pub mod Sizes
+pub mod Writes
+pub mod Due
+pub mod Sound
+pub mod Walks
+pub mod Fresh
+pub mod Changes
+pub mod Positions

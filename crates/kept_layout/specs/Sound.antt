@@ -1,0 +1,61 @@
+-- When what is kept fits a tree, so that what isn't marked is as it is now.
+use Rattle.std.specs.Prelude.{◌≡◌, ◌<◌, ℕ, Bool, true, false, List, length, Option, Some, None, sum_by}
+use Rattle.px_units.specs.Lengths.{cap}
+use Rattle.layout_model.specs.Styles.{Sides}
+use Rattle.layout_model.specs.Nodes.{Node, is_in_path}
+use Rattle.layout_model.specs.Boxes.{Inputs, Box, computed, child_inputs, kids_of, counted, total}
+use Rattle.layout_model.specs.Places.{before}
+use Rattle.element_tree.specs.Forest.{has}
+use Rattle.block_layout.specs.Seen.{seen_inputs}
+use Rattle.kept_layout.specs.declared.slots.Slot.{Slot}
+use Rattle.kept_layout.specs.declared.slots.Found.{Found}
+use Rattle.kept_layout.specs.Slots.{slot_in}
+
+-- a child that counts in its parent (CSS 2.2, 9.2.4): the parent is a block, and the child is displayed
+pub record IsCounted (at : ℕ → Node) (p c : ℕ) : Type 0 where
+  pub listed : has (kids_of (at p)) c ≡ true
+  pub shown : (at c).item.style.hidden ≡ false
+
+abbrev pub no_sides : Sides ℕ
+no_sides = record { top = 0; right = 0; bottom = 0; left = 0 }
+
+abbrev pub box_found : Option Found → Box
+box_found None = record { width = 0; height = 0; margin = no_sides; border = no_sides; padding = no_sides }
+box_found (Some found) = found.own
+
+-- the box that is held for a node, an empty one where none is
+abbrev pub box_held : (ℕ → Slot) → ℕ → Box
+box_held slot n = box_found (slot n).found
+
+-- the heights held that are stacked above a child of a node
+abbrev pub above_held : (ℕ → Node) → (ℕ → Slot) → ℕ → ℕ → ℕ
+above_held at slot p c = cap (sum_by (counted at (box_held slot)) (before c (kids_of (at p))))
+
+-- what is held for a child was computed from the inputs that its parent hands down, and stands below its earlier siblings
+pub record IsHeldIn (at : ℕ → Node) (slot : ℕ → Slot) (p : ℕ) (inputs : Inputs) (c : ℕ) : Type 0 where
+  pub found : Found
+  pub held : (slot c).found ≡ Some found
+  pub from : seen_inputs found.inputs ≡ child_inputs (at p).item inputs
+  pub above : found.above ≡ above_held at slot p c
+
+-- a held box is the one that its inputs and the boxes held for its children give
+pub record IsRight (at : ℕ → Node) (slot : ℕ → Slot) (n : ℕ) (found : Found) : Type 0 where
+  pub box : found.own ≡ computed (at n).item (seen_inputs found.inputs) (total at (box_held slot) (kids_of (at n)))
+  pub kids : (c : ℕ) → IsCounted at n c → IsHeldIn at slot n (seen_inputs found.inputs) c
+
+-- but for these nodes: where a child that counts is marked, so is its parent; and what is held without a mark is right
+pub record IsSoundBut (at : ℕ → Node) (slot : ℕ → Slot) (but : ℕ → Bool) : Type 0 where
+  pub marks : (p c : ℕ) → but p ≡ false → IsCounted at p c → (slot c).marked ≡ true → (slot p).marked ≡ true
+  pub right : (n : ℕ) (found : Found) → but n ≡ false → (slot n).marked ≡ false → (slot n).found ≡ Some found → IsRight at slot n found
+
+abbrev pub IsSound : (ℕ → Node) → (ℕ → Slot) → Type 0
+IsSound at slot = IsSoundBut at slot (λ n. false)
+
+-- each node in the tree of a root element has a slot
+abbrev pub HasSlots : (ℕ → Node) → ℕ → ℕ → Type 0
+HasSlots at root count = (n : ℕ) → is_in_path at root n ≡ true → n < count
+
+-- what is kept fits the tree, and has slots for a root element and all that is in it
+pub record IsReady (at : ℕ → Node) (root : ℕ) (kept : List Slot) : Type 0 where
+  pub slots : HasSlots at root (length kept)
+  pub sound : IsSound at (slot_in kept)

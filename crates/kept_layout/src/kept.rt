@@ -1,0 +1,153 @@
+//! Kept boxes.
+
+ghost use Rattle.std.specs.Prelude.{◌≡◌, ◌+◌, ◌<◌, ◌≤◌, ◌||◌, ℕ, Bool, true, false, Option, Some, None, [], length, option_map, OnOk, OnErr};
+ghost use Rattle.layout_model.specs.Nodes.{depth_of, is_in_path};
+ghost use Rattle.layout_model.specs.Boxes.{Inputs as InputsModel, box_in, inputs_in, if_shown};
+ghost use Rattle.element_tree.specs.Forest.{parent_of};
+ghost use Rattle.block_layout.specs.Filling.{GoesDown};
+ghost use Rattle.block_layout.specs.Seen.{seen_inputs, as_size};
+ghost use Rattle.block_layout.specs.Trees.{layout_tree};
+ghost use Rattle.kept_layout.specs.Due.{is_due, due_count};
+ghost use Rattle.kept_layout.specs.Fresh.{IsFresh};
+ghost use Rattle.kept_layout.specs.Slots.{slot_in, with_slot, held_in, marked_if};
+ghost use Rattle.kept_layout.specs.Sound.{HasSlots, IsReady, IsSound, IsSoundBut};
+ghost use Rattle.kept_layout.specs.Sizes.{size_held};
+
+use crate::slots::{Slot, slot_of};
+use crate::walk::{mark_path, refresh_tree};
+use block_layout::{BoxOf, Boxes, Inputs, Styled};
+use element_tree::{NodeId, Tree};
+use px_units::{BoxKind, Size};
+use std::alloc::{AllocError, Global};
+use std::marker::Model;
+use std::sync::ledger::Ledger;
+use step_count::Steps;
+
+/// The boxes of the elements of a tree, held from one refresh to the next. A contract sees what is kept for each node, by the
+/// nodes' numbers.
+///
+/// Whoever changes the tree marks the nodes whose style, kind or children changed; for a child that leaves its parent or comes
+/// to one, that parent. What is held without a mark then stays right (`specs/Sound.antt`), and `refresh` computes the rest.
+#[derive(Drop)]
+pub struct Kept {
+    slots: Vec<Slot>,
+}
+
+impl Model for Kept {
+    ghost use Rattle.std.specs.Prelude.{List};
+    ghost use Rattle.kept_layout.specs.declared.slots.Slot.{Slot};
+
+    ghost Value = { List Slot };
+
+    ghost view = { λ k. k.slots.items };
+}
+
+impl Boxes for Kept {
+    ghost held = { held_in };
+
+    fn box_of(&self, node: NodeId) -> Option<BoxOf> {
+        match slot_of(self.slots.as_slice(), node).found {
+            Some(found) => Some(found.own),
+            None => None,
+        }
+    }
+}
+
+impl Kept {
+    /// Nothing kept, which takes no memory yet.
+    pub fn new(alloc: Global) -> Kept
+        ensures { result ≡ [] }
+    {
+        Kept {
+            slots: Vec::new(alloc),
+        }
+    }
+
+    /// Makes the slot of a node, which needn't be in a tree yet, and those of all lower numbers; what is kept stays as it is. No
+    /// other call on these nodes takes memory. Refused only where there is no memory, and then nothing changes.
+    pub fn add(&mut self, node: NodeId) -> Result<(), AllocError>
+        ensures added { OnOk result (self.new ≡ with_slot node.0 self.old) }
+        ensures same { OnErr result (self.new ≡ self.old) }
+        ensures kept { (n : ℕ) → slot_in self.new n ≡ slot_in self.old n }
+    {
+        let count = node.0 as usize + 1;
+        if self.slots.len() < count {
+            self.slots.resize(count, Slot::EMPTY)?;
+        }
+        Ok(())
+    }
+
+    /// What is kept for a node.
+    pub fn slot_of(&self, node: NodeId) -> Slot
+        ensures { result ≡ slot_in self.now node.0 }
+    {
+        slot_of(self.slots.as_slice(), node)
+    }
+
+    /// Marks a node and its ancestors: its style, its kind or its children have changed. What is held isn't touched.
+    ///
+    /// Where what is kept fits the tree but for these nodes and for some others, it then fits but for the others.
+    pub fn mark<P: Styled>(&mut self, tree: &Tree<P>, node: NodeId)
+        ensures marks { (m : ℕ) → m < length self.old →
+            slot_in self.new m ≡ marked_if (is_in_path (layout_tree P.style P.kind tree.now.nodes) m node.0) (slot_in self.old m) }
+        ensures mended { let at = layout_tree P.style P.kind tree.now.nodes in
+            ((m : ℕ) → is_in_path at m node.0 ≡ true → m < length self.old) →
+            (others : ℕ → Bool) → IsSoundBut at (slot_in self.old) (λ n. is_in_path at n node.0 || others n) →
+            IsSoundBut at (slot_in self.new) others }
+        ensures slots { length self.new ≡ length self.old }
+    {
+        mark_path(self.slots.as_mut_slice(), tree, node);
+    }
+
+    /// Computes every box that is due in the tree under a root element, from the root's inputs. Where what is kept fits the
+    /// tree, and each node in it has a slot, each box of that tree is then held as it is now, with the heights above it, and
+    /// it still fits. Nothing changes for a node without a box (CSS 2.2, 9.2.4).
+    ///
+    /// It takes at most one step for each node that is due, and leaves none due. It takes no memory, and calls itself once a
+    /// level that it goes down: a tree of 2,000 levels was tried, while some 5,000 may use up the stack.
+    pub fn refresh<P: Styled, L: Ledger>(
+        &mut self,
+        tree: &Tree<P>,
+        root: NodeId,
+        inputs: Inputs,
+        steps: &mut Steps<L>,
+    )
+        requires node { root.0 < length tree.now.nodes }
+        requires top { parent_of tree.now.nodes root.0 ≡ None }
+        ensures boxes { let at = layout_tree P.style P.kind tree.now.nodes in
+            IsReady at root.0 self.old → (n : ℕ) (own : InputsModel) → inputs_in at root.0 (seen_inputs inputs) n ≡ Some own →
+            held_in self.new n ≡ Some (box_in at own n) }
+        ensures fresh { let at = layout_tree P.style P.kind tree.now.nodes in
+            IsReady at root.0 self.old → (n : ℕ) (own : InputsModel) → inputs_in at root.0 (seen_inputs inputs) n ≡ Some own →
+            IsFresh at (slot_in self.new) n own }
+        ensures done { let at = layout_tree P.style P.kind tree.now.nodes in
+            IsReady at root.0 self.old → (n : ℕ) → is_due (inputs_in at root.0 (seen_inputs inputs)) (slot_in self.new) n ≡ false }
+        ensures ready { let at = layout_tree P.style P.kind tree.now.nodes in IsReady at root.0 self.old → IsReady at root.0 self.new }
+        ensures others { (n : ℕ) → inputs_in (layout_tree P.style P.kind tree.now.nodes) root.0 (seen_inputs inputs) n ≡ None →
+            slot_in self.new n ≡ slot_in self.old n }
+        ensures slots { length self.new ≡ length self.old }
+        ensures ticks { let at = layout_tree P.style P.kind tree.now.nodes in
+            HasSlots at root.0 (length self.old) →
+            steps.new ≤ steps.old + due_count (inputs_in at root.0 (seen_inputs inputs)) (slot_in self.old) (length self.old) }
+        ensures paid { let at = layout_tree P.style P.kind tree.now.nodes in
+            HasSlots at root.0 (length self.old) →
+            (wanted : ℕ → Option InputsModel) → GoesDown at (depth_of at root.0) wanted →
+            wanted root.0 ≡ if_shown (at root.0).item.style.hidden (Some (seen_inputs inputs)) →
+            steps.new + due_count wanted (slot_in self.new) (length self.old) ≤ steps.old + due_count wanted (slot_in self.old) (length self.old) }
+    {
+        refresh_tree(self.slots.as_mut_slice(), tree, root, inputs, steps);
+    }
+
+    /// The size of the box that is held for a node, 0 by 0 where none is.
+    pub fn size_of(&self, node: NodeId, kind: BoxKind) -> Size
+        ensures { result ≡ as_size (size_held kind (held_in self.now node.0)) }
+    {
+        match self.box_of(node) {
+            Some(own) => own.size(kind),
+            None => Size {
+                width: 0,
+                height: 0,
+            },
+        }
+    }
+}

@@ -1,0 +1,17 @@
+//! Boxes of block layout (CSS 2.2, 8 to 10) that are kept: each is computed once, marked where the tree changes, and computed
+//! again only where it is due. All lengths are in units of 1/64 CSS pixel.
+#![tactic(auto)]
+
+mod kept;
+mod laws;
+mod positions;
+mod slots;
+#[cfg(test)]
+mod tests;
+mod trees;
+mod walk;
+
+pub use kept::Kept;
+pub use laws::{changes_leave_the_rest_right, new_nodes_need_no_mark};
+pub use positions::Offsets;
+pub use slots::{Found, Slot};

@@ -1,0 +1,114 @@
+//! The walks over a tree that mark what is kept and compute it again.
+
+ghost use Rattle.std.specs.Prelude.{◌≡◌, ◌≢◌, ◌+◌, ◌<◌, ◌≤◌, ℕ, Bool, true, false, Option, Some, None, ◌||◌, length};
+ghost use Rattle.px_units.specs.Lengths.{cap};
+ghost use Rattle.layout_model.specs.Nodes.{depth_of, is_in_path};
+ghost use Rattle.layout_model.specs.Boxes.{Inputs as InputsModel, box_in, inputs_in, if_shown};
+ghost use Rattle.element_tree.specs.Forest.{parent_of};
+ghost use Rattle.block_layout.specs.Filling.{GoesDown};
+ghost use Rattle.block_layout.specs.Seen.{seen_inputs};
+ghost use Rattle.block_layout.specs.Trees.{layout_tree};
+ghost use Rattle.kept_layout.specs.Due.{is_due, due_count};
+ghost use Rattle.kept_layout.specs.Fresh.{IsFresh};
+ghost use Rattle.kept_layout.specs.Slots.{slot_in, held_in, marked_if};
+ghost use Rattle.kept_layout.specs.Sound.{HasSlots, IsSound, IsSoundBut};
+ghost use Rattle.kept_layout.specs.Walks.{IsRefreshed};
+
+use crate::slots::{Slot, height_held, hold, is_due, set_above, set_mark};
+use crate::trees::{first_inner, is_hidden};
+use block_layout::{Inputs, Styled, child_inputs, compute_box};
+use element_tree::{NodeId, Tree};
+use layout_model::capped;
+use std::sync::ledger::Ledger;
+use step_count::Steps;
+
+// Marks a node and its ancestors.
+pub(crate) fn mark_path<P: Styled>(slots: &mut [Slot], tree: &Tree<P>, node: NodeId)
+    ensures marks { (m : ℕ) → m < length slots.old → slot_in slots.new m ≡ marked_if (is_in_path (layout_tree P.style P.kind tree.now.nodes) m node.0) (slot_in slots.old m) }
+    ensures mended { ((m : ℕ) → is_in_path (layout_tree P.style P.kind tree.now.nodes) m node.0 ≡ true → m < length slots.old) →
+        (others : ℕ → Bool) → IsSoundBut (layout_tree P.style P.kind tree.now.nodes) (slot_in slots.old) (λ n. is_in_path (layout_tree P.style P.kind tree.now.nodes) n node.0 || others n) →
+        IsSoundBut (layout_tree P.style P.kind tree.now.nodes) (slot_in slots.new) others }
+{
+    let mut up = tree.parent(node);
+    set_mark(slots, node);
+    while let Some(parent) = up {
+        set_mark(slots, parent);
+        up = tree.parent(parent);
+    }
+}
+
+// A capped sum of heights, with one more.
+fn added(above: u64, height: u64) -> u64
+    requires above { above ≤ 2147483647 }
+    requires height { height ≤ 20000000000 }
+    ensures value { result ≡ cap (above + height) }
+    ensures bound { result ≤ 2147483647 }
+{
+    capped(above + height)
+}
+
+// Computes the boxes of a node with these inputs and in it that are due, and holds them. The node is marked until its own is
+// held, so that what is held without a mark is right at every step.
+pub(crate) fn refresh_below<P: Styled, L: Ledger>(
+    slots: &mut [Slot],
+    tree: &Tree<P>,
+    node: NodeId,
+    inputs: Inputs,
+    steps: &mut Steps<L>,
+)
+    requires { node.0 < length tree.now.nodes }
+    ensures { IsRefreshed (layout_tree P.style P.kind tree.now.nodes) node.0 (seen_inputs inputs) (length slots.old) (slot_in slots.old) (slot_in slots.new) steps.old steps.new }
+{
+    if !is_due(slots, node, inputs) {
+        return;
+    }
+    set_mark(slots, node);
+    let inner = child_inputs(tree.payload(node), inputs);
+    let mut above = 0;
+    let mut next = first_inner(tree, node);
+    while let Some(child) = next {
+        if !is_hidden(tree, child) {
+            refresh_below(slots, tree, child, inner, steps);
+            set_above(slots, child, above);
+            above = added(above, height_held(slots, child));
+        }
+        next = tree.next_sibling(child);
+    }
+    let own = compute_box(tree.payload(node), inputs, above as i64, steps);
+    hold(slots, node, own, inputs);
+}
+
+// Computes the boxes that are due in the tree under a root element.
+pub(crate) fn refresh_tree<P: Styled, L: Ledger>(
+    slots: &mut [Slot],
+    tree: &Tree<P>,
+    root: NodeId,
+    inputs: Inputs,
+    steps: &mut Steps<L>,
+)
+    requires node { root.0 < length tree.now.nodes }
+    requires top { parent_of tree.now.nodes root.0 ≡ None }
+    ensures boxes { HasSlots (layout_tree P.style P.kind tree.now.nodes) root.0 (length slots.old) → IsSound (layout_tree P.style P.kind tree.now.nodes) (slot_in slots.old) →
+        (n : ℕ) (own : InputsModel) → inputs_in (layout_tree P.style P.kind tree.now.nodes) root.0 (seen_inputs inputs) n ≡ Some own →
+        held_in slots.new n ≡ Some (box_in (layout_tree P.style P.kind tree.now.nodes) own n) }
+    ensures fresh { HasSlots (layout_tree P.style P.kind tree.now.nodes) root.0 (length slots.old) → IsSound (layout_tree P.style P.kind tree.now.nodes) (slot_in slots.old) →
+        (n : ℕ) (own : InputsModel) → inputs_in (layout_tree P.style P.kind tree.now.nodes) root.0 (seen_inputs inputs) n ≡ Some own →
+        IsFresh (layout_tree P.style P.kind tree.now.nodes) (slot_in slots.new) n own }
+    ensures done { HasSlots (layout_tree P.style P.kind tree.now.nodes) root.0 (length slots.old) → IsSound (layout_tree P.style P.kind tree.now.nodes) (slot_in slots.old) →
+        (n : ℕ) → is_due (inputs_in (layout_tree P.style P.kind tree.now.nodes) root.0 (seen_inputs inputs)) (slot_in slots.new) n ≡ false }
+    ensures sound { HasSlots (layout_tree P.style P.kind tree.now.nodes) root.0 (length slots.old) → IsSound (layout_tree P.style P.kind tree.now.nodes) (slot_in slots.old) →
+        IsSound (layout_tree P.style P.kind tree.now.nodes) (slot_in slots.new) }
+    ensures others { (n : ℕ) → inputs_in (layout_tree P.style P.kind tree.now.nodes) root.0 (seen_inputs inputs) n ≡ None →
+        slot_in slots.new n ≡ slot_in slots.old n }
+    ensures ticks { HasSlots (layout_tree P.style P.kind tree.now.nodes) root.0 (length slots.old) →
+        steps.new ≤ steps.old + due_count (inputs_in (layout_tree P.style P.kind tree.now.nodes) root.0 (seen_inputs inputs)) (slot_in slots.old) (length slots.old) }
+    ensures paid { HasSlots (layout_tree P.style P.kind tree.now.nodes) root.0 (length slots.old) →
+        (wanted : ℕ → Option InputsModel) → GoesDown (layout_tree P.style P.kind tree.now.nodes) (depth_of (layout_tree P.style P.kind tree.now.nodes) root.0) wanted →
+        wanted root.0 ≡ if_shown (layout_tree P.style P.kind tree.now.nodes root.0).item.style.hidden (Some (seen_inputs inputs)) →
+        steps.new + due_count wanted (slot_in slots.new) (length slots.old) ≤ steps.old + due_count wanted (slot_in slots.old) (length slots.old) }
+{
+    if is_hidden(tree, root) {
+        return;
+    }
+    refresh_below(slots, tree, root, inputs, steps);
+}
