@@ -1,0 +1,5 @@
+pub mod Coming
+pub mod Cutting
+pub mod Testing
+pub mod Pairs
+pub mod Touching
