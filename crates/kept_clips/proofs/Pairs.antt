@@ -1,7 +1,8 @@
 -- The pair of a number after pairs were held, let go or computed.
-use Rattle.std.proofs.Common.{◌≡◌, ◌∙◌, ℕ, ◌≤◌, Bool, true, false, cond, ◌==◌, Option, Some, None, ap, refl, sym, subst, unwrap_or}
+use Rattle.std.proofs.Common.{◌≡◌, ◌∙◌, ℕ, ◌≤◌, Bool, true, false, cond, ◌==◌, Option, Some, None, [], arith, ap, refl, sym, subst, unwrap_or, Result, Ok, Err}
+use Rattle.std.specs.Prelude.{OnOk, OnErr}
 use Rattle.std.specs.Cmp.{nat_cmp_total, unsigned_tied}
-use Rattle.std.specs.FinMap.{FinMap, get, insert, remove, get-insert, get-remove, get-empty}
+use Rattle.std.specs.FinMap.{FinMap, get, insert, remove, get-insert, get-remove, get-empty, empty}
 use Rattle.std.specs.Ordering.{nat_cmp, eq_by_cmp}
 use Rattle.clip_chain.specs.declared.spot.Spot.{Spot}
 use Rattle.clip_chain.specs.declared.spot.Spot.TheVariants.{View}
@@ -72,3 +73,15 @@ exact_removed scene it number all = all_removed (IsExactPair scene it.touches) i
 
 pub exact_new : (scene : Scene) (touches : Touched) (root of : Spot) → IsExactPair scene touches (new_pair root of)
 exact_new scene touches root of = λ between lead current. tt
+
+-- what holds after a call that changes or is refused
+
+pub either : {A E B : Type 0} (result : Result A E) (P : B → Type 0) (old new changed : B) → OnOk result (new ≡ changed) → OnErr result (new ≡ old) → P changed → P old → P new
+either (Ok a) P old new changed ok err hc ho = subst P (sym ok) hc
+either (Err e) P old new changed ok err hc ho = subst P (sym err) ho
+
+pub numbered_empty : AreNumbered (record { touches = record { count = 0; nodes = []; views = [] }; pairs = empty })
+numbered_empty = record {
+  numbered = λ number. subst (λ (o : Option Pair). IsNumbered 0 (unwrap_or o no_pair).computed) (sym (get-empty nat_cmp number)) tt;
+  counted = omega arith;
+}

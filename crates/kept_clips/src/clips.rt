@@ -159,6 +159,27 @@ impl Clips {
             is_current self.old number between ≡ false → (self.new ≡ with_clip number result self.old) × (steps.new ≡ steps.old + length between) }
         ensures exact { AreExact (G.scene geometry.now) self.old → AreExact (G.scene geometry.now) self.new }
     {
+        self.current(geometry, number, steps)
+    }
+
+    // The clip of a pair, which is computed and held where the one that is held doesn't stand.
+    fn current<G: Geometry, L: Ledger>(
+        &mut self,
+        geometry: &G,
+        number: u64,
+        steps: &mut Steps<L>,
+    ) -> Clip
+        requires held { IsHeld self.old number }
+        requires above { IsAbove (G.scene geometry.now) (pair_of self.old number).root (pair_of self.old number).of }
+        requires exact { IsExact (G.scene geometry.now) self.old number }
+        ensures clip { (between : List SpotOf) → Leads (G.scene geometry.now) (pair_of self.old number).of between (pair_of self.old number).root →
+            result ≡ clip_between (G.scene geometry.now) between }
+        ensures kept { (between : List SpotOf) → Leads (G.scene geometry.now) (pair_of self.old number).of between (pair_of self.old number).root →
+            is_current self.old number between ≡ true → (self.new ≡ self.old) × (steps.new ≡ steps.old) }
+        ensures computed { (between : List SpotOf) → Leads (G.scene geometry.now) (pair_of self.old number).of between (pair_of self.old number).root →
+            is_current self.old number between ≡ false → (self.new ≡ with_clip number result self.old) × (steps.new ≡ steps.old + length between) }
+        ensures exact { AreExact (G.scene geometry.now) self.old → AreExact (G.scene geometry.now) self.new }
+    {
         let pair = self.pairs.get(number).unwrap_or(NO_PAIR);
         if let Some(clip) = self.standing(geometry, pair) {
             return clip;
