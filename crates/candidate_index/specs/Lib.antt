@@ -1,0 +1,6 @@
+pub mod Ranges
+pub mod Bases
+pub mod Findings
+pub mod Registrations
+pub mod Asked
+pub mod Held

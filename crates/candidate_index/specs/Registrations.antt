@@ -1,0 +1,65 @@
+-- Registrations by their serial numbers: what is found of their targets, and what is asked of whoever holds their clips.
+use Rattle.std.specs.Prelude.{◌≡◌, ℕ, List, map, Option, unwrap_or}
+use Rattle.page_model.specs.World.{Root, Finding, Registration, IntersectionObserver, IntersectionObservers}
+use Rattle.page_model.specs.Lookups.{intersection_observer_at}
+use Rattle.clip_chain.specs.declared.spot.Spot.{Spot}
+use Rattle.clip_chain.specs.Scenes.{Scene}
+use Rattle.clip_chain.specs.Chains.{Leads, IsAbove}
+use Rattle.clip_chain.specs.Worlds.{element_spot, spot_of_root}
+use Rattle.kept_clips.specs.Held.{HeldClips, IsHeld, pair_of}
+use Rattle.kept_clips.specs.Chains.{IsExact}
+use Rattle.intersection_observer.specs.Places.{Standing as Place, standing_of}
+use Rattle.intersection_observer.specs.Serials.{registrations_at}
+use Rattle.candidate_index.specs.declared.scene.Standing.{Standing}
+use Rattle.candidate_index.specs.declared.scene.Standing.TheVariants.{Apart, NoBox, Chained}
+use Rattle.candidate_index.specs.declared.basis.Basis.{Basis}
+use Rattle.candidate_index.specs.Findings.{finding_over, basis_over}
+
+-- the serial numbers of an observer's registrations, in order
+abbrev pub serials_at : IntersectionObservers → ℕ → List ℕ
+serials_at it watcher = map (λ (registration : Registration). registration.serial) (registrations_at it watcher)
+
+-- the observer and the target of a registration that stands
+
+abbrev pub place_of : IntersectionObservers → ℕ → Place
+place_of it serial = unwrap_or (standing_of serial it) (record { watcher = 0; target = 0 })
+
+abbrev pub observer_of : IntersectionObservers → ℕ → IntersectionObserver
+observer_of it serial = intersection_observer_at it (place_of it serial).watcher
+
+abbrev pub target_of : IntersectionObservers → ℕ → ℕ
+target_of it serial = (place_of it serial).target
+
+-- by how targets stand to roots
+
+abbrev pub standing_for : (Root → ℕ → Standing) → IntersectionObservers → ℕ → Standing
+standing_for standings it serial = standings (observer_of it serial).root (target_of it serial)
+
+abbrev pub basis_for : Scene → (Root → ℕ → Standing) → IntersectionObservers → ℕ → List Spot → Basis
+basis_for scene standings it serial between = basis_over scene (standing_for standings it serial) (observer_of it serial) (target_of it serial) between
+
+abbrev pub finding_for : Scene → (Root → ℕ → Standing) → IntersectionObservers → ℕ → List Spot → Finding
+finding_for scene standings it serial between = finding_over scene (standing_for standings it serial) (observer_of it serial) (target_of it serial) between
+
+abbrev pub IfChained : Standing → Type 0 → Type 0
+IfChained Apart fact = Unit {0}
+IfChained NoBox fact = Unit {0}
+IfChained Chained fact = fact
+
+-- the spots strictly between the target and the root, for a registration whose chain leads to the root
+abbrev pub IsBetween : Scene → (Root → ℕ → Standing) → IntersectionObservers → (ℕ → List Spot) → ℕ → Type 0
+IsBetween scene standings it between serial =
+    IfChained (standing_for standings it serial)
+    (Leads scene (element_spot (target_of it serial)) (between serial) (spot_of_root (observer_of it serial).root))
+
+-- the pair of a registration is held for its root and its target, the root is above the target, and a clip that is handed out
+-- as it is held is exact
+pub record HasClip (scene : Scene) (it : IntersectionObservers) (clips : HeldClips) (serial : ℕ) : Type 0 where
+  pub held : IsHeld clips serial
+  pub root : (pair_of clips serial).root ≡ spot_of_root (observer_of it serial).root
+  pub of : (pair_of clips serial).of ≡ element_spot (target_of it serial)
+  pub above : IsAbove scene (spot_of_root (observer_of it serial).root) (element_spot (target_of it serial))
+  pub exact : IsExact scene clips serial
+
+abbrev pub IsReady : Scene → (Root → ℕ → Standing) → IntersectionObservers → HeldClips → ℕ → Type 0
+IsReady scene standings it clips serial = IfChained (standing_for standings it serial) (HasClip scene it clips serial)

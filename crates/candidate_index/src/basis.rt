@@ -1,0 +1,68 @@
+//! What a finding is found from.
+
+ghost use Rattle.std.specs.Prelude.{◌≡◌};
+ghost use Rattle.candidate_index.specs.Bases.{is_same_rect, is_same_clip, is_same_sight, is_same_basis};
+
+use kept_clips::Clip;
+use px_units::Rect;
+
+/// What is seen from: how the target stands to the root, and where the chain leads to the root the target's box and the common
+/// part of the clips strictly between.
+#[derive(Clone, Copy, Debug, PartialEq, Eq)]
+pub enum Sight {
+    Apart,
+    NoBox,
+    Chained { bounds: Rect, clip: Clip },
+}
+
+/// All that a finding is found from, beside the thresholds, which stay as they are.
+#[derive(Clone, Copy, Debug, PartialEq, Eq)]
+pub struct Basis {
+    /// The root rectangle, moved by the margins.
+    pub limits: Rect,
+    pub sight: Sight,
+}
+
+fn is_same_rect(one: Rect, other: Rect) -> bool
+    ensures { result ≡ is_same_rect one other }
+{
+    one.left == other.left
+        && one.top == other.top
+        && one.right == other.right
+        && one.bottom == other.bottom
+}
+
+fn is_same_clip(one: Clip, other: Clip) -> bool
+    ensures { result ≡ is_same_clip one other }
+{
+    match (one, other) {
+        (Clip::Whole, Clip::Whole) | (Clip::Nothing, Clip::Nothing) => true,
+        (Clip::Cut(part), Clip::Cut(other_part)) => is_same_rect(part, other_part),
+        _ => false,
+    }
+}
+
+fn is_same_sight(one: Sight, other: Sight) -> bool
+    ensures { result ≡ is_same_sight one other }
+{
+    match (one, other) {
+        (Sight::Apart, Sight::Apart) | (Sight::NoBox, Sight::NoBox) => true,
+        (
+            Sight::Chained { bounds, clip },
+            Sight::Chained {
+                bounds: other_bounds,
+                clip: other_clip,
+            },
+        ) => is_same_rect(bounds, other_bounds) && is_same_clip(clip, other_clip),
+        _ => false,
+    }
+}
+
+impl Basis {
+    // Whether a finding from the other one is the same.
+    pub(crate) fn is_same(&self, other: &Basis) -> bool
+        ensures { result ≡ is_same_basis self.now other.now }
+    {
+        is_same_rect(self.limits, other.limits) && is_same_sight(self.sight, other.sight)
+    }
+}

@@ -1,0 +1,175 @@
+//! What is found of a target, and from what.
+
+ghost use Rattle.std.specs.Prelude.{◌≡◌, ◌+◌, ℕ, List, IfSome, unwrap_or, option_map};
+ghost use Rattle.px_units.specs.Rects.{area};
+ghost use Rattle.page_model.specs.Findings.{all_or_nothing, ratio_of, unseen};
+ghost use Rattle.clip_chain.specs.declared.spot.Spot.{Spot as SpotOf};
+ghost use Rattle.clip_chain.specs.Ranges.{IsBounds};
+ghost use Rattle.clip_chain.specs.Worlds.{spot_of_root};
+ghost use Rattle.intersection_observer.specs.Places.{IsStanding};
+ghost use Rattle.intersection_observer.specs.Seen.{seen_root, seen_finding};
+ghost use Rattle.candidate_index.specs.Ranges.{LiesIn, HasBounds};
+ghost use Rattle.candidate_index.specs.Findings.{cut_to, seen, found_from};
+ghost use Rattle.candidate_index.specs.Registrations.{basis_for, IsReady, IsBetween};
+ghost use Rattle.candidate_index.specs.Asked.{asked_for, steps_for};
+
+use crate::{Basis, Scene, Sight, Standing};
+use clip_chain::{Spot, root_rect};
+use element_tree::NodeId;
+use intersection_observer::{Finding, RegistrationId, Root, Watchers};
+use kept_clips::{Clip, Clips};
+use px_units::{Rect, area, meet};
+use std::sync::ledger::Ledger;
+use step_count::Steps;
+use thresholds::{Ratio, Thresholds};
+
+const NOTHING: Ratio = Ratio { part: 0, whole: 1 };
+
+const ALL: Ratio = Ratio { part: 1, whole: 1 };
+
+const NO_RECT: Rect = Rect {
+    left: 0,
+    top: 0,
+    right: 0,
+    bottom: 0,
+};
+
+// The implicit root is the viewport of the top document.
+fn spot_of_root(root: Root) -> Spot
+    ensures { result ≡ spot_of_root (seen_root root) }
+{
+    match root {
+        Root::Implicit => Spot::View(0),
+        Root::Document(document) => Spot::View(document),
+        Root::Node(node) => Spot::Node(node),
+    }
+}
+
+// What a registration's target is found from now.
+pub(crate) fn basis_of<S: Scene, L: Ledger>(
+    scene: &S,
+    clips: &mut Clips,
+    watchers: &Watchers,
+    registration: RegistrationId,
+    steps: &mut Steps<L>,
+) -> Basis
+    requires standing { IsStanding registration.0 watchers.now.part }
+    requires ready { IsReady (S.scene scene.now) (S.standings scene.now) watchers.now.part clips.old registration.0 }
+    ensures basis { (between : ℕ → List SpotOf) → IsBetween (S.scene scene.now) (S.standings scene.now) watchers.now.part between registration.0 →
+        result ≡ basis_for (S.scene scene.now) (S.standings scene.now) watchers.now.part registration.0 (between registration.0) }
+    ensures clips { (between : ℕ → List SpotOf) → IsBetween (S.scene scene.now) (S.standings scene.now) watchers.now.part between registration.0 →
+        clips.new ≡ asked_for (S.scene scene.now) (S.standings scene.now) watchers.now.part between registration.0 clips.old }
+    ensures ticks { (between : ℕ → List SpotOf) → IsBetween (S.scene scene.now) (S.standings scene.now) watchers.now.part between registration.0 →
+        steps.new ≡ steps.old + steps_for (S.scene scene.now) (S.standings scene.now) watchers.now.part between registration.0 clips.old }
+    ensures range { HasBounds result }
+{
+    let watcher = watchers.watcher_of(registration);
+    let target = watchers.target_of(registration);
+    let root = watchers.root_of(watcher);
+    let bounds = root_rect(scene, spot_of_root(root));
+    let limits = watchers.margins_of(watcher).dilate(bounds);
+    let sight = match scene.standing(root, target) {
+        Standing::Apart => Sight::Apart,
+        Standing::NoBox => Sight::NoBox,
+        Standing::Chained => Sight::Chained {
+            bounds: scene.bounds(Spot::Node(target)),
+            clip: clips.clip_of(scene, registration.0, steps),
+        },
+    };
+    Basis { limits, sight }
+}
+
+// What limits and a clip leave of a box.
+fn cut_to(bounds: Rect, limits: Rect, clip: Clip) -> Option<Rect>
+    requires { IsBounds bounds }
+    ensures value { result ≡ cut_to bounds limits clip }
+    ensures range { IfSome result IsBounds }
+    ensures inside { IfSome result (LiesIn bounds) }
+{
+    let within = meet(bounds, limits)?;
+    match clip {
+        Clip::Whole => Some(within),
+        Clip::Cut(part) => meet(within, part),
+        Clip::Nothing => None,
+    }
+}
+
+// The area of what is seen, 0 where nothing is.
+fn area_seen(cut: Option<Rect>) -> u128
+    ensures { result ≡ unwrap_or (option_map area cut) 0 }
+{
+    match cut {
+        Some(part) => area(part),
+        None => 0,
+    }
+}
+
+fn all_or_nothing(is_seen: bool) -> Ratio
+    ensures { record { part = result.part; whole = result.whole } ≡ all_or_nothing is_seen }
+{
+    if is_seen { ALL } else { NOTHING }
+}
+
+// The part of a box that is seen. A box without area is seen whole or not at all.
+fn ratio_of(bounds: Rect, cut: Option<Rect>) -> Ratio
+    requires bounds { IsBounds bounds }
+    requires cut { IfSome cut IsBounds }
+    requires inside { IfSome cut (LiesIn bounds) }
+    ensures { record { part = result.part; whole = result.whole } ≡ ratio_of bounds cut }
+{
+    let whole = area(bounds);
+    if whole == 0 {
+        return all_or_nothing(cut.is_some());
+    }
+    Ratio {
+        part: area_seen(cut),
+        whole,
+    }
+}
+
+// What is found of a target of whose box so much is seen.
+fn seen(thresholds: &Thresholds, bounds: Rect, cut: Option<Rect>, limits: Rect) -> Finding
+    requires bounds { IsBounds bounds }
+    requires cut { IfSome cut IsBounds }
+    requires inside { IfSome cut (LiesIn bounds) }
+    ensures { seen_finding result ≡ seen thresholds.now bounds cut limits }
+{
+    let ratio = ratio_of(bounds, cut);
+    Finding {
+        index: thresholds.index_of(ratio),
+        meets: cut.is_some(),
+        ratio,
+        root: limits,
+        target: bounds,
+        cut: cut.unwrap_or(NO_RECT),
+    }
+}
+
+// What is found of a target that isn't in the root, or has no box.
+fn unseen(index: u32, limits: Rect) -> Finding
+    ensures { seen_finding result ≡ unseen index limits }
+{
+    Finding {
+        index,
+        meets: false,
+        ratio: NOTHING,
+        root: limits,
+        target: NO_RECT,
+        cut: NO_RECT,
+    }
+}
+
+// What is found from a basis, by the thresholds.
+pub(crate) fn find(thresholds: &Thresholds, basis: &Basis) -> Finding
+    requires { HasBounds basis.now }
+    ensures { seen_finding result ≡ found_from thresholds.now basis.now }
+{
+    match basis.sight {
+        Sight::Apart => unseen(0, basis.limits),
+        Sight::NoBox => unseen(thresholds.index_of(NOTHING), basis.limits),
+        Sight::Chained { bounds, clip } => {
+            let cut = cut_to(bounds, basis.limits, clip);
+            seen(thresholds, bounds, cut, basis.limits)
+        }
+    }
+}

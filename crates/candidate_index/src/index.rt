@@ -1,0 +1,180 @@
+//! What is kept of each registration.
+
+ghost use Rattle.std.specs.Prelude.{◌≡◌, ◌+◌, ◌<◌, ℕ, List, length, filter, true, None, is_some, IfOk, OnOk, OnErr};
+ghost use Rattle.std.specs.List.{All};
+ghost use Rattle.std.specs.FinMap as finite;
+ghost use Rattle.clip_chain.specs.declared.spot.Spot.{Spot as SpotOf};
+ghost use Rattle.intersection_observer.specs.Places.{IsStanding};
+ghost use Rattle.intersection_observer.specs.Seen.{seen_finding, serial_numbers};
+ghost use Rattle.candidate_index.specs.Registrations.{serials_at, basis_for, finding_for, IsReady, IsBetween};
+ghost use Rattle.candidate_index.specs.Asked.{asked_for, steps_for, all_asked, all_steps};
+ghost use Rattle.candidate_index.specs.Held.{kept_of, IsAdded, is_stale};
+
+use crate::finding::{basis_of, find};
+use crate::{Basis, Scene};
+use intersection_observer::{Finding, RegistrationId, WatcherId, Watchers};
+use kept_clips::Clips;
+use number_map::NumberMap;
+use std::alloc::{AllocError, Global};
+use std::marker::Model;
+use std::sync::ledger::Ledger;
+use step_count::Steps;
+
+/// What is kept of the last computation of a registration.
+#[derive(Clone, Copy, Debug)]
+pub struct Kept {
+    /// What it was found from.
+    pub basis: Basis,
+    pub finding: Finding,
+}
+
+/// For each registration that was added what was found of it last and from what, or nothing where it counts as never computed.
+/// A clause sees this by serial numbers.
+///
+/// The pair of a registration in `Clips` has the registration's serial number. Its two spots are that of its observer's root,
+/// which for the implicit root is `View(0)`, and that of its target.
+#[derive(Drop)]
+pub struct Index {
+    alloc: Global,
+    kept: NumberMap<Option<Kept>>,
+}
+
+impl Model for Index {
+    ghost use Rattle.std.specs.Prelude.{Option};
+    ghost use Rattle.std.specs.Ordering.{nat_cmp};
+    ghost use Rattle.std.specs.FinMap.{FinMap};
+    ghost use Rattle.candidate_index.specs.declared.index.Kept.{Kept};
+
+    ghost Value = { FinMap nat_cmp (Option Kept) };
+
+    ghost view = { λ i. i.kept };
+}
+
+impl Index {
+    /// No registrations, which take no memory yet.
+    pub fn new(alloc: Global) -> Index
+        ensures { result ≡ finite.empty }
+    {
+        Index {
+            alloc,
+            kept: NumberMap::new(alloc),
+        }
+    }
+
+    /// Whether a registration was added and not forgotten.
+    pub fn is_added(&self, registration: RegistrationId) -> bool
+        ensures { result ≡ finite.contains_key self.now registration.0 }
+    {
+        self.kept.get(registration.0).is_some()
+    }
+
+    /// What is kept of a registration, None where it counts as never computed.
+    pub fn kept(&self, registration: RegistrationId) -> Option<Kept>
+        ensures { result ≡ kept_of self.now registration.0 }
+    {
+        self.kept.get(registration.0)?
+    }
+
+    /// Adds a registration, which counts as never computed. Refused only where there is no memory, and then nothing changes.
+    pub fn add(&mut self, registration: RegistrationId) -> Result<(), AllocError>
+        ensures added { OnOk result (self.new ≡ finite.insert self.old registration.0 None) }
+        ensures same { OnErr result (self.new ≡ self.old) }
+    {
+        self.kept.insert(registration.0, None)
+    }
+
+    /// Forgets a registration. No memory.
+    pub fn forget(&mut self, registration: RegistrationId)
+        ensures { self.new ≡ finite.remove self.old registration.0 }
+    {
+        self.kept.remove(registration.0);
+    }
+
+    /// Lets a registration count as never computed. No memory.
+    pub fn expire(&mut self, registration: RegistrationId)
+        requires { IsAdded self.old registration.0 }
+        ensures { self.new ≡ finite.insert self.old registration.0 None }
+    {
+        self.kept.insert(registration.0, None).unwrap();
+    }
+
+    /// The registrations of an observer that are stale, in order: those never computed, and those of which something that they
+    /// were found from differs now, which is how the target stands to the root, the root rectangle moved by the margins, and
+    /// where the chain leads to the root the target's box or the common part of the clips strictly between.
+    ///
+    /// It takes the steps of `clip_of` for those whose chain leads to the root, and no other. Refused only where there is no
+    /// memory, and then nothing changes.
+    pub fn stale_registrations<S: Scene, L: Ledger>(
+        &self,
+        scene: &S,
+        clips: &mut Clips,
+        watchers: &Watchers,
+        watcher: WatcherId,
+        steps: &mut Steps<L>,
+    ) -> Result<Vec<RegistrationId>, AllocError>
+        requires made { watcher.0 < length watchers.now.part.made }
+        requires added { All (IsAdded self.now) (serials_at watchers.now.part watcher.0) }
+        requires ready { All (IsReady (S.scene scene.now) (S.standings scene.now) watchers.now.part clips.old) (serials_at watchers.now.part watcher.0) }
+        ensures stale { (between : ℕ → List SpotOf) → All (IsBetween (S.scene scene.now) (S.standings scene.now) watchers.now.part between) (serials_at watchers.now.part watcher.0) →
+            IfOk result (λ stale. serial_numbers stale.items
+                ≡ filter (λ serial. is_stale (kept_of self.now serial) (basis_for (S.scene scene.now) (S.standings scene.now) watchers.now.part serial (between serial))) (serials_at watchers.now.part watcher.0)) }
+        ensures clips { (between : ℕ → List SpotOf) → All (IsBetween (S.scene scene.now) (S.standings scene.now) watchers.now.part between) (serials_at watchers.now.part watcher.0) →
+            OnOk result (clips.new ≡ all_asked (S.scene scene.now) (S.standings scene.now) watchers.now.part between (serials_at watchers.now.part watcher.0) clips.old) }
+        ensures ticks { (between : ℕ → List SpotOf) → All (IsBetween (S.scene scene.now) (S.standings scene.now) watchers.now.part between) (serials_at watchers.now.part watcher.0) →
+            OnOk result (steps.new ≡ steps.old + all_steps (S.scene scene.now) (S.standings scene.now) watchers.now.part between (serials_at watchers.now.part watcher.0) clips.old) }
+        ensures same_clips { OnErr result (clips.new ≡ clips.old) }
+        ensures same_steps { OnErr result (steps.new ≡ steps.old) }
+    {
+        let registrations = watchers.registrations(watcher);
+        let mut stale = Vec::with_capacity(self.alloc, registrations.len())?;
+        for registration in registrations {
+            let basis = basis_of(scene, clips, watchers, *registration, steps);
+            if self.is_stale(*registration, &basis) {
+                stale.push_reserved(*registration);
+            }
+        }
+        Ok(stale)
+    }
+
+    // Whether a registration was never computed or found from something else.
+    fn is_stale(&self, registration: RegistrationId, basis: &Basis) -> bool
+        ensures { result ≡ is_stale (kept_of self.now registration.0) basis.now }
+    {
+        match self.kept(registration) {
+            Some(kept) => !kept.basis.is_same(basis),
+            None => true,
+        }
+    }
+
+    /// Finds what there is to find of a registration's target now, and keeps it with what it was found from (Intersection
+    /// Observer, 3.2.10). All rectangles are in the coordinates of the top document's viewport.
+    ///
+    /// It takes one step, and those of `clip_of` where the chain leads to the root. No memory.
+    pub fn recompute<S: Scene, L: Ledger>(
+        &mut self,
+        scene: &S,
+        clips: &mut Clips,
+        watchers: &Watchers,
+        registration: RegistrationId,
+        steps: &mut Steps<L>,
+    ) -> Finding
+        requires standing { IsStanding registration.0 watchers.now.part }
+        requires added { IsAdded self.old registration.0 }
+        requires ready { IsReady (S.scene scene.now) (S.standings scene.now) watchers.now.part clips.old registration.0 }
+        ensures finding { (between : ℕ → List SpotOf) → IsBetween (S.scene scene.now) (S.standings scene.now) watchers.now.part between registration.0 →
+            seen_finding result ≡ finding_for (S.scene scene.now) (S.standings scene.now) watchers.now.part registration.0 (between registration.0) }
+        ensures kept { (between : ℕ → List SpotOf) → IsBetween (S.scene scene.now) (S.standings scene.now) watchers.now.part between registration.0 →
+            self.new ≡ finite.insert self.old registration.0 (Some (record { basis = basis_for (S.scene scene.now) (S.standings scene.now) watchers.now.part registration.0 (between registration.0); finding = result })) }
+        ensures clips { (between : ℕ → List SpotOf) → IsBetween (S.scene scene.now) (S.standings scene.now) watchers.now.part between registration.0 →
+            clips.new ≡ asked_for (S.scene scene.now) (S.standings scene.now) watchers.now.part between registration.0 clips.old }
+        ensures ticks { (between : ℕ → List SpotOf) → IsBetween (S.scene scene.now) (S.standings scene.now) watchers.now.part between registration.0 →
+            steps.new ≡ steps.old + steps_for (S.scene scene.now) (S.standings scene.now) watchers.now.part between registration.0 clips.old + 1 }
+    {
+        let basis = basis_of(scene, clips, watchers, registration, steps);
+        let finding = find(watchers.thresholds_of(watchers.watcher_of(registration)), &basis);
+        steps.tick();
+        let kept = Kept { basis, finding };
+        self.kept.insert(registration.0, Some(kept)).unwrap();
+        finding
+    }
+}

@@ -1,0 +1,127 @@
+-- A touched spot: clips that hang on it stand no more, and all others stay exact.
+use Rattle.std.proofs.Common.{◌≡◌, ◌∙◌, ℕ, suc, ◌<◌, ◌≤◌, ◌≢◌, ◌&&◌, Bool, true, false, nat_le, nat_lt, min, List, [], ◌∷◌, ◌++◌, Option, Some, None, length, get_or, ap, refl, sym, subst, arith, get_or-set_other, get_or-set_same}
+use Rattle.std.specs.Prelude.{filter_map, replicate, slice_index, slice_set, IfSome}
+use Rattle.std.specs.List.{list_all, cons_option}
+use Rattle.std.proofs.lemmas.Bool.Decides.{nat_tests}
+use Rattle.std.proofs.lemmas.List.{get_or_append_left, get_or-append-add, get_or-replicate}
+use Rattle.px_units.specs.declared.Rect.{Rect}
+use Rattle.clip_chain.specs.declared.spot.Spot.{Spot}
+use Rattle.clip_chain.specs.declared.spot.Spot.TheVariants.{Node, View}
+use Rattle.clip_chain.specs.Scenes.{Scene}
+use Rattle.clip_chain.specs.Chains.{Leads}
+use Rattle.kept_clips.specs.declared.clip.Clip.{Clip}
+use Rattle.kept_clips.specs.declared.pair.Pair.{Pair}
+use Rattle.kept_clips.specs.declared.pair.Computed.{Computed}
+use Rattle.kept_clips.specs.Clips.{common_clip, clip_between}
+use Rattle.kept_clips.specs.Touches.{Touched, last_number, last_touch, IsAdded, touched, touched_at}
+use Rattle.kept_clips.specs.Chains.{chain_of, is_untouched, stands, IsExactPair, AreExact}
+use Rattle.kept_clips.specs.Held.{HeldClips, pair_of}
+use Rattle.kept_clips.specs.Numbers.{IsNumbered, AreNumbered}
+use Rattle.kept_clips.specs.Scenes.{AgreesAt, DiffersOnlyAt}
+use Rattle.kept_clips.proofs.Testing.{both, at_most}
+
+-- the last touches afterwards
+
+pub touched_here : (of : Spot) (it : Touched) (number : ℕ) → IsAdded it of → last_touch (touched_at number of it) of ≡ number
+touched_here (Node node) it number added = get_or-set_same it.nodes node.0 number 0 added
+touched_here (View document) it number added = get_or-set_same it.views document number 0 added
+
+other_node : (a b : ℕ) → (¬ Node (record { 0 = a }) ≡ Node (record { 0 = b })) → a ≢ b
+other_node a b apart = λ e. apart (ap (λ n. Node (record { 0 = n })) e)
+
+other_view : (a b : ℕ) → (¬ View a ≡ View b) → a ≢ b
+other_view a b apart = λ e. apart (ap (λ n. View n) e)
+
+pub untouched_there : (of spot : Spot) (it : Touched) (number : ℕ) → (¬ spot ≡ of) → last_touch (touched_at number of it) spot ≡ last_touch it spot
+untouched_there (Node a) (Node b) it number apart = get_or-set_other it.nodes a.0 b.0 number 0 (other_node b.0 a.0 apart)
+untouched_there (Node a) (View d) it number apart = refl
+untouched_there (View d) (Node b) it number apart = refl
+untouched_there (View c) (View d) it number apart = get_or-set_other it.views c d number 0 (other_view d c apart)
+
+-- none of these spots is the touched one
+abbrev AreApart : Spot → List Spot → Type 0
+AreApart of [] = Unit {0}
+AreApart of (spot ∷ spots) = (¬ spot ≡ of) × AreApart of spots
+
+later : (count since last : ℕ) → since ≤ count → since < last → nat_le (min (suc count) last) since ≡ true → ⊥
+later count since last one two e = grind (arith, nat_tests)
+
+-- on a chain where no spot was touched since is not the spot that is touched now
+apart_all : (of : Spot) (it : Touched) (since : ℕ) → IsAdded it of → since ≤ it.count → since < last_number → (spots : List Spot) → list_all (is_untouched (touched of it) since) spots ≡ true → AreApart of spots
+apart_all of it since added early below [] e = tt
+apart_all of it since added early below (spot ∷ spots) e =
+    let parts = both (is_untouched (touched of it) since spot) (list_all (is_untouched (touched of it) since) spots) e in (
+      (λ same. later it.count since last_number early below
+          (ap (λ n. nat_le n since) (sym (touched_here of it (min (suc it.count) last_number) added))
+          ∙ ap (λ (s : Spot). nat_le (last_touch (touched of it) s) since) (sym same)
+          ∙ parts.0)),
+      apart_all of it since added early below spots parts.1,
+    )
+
+tested : (of spot : Spot) (it : Touched) (since : ℕ) → (¬ spot ≡ of) → is_untouched (touched of it) since spot ≡ true → is_untouched it since spot ≡ true
+tested of spot it since apart e = ap (λ n. nat_le n since) (sym (untouched_there of spot it (min (suc it.count) last_number) apart)) ∙ e
+
+all_tested : (of : Spot) (it : Touched) (since : ℕ) (spots : List Spot) → AreApart of spots → list_all (is_untouched (touched of it) since) spots ≡ true → list_all (is_untouched it since) spots ≡ true
+all_tested of it since [] apart e = refl
+all_tested of it since (spot ∷ spots) apart e =
+    let parts = both (is_untouched (touched of it) since spot) (list_all (is_untouched (touched of it) since) spots) e in
+    ap (λ b. b && list_all (is_untouched it since) spots) (tested of spot it since apart.0 parts.0)
+    ∙ all_tested of it since spots apart.1 parts.1
+
+-- chains and clips that don't come to the touched spot are as before
+
+leads_before : (of : Spot) (before after : Scene) → DiffersOnlyAt of before after → (root from : Spot) (between : List Spot) → (¬ from ≡ of) → AreApart of between → Leads after from between root → Leads before from between root
+leads_before of before after only root from [] apart aparts lead = sym (only from apart).container ∙ lead
+leads_before of before after only root from (next ∷ between) apart aparts lead =
+    (sym (only from apart).container ∙ lead.0, lead.1, leads_before of before after only root next between aparts.0 aparts.1 lead.2)
+
+clips_before : (of : Spot) (before after : Scene) → DiffersOnlyAt of before after → (spots : List Spot) → AreApart of spots → filter_map (before.clip) spots ≡ filter_map (after.clip) spots
+clips_before of before after only [] aparts = refl
+clips_before of before after only (spot ∷ spots) aparts =
+    ap (λ (o : Option Rect). cons_option o (filter_map (before.clip) spots)) (sym (only spot aparts.0).clip)
+    ∙ ap (cons_option (after.clip spot)) (clips_before of before after only spots aparts.1)
+
+front : (of : Spot) (spots : List Spot) (last : Spot) → AreApart of (spots ++ last ∷ []) → AreApart of spots
+front of [] last aparts = tt
+front of (spot ∷ spots) last aparts = (aparts.0, front of spots last aparts.1)
+
+-- what is known of a clip that stands after the touch
+exact_still : (of : Spot) (it : Touched) (before after : Scene) → IsAdded it of → DiffersOnlyAt of before after → (root from : Spot) (between : List Spot) (computed : Option Computed) → IsNumbered it.count computed
+    → (Leads before from between root → stands it computed (from ∷ (between ++ root ∷ [])) ≡ true → IfSome computed (λ (c : Computed). c.clip ≡ clip_between before between))
+    → Leads after from between root → stands (touched of it) computed (from ∷ (between ++ root ∷ [])) ≡ true → IfSome computed (λ (c : Computed). c.clip ≡ clip_between after between)
+exact_still of it before after added only root from between None numbered exact lead current = tt
+exact_still of it before after added only root from between (Some c) numbered exact lead current =
+    let chain = from ∷ (between ++ root ∷ []) in
+    let parts = both (nat_lt c.touches last_number) (list_all (is_untouched (touched of it) c.touches) chain) current in
+    let below : c.touches < last_number = grind (arith, nat_tests, parts.0) in
+    let aparts = apart_all of it c.touches added numbered below chain parts.1 in
+    let between_apart = front of between root aparts.1 in
+    exact (leads_before of before after only root from between aparts.0 between_apart lead)
+    (ap (λ b. b && list_all (is_untouched it c.touches) chain) parts.0 ∙ all_tested of it c.touches chain aparts parts.1)
+    ∙ ap common_clip (clips_before of before after only between between_apart)
+
+pub exact_touched : (of : Spot) (it : HeldClips) (before after : Scene) → IsAdded it.touches of → AreNumbered it → AreExact before it → DiffersOnlyAt of before after → AreExact after (record it { touches = touched of (it.touches) })
+exact_touched of it before after added numbers exact only = λ number between lead current.
+    let pair = pair_of it number in
+    exact_still of it.touches before after added only pair.root pair.of between pair.computed (numbers.numbered number) (exact number between) lead current
+
+raised : (count last : ℕ) → count ≤ last → count ≤ min (suc count) last
+raised count last h = grind (arith, nat_tests)
+
+numbered_up : (few many : ℕ) (computed : Option Computed) → few ≤ many → IsNumbered few computed → IsNumbered many computed
+numbered_up few many None more h = tt
+numbered_up few many (Some c) more h = omega (arith, h, more)
+
+count_touched : (of : Spot) (it : Touched) (number : ℕ) → (touched_at number of it).count ≡ number
+count_touched (Node node) it number = refl
+count_touched (View document) it number = refl
+
+pub numbered_touched : (of : Spot) (it : HeldClips) → AreNumbered it → AreNumbered (record it { touches = touched of (it.touches) })
+numbered_touched of it all =
+    let e = count_touched of it.touches (min (suc it.touches.count) last_number) in
+    record {
+      numbered = λ number.
+          subst (λ n. IsNumbered n (pair_of it number).computed) (sym e)
+          (numbered_up it.touches.count (min (suc it.touches.count) last_number) (pair_of it number).computed (raised it.touches.count last_number all.counted) (all.numbered number));
+      counted = subst (λ n. n ≤ last_number) (sym e) (omega arith);
+    }

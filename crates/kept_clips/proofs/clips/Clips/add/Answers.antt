@@ -1,0 +1,16 @@
+use Rattle.std.proofs.Common.{sym, subst}
+use Rattle.kept_clips.specs.Touches.{Touched, with_spot}
+use Rattle.kept_clips.specs.Held.{HeldClips}
+use Rattle.kept_clips.specs.Chains.{AreExact}
+use Rattle.kept_clips.proofs.Pairs.{either}
+use Rattle.kept_clips.proofs.Adding.{exact_added}
+use Rattle.kept_clips.proofs.clips.Clips.add.Goals as goal
+
+pub returns-clause-exact : goal.returns-clause-exact
+returns-clause-exact c =
+    let it : HeldClips = record { touches = c.self.inside.touches; pairs = c.self.inside.pairs } in
+    λ scene exact.
+    let before : AreExact scene it = subst (AreExact scene) (sym c.self.view_is) exact in
+    either c.add.result (λ (touches : Touched). AreExact scene (record { touches = touches; pairs = c.self.inside.pairs }))
+    c.self.inside.touches c.add.new.self (with_spot c.args.of (it.touches)) c.add.ensures.added c.add.ensures.same
+    (exact_added scene c.args.of it before) before

@@ -1,0 +1,42 @@
+-- What is held: when spots were touched, and pairs by their numbers.
+use Rattle.std.specs.Prelude.{ℕ, Option, Some, None, IsSome, unwrap_or}
+use Rattle.std.specs.Ordering.{nat_cmp}
+use Rattle.std.specs.FinMap.{FinMap, get, insert, remove}
+use Rattle.clip_chain.specs.declared.spot.Spot.{Spot}
+use Rattle.clip_chain.specs.declared.spot.Spot.TheVariants.{View}
+use Rattle.kept_clips.specs.declared.clip.Clip.{Clip}
+use Rattle.kept_clips.specs.declared.pair.Pair.{Pair}
+use Rattle.kept_clips.specs.Touches.{Touched}
+
+pub record HeldClips : Type 0 where
+  pub touches : Touched
+  pub pairs : FinMap nat_cmp Pair
+
+-- the pair of a number, none where none is held
+abbrev pub pair_at : HeldClips → ℕ → Option Pair
+pair_at it number = get it.pairs number
+
+abbrev pub IsHeld : HeldClips → ℕ → Type 0
+IsHeld it number = IsSome (pair_at it number)
+
+-- a pair of which no clip was computed
+abbrev pub new_pair : Spot → Spot → Pair
+new_pair root of = record { root = root; of = of; computed = None }
+
+-- the pair of a number that is held
+abbrev pub pair_of : HeldClips → ℕ → Pair
+pair_of it number = unwrap_or (pair_at it number) (new_pair (View 0) (View 0))
+
+abbrev pub with_pair : ℕ → Spot → Spot → HeldClips → HeldClips
+with_pair number root of it = record it { pairs = insert (it.pairs) number (new_pair root of) }
+
+abbrev pub without_pair : ℕ → HeldClips → HeldClips
+without_pair number it = record it { pairs = remove (it.pairs) number }
+
+-- a pair whose clip is computed now
+abbrev pub computed_now : Clip → Touched → Pair → Pair
+computed_now clip touches pair = record pair { computed = Some (record { clip = clip; touches = touches.count }) }
+
+-- once the clip of a pair was computed
+abbrev pub with_clip : ℕ → Clip → HeldClips → HeldClips
+with_clip number clip it = record it { pairs = insert (it.pairs) number (computed_now clip (it.touches) (pair_of it number)) }

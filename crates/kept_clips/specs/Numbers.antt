@@ -1,0 +1,14 @@
+-- The numbers of touches that are held.
+use Rattle.std.specs.Prelude.{ℕ, ◌≤◌, Option, Some, None}
+use Rattle.kept_clips.specs.declared.pair.Computed.{Computed}
+use Rattle.kept_clips.specs.Touches.{last_number}
+use Rattle.kept_clips.specs.Held.{HeldClips, pair_of}
+
+abbrev pub IsNumbered : ℕ → Option Computed → Type 0
+IsNumbered count None = Unit {0}
+IsNumbered count (Some computed) = computed.touches ≤ count
+
+-- no clip was computed at a number of touches that didn't come yet
+pub record AreNumbered (it : HeldClips) : Type 0 where
+  pub numbered : (number : ℕ) → IsNumbered it.touches.count (pair_of it number).computed
+  pub counted : it.touches.count ≤ last_number

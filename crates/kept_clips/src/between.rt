@@ -1,0 +1,70 @@
+//! The chain from a spot to a root, spot by spot.
+
+ghost use Rattle.std.specs.Prelude.{◌≡◌, ◌<◌, ◌+◌, ◌⊎◌, ◌∷◌, ◌++◌, [], List, length, Some, None, IfSome};
+ghost use Rattle.std.specs.List.{list_all};
+ghost use Rattle.clip_chain.specs.declared.spot.Spot.{Spot as SpotOf};
+ghost use Rattle.clip_chain.specs.Chains.{Leads, IsAbove};
+ghost use Rattle.kept_clips.specs.Chains.{is_untouched};
+ghost use Rattle.kept_clips.specs.Clips.{clip_between};
+
+use crate::Clip;
+use crate::touches::Touches;
+use clip_chain::{Geometry, Spot};
+use std::sync::ledger::Ledger;
+use step_count::Steps;
+
+// The container of a spot, none where that is the root.
+fn container_below<G: Geometry>(geometry: &G, of: Spot, root: Spot) -> Option<Spot>
+    ensures next { IfSome result (λ next. ((G.scene geometry.now).container of ≡ Some next) × (¬ next ≡ root)) }
+    ensures none { result ≡ None → ((G.scene geometry.now).container of ≡ None) ⊎ ((G.scene geometry.now).container of ≡ Some root) }
+    ensures end { IfSome result (λ next. G.rank geometry.now next < G.rank geometry.now of) }
+{
+    let next = geometry.container(of)?;
+    if next == root { None } else { Some(next) }
+}
+
+// Whether no spot of a chain was touched since there were so many touches.
+pub(crate) fn is_untouched<G: Geometry>(
+    touches: &Touches,
+    geometry: &G,
+    root: Spot,
+    of: Spot,
+    since: u64,
+) -> bool
+    requires { IsAbove (G.scene geometry.now) root of }
+    ensures { (between : List SpotOf) → Leads (G.scene geometry.now) of between root →
+        result ≡ list_all (is_untouched touches.now since) (of ∷ (between ++ root ∷ [])) }
+{
+    if touches.last(of) > since || touches.last(root) > since {
+        return false;
+    }
+    let mut spot = of;
+    while let Some(next) = container_below(geometry, spot, root) {
+        if touches.last(next) > since {
+            return false;
+        }
+        spot = next;
+    }
+    true
+}
+
+// The common part of the clips strictly between, with a step for each spot there.
+pub(crate) fn clip_between<G: Geometry, L: Ledger>(
+    geometry: &G,
+    root: Spot,
+    of: Spot,
+    steps: &mut Steps<L>,
+) -> Clip
+    requires { IsAbove (G.scene geometry.now) root of }
+    ensures clip { (between : List SpotOf) → Leads (G.scene geometry.now) of between root → result ≡ clip_between (G.scene geometry.now) between }
+    ensures ticks { (between : List SpotOf) → Leads (G.scene geometry.now) of between root → steps.new ≡ steps.old + length between }
+{
+    let mut common = Clip::Whole;
+    let mut spot = of;
+    while let Some(next) = container_below(geometry, spot, root) {
+        common = common.clipped(geometry.clip(next));
+        steps.tick();
+        spot = next;
+    }
+    common
+}

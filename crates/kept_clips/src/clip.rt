@@ -1,0 +1,40 @@
+//! What several clips leave.
+
+ghost use Rattle.std.specs.Prelude.{◌≡◌};
+ghost use Rattle.kept_clips.specs.Clips.{clipped, clipped_if};
+
+use px_units::{Rect, meet};
+
+/// The common part of clips, edges included.
+#[derive(Clone, Copy, Debug, PartialEq, Eq)]
+pub enum Clip {
+    /// There are no clips: every point is in it.
+    Whole,
+    /// The points that all of them have in common.
+    Cut(Rect),
+    /// No point is common to all of them.
+    Nothing,
+}
+
+// What a further rectangle leaves of a rectangle.
+fn cut(common: Rect, by: Rect) -> Clip
+    ensures { result ≡ clipped (Clip.Cut common) by }
+{
+    match meet(common, by) {
+        Some(part) => Clip::Cut(part),
+        None => Clip::Nothing,
+    }
+}
+
+impl Clip {
+    // What a further clip leaves, if there is one.
+    pub(crate) fn clipped(self, by: Option<Rect>) -> Clip
+        ensures { result ≡ clipped_if self by }
+    {
+        match (self, by) {
+            (Clip::Whole, Some(first)) => cut(first, first),
+            (Clip::Cut(common), Some(next)) => cut(common, next),
+            (Clip::Nothing, Some(_)) | (_, None) => self,
+        }
+    }
+}

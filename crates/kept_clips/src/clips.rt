@@ -1,0 +1,224 @@
+//! The pairs whose clips are kept.
+
+ghost use Rattle.std.specs.Prelude.{◌≡◌, ◌↔◌, ◌+◌, ℤ, List, [], length, true, false, None, IfSome, OnOk, OnErr};
+ghost use Rattle.std.specs.List.{All};
+ghost use Rattle.std.specs.FinMap.{empty};
+ghost use Rattle.clip_chain.specs.declared.spot.Spot.{Spot as SpotOf};
+ghost use Rattle.clip_chain.specs.Scenes.{Scene};
+ghost use Rattle.clip_chain.specs.Chains.{Leads, IsAbove};
+ghost use Rattle.kept_clips.specs.Clips.{clip_between, Contains, IsWithin};
+ghost use Rattle.kept_clips.specs.Touches.{is_added, IsAdded, with_spot, touched};
+ghost use Rattle.kept_clips.specs.Held.{pair_at, pair_of, IsHeld, with_pair, without_pair, with_clip};
+ghost use Rattle.kept_clips.specs.Chains.{chain_of, standing_clip, is_current, IsExact, AreExact};
+ghost use Rattle.kept_clips.specs.Scenes.{DiffersOnlyAt};
+
+use crate::between::{clip_between, is_untouched};
+use crate::touches::Touches;
+use crate::{Clip, Computed, Pair};
+use clip_chain::{Geometry, Spot};
+use number_map::NumberMap;
+use std::alloc::{AllocError, Global};
+use std::marker::Model;
+use std::sync::ledger::Ledger;
+use step_count::Steps;
+
+const NO_PAIR: Pair = Pair {
+    root: Spot::View(0),
+    of: Spot::View(0),
+    computed: None,
+};
+
+/// Pairs of a root and a spot that stands in it, each with the clip strictly between the two once it was computed, and when
+/// each spot was touched last. A clause sees the pairs by their numbers, which the caller gives, and the number of each spot's
+/// last touch.
+///
+/// A clip is handed out as it is held while no spot on the chain from the pair's spot to its root, these two included, was
+/// touched since it was computed. So a caller touches each spot whose container or clip differs from what it was. Touches are
+/// counted up to 2^64 - 1; a clip that is computed then is never handed out again without being computed anew.
+#[derive(Drop)]
+pub struct Clips {
+    touches: Touches,
+    pairs: NumberMap<Pair>,
+}
+
+impl Model for Clips {
+    ghost use Rattle.kept_clips.specs.Held.{HeldClips};
+
+    ghost Value = { HeldClips };
+
+    ghost use Rattle.std.specs.Coded.{codes};
+    ghost use Rattle.kept_clips.specs.Codes.{pairs_code};
+
+    ghost coded = { Prim.hlevel (codes, pairs_code) };
+
+    ghost use Rattle.kept_clips.specs.Numbers.{AreNumbered};
+
+    ghost view = { λ c. record { touches = c.touches; pairs = c.pairs } };
+
+    ghost invariant = { λ c. AreNumbered (record { touches = c.touches; pairs = c.pairs }) };
+}
+
+impl Clips {
+    /// No pairs, and no spot that was touched; it takes no memory yet.
+    pub fn new(alloc: Global) -> Clips
+        ensures { result ≡ record { touches = record { count = 0; nodes = []; views = [] }; pairs = empty } }
+    {
+        Clips {
+            touches: Touches::new(alloc),
+            pairs: NumberMap::new(alloc),
+        }
+    }
+
+    /// Whether a spot was added, so that it may be touched.
+    pub fn is_added(&self, of: Spot) -> bool
+        ensures { result ≡ is_added self.now.touches of }
+    {
+        self.touches.is_added(of)
+    }
+
+    /// Adds a spot, so that it may be touched, with all spots of its kind that have lower numbers. It needn't stand anywhere
+    /// yet; spots that were added stay as they are. Refused only where there is no memory, and then nothing changes.
+    pub fn add(&mut self, of: Spot) -> Result<(), AllocError>
+        ensures added { OnOk result (self.new ≡ record self.old { touches = with_spot of (self.old.touches) }) }
+        ensures same { OnErr result (self.new ≡ self.old) }
+        ensures exact { (scene : Scene) → AreExact scene self.old → AreExact scene self.new }
+    {
+        self.touches.add(of)
+    }
+
+    /// Touches a spot: what hangs on its container and its clip is computed anew when it is asked for next. Clips that are exact
+    /// of a scene are so of any scene that differs at this spot alone. No memory.
+    pub fn touch(&mut self, of: Spot)
+        requires { IsAdded self.old.touches of }
+        ensures touched { self.new ≡ record self.old { touches = touched of (self.old.touches) } }
+        ensures exact { (before after : Scene) → AreExact before self.old → DiffersOnlyAt of before after → AreExact after self.new }
+    {
+        self.touches.touch(of);
+    }
+
+    /// The pair of a number, None exactly where none is held.
+    pub fn pair(&self, number: u64) -> Option<Pair>
+        ensures { result ≡ pair_at self.now number }
+    {
+        self.pairs.get(number)
+    }
+
+    /// Holds a pair of a root and a spot under a number that no pair has. Its clip isn't computed yet. Refused only where there
+    /// is no memory, and then nothing changes.
+    pub fn hold(&mut self, number: u64, root: Spot, of: Spot) -> Result<(), AllocError>
+        requires { pair_at self.old number ≡ None }
+        ensures held { OnOk result (self.new ≡ with_pair number root of self.old) }
+        ensures same { OnErr result (self.new ≡ self.old) }
+        ensures exact { (scene : Scene) → AreExact scene self.old → AreExact scene self.new }
+    {
+        let pair = Pair {
+            root,
+            of,
+            computed: None,
+        };
+        self.pairs.insert(number, pair)
+    }
+
+    /// Lets a pair go. No memory.
+    pub fn release(&mut self, number: u64)
+        requires { IsHeld self.old number }
+        ensures released { self.new ≡ without_pair number self.old }
+        ensures exact { (scene : Scene) → AreExact scene self.old → AreExact scene self.new }
+    {
+        self.pairs.remove(number);
+    }
+
+    /// The common part of the clips strictly between the two spots of a pair, edges included, as they are now: `Whole` exactly
+    /// where no spot between clips, `Nothing` exactly where no point is common (Intersection Observer, 3.2.7).
+    ///
+    /// Where the clip was computed, and no spot on the pair's chain was touched since, it is handed out as it is held, and
+    /// nothing changes. Else it is computed, which takes a step for each spot strictly between, and held. No memory.
+    ///
+    /// Needs that the root is above the pair's spot, as `reaches` tells, and that a clip which is handed out as it is held is
+    /// exact (`exact`), which `touch` keeps so.
+    pub fn clip_of<G: Geometry, L: Ledger>(
+        &mut self,
+        geometry: &G,
+        number: u64,
+        steps: &mut Steps<L>,
+    ) -> Clip
+        requires held { IsHeld self.old number }
+        requires above { IsAbove (G.scene geometry.now) (pair_of self.old number).root (pair_of self.old number).of }
+        requires exact { IsExact (G.scene geometry.now) self.old number }
+        ensures clip { (between : List SpotOf) → Leads (G.scene geometry.now) (pair_of self.old number).of between (pair_of self.old number).root →
+            result ≡ clip_between (G.scene geometry.now) between }
+        ensures points { (between : List SpotOf) → Leads (G.scene geometry.now) (pair_of self.old number).of between (pair_of self.old number).root → (x y : ℤ) →
+            Contains result x y ↔ All (IsWithin (G.scene geometry.now) x y) between }
+        ensures whole { (between : List SpotOf) → Leads (G.scene geometry.now) (pair_of self.old number).of between (pair_of self.old number).root →
+            (result ≡ Clip.Whole) ↔ All (λ spot. (G.scene geometry.now).clip spot ≡ None) between }
+        ensures nothing { (between : List SpotOf) → Leads (G.scene geometry.now) (pair_of self.old number).of between (pair_of self.old number).root →
+            (result ≡ Clip.Nothing) ↔ ((x y : ℤ) → ¬ All (IsWithin (G.scene geometry.now) x y) between) }
+        ensures kept { (between : List SpotOf) → Leads (G.scene geometry.now) (pair_of self.old number).of between (pair_of self.old number).root →
+            is_current self.old number between ≡ true → (self.new ≡ self.old) × (steps.new ≡ steps.old) }
+        ensures computed { (between : List SpotOf) → Leads (G.scene geometry.now) (pair_of self.old number).of between (pair_of self.old number).root →
+            is_current self.old number between ≡ false → (self.new ≡ with_clip number result self.old) × (steps.new ≡ steps.old + length between) }
+        ensures exact { AreExact (G.scene geometry.now) self.old → AreExact (G.scene geometry.now) self.new }
+    {
+        self.current(geometry, number, steps)
+    }
+
+    // The clip of a pair, which is computed and held where the one that is held doesn't stand.
+    fn current<G: Geometry, L: Ledger>(
+        &mut self,
+        geometry: &G,
+        number: u64,
+        steps: &mut Steps<L>,
+    ) -> Clip
+        requires held { IsHeld self.old number }
+        requires above { IsAbove (G.scene geometry.now) (pair_of self.old number).root (pair_of self.old number).of }
+        requires exact { IsExact (G.scene geometry.now) self.old number }
+        ensures clip { (between : List SpotOf) → Leads (G.scene geometry.now) (pair_of self.old number).of between (pair_of self.old number).root →
+            result ≡ clip_between (G.scene geometry.now) between }
+        ensures kept { (between : List SpotOf) → Leads (G.scene geometry.now) (pair_of self.old number).of between (pair_of self.old number).root →
+            is_current self.old number between ≡ true → (self.new ≡ self.old) × (steps.new ≡ steps.old) }
+        ensures computed { (between : List SpotOf) → Leads (G.scene geometry.now) (pair_of self.old number).of between (pair_of self.old number).root →
+            is_current self.old number between ≡ false → (self.new ≡ with_clip number result self.old) × (steps.new ≡ steps.old + length between) }
+        ensures exact { AreExact (G.scene geometry.now) self.old → AreExact (G.scene geometry.now) self.new }
+    {
+        let pair = self.pairs.get(number).unwrap_or(NO_PAIR);
+        if let Some(clip) = self.standing(geometry, pair) {
+            return clip;
+        }
+        let clip = clip_between(geometry, pair.root, pair.of, steps);
+        self.store(number, pair, clip);
+        clip
+    }
+
+    // The clip that is held of a pair, none where it doesn't stand.
+    fn standing<G: Geometry>(&self, geometry: &G, pair: Pair) -> Option<Clip>
+        requires { IsAbove (G.scene geometry.now) pair.root pair.of }
+        ensures { (between : List SpotOf) → Leads (G.scene geometry.now) pair.of between pair.root →
+            result ≡ standing_clip self.now.touches pair.computed (chain_of pair between) }
+    {
+        let computed = pair.computed?;
+        if computed.touches < u64::MAX
+            && is_untouched(&self.touches, geometry, pair.root, pair.of, computed.touches)
+        {
+            Some(computed.clip)
+        } else {
+            None
+        }
+    }
+
+    // Holds the clip of a pair as it was computed now.
+    fn store(&mut self, number: u64, pair: Pair, clip: Clip)
+        requires held { IsHeld self.old number }
+        requires pair { pair_of self.old number ≡ pair }
+        ensures { self.new ≡ with_clip number clip self.old }
+    {
+        let computed = Computed {
+            clip,
+            touches: self.touches.count(),
+        };
+        let now = Pair {
+            computed: Some(computed),
+            ..pair
+        };
+        self.pairs.insert(number, now).unwrap();
+    }
+}

@@ -1,0 +1,19 @@
+//! What is held of a pair of spots.
+
+use crate::Clip;
+use clip_chain::Spot;
+
+/// A root, a spot that stands in it, and the clip between the two once it was computed.
+#[derive(Clone, Copy, Debug, PartialEq, Eq)]
+pub struct Pair {
+    pub root: Spot,
+    pub of: Spot,
+    pub computed: Option<Computed>,
+}
+
+/// A clip, and how many touches there were when it was computed.
+#[derive(Clone, Copy, Debug, PartialEq, Eq)]
+pub struct Computed {
+    pub clip: Clip,
+    pub touches: u64,
+}

@@ -1,0 +1,102 @@
+//! When each spot was touched last.
+
+ghost use Rattle.std.specs.Prelude.{◌≡◌, [], slice_index, OnOk, OnErr};
+ghost use Rattle.kept_clips.specs.Touches.{last_touch, is_added, IsAdded, with_spot, touched, up_to};
+
+use clip_chain::Spot;
+use std::alloc::{AllocError, Global};
+use std::marker::Model;
+
+// How many touches there were, and of each spot the number of its last one, 0 where it wasn't touched.
+#[derive(Drop)]
+pub(crate) struct Touches {
+    count: u64,
+    nodes: Vec<u64>,
+    views: Vec<u64>,
+}
+
+impl Model for Touches {
+    ghost use Rattle.kept_clips.specs.Touches.{Touched};
+
+    ghost Value = { Touched };
+
+    ghost view = { λ t. record { count = t.count; nodes = t.nodes.items; views = t.views.items } };
+}
+
+impl Touches {
+    pub(crate) fn new(alloc: Global) -> Touches
+        ensures { result ≡ record { count = 0; nodes = []; views = [] } }
+    {
+        Touches {
+            count: 0,
+            nodes: Vec::new(alloc),
+            views: Vec::new(alloc),
+        }
+    }
+
+    pub(crate) fn count(&self) -> u64
+        ensures { result ≡ self.now.count }
+    {
+        self.count
+    }
+
+    pub(crate) fn is_added(&self, of: Spot) -> bool
+        ensures { result ≡ is_added self.now of }
+    {
+        match of {
+            Spot::Node(node) => (node.0 as usize) < self.nodes.len(),
+            Spot::View(document) => (document as usize) < self.views.len(),
+        }
+    }
+
+    pub(crate) fn add(&mut self, of: Spot) -> Result<(), AllocError>
+        ensures added { OnOk result (self.new ≡ with_spot of self.old) }
+        ensures same { OnErr result (self.new ≡ self.old) }
+    {
+        match of {
+            Spot::Node(node) => extend(&mut self.nodes, node.0),
+            Spot::View(document) => extend(&mut self.views, document),
+        }
+    }
+
+    pub(crate) fn last(&self, of: Spot) -> u64
+        ensures { result ≡ last_touch self.now of }
+    {
+        match of {
+            Spot::Node(node) => number_at(self.nodes.as_slice(), node.0),
+            Spot::View(document) => number_at(self.views.as_slice(), document),
+        }
+    }
+
+    pub(crate) fn touch(&mut self, of: Spot)
+        requires { IsAdded self.old of }
+        ensures { self.new ≡ touched of self.old }
+    {
+        self.count = self.count.saturating_add(1);
+        match of {
+            Spot::Node(node) => self.nodes[node.0 as usize] = self.count,
+            Spot::View(document) => self.views[document as usize] = self.count,
+        }
+    }
+}
+
+// Fills numbers up with 0 so that there is one for this place.
+fn extend(numbers: &mut Vec<u64>, place: u32) -> Result<(), AllocError>
+    ensures extended { OnOk result (numbers.new.items ≡ up_to place numbers.old.items) }
+    ensures same { OnErr result (numbers.new.items ≡ numbers.old.items) }
+{
+    let count = place as usize + 1;
+    if numbers.len() < count {
+        numbers.resize(count, 0)?;
+    }
+    Ok(())
+}
+
+fn number_at(numbers: &[u64], place: u32) -> u64
+    ensures { result ≡ slice_index numbers.now place }
+{
+    match numbers.get(place as usize) {
+        Some(number) => *number,
+        None => 0,
+    }
+}
