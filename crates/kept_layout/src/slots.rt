@@ -16,7 +16,7 @@ use element_tree::NodeId;
 pub struct Found {
     pub own: BoxOf,
     pub inputs: Inputs,
-    /// The margin box heights of the earlier siblings, at most 2,147,483,647 units; 0 at a root element.
+    /// The margin box heights of the earlier siblings, at most 2,147,483,647 units. It says nothing at a root element.
     pub above: u64,
 }
 

@@ -16,7 +16,7 @@ returns-in_default-up-clause-value g c view fresh =
     root_shift g.P.Styled.style g.P.Styled.kind c.parent-up.ensures.forest view (slot_in c.args.self.now) (c.args.node.0) fresh
     (none_of_ids _ (sym c.parent-up.ensures.value ∙ c.in_default-up.is)) c.in-Some.found
     (ap (λ (s : Slot). s.found) (sym c.slot_of.ensures) ∙ c.in-Some.is)
-    (c.on_top.result.across) (c.on_top.result.down) (across_of_root _ _ c.in-Some.found-is _ c.on_top.ensures.across) (down_of_root _ _ c.in-Some.found-is _ c.on_top.ensures.down)
+    (c.on_top.result.across) (c.on_top.result.down) (across_of_root _ _ (sym c.in-Some.found-is) _ c.on_top.ensures.across) (down_of_root _ _ (sym c.in-Some.found-is) _ c.on_top.ensures.down)
 
 pub returns-in-Some-found-clause-value : goal.returns-in-Some-found-clause-value
 returns-in-Some-found-clause-value g c view fresh =
@@ -25,7 +25,7 @@ returns-in-Some-found-clause-value g c view fresh =
     (ap (λ (s : Slot). s.found) (sym c.slot_of.ensures) ∙ c.in-Some.is)
     (ap (λ (s : Slot). s.found) (sym c.slot_of-2.ensures) ∙ c.in-Some-found.is)
     (c.below.result.across) (c.below.result.down)
-    (across_of_child _ _ _ _ c.in-Some.found-is c.in-Some-found.outer-is _ c.below.ensures.across) (down_of_child _ _ _ _ c.in-Some.found-is c.in-Some-found.outer-is _ c.below.ensures.down)
+    (across_of_child _ _ _ _ (sym c.in-Some.found-is) (sym c.in-Some-found.outer-is) _ c.below.ensures.across) (down_of_child _ _ _ _ (sym c.in-Some.found-is) (sym c.in-Some-found.outer-is) _ c.below.ensures.down)
 
 pub returns-in-None-clause-value : goal.returns-in-None-clause-value
 returns-in-None-clause-value g c view fresh =
