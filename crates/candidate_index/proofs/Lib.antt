@@ -1,0 +1,7 @@
+pub mod Cuts
+pub mod Leaving
+pub mod Places
+pub mod Asking
+pub mod Keeping
+pub mod Looking
+pub mod Same

@@ -1,5 +1,6 @@
 -- What findings are found from, and which differ.
-use Rattle.std.specs.Prelude.{Bool, true, false, ◌&&◌, not, int_eq, Option, Some, None}
+use Rattle.std.specs.Prelude.{Bool, true, false, ◌&&◌}
+use Rattle.std.specs.Ordering.{int_eq}
 use Rattle.px_units.specs.declared.Rect.{Rect}
 use Rattle.kept_clips.specs.declared.clip.Clip.{Clip}
 use Rattle.kept_clips.specs.declared.clip.Clip.TheVariants.{Whole, Cut, Nothing}

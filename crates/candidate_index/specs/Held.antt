@@ -1,10 +1,15 @@
 -- What is kept of registrations, by their serial numbers, and which are stale.
-use Rattle.std.specs.Prelude.{ℕ, Bool, true, not, Option, Some, None, IsTrue, unwrap_or}
+use Rattle.std.specs.Prelude.{ℕ, Bool, true, not, List, Option, Some, None, IsTrue, unwrap_or}
 use Rattle.std.specs.Ordering.{nat_cmp}
 use Rattle.std.specs.FinMap.{FinMap, get, contains_key}
 use Rattle.candidate_index.specs.declared.basis.Basis.{Basis}
 use Rattle.candidate_index.specs.declared.index.Kept.{Kept}
+use Rattle.page_model.specs.World.{Root, IntersectionObservers}
+use Rattle.clip_chain.specs.declared.spot.Spot.{Spot}
+use Rattle.clip_chain.specs.Scenes.{Scene}
+use Rattle.candidate_index.specs.declared.scene.Standing.{Standing}
 use Rattle.candidate_index.specs.Bases.{is_same_basis}
+use Rattle.candidate_index.specs.Registrations.{basis_for}
 
 -- what is kept of the last computation, none where there was none
 abbrev pub kept_of : FinMap nat_cmp (Option Kept) → ℕ → Option Kept
@@ -17,3 +22,7 @@ IsAdded it serial = IsTrue (contains_key it serial)
 abbrev pub is_stale : Option Kept → Basis → Bool
 is_stale None now = true
 is_stale (Some kept) now = not (is_same_basis kept.basis now)
+
+-- whether the registration of a serial number is stale now, by the spots between its target and its root
+abbrev pub is_stale_now : Scene → (Root → ℕ → Standing) → IntersectionObservers → (ℕ → List Spot) → FinMap nat_cmp (Option Kept) → ℕ → Bool
+is_stale_now scene standings it between kept serial = is_stale (kept_of kept serial) (basis_for scene standings it serial (between serial))

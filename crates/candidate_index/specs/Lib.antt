@@ -4,3 +4,4 @@ pub mod Findings
 pub mod Registrations
 pub mod Asked
 pub mod Held
+pub mod Codes

@@ -52,14 +52,16 @@ IsBetween scene standings it between serial =
     IfChained (standing_for standings it serial)
     (Leads scene (element_spot (target_of it serial)) (between serial) (spot_of_root (observer_of it serial).root))
 
--- the pair of a registration is held for its root and its target, the root is above the target, and a clip that is handed out
--- as it is held is exact
-pub record HasClip (scene : Scene) (it : IntersectionObservers) (clips : HeldClips) (serial : ℕ) : Type 0 where
+-- a pair is held under a serial number for a root and a target, the root is above the target, and a clip that is handed out as
+-- it is held is exact
+pub record HasClip (scene : Scene) (clips : HeldClips) (serial : ℕ) (root : Root) (target : ℕ) : Type 0 where
   pub held : IsHeld clips serial
-  pub root : (pair_of clips serial).root ≡ spot_of_root (observer_of it serial).root
-  pub of : (pair_of clips serial).of ≡ element_spot (target_of it serial)
-  pub above : IsAbove scene (spot_of_root (observer_of it serial).root) (element_spot (target_of it serial))
+  pub root_held : (pair_of clips serial).root ≡ spot_of_root root
+  pub target_held : (pair_of clips serial).of ≡ element_spot target
+  pub above : IsAbove scene (spot_of_root root) (element_spot target)
   pub exact : IsExact scene clips serial
 
+-- a registration whose chain leads to the root has its clip
 abbrev pub IsReady : Scene → (Root → ℕ → Standing) → IntersectionObservers → HeldClips → ℕ → Type 0
-IsReady scene standings it clips serial = IfChained (standing_for standings it serial) (HasClip scene it clips serial)
+IsReady scene standings it clips serial =
+    IfChained (standing_for standings it serial) (HasClip scene clips serial (observer_of it serial).root (target_of it serial))

@@ -59,7 +59,7 @@ fn is_same_sight(one: Sight, other: Sight) -> bool
 }
 
 impl Basis {
-    // Whether a finding from the other one is the same.
+    // Whether the same is found from the other one.
     pub(crate) fn is_same(&self, other: &Basis) -> bool
         ensures { result ≡ is_same_basis self.now other.now }
     {

@@ -2,26 +2,30 @@
 
 ghost use Rattle.std.specs.Prelude.{◌≡◌, ◌+◌, ℕ, List, IfSome, unwrap_or, option_map};
 ghost use Rattle.px_units.specs.Rects.{area};
+ghost use Rattle.page_model.specs.World.{Root as ModelRoot};
+ghost use Rattle.page_model.specs.Chains.{moved_out};
 ghost use Rattle.page_model.specs.Findings.{all_or_nothing, ratio_of, unseen};
 ghost use Rattle.clip_chain.specs.declared.spot.Spot.{Spot as SpotOf};
 ghost use Rattle.clip_chain.specs.Ranges.{IsBounds};
-ghost use Rattle.clip_chain.specs.Worlds.{spot_of_root};
+ghost use Rattle.clip_chain.specs.Scenes.{root_bounds};
+ghost use Rattle.clip_chain.specs.Chains.{Leads};
+ghost use Rattle.clip_chain.specs.Worlds.{element_spot, spot_of_root};
 ghost use Rattle.intersection_observer.specs.Places.{IsStanding};
 ghost use Rattle.intersection_observer.specs.Seen.{seen_root, seen_finding};
-ghost use Rattle.candidate_index.specs.Ranges.{LiesIn, HasBounds};
-ghost use Rattle.candidate_index.specs.Findings.{cut_to, seen, found_from};
-ghost use Rattle.candidate_index.specs.Registrations.{basis_for, IsReady, IsBetween};
-ghost use Rattle.candidate_index.specs.Asked.{asked_for, steps_for};
+ghost use Rattle.candidate_index.specs.Ranges.{LiesIn, HasBoundsIn, HasBounds};
+ghost use Rattle.candidate_index.specs.Findings.{cut_to, seen, found_from, sight_over};
+ghost use Rattle.candidate_index.specs.Registrations.{basis_for, IfChained, HasClip, IsReady, IsBetween};
+ghost use Rattle.candidate_index.specs.Asked.{asked_if, steps_if, asked_for, steps_for};
 
 use crate::{Basis, Scene, Sight, Standing};
-use clip_chain::{Spot, root_rect};
+use clip_chain::{Geometry, Spot, root_rect};
 use element_tree::NodeId;
 use intersection_observer::{Finding, RegistrationId, Root, Watchers};
 use kept_clips::{Clip, Clips};
 use px_units::{Rect, area, meet};
 use std::sync::ledger::Ledger;
 use step_count::Steps;
-use thresholds::{Ratio, Thresholds};
+use thresholds::{Margins, Ratio, Thresholds};
 
 const NOTHING: Ratio = Ratio { part: 0, whole: 1 };
 
@@ -45,6 +49,42 @@ fn spot_of_root(root: Root) -> Spot
     }
 }
 
+// The root rectangle, moved by the margins.
+fn limits_of<G: Geometry>(scene: &G, root: Root, margins: &Margins) -> Rect
+    ensures { result ≡ moved_out margins.now (root_bounds (G.scene scene.now) (spot_of_root (seen_root root))) }
+{
+    margins.dilate(root_rect(scene, spot_of_root(root)))
+}
+
+// From what a target is seen now.
+fn sight_of<S: Scene, L: Ledger>(
+    scene: &S,
+    clips: &mut Clips,
+    root: Root,
+    target: NodeId,
+    serial: u64,
+    steps: &mut Steps<L>,
+) -> Sight
+    requires { IfChained (S.standings scene.now (seen_root root) target.0) (HasClip (S.scene scene.now) clips.old serial (seen_root root) target.0) }
+    ensures sight { (between : List SpotOf) → IfChained (S.standings scene.now (seen_root root) target.0) (Leads (S.scene scene.now) (element_spot target.0) between (spot_of_root (seen_root root))) →
+        result ≡ sight_over (S.scene scene.now) (S.standings scene.now (seen_root root) target.0) target.0 between }
+    ensures clips { (between : List SpotOf) → IfChained (S.standings scene.now (seen_root root) target.0) (Leads (S.scene scene.now) (element_spot target.0) between (spot_of_root (seen_root root))) →
+        clips.new ≡ asked_if (S.standings scene.now (seen_root root) target.0) (S.scene scene.now) between serial clips.old }
+    ensures ticks { (between : List SpotOf) → IfChained (S.standings scene.now (seen_root root) target.0) (Leads (S.scene scene.now) (element_spot target.0) between (spot_of_root (seen_root root))) →
+        steps.new ≡ steps.old + steps_if (S.standings scene.now (seen_root root) target.0) between serial clips.old }
+    ensures ready { (other : ℕ) (its_root : ModelRoot) (its_target : ℕ) → HasClip (S.scene scene.now) clips.old other its_root its_target → HasClip (S.scene scene.now) clips.new other its_root its_target }
+    ensures range { HasBoundsIn result }
+{
+    match scene.standing(root, target) {
+        Standing::Apart => Sight::Apart,
+        Standing::NoBox => Sight::NoBox,
+        Standing::Chained => Sight::Chained {
+            bounds: scene.bounds(Spot::Node(target)),
+            clip: clips.clip_of(scene, serial, steps),
+        },
+    }
+}
+
 // What a registration's target is found from now.
 pub(crate) fn basis_of<S: Scene, L: Ledger>(
     scene: &S,
@@ -61,22 +101,16 @@ pub(crate) fn basis_of<S: Scene, L: Ledger>(
         clips.new ≡ asked_for (S.scene scene.now) (S.standings scene.now) watchers.now.part between registration.0 clips.old }
     ensures ticks { (between : ℕ → List SpotOf) → IsBetween (S.scene scene.now) (S.standings scene.now) watchers.now.part between registration.0 →
         steps.new ≡ steps.old + steps_for (S.scene scene.now) (S.standings scene.now) watchers.now.part between registration.0 clips.old }
+    ensures ready { (other : ℕ) → IsReady (S.scene scene.now) (S.standings scene.now) watchers.now.part clips.old other → IsReady (S.scene scene.now) (S.standings scene.now) watchers.now.part clips.new other }
     ensures range { HasBounds result }
 {
     let watcher = watchers.watcher_of(registration);
     let target = watchers.target_of(registration);
     let root = watchers.root_of(watcher);
-    let bounds = root_rect(scene, spot_of_root(root));
-    let limits = watchers.margins_of(watcher).dilate(bounds);
-    let sight = match scene.standing(root, target) {
-        Standing::Apart => Sight::Apart,
-        Standing::NoBox => Sight::NoBox,
-        Standing::Chained => Sight::Chained {
-            bounds: scene.bounds(Spot::Node(target)),
-            clip: clips.clip_of(scene, registration.0, steps),
-        },
-    };
-    Basis { limits, sight }
+    Basis {
+        limits: limits_of(scene, root, watchers.margins_of(watcher)),
+        sight: sight_of(scene, clips, root, target, registration.0, steps),
+    }
 }
 
 // What limits and a clip leave of a box.

@@ -1,6 +1,6 @@
 //! What is kept of each registration.
 
-ghost use Rattle.std.specs.Prelude.{◌≡◌, ◌+◌, ◌<◌, ℕ, List, length, filter, true, None, is_some, IfOk, OnOk, OnErr};
+ghost use Rattle.std.specs.Prelude.{◌≡◌, ◌+◌, ◌<◌, ◌≤◌, ℕ, List, [], ◌∷◌, ◌++◌, length, filter, None, vec_len, vec_capacity, IfOk, OnOk, OnErr};
 ghost use Rattle.std.specs.List.{All};
 ghost use Rattle.std.specs.FinMap as finite;
 ghost use Rattle.clip_chain.specs.declared.spot.Spot.{Spot as SpotOf};
@@ -8,7 +8,7 @@ ghost use Rattle.intersection_observer.specs.Places.{IsStanding};
 ghost use Rattle.intersection_observer.specs.Seen.{seen_finding, serial_numbers};
 ghost use Rattle.candidate_index.specs.Registrations.{serials_at, basis_for, finding_for, IsReady, IsBetween};
 ghost use Rattle.candidate_index.specs.Asked.{asked_for, steps_for, all_asked, all_steps};
-ghost use Rattle.candidate_index.specs.Held.{kept_of, IsAdded, is_stale};
+ghost use Rattle.candidate_index.specs.Held.{kept_of, IsAdded, is_stale, is_stale_now};
 
 use crate::finding::{basis_of, find};
 use crate::{Basis, Scene};
@@ -46,6 +46,10 @@ impl Model for Index {
     ghost use Rattle.candidate_index.specs.declared.index.Kept.{Kept};
 
     ghost Value = { FinMap nat_cmp (Option Kept) };
+
+    ghost use Rattle.candidate_index.specs.Codes.{index_code};
+
+    ghost coded = { index_code };
 
     ghost view = { λ i. i.kept };
 }
@@ -117,23 +121,50 @@ impl Index {
         requires ready { All (IsReady (S.scene scene.now) (S.standings scene.now) watchers.now.part clips.old) (serials_at watchers.now.part watcher.0) }
         ensures stale { (between : ℕ → List SpotOf) → All (IsBetween (S.scene scene.now) (S.standings scene.now) watchers.now.part between) (serials_at watchers.now.part watcher.0) →
             IfOk result (λ stale. serial_numbers stale.items
-                ≡ filter (λ serial. is_stale (kept_of self.now serial) (basis_for (S.scene scene.now) (S.standings scene.now) watchers.now.part serial (between serial))) (serials_at watchers.now.part watcher.0)) }
+            ≡ filter (is_stale_now (S.scene scene.now) (S.standings scene.now) watchers.now.part between self.now) (serials_at watchers.now.part watcher.0)) }
         ensures clips { (between : ℕ → List SpotOf) → All (IsBetween (S.scene scene.now) (S.standings scene.now) watchers.now.part between) (serials_at watchers.now.part watcher.0) →
             OnOk result (clips.new ≡ all_asked (S.scene scene.now) (S.standings scene.now) watchers.now.part between (serials_at watchers.now.part watcher.0) clips.old) }
         ensures ticks { (between : ℕ → List SpotOf) → All (IsBetween (S.scene scene.now) (S.standings scene.now) watchers.now.part between) (serials_at watchers.now.part watcher.0) →
             OnOk result (steps.new ≡ steps.old + all_steps (S.scene scene.now) (S.standings scene.now) watchers.now.part between (serials_at watchers.now.part watcher.0) clips.old) }
+        ensures ready { (other : ℕ) → IsReady (S.scene scene.now) (S.standings scene.now) watchers.now.part clips.old other → IsReady (S.scene scene.now) (S.standings scene.now) watchers.now.part clips.new other }
         ensures same_clips { OnErr result (clips.new ≡ clips.old) }
         ensures same_steps { OnErr result (steps.new ≡ steps.old) }
     {
         let registrations = watchers.registrations(watcher);
         let mut stale = Vec::with_capacity(self.alloc, registrations.len())?;
         for registration in registrations {
-            let basis = basis_of(scene, clips, watchers, *registration, steps);
-            if self.is_stale(*registration, &basis) {
-                stale.push_reserved(*registration);
-            }
+            self.look(scene, clips, watchers, *registration, &mut stale, steps);
         }
         Ok(stale)
+    }
+
+    // Puts a registration last on a list if it is stale, for which there is room.
+    fn look<S: Scene, L: Ledger>(
+        &self,
+        scene: &S,
+        clips: &mut Clips,
+        watchers: &Watchers,
+        registration: RegistrationId,
+        stale: &mut Vec<RegistrationId>,
+        steps: &mut Steps<L>,
+    )
+        requires standing { IsStanding registration.0 watchers.now.part }
+        requires ready { IsReady (S.scene scene.now) (S.standings scene.now) watchers.now.part clips.old registration.0 }
+        requires room { vec_len stale.old < vec_capacity stale.old }
+        ensures stale { (between : ℕ → List SpotOf) → IsBetween (S.scene scene.now) (S.standings scene.now) watchers.now.part between registration.0 →
+            serial_numbers stale.new.items ≡ serial_numbers stale.old.items ++ filter (is_stale_now (S.scene scene.now) (S.standings scene.now) watchers.now.part between self.now) (registration.0 ∷ []) }
+        ensures clips { (between : ℕ → List SpotOf) → IsBetween (S.scene scene.now) (S.standings scene.now) watchers.now.part between registration.0 →
+            clips.new ≡ asked_for (S.scene scene.now) (S.standings scene.now) watchers.now.part between registration.0 clips.old }
+        ensures ticks { (between : ℕ → List SpotOf) → IsBetween (S.scene scene.now) (S.standings scene.now) watchers.now.part between registration.0 →
+            steps.new ≡ steps.old + steps_for (S.scene scene.now) (S.standings scene.now) watchers.now.part between registration.0 clips.old }
+        ensures ready { (other : ℕ) → IsReady (S.scene scene.now) (S.standings scene.now) watchers.now.part clips.old other → IsReady (S.scene scene.now) (S.standings scene.now) watchers.now.part clips.new other }
+        ensures length { vec_len stale.new ≤ vec_len stale.old + 1 }
+        ensures capacity { vec_capacity stale.new ≡ vec_capacity stale.old }
+    {
+        let basis = basis_of(scene, clips, watchers, registration, steps);
+        if self.is_stale(registration, &basis) {
+            stale.push_reserved(registration);
+        }
     }
 
     // Whether a registration was never computed or found from something else.
@@ -169,9 +200,13 @@ impl Index {
             clips.new ≡ asked_for (S.scene scene.now) (S.standings scene.now) watchers.now.part between registration.0 clips.old }
         ensures ticks { (between : ℕ → List SpotOf) → IsBetween (S.scene scene.now) (S.standings scene.now) watchers.now.part between registration.0 →
             steps.new ≡ steps.old + steps_for (S.scene scene.now) (S.standings scene.now) watchers.now.part between registration.0 clips.old + 1 }
+        ensures ready { (other : ℕ) → IsReady (S.scene scene.now) (S.standings scene.now) watchers.now.part clips.old other → IsReady (S.scene scene.now) (S.standings scene.now) watchers.now.part clips.new other }
     {
         let basis = basis_of(scene, clips, watchers, registration, steps);
-        let finding = find(watchers.thresholds_of(watchers.watcher_of(registration)), &basis);
+        let finding = find(
+            watchers.thresholds_of(watchers.watcher_of(registration)),
+            &basis,
+        );
         steps.tick();
         let kept = Kept { basis, finding };
         self.kept.insert(registration.0, Some(kept)).unwrap();

@@ -8,10 +8,12 @@
 mod basis;
 mod finding;
 mod index;
+mod laws;
 mod scene;
 #[cfg(test)]
 mod tests;
 
 pub use basis::{Basis, Sight};
 pub use index::{Index, Kept};
+pub use laws::what_is_not_stale_is_found_as_it_was;
 pub use scene::{Scene, Standing};

@@ -10,7 +10,7 @@ use Rattle.clip_chain.specs.declared.spot.Spot.TheVariants.{Node, View}
 use Rattle.clip_chain.specs.Scenes.{Scene}
 use Rattle.kept_clips.specs.declared.pair.Computed.{Computed}
 use Rattle.kept_clips.specs.Touches.{Touched, last_number, last_touch, with_spot}
-use Rattle.kept_clips.specs.Chains.{chain_of, is_untouched, stands, AreExact}
+use Rattle.kept_clips.specs.Chains.{chain_of, is_untouched, stands, IsExact}
 use Rattle.kept_clips.specs.Held.{HeldClips, pair_of}
 use Rattle.kept_clips.specs.Numbers.{AreNumbered}
 
@@ -42,9 +42,9 @@ same_stands : (of : Spot) (it : Touched) (computed : Option Computed) (spots : L
 same_stands of it None spots = refl
 same_stands of it (Some c) spots = ap (λ b. nat_lt c.touches last_number && b) (same_tests of it c.touches spots)
 
-pub exact_added : (scene : Scene) (of : Spot) (it : HeldClips) → AreExact scene it → AreExact scene (record it { touches = with_spot of (it.touches) })
-exact_added scene of it exact = λ number between lead current.
-    exact number between lead
+pub exact_added : (scene : Scene) (of : Spot) (it : HeldClips) (number : ℕ) → IsExact scene it number → IsExact scene (record it { touches = with_spot of (it.touches) }) number
+exact_added scene of it number exact = λ between lead current.
+    exact between lead
     (sym (same_stands of it.touches (pair_of it number).computed (chain_of (pair_of it number) between)) ∙ current)
 
 same_count : (of : Spot) (it : Touched) → (with_spot of it).count ≡ it.count

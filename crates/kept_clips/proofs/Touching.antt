@@ -14,7 +14,7 @@ use Rattle.kept_clips.specs.declared.pair.Pair.{Pair}
 use Rattle.kept_clips.specs.declared.pair.Computed.{Computed}
 use Rattle.kept_clips.specs.Clips.{common_clip, clip_between}
 use Rattle.kept_clips.specs.Touches.{Touched, last_number, last_touch, IsAdded, touched, touched_at}
-use Rattle.kept_clips.specs.Chains.{chain_of, is_untouched, stands, IsExactPair, AreExact}
+use Rattle.kept_clips.specs.Chains.{chain_of, is_untouched, stands, IsExactPair, IsExact}
 use Rattle.kept_clips.specs.Held.{HeldClips, pair_of}
 use Rattle.kept_clips.specs.Numbers.{IsNumbered, AreNumbered}
 use Rattle.kept_clips.specs.Scenes.{AgreesAt, DiffersOnlyAt}
@@ -100,10 +100,10 @@ exact_still of it before after added only root from between (Some c) numbered ex
     (ap (λ b. b && list_all (is_untouched it c.touches) chain) parts.0 ∙ all_tested of it c.touches chain aparts parts.1)
     ∙ ap common_clip (clips_before of before after only between between_apart)
 
-pub exact_touched : (of : Spot) (it : HeldClips) (before after : Scene) → IsAdded it.touches of → AreNumbered it → AreExact before it → DiffersOnlyAt of before after → AreExact after (record it { touches = touched of (it.touches) })
-exact_touched of it before after added numbers exact only = λ number between lead current.
+pub exact_touched : (of : Spot) (it : HeldClips) (before after : Scene) → IsAdded it.touches of → AreNumbered it → (number : ℕ) → IsExact before it number → DiffersOnlyAt of before after → IsExact after (record it { touches = touched of (it.touches) }) number
+exact_touched of it before after added numbers number exact only = λ between lead current.
     let pair = pair_of it number in
-    exact_still of it.touches before after added only pair.root pair.of between pair.computed (numbers.numbered number) (exact number between) lead current
+    exact_still of it.touches before after added only pair.root pair.of between pair.computed (numbers.numbered number) (exact between) lead current
 
 raised : (count last : ℕ) → count ≤ last → count ≤ min (suc count) last
 raised count last h = grind (arith, nat_tests)

@@ -40,6 +40,3 @@ IsExactPair scene touches pair =
 
 abbrev pub IsExact : Scene → HeldClips → ℕ → Type 0
 IsExact scene it number = IsExactPair scene it.touches (pair_of it number)
-
-abbrev pub AreExact : Scene → HeldClips → Type 0
-AreExact scene it = (number : ℕ) → IsExact scene it number

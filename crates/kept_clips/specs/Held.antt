@@ -1,5 +1,5 @@
 -- What is held: when spots were touched, and pairs by their numbers.
-use Rattle.std.specs.Prelude.{ℕ, Option, Some, None, IsSome, unwrap_or}
+use Rattle.std.specs.Prelude.{ℕ, Option, Some, None, IsSome, unwrap_or, option_map}
 use Rattle.std.specs.Ordering.{nat_cmp}
 use Rattle.std.specs.FinMap.{FinMap, get, insert, remove}
 use Rattle.clip_chain.specs.declared.spot.Spot.{Spot}
@@ -26,6 +26,14 @@ new_pair root of = record { root = root; of = of; computed = None }
 -- the pair of a number that is held
 abbrev pub pair_of : HeldClips → ℕ → Pair
 pair_of it number = unwrap_or (pair_at it number) (new_pair (View 0) (View 0))
+
+-- the spots of a pair, and those of the pair of a number
+
+abbrev pub spots_of : Pair → Spot × Spot
+spots_of pair = (pair.root, pair.of)
+
+abbrev pub spots_at : HeldClips → ℕ → Option (Spot × Spot)
+spots_at it number = option_map spots_of (pair_at it number)
 
 abbrev pub with_pair : ℕ → Spot → Spot → HeldClips → HeldClips
 with_pair number root of it = record it { pairs = insert (it.pairs) number (new_pair root of) }

@@ -1,6 +1,6 @@
 //! The pairs whose clips are kept.
 
-ghost use Rattle.std.specs.Prelude.{◌≡◌, ◌↔◌, ◌+◌, ℤ, List, [], length, true, false, None, IfSome, OnOk, OnErr};
+ghost use Rattle.std.specs.Prelude.{◌≡◌, ◌↔◌, ◌+◌, ℕ, ℤ, List, [], length, true, false, None, IfSome, OnOk, OnErr};
 ghost use Rattle.std.specs.List.{All};
 ghost use Rattle.std.specs.FinMap.{empty};
 ghost use Rattle.clip_chain.specs.declared.spot.Spot.{Spot as SpotOf};
@@ -8,8 +8,8 @@ ghost use Rattle.clip_chain.specs.Scenes.{Scene};
 ghost use Rattle.clip_chain.specs.Chains.{Leads, IsAbove};
 ghost use Rattle.kept_clips.specs.Clips.{clip_between, Contains, IsWithin};
 ghost use Rattle.kept_clips.specs.Touches.{is_added, IsAdded, with_spot, touched};
-ghost use Rattle.kept_clips.specs.Held.{pair_at, pair_of, IsHeld, with_pair, without_pair, with_clip};
-ghost use Rattle.kept_clips.specs.Chains.{chain_of, standing_clip, is_current, IsExact, AreExact};
+ghost use Rattle.kept_clips.specs.Held.{pair_at, pair_of, spots_at, IsHeld, with_pair, without_pair, with_clip};
+ghost use Rattle.kept_clips.specs.Chains.{chain_of, standing_clip, is_current, IsExact};
 ghost use Rattle.kept_clips.specs.Scenes.{DiffersOnlyAt};
 
 use crate::between::{clip_between, is_untouched};
@@ -81,17 +81,17 @@ impl Clips {
     pub fn add(&mut self, of: Spot) -> Result<(), AllocError>
         ensures added { OnOk result (self.new ≡ record self.old { touches = with_spot of (self.old.touches) }) }
         ensures same { OnErr result (self.new ≡ self.old) }
-        ensures exact { (scene : Scene) → AreExact scene self.old → AreExact scene self.new }
+        ensures exact { (scene : Scene) (other : ℕ) → IsExact scene self.old other → IsExact scene self.new other }
     {
         self.touches.add(of)
     }
 
-    /// Touches a spot: what hangs on its container and its clip is computed anew when it is asked for next. Clips that are exact
-    /// of a scene are so of any scene that differs at this spot alone. No memory.
+    /// Touches a spot: what hangs on its container and its clip is computed anew when it is asked for next. A clip that is exact of
+    /// a scene is so of any scene that differs at this spot alone. No memory.
     pub fn touch(&mut self, of: Spot)
         requires { IsAdded self.old.touches of }
         ensures touched { self.new ≡ record self.old { touches = touched of (self.old.touches) } }
-        ensures exact { (before after : Scene) → AreExact before self.old → DiffersOnlyAt of before after → AreExact after self.new }
+        ensures exact { (before after : Scene) (number : ℕ) → IsExact before self.old number → DiffersOnlyAt of before after → IsExact after self.new number }
     {
         self.touches.touch(of);
     }
@@ -109,7 +109,7 @@ impl Clips {
         requires { pair_at self.old number ≡ None }
         ensures held { OnOk result (self.new ≡ with_pair number root of self.old) }
         ensures same { OnErr result (self.new ≡ self.old) }
-        ensures exact { (scene : Scene) → AreExact scene self.old → AreExact scene self.new }
+        ensures exact { (scene : Scene) (other : ℕ) → IsExact scene self.old other → IsExact scene self.new other }
     {
         let pair = Pair {
             root,
@@ -123,7 +123,7 @@ impl Clips {
     pub fn release(&mut self, number: u64)
         requires { IsHeld self.old number }
         ensures released { self.new ≡ without_pair number self.old }
-        ensures exact { (scene : Scene) → AreExact scene self.old → AreExact scene self.new }
+        ensures exact { (scene : Scene) (other : ℕ) → IsExact scene self.old other → IsExact scene self.new other }
     {
         self.pairs.remove(number);
     }
@@ -157,7 +157,8 @@ impl Clips {
             is_current self.old number between ≡ true → (self.new ≡ self.old) × (steps.new ≡ steps.old) }
         ensures computed { (between : List SpotOf) → Leads (G.scene geometry.now) (pair_of self.old number).of between (pair_of self.old number).root →
             is_current self.old number between ≡ false → (self.new ≡ with_clip number result self.old) × (steps.new ≡ steps.old + length between) }
-        ensures exact { AreExact (G.scene geometry.now) self.old → AreExact (G.scene geometry.now) self.new }
+        ensures exact { (other : ℕ) → IsExact (G.scene geometry.now) self.old other → IsExact (G.scene geometry.now) self.new other }
+        ensures spots { (other : ℕ) → spots_at self.new other ≡ spots_at self.old other }
     {
         self.current(geometry, number, steps)
     }
@@ -178,7 +179,8 @@ impl Clips {
             is_current self.old number between ≡ true → (self.new ≡ self.old) × (steps.new ≡ steps.old) }
         ensures computed { (between : List SpotOf) → Leads (G.scene geometry.now) (pair_of self.old number).of between (pair_of self.old number).root →
             is_current self.old number between ≡ false → (self.new ≡ with_clip number result self.old) × (steps.new ≡ steps.old + length between) }
-        ensures exact { AreExact (G.scene geometry.now) self.old → AreExact (G.scene geometry.now) self.new }
+        ensures exact { (other : ℕ) → IsExact (G.scene geometry.now) self.old other → IsExact (G.scene geometry.now) self.new other }
+        ensures spots { (other : ℕ) → spots_at self.new other ≡ spots_at self.old other }
     {
         let pair = self.pairs.get(number).unwrap_or(NO_PAIR);
         if let Some(clip) = self.standing(geometry, pair) {
@@ -197,7 +199,13 @@ impl Clips {
     {
         let computed = pair.computed?;
         if computed.touches < u64::MAX
-            && is_untouched(&self.touches, geometry, pair.root, pair.of, computed.touches)
+            && is_untouched(
+                &self.touches,
+                geometry,
+                pair.root,
+                pair.of,
+                computed.touches,
+            )
         {
             Some(computed.clip)
         } else {

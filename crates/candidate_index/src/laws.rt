@@ -1,0 +1,23 @@
+//! What it means that a registration isn't stale: the clauses of a function that does nothing.
+
+ghost use Rattle.std.specs.Prelude.{◌≡◌, ◌↔◌, ℕ, List, Some, true, false};
+ghost use Rattle.page_model.specs.World.{Root, IntersectionObservers};
+ghost use Rattle.clip_chain.specs.declared.spot.Spot.{Spot as SpotOf};
+ghost use Rattle.clip_chain.specs.Scenes.{Scene as SceneOf};
+ghost use Rattle.intersection_observer.specs.Seen.{seen_finding};
+ghost use Rattle.candidate_index.specs.declared.scene.Standing.{Standing as StandingOf};
+ghost use Rattle.candidate_index.specs.declared.basis.Basis.{Basis as BasisOf};
+ghost use Rattle.candidate_index.specs.declared.index.Kept.{Kept as KeptOf};
+ghost use Rattle.candidate_index.specs.Bases.{is_same_basis};
+ghost use Rattle.candidate_index.specs.Findings.{found_from};
+ghost use Rattle.candidate_index.specs.Registrations.{observer_of, basis_for, finding_for};
+ghost use Rattle.candidate_index.specs.Held.{is_stale};
+
+/// Two bases are told to be the same exactly where they are equal. Where a registration isn't stale, and its finding was found
+/// from its basis by its observer's thresholds, as `recompute` keeps them, that is what is found of it now.
+pub fn what_is_not_stale_is_found_as_it_was()
+    ensures same { (one other : BasisOf) → (is_same_basis one other ≡ true) ↔ (one ≡ other) }
+    ensures found { (scene : SceneOf) (standings : Root → ℕ → StandingOf) (it : IntersectionObservers) (serial : ℕ) (between : List SpotOf) (kept : KeptOf) →
+        seen_finding kept.finding ≡ found_from (observer_of it serial).thresholds kept.basis → is_stale (Some kept) (basis_for scene standings it serial between) ≡ false →
+        seen_finding kept.finding ≡ finding_for scene standings it serial between }
+{}
