@@ -1,0 +1,7 @@
+mod Holding
+mod Listed
+mod Carried
+mod Tame
+mod Walk
+mod Held
+mod Steady
