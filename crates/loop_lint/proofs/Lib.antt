@@ -5,3 +5,8 @@ mod Tame
 mod Walk
 mod Held
 mod Steady
+mod More
+mod Calm
+mod Waiting
+mod Lines
+mod Quiet

@@ -3,6 +3,7 @@
 ghost use Rattle.std.specs.Prelude.{◌≡◌, ◌↔◌, IsTrue, IsNone, cond, [], slice_get, map};
 ghost use Rattle.script_syntax.specs.Seen.{item_of};
 ghost use Rattle.loop_lint.specs.LoopHandlers.{is_empty, is_unnamed, block_lines, loop_handler_lines};
+ghost use Rattle.loop_lint.specs.Searches.{lines_at};
 ghost use Rattle.loop_lint.specs.Verdicts.{is_steady, is_quiet};
 ghost use Rattle.loop_lint.specs.Seen.{forbidden_by};
 
@@ -36,7 +37,7 @@ fn blame_in(items: &[Item], name: Name, commands: &CommandList, law: Law) -> Opt
 
 /// The same of an item, which has none where it is no handler.
 fn blame_at(items: &[Item], item: &Item, law: Law) -> Option<u32>
-    ensures { result ≡ slice_get (flat_map (handler_lines (forbidden_by law) (map item_of items.now)) (handlers_in (item_of item.now ∷ []))) 0 }
+    ensures { result ≡ slice_get (lines_at (forbidden_by law) (map item_of items.now) (item_of item.now)) 0 }
 {
     match item {
         Item::Command(_) => None,
@@ -52,8 +53,9 @@ pub fn blame(script: &Script, law: Law) -> Option<u32>
 {
     let items = script.items();
     for item in items {
-        if let Some(line) = blame_at(items, item, law) {
-            return Some(line);
+        let found = blame_at(items, item, law);
+        if found.is_some() {
+            return found;
         }
     }
     None

@@ -10,7 +10,9 @@ ghost use Rattle.loop_lint.specs.LoopHandlers.{is_unnamed, loop_handler_lines};
 ghost use Rattle.loop_lint.specs.Verdicts.{is_steady, is_quiet};
 ghost use Rattle.loop_lint.specs.RunLoops.{IsSteadyLoop, loops_of_run, is_error_line};
 
-use loop_laws::{loops_go_deeper, loops_have_few_rounds};
+use loop_laws::{
+    loop_errors_are_exact, loops_go_deeper, loops_have_few_rounds, resize_loops_come_to_rest,
+};
 
 /// In each resize loop of a steady script's run the depth of a round is greater than that of the round before it, and that of the first
 /// round greater than 0; so a loop has at most as many rounds, one that is broken off counted, as the greatest depth of a target that it
@@ -20,6 +22,15 @@ pub fn steady_scripts_have_steady_loops()
 {
     loops_go_deeper();
     loops_have_few_rounds();
+}
+
+/// The trace of a quiet script has no line of a loop error.
+pub fn quiet_scripts_report_no_errors()
+    ensures { (text : List ℕ) (items : List Item) → reading text ≡ Ok items → IsTrue (is_quiet items) →
+        AllByRecursion (λ line. is_error_line line ≡ false) (outcome text).lines }
+{
+    resize_loops_come_to_rest();
+    loop_errors_are_exact();
 }
 
 /// What a script holds outside handlers doesn't matter, but for its `ro` commands: with the same handlers, of which the same ones are loop

@@ -2,10 +2,11 @@
 #![tactic(auto)]
 
 mod check;
+mod kinds;
+pub mod laws;
 mod search;
 #[cfg(test)]
 mod tests;
-mod kinds;
 
 pub use check::{blame, lint};
 pub use kinds::{Law, Verdict};

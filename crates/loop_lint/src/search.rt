@@ -73,8 +73,9 @@ pub fn first_in(commands: &[Command], sought: Sought) -> Option<u32>
     ensures { result ≡ slice_get (block_lines (is_sought sought) (block_of commands.now)) 0 }
 {
     for command in commands {
-        if let Some(line) = first_in_command(command, sought) {
-            return Some(line);
+        let found = first_in_command(command, sought);
+        if found.is_some() {
+            return found;
         }
     }
     None
