@@ -10,3 +10,4 @@ mod Calm
 mod Waiting
 mod Lines
 mod Quiet
+mod Searching

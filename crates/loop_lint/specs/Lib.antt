@@ -3,4 +3,4 @@ pub mod Verdicts
 pub mod Seen
 pub mod Searches
 pub mod RunLoops
-
+pub mod Examples

@@ -46,19 +46,19 @@ fn is_forbidden(what: &What, law: Law) -> bool
 }
 
 /// Whether a command without a block is what is looked for.
-fn is_sought(what: &What, sought: Sought) -> bool
-    ensures { result ≡ is_sought sought (action_of what.now) }
+fn is_sought(what: &What, sought: &Sought) -> bool
+    ensures { result ≡ is_sought sought.now (action_of what.now) }
 {
     match sought {
-        Sought::Naming(name) => names_handler(what, name),
-        Sought::Forbidden(law) => is_forbidden(what, law),
+        Sought::Naming(name) => names_handler(what, *name),
+        Sought::Forbidden(law) => is_forbidden(what, *law),
     }
 }
 
 /// The line of the first command that is looked for, among a command and those in its block.
 #[cycle(walk)]
-pub fn first_in_command(command: &Command, sought: Sought) -> Option<u32>
-    ensures { result ≡ slice_get (lines_in (is_sought sought) (command_of command.now)) 0 }
+pub fn first_in_command(command: &Command, sought: &Sought) -> Option<u32>
+    ensures { result ≡ slice_get (lines_in (is_sought sought.now) (command_of command.now)) 0 }
 {
     match &command.what {
         What::Each(body) => first_in(body.commands.commands(), sought),
@@ -69,8 +69,8 @@ pub fn first_in_command(command: &Command, sought: Sought) -> Option<u32>
 
 /// The line of the first command that is looked for, among these commands and those in their blocks.
 #[cycle(walk)]
-pub fn first_in(commands: &[Command], sought: Sought) -> Option<u32>
-    ensures { result ≡ slice_get (block_lines (is_sought sought) (block_of commands.now)) 0 }
+pub fn first_in(commands: &[Command], sought: &Sought) -> Option<u32>
+    ensures { result ≡ slice_get (block_lines (is_sought sought.now) (block_of commands.now)) 0 }
 {
     for command in commands {
         let found = first_in_command(command, sought);
@@ -82,8 +82,8 @@ pub fn first_in(commands: &[Command], sought: Sought) -> Option<u32>
 }
 
 /// The line of the first command that is looked for, in an item.
-pub fn first_in_item(item: &Item, sought: Sought) -> Option<u32>
-    ensures { result ≡ slice_get (item_lines (is_sought sought) (item_of item.now)) 0 }
+pub fn first_in_item(item: &Item, sought: &Sought) -> Option<u32>
+    ensures { result ≡ slice_get (item_lines (is_sought sought.now) (item_of item.now)) 0 }
 {
     match item {
         Item::Command(command) => first_in_command(command, sought),
