@@ -1,6 +1,6 @@
 -- What a command that a quiet handler may hold leaves: the sizes of all elements that there are, and each observation or none of it.
 use Rattle.std.proofs.Common.{◌≡◌, refl, sym, subst, ap, ◌∙◌, arith, ◌≤◌, true≢false}
-use Rattle.std.specs.Prelude.{ℕ, ℤ, zero, suc, ◌<◌, ◌==◌, not, Bool, true, false, cond, List, [], ◌∷◌, ◌++◌, length, filter, Option, Some, None, IfSome, ⊤}
+use Rattle.std.specs.Prelude.{ℕ, ℤ, zero, suc, ◌<◌, ◌==◌, not, Bool, true, false, List, [], ◌∷◌, ◌++◌, length, Option, Some, None, IfSome, ⊤}
 use Rattle.std.specs.List.{AllByRecursion}
 use Rattle.px_units.specs.declared.BoxKind.{BoxKind}
 use Rattle.layout_model.specs.Items.{Kind}
@@ -15,7 +15,7 @@ use Rattle.page_model.specs.PageBoxes.{size_of}
 use Rattle.page_model.specs.Steps.{Step, Effect}
 use Rattle.page_model.specs.Operands.{Present, NoEntry, ResizeEntry, IntersectionEntry, Handlers}
 use Rattle.page_model.specs.Scrolling.{scrolled_to, scrolled_by}
-use Rattle.page_model.specs.Commands.{does, with_tree, with_intersections, with_listeners, making}
+use Rattle.page_model.specs.Commands.{does, with_intersections, with_listeners, making}
 use Rattle.page_model.specs.Callbacks.{Script, Entries, handler_names, handler_block, presents, call}
 use Rattle.page_model.specs.Ranges.{Counts, counts_of, IsTreeIn, IsInRange, IsPresentIn}
 use Rattle.page_laws.specs.Successors.{OnDid}

@@ -1,13 +1,12 @@
 -- What each command that stands in a block keeps is kept by the block, and by callbacks whose handlers hold such commands alone.
-use Rattle.std.proofs.Common.{◌≡◌, refl}
-use Rattle.std.specs.Prelude.{ℕ, suc, ◌<◌, List, Option, Some, None, IfSome}
+use Rattle.std.specs.Prelude.{ℕ, ◌<◌, List, Option, Some, None, IfSome}
 use Rattle.std.specs.List.{AllByRecursion}
 use Rattle.script_model.specs.Syntax.{Action, Command, Simple, Each, When, Block, NoMore, Then}
 use Rattle.page_model.specs.World.{World}
 use Rattle.page_model.specs.Documents.{is_active}
 use Rattle.page_model.specs.Operands.{Present, NoEntry}
 use Rattle.page_model.specs.Commands.{does, holds}
-use Rattle.page_model.specs.Runs.{say, ◌followed_by◌, caught}
+use Rattle.page_model.specs.Runs.{say, ◌followed_by◌}
 use Rattle.page_model.specs.Callbacks.{Script, Entries, handler_names, said_by, run_command, run_block, run_handler, call, presents, handler_block, entry_lines}
 use Rattle.page_laws.specs.Successors.{OnDid}
 use Rattle.page_laws.proofs.Steps.{on_did-all}

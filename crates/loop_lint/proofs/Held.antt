@@ -1,24 +1,20 @@
 -- What each world of a run is, where each `ro` names a loop handler: numbers are in range, limits are kept, and each handler of a
 -- resize observer is a loop handler.
-use Rattle.std.proofs.Common.{◌≡◌, refl, sym, subst, arith}
-use Rattle.std.specs.Prelude.{ℕ, zero, suc, ◌<◌, Bool, true, false, cond, List, [], ◌∷◌, ◌++◌, length, slice_get, unwrap_or, Option, Some, None, IfSome, ⊤}
+use Rattle.std.proofs.Common.{◌≡◌, refl, sym, subst}
+use Rattle.std.specs.Prelude.{ℕ, zero, suc, ◌<◌, Bool, true, false, cond, List, [], ◌∷◌, length, slice_get, unwrap_or, Option, Some, None, IfSome, ⊤}
 use Rattle.std.specs.List.{AllByRecursion}
-use Rattle.script_model.specs.Syntax.{Action, Command, Simple, Item, Outside, Tick, Handler}
-use Rattle.script_model.specs.Scripts.{NamedBlock, handlers_in}
+use Rattle.script_model.specs.Syntax.{Action, Command}
+use Rattle.script_model.specs.Scripts.{NamedBlock}
 use Rattle.script_model.specs.TraceLines.{TraceLine}
 use Rattle.page_model.specs.World.{World, Entry, Observation, ResizeObserver, ResizeObservers, IntersectionObserver}
 use Rattle.page_model.specs.Documents.{is_active}
 use Rattle.page_model.specs.Lookups.{no_resize_observer, no_intersection_observer, resize_observer_at}
-use Rattle.page_model.specs.Gathering.{sight_of, is_of, reported, with_reported, without_active}
-use Rattle.page_model.specs.Steps.{Step, Did, Threw, Met}
+use Rattle.page_model.specs.Gathering.{sight_of, is_of, without_active}
 use Rattle.page_model.specs.Operands.{Present, NoEntry}
-use Rattle.page_model.specs.Commands.{does}
-use Rattle.page_model.specs.Runs.{Said}
-use Rattle.page_model.specs.Callbacks.{Script, Entries, handler_names, handler_block, presents, run_command, call}
+use Rattle.page_model.specs.Callbacks.{Script, Entries, handler_block, presents, run_command, call}
 use Rattle.page_model.specs.Ranges.{Counts, counts_of, AreObserved, IsResizeObserverIn, IsIntersectionObserverIn, IsInRange, IsPresentIn}
 use Rattle.page_model.specs.Loop.{emptied, gather}
 use Rattle.page_model.specs.Outcome.{opening_world}
-use Rattle.page_laws.specs.Successors.{OnDid}
 use Rattle.page_laws.specs.Bounds.{IsWithinLimits}
 use Rattle.page_laws.proofs.Keeping.{counted}
 use Rattle.page_laws.proofs.Waiting.{tasks-alike}
@@ -28,10 +24,10 @@ use Rattle.page_laws.proofs.Turns.{call-within, command-within, opening-within}
 use Rattle.page_laws.proofs.RunsInRange.{call-in, command-in, opening-in}
 use Rattle.page_laws.proofs.Later.{all-so}
 use Rattle.loop_lint.specs.RunLoops.{is_error_line}
-use Rattle.loop_lint.proofs.Holding.{CommandHolds, BlockHolds, ItemHolds, Names, IsClean, simple-holds, block-holds}
+use Rattle.loop_lint.proofs.Holding.{CommandHolds, BlockHolds, Names, IsClean, block-holds}
 use Rattle.loop_lint.proofs.Carried.{IsCarried, command-carries, call-carries}
 use Rattle.loop_lint.proofs.Tame.{AreTame, changed-tame, gathering-tame, does-tame}
-use Rattle.loop_lint.proofs.Walk.{IsGood, IsWalked, IsOutsideGood}
+use Rattle.loop_lint.proofs.Walk.{IsWalked}
 
 -- lists that callbacks are handed entries of
 

@@ -1,26 +1,24 @@
 -- No command and no callback says an error line: only the end of a resize loop does.
 use Rattle.std.proofs.Common.{◌≡◌, refl}
-use Rattle.std.specs.Prelude.{ℕ, ℤ, zero, suc, Bool, true, false, cond, List, [], ◌∷◌, map, length, Option, Some, None, ⊤}
+use Rattle.std.specs.Prelude.{ℕ, false, List, [], ◌∷◌, map, Option, Some, None, ⊤}
 use Rattle.std.specs.List.{AllByRecursion}
 use Rattle.layout_model.specs.Items.{Kind}
 use Rattle.script_model.specs.Syntax.{Action, Viewport, MakeBlock, MakeImage, MakeFrame, Append, Before, Remove, SetStyle, Grow, Load, MakeResizeObserver, ObserveResize, UnobserveResize, DisconnectResize, MakeIntersectionObserver, ObserveIntersection, UnobserveIntersection, DisconnectIntersection, TakeIntersections, Listen, Unlisten, MakeQueryList, ScrollTo, ScrollBy, RequestFrame, CancelFrame, SetTimer, ClearTimer, Post, Say, Read, Command, Simple, Each, When, Block, NoMore, Then}
-use Rattle.script_model.specs.TraceLines.{TraceLine, TakeLine, SayLine, ThrowLine, LimitLine}
+use Rattle.script_model.specs.TraceLines.{TraceLine, ThrowLine, LimitLine}
 use Rattle.text_io.specs.declared.kinds.ThrowKind.{ThrowKind}
 use Rattle.text_io.specs.declared.kinds.LimitKind.{LimitKind}
-use Rattle.page_model.specs.World.{Entry, Extent, Scrolls, ScrollTarget, IntersectionObservers, Listener, Table, Name, Tree, World}
+use Rattle.page_model.specs.World.{Entry, Extent, Scrolls, IntersectionObservers, Listener, Table, Name, Tree, World}
 use Rattle.page_model.specs.Documents.{Container, InElement, InDocument, is_active}
 use Rattle.page_model.specs.EntryLines.{intersection_line, intersection_lines}
 use Rattle.page_model.specs.Readings.{reading_of}
 use Rattle.page_model.specs.Steps.{Step, Effect}
 use Rattle.page_model.specs.Operands.{Present, NoEntry, Handlers}
-use Rattle.page_model.specs.Scrolling.{scrolled_to, scrolled_by}
 use Rattle.page_model.specs.Gathering.{SizeEntry}
 use Rattle.page_model.specs.Commands.{does, holds, begun_in, with_tree, with_intersections, with_listeners, making, taking}
-use Rattle.page_model.specs.Runs.{Said, say, ◌followed_by◌, caught}
-use Rattle.page_model.specs.Callbacks.{Script, Entries, NoEntries, SizeEntries, CutEntries, handler_names, handler_block, resize_line, entry_lines, presents, answered, once_begun, said_by, run_command, run_block, run_handler, call}
+use Rattle.page_model.specs.Runs.{Said, say, ◌followed_by◌}
+use Rattle.page_model.specs.Callbacks.{Script, Entries, NoEntries, SizeEntries, CutEntries, handler_names, handler_block, resize_line, entry_lines, presents, once_begun, said_by, run_command, run_block, run_handler, call}
 use Rattle.page_laws.specs.Successors.{OnDid}
 use Rattle.page_laws.proofs.Steps.{bind, both, did, on_did-all, on_did-map}
-use Rattle.page_laws.proofs.Lists.{all-append}
 use Rattle.loop_lint.specs.RunLoops.{is_error_line}
 use Rattle.loop_lint.proofs.Walk.{IsGood, silent-good, then-good, if-good, each-good, caught-good, answered-good}
 

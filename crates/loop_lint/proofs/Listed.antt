@@ -1,5 +1,4 @@
 -- The commands that a callback carries out are those of its handler's block.
-use Rattle.std.proofs.Common.{◌≡◌, refl}
 use Rattle.std.specs.Prelude.{ℕ, Bool, true, false, List, [], ◌∷◌, Option, Some, None, IfSome}
 use Rattle.std.specs.List.{AllByRecursion}
 use Rattle.script_model.specs.Syntax.{Action, Command, Simple, Each, When, Block, NoMore, Then}
@@ -61,13 +60,13 @@ module _ (script : Script) (P : Action → Type 0) (In : Present → Type 0) whe
           did-all IsFine (begun_in world) _ (λ begun. (
             record { command = holding; present = is },
             each-all IsFine In (block_moments script entries block) (run_block script entries block) entries are
-            (λ each now is-each. block-listed block each now holding is-each) begun,
+                (λ each now is-each. block-listed block each now holding is-each) begun,
           ))
       command-listed (When line condition block end_line) present world holding is =
           did-all IsFine (begun_in world) _ (λ begun. (
             record { command = holding; present = is },
             did-all IsFine (Rattle.page_model.specs.Commands.holds begun present condition) (listed_if (block_moments script entries block present) begun)
-            (λ answer. if-all IsFine (block_moments script entries block present) begun answer (block-listed block present begun holding is)),
+                (λ answer. if-all IsFine (block_moments script entries block present) begun answer (block-listed block present begun holding is)),
           ))
 
       pub block-listed : (block : Block) (present : Present) (world : World) → BlockHolds P block → In present →

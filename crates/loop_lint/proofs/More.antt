@@ -1,13 +1,13 @@
 -- Where elements and documents are made, the sizes of those that there were stay: nothing in their tree has changed.
-use Rattle.std.proofs.Common.{◌≡◌, refl, sym, subst, ap, ◌∙◌, arith, ◌≤◌}
-use Rattle.std.specs.Prelude.{ℕ, zero, suc, ◌+◌, ◌<◌, ◌==◌, Bool, true, false, cond, List, [], ◌∷◌, ◌++◌, length, slice_get, sum_by, unwrap_or, option_map, option_and_then, Option, Some, None, IfSome}
+use Rattle.std.proofs.Common.{◌≡◌, refl, subst, ap, ◌∙◌, arith, ◌≤◌}
+use Rattle.std.specs.Prelude.{ℕ, zero, suc, ◌+◌, ◌<◌, ◌==◌, Bool, true, false, cond, List, [], ◌∷◌, ◌++◌, length, sum_by, unwrap_or, option_map, option_and_then, Option, Some, None, IfSome}
 use Rattle.std.specs.List.{AllByRecursion}
 use Rattle.std.proofs.lemmas.List.Sums.{sum_by-cons}
 use Rattle.px_units.specs.declared.BoxKind.{BoxKind}
 use Rattle.px_units.specs.Lengths.{cap}
-use Rattle.layout_model.specs.Items.{Kind, BlockKind, ImageKind, FrameKind, Item}
+use Rattle.layout_model.specs.Items.{Kind, BlockKind, ImageKind, FrameKind}
 use Rattle.layout_model.specs.Nodes.{Node, path_above, path_up, path_of, levels}
-use Rattle.layout_model.specs.Boxes.{Inputs, Box, computed, child_inputs, inner_children, kids_of, shown_height, counted, margin_height, total, box_at, box_down, box_in, content_size, inputs_if_block, if_shown, inputs_at, inputs_along, inputs_in}
+use Rattle.layout_model.specs.Boxes.{Inputs, Box, computed, child_inputs, inner_children, kids_of, shown_height, counted, margin_height, total, box_at, box_down, box_in, content_size, inputs_if_block, if_shown, inputs_along, inputs_in}
 use Rattle.layout_model.specs.Reach.{View, view_inputs, inputs_in_view}
 use Rattle.page_model.specs.World.{Extent, Element, Document, DocumentState, Fresh, Active, Dead, Tree}
 use Rattle.page_model.specs.Lookups.{entry_or, element_at, document_at, no_element, no_document}

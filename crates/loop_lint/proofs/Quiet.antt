@@ -1,37 +1,36 @@
 -- In a quiet script a loop has one round at most, behind which nothing has changed, and so no error.
-use Rattle.std.proofs.Common.{◌≡◌, refl, sym, subst, ap, ◌∙◌, arith, tests, ◌≤◌, true≢false}
-use Rattle.std.specs.Prelude.{ℕ, zero, suc, ◌+◌, ◌<◌, ◌&&◌, nat_lt, Bool, true, false, cond, List, [], ◌∷◌, map, length, unwrap_or, Option, Some, None, IfSome, IsTrue, Ok, Err}
+use Rattle.std.proofs.Common.{◌≡◌, refl, sym, subst, ◌∙◌, arith, tests, ◌≤◌, true≢false}
+use Rattle.std.specs.Prelude.{ℕ, zero, suc, ◌+◌, ◌<◌, ◌&&◌, nat_lt, Bool, true, false, cond, List, [], ◌∷◌, map, length, unwrap_or, None, Ok}
 use Rattle.std.specs.List.{AllByRecursion}
-use Rattle.script_model.specs.Syntax.{Action, Item, Outside, Tick, Handler}
+use Rattle.script_model.specs.Syntax.{Item, Outside, Tick, Handler}
 use Rattle.script_model.specs.Scripts.{NamedBlock, handlers_in}
 use Rattle.script_model.specs.Reading.{Reading, reading}
 use Rattle.script_model.specs.TraceLines.{TraceLine}
-use Rattle.page_model.specs.World.{World, Observation, ResizeObservers}
+use Rattle.page_model.specs.World.{World, Observation}
 use Rattle.page_model.specs.Documents.{is_active}
 use Rattle.page_model.specs.Lookups.{resize_observer_at}
 use Rattle.page_model.specs.Gathering.{sight_of, size_entry, with_reported, without_active, is_of, has_changed, has_active, due_at}
-use Rattle.page_model.specs.Operands.{Present, NoEntry}
+use Rattle.page_model.specs.Operands.{NoEntry}
 use Rattle.page_model.specs.Ranges.{IsPresentIn}
 use Rattle.page_model.specs.Runs.{Flow, Next, Thrown, Limited, Said, Turn, behind, follow, ◌followed_by◌, only_if, lifted, repeat, by_place, at_place, most_steps}
 use Rattle.page_model.specs.Callbacks.{Script, SizeEntries, presents, call}
 use Rattle.page_model.specs.Loop.{Broadcast, gather, emptied, deliver_some, broadcast, round, round_ended, resize_loop}
-use Rattle.page_model.specs.Outcome.{opening_world, run_item, run_items, outcome, outcome_read}
+use Rattle.page_model.specs.Outcome.{opening_world, run_items, outcome, outcome_read}
 use Rattle.page_laws.specs.Bounds.{IsWithinLimits}
 use Rattle.page_laws.proofs.Lists.{all-append, all-map}
 use Rattle.page_laws.proofs.Keeping.{repeat-keeps}
-use Rattle.page_laws.proofs.Places.{repeat-not}
 use Rattle.loop_laws.specs.Rounds.{goes_on, rounds_up_to, IsDeeper, rounds_left}
 use Rattle.loop_laws.specs.WholeLoops.{resize_rounds, has_undelivered, fire_error}
 use Rattle.loop_lint.specs.LoopHandlers.{is_unnamed}
 use Rattle.loop_lint.specs.Verdicts.{disturbs, is_quiet}
 use Rattle.loop_lint.specs.RunLoops.{is_error_line}
-use Rattle.loop_lint.proofs.Holding.{BlockHolds, ItemHolds, Fails, Names, IsClean, all-named, handlers-hold, loop-handlers-clean}
+use Rattle.loop_lint.proofs.Holding.{BlockHolds, ItemHolds, Names, IsClean, all-named, handlers-hold, loop-handlers-clean}
 use Rattle.loop_lint.proofs.Tame.{tame-at}
 use Rattle.loop_lint.proofs.Walk.{IsGood, IsWalked, delivery-good, round-good, rounds-good, IsOutsideGood, items-good}
 use Rattle.loop_lint.proofs.Held.{IsHeld, held-walked, command-held, counts-held, timed-held, opening-held}
-use Rattle.loop_lint.proofs.Calm.{Calm, call-calm}
+use Rattle.loop_lint.proofs.Calm.{call-calm}
 use Rattle.loop_lint.proofs.Waiting.{AreFine, passed-fine, reported-now, emptied-fine, calm-fine, gather-fine, settled-gather, rest-settled, all-waiting, waiting-all, all-settled}
-use Rattle.loop_lint.proofs.Lines.{IsPlain, SaysPlain, command-plain, call-plain}
+use Rattle.loop_lint.proofs.Lines.{IsPlain, command-plain, call-plain}
 
 -- a loop over a list by place that ends without a throw or a limit ends by its test -------------------------------------------------------
 

@@ -1,7 +1,7 @@
 -- A search through a list for the first line of all that its entries give, and through the commands of a block.
-use Rattle.std.proofs.Common.{◌≡◌, refl, sym, subst, ap, ◌∙◌, arith, ◌≤◌, ◌<◌, get_or, drop, true≢false}
+use Rattle.std.proofs.Common.{◌≡◌, refl, sym, ap, ◌∙◌, arith, ◌≤◌, ◌<◌, get_or, drop, true≢false}
 use Rattle.std.proofs.lemmas.List.{drop_more, drop_all}
-use Rattle.std.specs.Prelude.{ℕ, zero, suc, ◌+◌, ◌*◌, Bool, true, false, cond, List, [], ◌∷◌, ◌++◌, map, flat_map, length, slice_get, Option, Some, None, is_some, is_none, IsNone, IsTrue, ◌↔◌}
+use Rattle.std.specs.Prelude.{ℕ, zero, suc, ◌+◌, Bool, true, false, not, cond, List, [], ◌∷◌, ◌++◌, map, flat_map, length, slice_get, Option, Some, None, is_some, is_none, IsNone, IsTrue, ◌↔◌}
 use Rattle.std.specs.Bool.{then_some}
 use Rattle.script_model.specs.Syntax as model
 use Rattle.script_model.specs.Scripts.{NamedBlock, handlers_in}
@@ -11,7 +11,7 @@ use Rattle.script_syntax.specs.declared.commands.Body.{Body}
 use Rattle.script_syntax.specs.declared.commands.Command.{Command}
 use Rattle.script_syntax.specs.declared.commands.Item.{Item}
 use Rattle.script_syntax.specs.declared.operands.Condition.{Condition}
-use Rattle.script_syntax.specs.Seen.{action_of, command_at, command_of, condition_of, block_of, item_of, item_at, command_size, block_size}
+use Rattle.script_syntax.specs.Seen.{action_of, command_at, command_of, block_of, item_of, item_at, command_size, block_size}
 use Rattle.loop_lint.specs.LoopHandlers.{lines_in, block_lines, item_lines, is_empty, is_unnamed, names_handler, naming_lines, loop_handler_lines}
 use Rattle.loop_lint.specs.declared.kinds.Law.TheVariants as law
 use Rattle.loop_lint.specs.declared.kinds.Verdict.{Verdict}
@@ -166,5 +166,11 @@ verdict_of steady quiet = record { steady = steady; quiet = quiet }
 pub same-verdict : (steady quiet steady' quiet' : Bool) → steady ≡ steady' → quiet ≡ quiet' → verdict_of steady quiet ≡ verdict_of steady' quiet'
 same-verdict steady quiet steady' quiet' one other = ap (λ (it : Bool). verdict_of it quiet) one ∙ ap (verdict_of steady') other
 
-pub kept-so : (answer : Bool) (found : Option ℕ) (lines : List ℕ) → answer ≡ is_none found → found ≡ slice_get lines 0 → answer ≡ is_empty lines
-kept-so answer found lines says is = says ∙ ap is_none is ∙ sym (empty-first lines)
+turned : (answer : Bool) (found : Option ℕ) → is_some found ≡ not answer → answer ≡ is_none found
+turned true None says = refl
+turned false None says = absurd (true≢false (sym says))
+turned true (Some line) says = absurd (true≢false says)
+turned false (Some line) says = refl
+
+pub kept-so : (answer : Bool) (found : Option ℕ) (lines : List ℕ) → is_some found ≡ not answer → found ≡ slice_get lines 0 → answer ≡ is_empty lines
+kept-so answer found lines says is = turned answer found says ∙ ap is_none is ∙ sym (empty-first lines)

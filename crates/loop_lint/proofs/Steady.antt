@@ -1,6 +1,6 @@
 -- In a steady script no command of a round uproots anything, so the depths of a loop grow.
-use Rattle.std.proofs.Common.{◌≡◌, refl, sym, subst, ap, ◌∙◌, arith, ◌≤◌, true≢false}
-use Rattle.std.specs.Prelude.{ℕ, zero, suc, ◌+◌, ◌*◌, ◌&&◌, nat_lt, Bool, true, false, cond, List, [], ◌∷◌, ◌++◌, map, flat_map, length, sum_by, count_by, Option, None, IfSome, ⊤}
+use Rattle.std.proofs.Common.{◌≡◌, refl, subst, ap, arith, ◌≤◌, true≢false}
+use Rattle.std.specs.Prelude.{ℕ, zero, suc, ◌+◌, ◌*◌, ◌&&◌, nat_lt, Bool, true, false, cond, List, [], ◌∷◌, ◌++◌, map, flat_map, length, sum_by, count_by, None, ⊤}
 use Rattle.std.specs.List.{AllByRecursion}
 use Rattle.std.proofs.lemmas.List.Sums.{sum_by-cons}
 use Rattle.script_model.specs.Syntax.{Action, Viewport, MakeBlock, MakeImage, MakeFrame, Append, Before, Remove, SetStyle, Grow, Load, MakeResizeObserver, ObserveResize, UnobserveResize, DisconnectResize, MakeIntersectionObserver, ObserveIntersection, UnobserveIntersection, DisconnectIntersection, TakeIntersections, Listen, Unlisten, MakeQueryList, ScrollTo, ScrollBy, RequestFrame, CancelFrame, SetTimer, ClearTimer, Post, Say, Read, Command, Simple, Each, When, Item, Outside, Tick, Handler}
@@ -13,10 +13,10 @@ use Rattle.page_model.specs.Names.{document_text}
 use Rattle.page_model.specs.Lookups.{resize_observer_at}
 use Rattle.page_model.specs.Gathering.{sight_of, size_entry, with_reported, has_skipped, due_at}
 use Rattle.page_model.specs.Operands.{Present}
-use Rattle.page_model.specs.Runs.{Flow, Next, Thrown, Limited, Said, Turn, say, lifted, at_place, ◌followed_by◌, repeat, most_steps}
-use Rattle.page_model.specs.Callbacks.{Script, SizeEntries, presents, fire, call}
-use Rattle.page_model.specs.Loop.{Broadcast, gather, deliver_some, broadcast, round, report_skipped, resize_loop}
-use Rattle.page_model.specs.Outcome.{opening_world, run_item, run_items}
+use Rattle.page_model.specs.Runs.{Flow, Next, Thrown, Limited, Said, Turn, lifted, at_place, most_steps}
+use Rattle.page_model.specs.Callbacks.{Script, SizeEntries, presents, fire}
+use Rattle.page_model.specs.Loop.{Broadcast, gather, deliver_some, round, report_skipped, resize_loop}
+use Rattle.page_model.specs.Outcome.{opening_world}
 use Rattle.page_laws.specs.Bounds.{IsWithinLimits}
 use Rattle.page_laws.proofs.Lists.{all-append, all-map}
 use Rattle.page_laws.proofs.Later.{all-so}
@@ -26,7 +26,7 @@ use Rattle.loop_laws.specs.Uprooting.{moved_operand, lifts, uproots_by, uproots,
 use Rattle.loop_laws.specs.WholeLoops.{resize_rounds, round_starts, delivered_depths, greatest, GoesDeeper}
 use Rattle.loop_lint.specs.LoopHandlers.{is_unnamed}
 use Rattle.loop_lint.specs.Verdicts.{moves, is_steady}
-use Rattle.loop_lint.specs.RunLoops.{Loop, loops_of_run, depths_of, delivered_by, AreGrowing, IsSteadyLoop}
+use Rattle.loop_lint.specs.RunLoops.{loops_of_run, AreGrowing, IsSteadyLoop}
 use Rattle.loop_lint.proofs.Holding.{CommandHolds, BlockHolds, ItemHolds, Fails, Names, IsClean, simple-holds, all-named, handlers-hold, loop-handlers-clean}
 use Rattle.loop_lint.proofs.Listed.{IsFine, call-listed}
 use Rattle.loop_lint.proofs.Tame.{tame-at}

@@ -1,7 +1,7 @@
 -- Each handler of a resize observer is a loop handler, and so holds no command that a script's loop handlers don't hold.
-use Rattle.std.proofs.Common.{◌≡◌, refl, sym, subst, ap, ◌∙◌, arith, tests, true≢false}
+use Rattle.std.proofs.Common.{◌≡◌, refl, sym, subst, ap, ◌∙◌, arith, tests}
 use Rattle.std.proofs.lemmas.Slice.Eq.{bytes_eq-Decides}
-use Rattle.std.specs.Prelude.{ℕ, ℤ, zero, suc, ◌+◌, Bool, true, false, not, cond, nat_lt, List, [], ◌∷◌, ◌++◌, map, length, slice_get, position, Option, Some, None, IfSome, option_map, unwrap_or, bytes_eq, ⊤}
+use Rattle.std.specs.Prelude.{ℕ, ℤ, zero, suc, ◌+◌, Bool, true, false, not, cond, nat_lt, List, [], ◌∷◌, ◌++◌, length, slice_get, position, Option, Some, None, IfSome, option_map, unwrap_or, bytes_eq}
 use Rattle.std.specs.List.{AllByRecursion, position_or_len}
 use Rattle.text_io.specs.declared.kinds.ThrowKind.TheVariants.{ReferenceError}
 use Rattle.layout_model.specs.Items.{Kind}
@@ -9,15 +9,15 @@ use Rattle.script_model.specs.Syntax.{Action, Viewport, MakeBlock, MakeImage, Ma
 use Rattle.script_model.specs.Scripts.{NamedBlock, number_in}
 use Rattle.page_model.specs.World.{ResizeObserver, ResizeObservers, IntersectionObservers, Listener, Table, ScrollTarget, Tree, World}
 use Rattle.page_model.specs.Lookups.{change_at, resize_observer_at, no_resize_observer}
-use Rattle.page_model.specs.Gathering.{Sight, sight_of, gathered_if, is_of, gathering}
-use Rattle.page_model.specs.Steps.{Step, Effect, required}
-use Rattle.page_model.specs.Operands.{Present, Handlers, handler_named, handler_given}
+use Rattle.page_model.specs.Gathering.{Sight, gathered_if, is_of, gathering}
+use Rattle.page_model.specs.Steps.{Step, Effect}
+use Rattle.page_model.specs.Operands.{Present, handler_named, handler_given}
 use Rattle.page_model.specs.Scrolling.{scrolled_to, scrolled_by}
 use Rattle.page_model.specs.Commands.{does, with_tree, with_intersections, with_listeners, making}
 use Rattle.page_model.specs.Callbacks.{Script, handler_names, handler_block}
 use Rattle.page_laws.specs.Successors.{OnDid}
 use Rattle.page_laws.proofs.Steps.{bind, bind-in, both, did, required-in}
-use Rattle.page_laws.proofs.Lists.{all-add, all-map, changed, mapped}
+use Rattle.page_laws.proofs.Lists.{all-add, changed, mapped}
 use Rattle.loop_lint.proofs.Holding.{BlockHolds, Fails, Names, IsNamedBy, IsClean}
 
 -- the handler of a name --------------------------------------------------------------------------------------------------------

@@ -1,12 +1,12 @@
 -- What has changed waits to be delivered, and once it is delivered in a quiet script nothing has changed.
 use Rattle.std.proofs.Common.{◌≡◌, ◌≢◌, refl, sym, subst, ap, ◌∙◌, arith, tests, ◌≤◌, true≢false}
 use Rattle.std.proofs.lemmas.Bool.Decides.{nat_tests}
-use Rattle.std.specs.Prelude.{ℕ, zero, suc, ◌<◌, ◌==◌, not, ◌&&◌, ◌||◌, nat_lt, nat_eq, Bool, true, false, cond, List, [], ◌∷◌, length, map, filter, Option, Some, None}
+use Rattle.std.specs.Prelude.{ℕ, zero, suc, ◌<◌, ◌==◌, not, ◌&&◌, ◌||◌, nat_lt, nat_eq, Bool, true, false, cond, List, [], ◌∷◌, length, map, filter}
 use Rattle.std.specs.List.{AllByRecursion, list_any}
-use Rattle.layout_model.specs.Nodes.{path_above, path_up, path_of, depth_of, levels}
+use Rattle.layout_model.specs.Nodes.{path_above, path_up, path_of, depth_of}
 use Rattle.page_model.specs.World.{Extent, Observation, ResizeObserver, ResizeObservers, Tree, World}
 use Rattle.page_model.specs.Lookups.{same_extent, change_at, entry_or, no_resize_observer, resize_observer_at}
-use Rattle.page_model.specs.Documents.{is_active, nodes_of, element_depth}
+use Rattle.page_model.specs.Documents.{nodes_of, element_depth}
 use Rattle.page_model.specs.Gathering.{Sight, sight_of, observed_size, has_changed, is_deeper, is_of, gathered_if, gathering, is_filled, reported, with_reported, without_active, due_at}
 use Rattle.page_model.specs.Loop.{gather}
 use Rattle.page_model.specs.Ranges.{Counts, counts_of, IsResizeObserverIn, IsInRange}
@@ -299,7 +299,7 @@ module _ (sight : Sight) (depth : ℕ) where
     all-listed (x ∷ xs) = (
       (λ changed. first-listed x xs (has_changed sight x) changed (deep x)),
       all-map (λ y. has_changed sight y ≡ true → is_listed (kept_of xs) y ≡ true) _
-      (λ y listed changed. more-listed x xs (has_changed sight x) true y (listed changed)) xs (all-listed xs),
+          (λ y listed changed. more-listed x xs (has_changed sight x) true y (listed changed)) xs (all-listed xs),
     )
 
     one-gathered : (document : ℕ) (x : ResizeObserver) (own : Bool) → is_of document x ≡ own → Passes (fits sight false) document (gathered_if own sight depth x)

@@ -1,17 +1,15 @@
 -- What callbacks, resize loops and the changes of a tick keep and say is kept and said by whole runs, and holds as each resize loop begins.
 use Rattle.std.proofs.Common.{◌≡◌, refl}
-use Rattle.std.specs.Prelude.{ℕ, zero, suc, ◌<◌, ◌&&◌, ◌==◌, not, map, Bool, true, false, cond, nat_lt, List, [], ◌∷◌, ◌++◌, length, Option, Some, None, ⊤}
+use Rattle.std.specs.Prelude.{ℕ, zero, suc, ◌<◌, ◌&&◌, ◌==◌, not, map, Bool, true, false, cond, nat_lt, List, [], ◌∷◌, length, Option, Some, None, ⊤}
 use Rattle.std.specs.List.{AllByRecursion, list_any}
 use Rattle.text_io.specs.declared.kinds.EventKind.{EventKind}
 use Rattle.text_io.specs.declared.kinds.EventKind.TheVariants as events
 use Rattle.text_io.specs.declared.kinds.LimitKind.TheVariants as limits
 use Rattle.text_io.specs.declared.kinds.LimitKind.{LimitKind}
 use Rattle.text_io.specs.declared.kinds.ThrowKind.{ThrowKind}
-use Rattle.text_io.specs.declared.kinds.ThrowKind.TheVariants.{RangeError}
-use Rattle.script_model.specs.Syntax.{Item, Outside, Tick, Handler, Command}
-use Rattle.script_model.specs.Scripts.{handlers_in}
+use Rattle.script_model.specs.Syntax.{Item, Outside, Tick, Handler}
 use Rattle.script_model.specs.TraceLines.{TraceLine, FiredEvent, FiredResize, FiredScroll, FiredChange, EventLine, TimerLine, FrameLine, TaskLine, TickLine, ThrowLine, LimitLine}
-use Rattle.page_model.specs.World.{World, Tree, Entry, EventTarget, ElementTarget, DocumentTarget, WindowTarget, QueryTarget, IntersectionObservers, Observation, Task, Notify, Posted, Timer, FrameCallback, ScrollTarget}
+use Rattle.page_model.specs.World.{World, Tree, Entry, EventTarget, ElementTarget, DocumentTarget, WindowTarget, QueryTarget, IntersectionObservers, Observation, Task, Notify, Posted, Timer, FrameCallback}
 use Rattle.page_model.specs.Lookups.{resize_observer_at, intersection_observer_at, query_list_at}
 use Rattle.page_model.specs.Documents.{is_active, active_documents}
 use Rattle.page_model.specs.Names.{document_text, query_list_text}
@@ -34,18 +32,18 @@ use Rattle.page_model.specs.Callbacks.{Script, handler_text, Entries, SizeEntrie
 use Rattle.page_model.specs.Intersections.{is_same_bool, settling, watchers, with_notify_task, has_queued, update_intersections, take_queue, notify_watcher, notify_watchers, notify}
 use Rattle.page_model.specs.Gathering.{sight_of, size_entry, with_reported, due_at}
 use Rattle.page_model.specs.Loop.{Broadcast, gather, emptied, deliver_some, broadcast, round, round_ended, resize_loop}
-use Rattle.page_model.specs.Ticks.{line_while_active, scrolled_text, event_target_of, intersection_steps, run_timers, run_timer, resize_steps, scroll_steps, evaluated, evaluate, media_steps, frame_steps, run_frame_callback, parts_of_update, update_rendering, run_task, run_first, run_tasks, time_set, tick}
-use Rattle.page_model.specs.Outcome.{opening_world, run_tick, run_item, run_items}
+use Rattle.page_model.specs.Ticks.{line_while_active, scrolled_text, event_target_of, intersection_steps, run_timers, run_timer, resize_steps, scroll_steps, evaluated, evaluate, media_steps, frame_steps, run_frame_callback, update_rendering, run_task, run_first, run_tasks, time_set, tick}
+use Rattle.page_model.specs.Outcome.{run_tick, run_item}
 use Rattle.page_laws.specs.Successors.{OnDid}
 use Rattle.page_laws.proofs.Steps.{did, room-then, on_did-map}
 use Rattle.page_laws.proofs.Lists.{all-append}
 use Rattle.page_laws.proofs.Keeping.{counted}
 use Rattle.page_laws.proofs.Changes.{IsNext, active-in, timer-next, frame-next, noted-next, pending-next, matched-next, tasks-next, unnotified-next, queue-next, update-next}
 use Rattle.page_laws.proofs.WholeRuns.{time-kept}
-use Rattle.loop_laws.specs.Moments.{onward, following, where_did, listed_if, along_each}
+use Rattle.loop_laws.specs.Moments.{onward, where_did, listed_if, along_each}
 use Rattle.loop_laws.specs.Rounds.{goes_on, rounds_up_to}
 use Rattle.loop_laws.specs.WholeLoops.{resize_rounds}
-use Rattle.loop_lint.specs.RunLoops.{Loop, over, earlier_parts, document_loops, update_loops, tick_loops, item_loops, loops_of_run, is_error_line}
+use Rattle.loop_lint.specs.RunLoops.{Loop, over, earlier_parts, document_loops, update_loops, tick_loops, item_loops, is_error_line}
 
 -- folds of steps -----------------------------------------------------------------------------------------------------------
 

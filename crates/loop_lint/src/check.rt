@@ -7,8 +7,8 @@ ghost use Rattle.loop_lint.specs.Searches.{lines_at};
 ghost use Rattle.loop_lint.specs.Verdicts.{is_steady, is_quiet};
 ghost use Rattle.loop_lint.specs.Seen.{forbidden_by};
 
-use crate::search::{Sought, first_in, first_in_item};
 use crate::kinds::{Law, Verdict};
+use crate::search::{Sought, first_in, first_in_item};
 use script_syntax::{CommandList, Item, Script};
 use text_io::Name;
 

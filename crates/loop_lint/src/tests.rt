@@ -73,7 +73,14 @@ fn scripts_are_certified_by_their_loop_handlers(rt: HostRuntime) -> Result<(), F
         assert_eq!(rt; blame(&script, Law::Steady), steady, "{text}");
         assert_eq!(rt; blame(&script, Law::Quiet), quiet, "{text}");
         let verdict = lint(&script);
-        assert_eq!(rt; verdict, Verdict { steady: steady.is_none(), quiet: quiet.is_none() }, "{text}");
+        assert_eq!(rt;
+            verdict,
+            Verdict {
+                steady: steady.is_none(),
+                quiet: quiet.is_none()
+            },
+            "{text}"
+        );
     }
     Ok(())
 }

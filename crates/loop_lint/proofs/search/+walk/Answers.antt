@@ -1,8 +1,7 @@
 -- Command by command, and a block is smaller than its command.
 use Rattle.std.proofs.Common.{◌≡◌, ◌+◌, ◌≤◌, true, ap, sym, ◌∙◌, arith, slice_get, is_some}
-use Rattle.script_syntax.specs.declared.commands.What.{What}
 use Rattle.script_syntax.specs.declared.commands.Command.{Command}
-use Rattle.script_syntax.specs.Seen.{command_of, command_at, block_of, action_of, command_size, block_size}
+use Rattle.script_syntax.specs.Seen.{command_of, block_of, action_of, command_size, block_size}
 use Rattle.loop_lint.specs.LoopHandlers.{lines_in, block_lines}
 use Rattle.loop_lint.specs.Searches.{is_sought}
 use Rattle.loop_lint.proofs.Searching.{each_size, when_size, size_within, each-lines, when-lines, simple-first, simple_is, block-lines, searched-on, searched-found, searched-all, not-found}

@@ -1,4 +1,4 @@
-use Rattle.std.proofs.Common.{◌≡◌, slice_get, ◌+◌, ◌*◌}
+use Rattle.std.proofs.Common.{◌+◌, ◌*◌}
 use Rattle.script_syntax.specs.Seen.{command_of, block_of, command_size, block_size}
 use Rattle.loop_lint.specs.LoopHandlers.{lines_in}
 use Rattle.loop_lint.specs.Searches.{is_sought}

@@ -1,5 +1,5 @@
 -- A `tick` isn't looked for.
-use Rattle.std.proofs.Common.{◌≡◌, ap, ◌∙◌, slice_get, sym}
+use Rattle.std.proofs.Common.{ap, ◌∙◌, slice_get, sym}
 use Rattle.script_syntax.specs.declared.commands.Item.{Item}
 use Rattle.script_syntax.specs.Seen.{item_of}
 use Rattle.loop_lint.specs.LoopHandlers.{item_lines}
