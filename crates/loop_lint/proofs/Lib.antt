@@ -1,0 +1,13 @@
+mod Holding
+mod Listed
+mod Carried
+mod Tame
+mod Walk
+mod Held
+mod Steady
+mod More
+mod Calm
+mod Waiting
+mod Lines
+mod Quiet
+mod Searching

@@ -1,0 +1,176 @@
+-- A search through a list for the first line of all that its entries give, and through the commands of a block.
+use Rattle.std.proofs.Common.{◌≡◌, refl, sym, ap, ◌∙◌, arith, ◌≤◌, ◌<◌, get_or, drop, true≢false}
+use Rattle.std.proofs.lemmas.List.{drop_more, drop_all}
+use Rattle.std.specs.Prelude.{ℕ, zero, suc, ◌+◌, Bool, true, false, not, cond, List, [], ◌∷◌, ◌++◌, map, flat_map, length, slice_get, Option, Some, None, is_some, is_none, IsNone, IsTrue, ◌↔◌}
+use Rattle.std.specs.Bool.{then_some}
+use Rattle.script_model.specs.Syntax as model
+use Rattle.script_model.specs.Scripts.{NamedBlock, handlers_in}
+use Rattle.script_syntax.specs.declared.commands.What.{What}
+use Rattle.script_syntax.specs.declared.commands.What.TheVariants as what
+use Rattle.script_syntax.specs.declared.commands.Body.{Body}
+use Rattle.script_syntax.specs.declared.commands.Command.{Command}
+use Rattle.script_syntax.specs.declared.commands.Item.{Item}
+use Rattle.script_syntax.specs.declared.operands.Condition.{Condition}
+use Rattle.script_syntax.specs.Seen.{action_of, command_at, command_of, block_of, item_of, item_at, command_size, block_size}
+use Rattle.loop_lint.specs.LoopHandlers.{lines_in, block_lines, item_lines, is_empty, is_unnamed, names_handler, naming_lines, loop_handler_lines}
+use Rattle.loop_lint.specs.declared.kinds.Law.TheVariants as law
+use Rattle.loop_lint.specs.declared.kinds.Verdict.{Verdict}
+use Rattle.loop_lint.specs.declared.search.Sought.{Sought}
+use Rattle.loop_lint.specs.declared.search.Sought.TheVariants as sought
+use Rattle.loop_lint.specs.Searches.{is_sought, lines_at}
+
+-- the first of a list ---------------------------------------------------------------------------------------------------------------------
+
+first-behind : (xs ys : List ℕ) → slice_get xs 0 ≡ None → slice_get (xs ++ ys) 0 ≡ slice_get ys 0
+first-behind [] ys none = refl
+first-behind (x ∷ xs) ys none = absurd (let no : Some x ≡ None = none in cc)
+
+first-here : (xs ys : List ℕ) (found : ℕ) → slice_get xs 0 ≡ Some found → slice_get (xs ++ ys) 0 ≡ Some found
+first-here [] ys found is = absurd (let no : None ≡ Some found = is in cc)
+first-here (x ∷ xs) ys found is = is
+
+pub empty-first : (xs : List ℕ) → is_empty xs ≡ is_none (slice_get xs 0)
+empty-first [] = refl
+empty-first (x ∷ xs) = refl
+
+-- a loop over a list whose entries give lines
+module _ {A : Type 0} (lines : A → List ℕ) (xs : List A) where
+  abbrev pub IsSearched : ℕ → Type 0
+  IsSearched i = slice_get (flat_map lines (drop i xs)) 0 ≡ slice_get (flat_map lines xs) 0
+
+  step : (i : ℕ) (d : A) → i < length xs → slice_get (flat_map lines (drop i xs)) 0 ≡ slice_get (lines (get_or xs i d) ++ flat_map lines (drop (i + 1) xs)) 0
+  step i d less = ap (λ (ys : List A). slice_get (flat_map lines ys) 0) (drop_more xs i d less)
+
+  pub searched-on : (i : ℕ) (d : A) → i < length xs → IsSearched i → slice_get (lines (get_or xs i d)) 0 ≡ None → IsSearched (i + 1)
+  searched-on i d less so none = sym (first-behind (lines (get_or xs i d)) _ none) ∙ sym (step i d less) ∙ so
+
+  pub searched-found : (i : ℕ) (d : A) (found : Option ℕ) → i < length xs → IsSearched i → found ≡ slice_get (lines (get_or xs i d)) 0 → is_some found ≡ true →
+      found ≡ slice_get (flat_map lines xs) 0
+  searched-found i d None less so is some = absurd (true≢false (sym some))
+  searched-found i d (Some line) less so is some = sym (first-here (lines (get_or xs i d)) _ line (sym is)) ∙ sym (step i d less) ∙ so
+
+  pub searched-all : (i : ℕ) → length xs ≤ i → IsSearched i → None ≡ slice_get (flat_map lines xs) 0
+  searched-all i past so = ap (λ (ys : List A). slice_get (flat_map lines ys) 0) (sym (drop_all i xs past)) ∙ so
+
+pub not-found : (found : Option ℕ) → is_some found ≡ false → found ≡ None
+not-found None none = refl
+not-found (Some line) none = absurd (true≢false none)
+
+-- commands ------------------------------------------------------------------------------------------------------------------------------------
+
+module _ (test : model.Action → Bool) where
+  pub block-lines : (commands : List Command) → flat_map (λ command. lines_in test (command_of command)) commands ≡ block_lines test (block_of commands)
+  unfolding block_lines
+  block-lines [] = refl
+  block-lines (command ∷ commands) = ap (λ (others : List ℕ). lines_in test (command_of command) ++ others) (block-lines commands)
+
+  pub each-lines : (line : ℕ) (command : What) (body : Body) → command ≡ what.Each body → block_lines test body.commands ≡ lines_in test (command_at line command)
+  unfolding lines_in
+  each-lines line command body is = ap (λ (it : What). lines_in test (command_at line it)) (sym is)
+
+  pub when-lines : (line : ℕ) (command : What) (condition : Condition) (body : Body) → command ≡ what.When condition body →
+      block_lines test body.commands ≡ lines_in test (command_at line command)
+  unfolding lines_in
+  when-lines line command condition body is = ap (λ (it : What). lines_in test (command_at line it)) (sym is)
+
+  of-test : (line : ℕ) (sought : Bool) → then_some sought line ≡ slice_get (cond sought (line ∷ []) []) 0
+  of-test line true = refl
+  of-test line false = refl
+
+  pub simple-first : (line : ℕ) (action : model.Action) (sought : Bool) → sought ≡ test action →
+      then_some sought line ≡ slice_get (lines_in test (model.Simple line action)) 0
+  unfolding lines_in
+  simple-first line action sought is = of-test line sought ∙ ap (λ (it : Bool). slice_get (cond it (line ∷ []) []) 0) is
+
+-- a command that isn't a block is its action's line
+pub simple_is : (line : ℕ) (command : What) → ((body : Body) → command ≡ what.Each body → ⊥) →
+    ((condition : Condition) (body : Body) → command ≡ what.When condition body → ⊥) → command_at line command ≡ model.Simple line (action_of command)
+simple_is line (what.Each body) each whens = absurd (each body refl)
+simple_is line (what.When condition body) each whens = absurd (whens condition body refl)
+simple_is line other each whens = refl
+
+-- a block is one smaller than its command, and a command of a list no larger than the list
+pub each_size : (line : ℕ) (command : What) (body : Body) → command ≡ what.Each body → command_size (command_at line command) ≡ block_size body.commands + 1
+unfolding command_size
+each_size line command body is = ap (λ w. command_size (command_at line w)) is
+
+pub when_size : (line : ℕ) (command : What) (condition : Condition) (body : Body) → command ≡ what.When condition body
+    → command_size (command_at line command) ≡ block_size body.commands + 1
+unfolding command_size
+when_size line command condition body is = ap (λ w. command_size (command_at line w)) is
+
+size_at : (commands : List Command) (i : ℕ) (d : Command) → i < length commands
+    → command_size (command_of (get_or commands i d)) ≤ block_size (block_of commands)
+unfolding block_size
+size_at [] i d within = absurd (omega arith)
+size_at (c ∷ cs) zero d within = omega arith
+size_at (c ∷ cs) (suc i) d within = omega (arith, size_at cs i d (omega arith))
+
+pub size_within : (commands : List Command) (i : ℕ) (d command : Command) → i < length commands → command ≡ get_or commands i d
+    → command_size (command_of command) ≤ block_size (block_of commands)
+size_within commands i d command within is =
+    let same : command_size (command_of command) ≡ command_size (command_of (get_or commands i d)) = ap (λ c. command_size (command_of c)) is in
+    omega (arith, size_at commands i d within)
+
+-- items ---------------------------------------------------------------------------------------------------------------------------------------
+
+-- a `tick` isn't looked for
+tick-unsought : (sought : Sought) → is_sought sought (model.Say []) ≡ false
+tick-unsought (sought.Naming name) = refl
+tick-unsought (sought.Forbidden law.Steady) = refl
+tick-unsought (sought.Forbidden law.Quiet) = refl
+
+pub outside-lines : (it : Sought) (line : ℕ) (command : What) → lines_in (is_sought it) (command_at line command) ≡ item_lines (is_sought it) (item_at line command)
+unfolding lines_in
+outside-lines it line (what.Tick time) = ap (λ (passes : Bool). cond passes (line ∷ []) []) (tick-unsought it)
+outside-lines it line other = refl
+
+pub mapped-lines : {A B : Type 0} (lines : B → List ℕ) (seen : A → B) (xs : List A) → flat_map (λ x. lines (seen x)) xs ≡ flat_map lines (map seen xs)
+mapped-lines lines seen [] = refl
+mapped-lines lines seen (x ∷ xs) = ap (λ (others : List ℕ). lines (seen x) ++ others) (mapped-lines lines seen xs)
+
+handler-lines : (test : model.Action → Bool) (all items : List model.Item) → flat_map (lines_at test all) items
+    ≡ flat_map (λ (handler : NamedBlock). cond (is_unnamed all (handler.name)) [] (block_lines test (handler.block))) (handlers_in items)
+unfolding handlers_in
+handler-lines test all [] = refl
+handler-lines test all (model.Outside command ∷ items) = handler-lines test all items
+handler-lines test all (model.Tick line time ∷ items) = handler-lines test all items
+handler-lines test all (model.Handler line name block end_line ∷ items) =
+    ap (λ (others : List ℕ). cond (is_unnamed all name) [] (block_lines test block) ++ others) (handler-lines test all items)
+
+pub whole-lines : (test : model.Action → Bool) (items : List Item) →
+    flat_map (λ item. lines_at test (map item_of items) (item_of item)) items ≡ loop_handler_lines test (map item_of items)
+unfolding loop_handler_lines
+whole-lines test items = mapped-lines (lines_at test (map item_of items)) item_of items ∙ handler-lines test (map item_of items) (map item_of items)
+
+pub unnamed-lines : (name : List ℕ) (items : List Item) → is_none (slice_get (flat_map (λ item. item_lines (names_handler name) (item_of item)) items) 0)
+    ≡ is_unnamed (map item_of items) name
+unfolding naming_lines
+unnamed-lines name items =
+    sym (empty-first (flat_map (λ item. item_lines (names_handler name) (item_of item)) items))
+    ∙ ap is_empty (mapped-lines (item_lines (names_handler name)) item_of items)
+
+-- answers -------------------------------------------------------------------------------------------------------------------------------------
+
+pub some-named : (found : Option ℕ) (lines : List ℕ) → found ≡ slice_get lines 0 → is_some found ≡ true → false ≡ is_none (slice_get lines 0)
+some-named None lines is some = absurd (true≢false (sym some))
+some-named (Some line) lines is some = ap is_none is
+
+pub none-means : (found : Option ℕ) (lines : List ℕ) → found ≡ slice_get lines 0 → IsNone found ↔ IsTrue (is_empty lines)
+none-means found [] is = ((λ none. refl), (λ empty. ap is_some is))
+none-means found (x ∷ xs) is = ((λ none. absurd (true≢false (sym (ap is_some is) ∙ none))), (λ empty. absurd (true≢false (sym empty))))
+
+abbrev verdict_of : Bool → Bool → Verdict
+verdict_of steady quiet = record { steady = steady; quiet = quiet }
+
+pub same-verdict : (steady quiet steady' quiet' : Bool) → steady ≡ steady' → quiet ≡ quiet' → verdict_of steady quiet ≡ verdict_of steady' quiet'
+same-verdict steady quiet steady' quiet' one other = ap (λ (it : Bool). verdict_of it quiet) one ∙ ap (verdict_of steady') other
+
+turned : (answer : Bool) (found : Option ℕ) → is_some found ≡ not answer → answer ≡ is_none found
+turned true None says = refl
+turned false None says = absurd (true≢false (sym says))
+turned true (Some line) says = absurd (true≢false says)
+turned false (Some line) says = refl
+
+pub kept-so : (answer : Bool) (found : Option ℕ) (lines : List ℕ) → is_some found ≡ not answer → found ≡ slice_get lines 0 → answer ≡ is_empty lines
+kept-so answer found lines says is = turned answer found says ∙ ap is_none is ∙ sym (empty-first lines)

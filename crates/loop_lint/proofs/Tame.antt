@@ -1,0 +1,193 @@
+-- Each handler of a resize observer is a loop handler, and so holds no command that a script's loop handlers don't hold.
+use Rattle.std.proofs.Common.{◌≡◌, refl, sym, subst, ap, ◌∙◌, arith, tests}
+use Rattle.std.proofs.lemmas.Slice.Eq.{bytes_eq-Decides}
+use Rattle.std.specs.Prelude.{ℕ, ℤ, zero, suc, ◌+◌, Bool, true, false, not, cond, nat_lt, List, [], ◌∷◌, ◌++◌, length, slice_get, position, Option, Some, None, IfSome, option_map, unwrap_or, bytes_eq}
+use Rattle.std.specs.List.{AllByRecursion, position_or_len}
+use Rattle.text_io.specs.declared.kinds.ThrowKind.TheVariants.{ReferenceError}
+use Rattle.layout_model.specs.Items.{Kind}
+use Rattle.script_model.specs.Syntax.{Action, Viewport, MakeBlock, MakeImage, MakeFrame, Append, Before, Remove, SetStyle, Grow, Load, MakeResizeObserver, ObserveResize, UnobserveResize, DisconnectResize, MakeIntersectionObserver, ObserveIntersection, UnobserveIntersection, DisconnectIntersection, TakeIntersections, Listen, Unlisten, MakeQueryList, ScrollTo, ScrollBy, RequestFrame, CancelFrame, SetTimer, ClearTimer, Post, Say, Read, Block}
+use Rattle.script_model.specs.Scripts.{NamedBlock, number_in}
+use Rattle.page_model.specs.World.{ResizeObserver, ResizeObservers, IntersectionObservers, Listener, Table, ScrollTarget, Tree, World}
+use Rattle.page_model.specs.Lookups.{change_at, resize_observer_at, no_resize_observer}
+use Rattle.page_model.specs.Gathering.{Sight, gathered_if, is_of, gathering}
+use Rattle.page_model.specs.Steps.{Step, Effect}
+use Rattle.page_model.specs.Operands.{Present, handler_named, handler_given}
+use Rattle.page_model.specs.Scrolling.{scrolled_to, scrolled_by}
+use Rattle.page_model.specs.Commands.{does, with_tree, with_intersections, with_listeners, making}
+use Rattle.page_model.specs.Callbacks.{Script, handler_names, handler_block}
+use Rattle.page_laws.specs.Successors.{OnDid}
+use Rattle.page_laws.proofs.Steps.{bind, bind-in, both, did, required-in}
+use Rattle.page_laws.proofs.Lists.{all-add, changed, mapped}
+use Rattle.loop_lint.proofs.Holding.{BlockHolds, Fails, Names, IsNamedBy, IsClean}
+
+-- the handler of a name --------------------------------------------------------------------------------------------------------
+
+later-place : (k most : ℕ) → option_map (λ number. number + 1) (cond (nat_lt k most) (Some k) None) ≡ cond (nat_lt (1 + k) (suc most)) (Some (1 + k)) None
+later-place k most = by (nat_lt k most) refl (nat_lt (1 + k) (suc most)) refl
+  where
+    by : (one : Bool) → nat_lt k most ≡ one → (other : Bool) → nat_lt (1 + k) (suc most) ≡ other →
+        option_map (λ number. number + 1) (cond one (Some k) None) ≡ cond other (Some (1 + k)) None
+    by true is true is' = ap Some (omega arith)
+    by false is false is' = refl
+    by true is false is' = absurd (grind (arith, tests))
+    by false is true is' = absurd (grind (arith, tests))
+
+first-place : (is : Bool) (k most : ℕ) → cond is (Some 0) (option_map (λ number. number + 1) (cond (nat_lt k most) (Some k) None))
+    ≡ cond (nat_lt (cond (not is) (1 + k) 0) (suc most)) (Some (cond (not is) (1 + k) 0)) None
+first-place true k most =
+    let below : nat_lt 0 (suc most) ≡ true = grind (arith, tests) in
+    ap (λ (is : Bool). cond is (Some 0) None) (sym below)
+first-place false k most = later-place k most
+
+number-is : (script : Script) (name : List ℕ) → number_in script name ≡ position (bytes_eq name) (handler_names script)
+unfolding number_in
+number-is [] name = refl
+number-is (first ∷ others) name =
+    ap (λ (rest : Option ℕ). cond (bytes_eq name first.name) (Some 0) (option_map (λ number. number + 1) rest)) (number-is others name)
+    ∙ first-place (bytes_eq name first.name) (position_or_len (bytes_eq name) (handler_names others)) (length (handler_names others))
+
+block-in : Script → ℕ → Block
+block-in script n = handler_block script n
+
+module _ (test : Action → Bool) (unnamed : List ℕ → Bool) where
+  abbrev Tame : Script → ℕ → Type 0
+  Tame script n = BlockHolds (Fails test) (handler_block script n)
+
+  next-tame : (first : NamedBlock) (others : Script) (n : ℕ) → Tame others n → Tame (first ∷ others) (n + 1)
+  next-tame first others n tame =
+      subst (λ (m : ℕ). Tame (first ∷ others) m) (let is : suc n ≡ n + 1 = omega arith in is) tame
+
+  number-tame : (script : Script) → AllByRecursion (IsClean test unnamed) script → (name : List ℕ) → unnamed name ≡ false →
+      IfSome (number_in script name) (Tame script)
+  unfolding number_in
+  number-tame [] clean name is = tt
+  number-tame (first ∷ others) clean name is =
+      by (bytes_eq name first.name) refl (number_in others name) (number-tame others (clean.1) name is)
+    where
+      by : (here : Bool) → bytes_eq name first.name ≡ here → (found : Option ℕ) → IfSome found (Tame others) →
+          IfSome (cond here (Some 0) (option_map (λ number. number + 1) found)) (Tame (first ∷ others))
+      by true same found tame =
+          (clean.0) (subst (λ (text : List ℕ). unnamed text ≡ false) ((bytes_eq-Decides name (first.name)).0 same) is)
+      by false same None tame = tt
+      by false same (Some n) tame = next-tame first others n tame
+
+  -- observers --------------------------------------------------------------------------------------------------------------------
+
+  module _ (script : Script) where
+    abbrev pub HasTame : ResizeObserver → Type 0
+    HasTame it = IfSome it.handler (Tame script)
+
+    -- each observer's handler is a loop handler
+    pub record AreTame (it : ResizeObservers) : Type 0 where
+      pub each : AllByRecursion HasTame it.made
+
+    tame-in : (made : List ResizeObserver) (observer : ℕ) → AllByRecursion HasTame made → HasTame (unwrap_or (slice_get made observer) no_resize_observer)
+    tame-in [] observer all = tt
+    tame-in (x ∷ xs) zero all = all.0
+    tame-in (x ∷ xs) (suc observer) all = tame-in xs observer (all.1)
+
+    pub tame-at : (it : ResizeObservers) (observer : ℕ) → AreTame it → IfSome (resize_observer_at it observer).handler (λ h. BlockHolds (Fails test) (handler_block script h))
+    tame-at it observer are = tame-in (it.made) observer are.each
+
+    -- changes that leave an observer's handler
+    pub changed-tame : (change : ResizeObserver → ResizeObserver) → ((it : ResizeObserver) → (change it).handler ≡ it.handler) →
+        (given observer : ℕ) (it : ResizeObservers) → AreTame it → AreTame (record { given = given; made = change_at change observer (it.made) })
+    changed-tame change same given observer it are = record {
+      each = (changed HasTame change (λ x is. subst (λ (h : Option ℕ). IfSome h (Tame script)) (sym (same x)) is) observer (it.made)).within are.each;
+    }
+
+    gathered-tame : (own : Bool) (sight : Sight) (depth : ℕ) (x : ResizeObserver) → HasTame x → HasTame (gathered_if own sight depth x)
+    gathered-tame true sight depth x is = is
+    gathered-tame false sight depth x is = is
+
+    pub gathering-tame : (sight : Sight) (document depth : ℕ) (it : ResizeObservers) → AreTame it → AreTame (gathering sight document depth it)
+    gathering-tame sight document depth it are = record {
+      each = (mapped HasTame (λ x. gathered_if (is_of document x) sight depth x) (λ x is. gathered-tame (is_of document x) sight depth x is) (it.made)).within are.each;
+    }
+
+    -- commands ---------------------------------------------------------------------------------------------------------------------
+
+    module _ (clean : AllByRecursion (IsClean test unnamed) script) where
+      given-tame : (handler : Option (List ℕ)) → IsNamedBy unnamed handler →
+          OnDid (handler_given (handler_names script) handler) (λ called. IfSome called (Tame script))
+      given-tame None named = did _ _ tt
+      given-tame (Some name) named =
+          bind-in (handler_named (handler_names script) name) _ (Tame script) _
+          (required-in ReferenceError (position (bytes_eq name) (handler_names script)) (Tame script)
+          (subst (λ (found : Option ℕ). IfSome found (Tame script)) (number-is script name) (number-tame script clean name named)))
+          (λ called tame. did _ _ tame)
+
+      module _ (world : World) (here : AreTame world.resize_observers) where
+        abbrev Done : Effect → Type 0
+        Done effect = AreTame (effect.world.resize_observers)
+
+        tree-tame : (step : Step Tree) → OnDid (with_tree world step) Done
+        unfolding with_tree
+        tree-tame step = bind step _ Done (λ it. did _ Done here)
+
+        intersections-tame : (step : Step IntersectionObservers) → OnDid (with_intersections world step) Done
+        unfolding with_intersections
+        intersections-tame step = bind step _ Done (λ it. did _ Done here)
+
+        listeners-tame : (step : Step (Table Listener)) → OnDid (with_listeners world step) Done
+        unfolding with_listeners
+        listeners-tame step = bind step _ Done (λ it. did _ Done here)
+
+        making-tame : (name made_in : List ℕ) (kind : Kind) → OnDid (making world name made_in kind) Done
+        unfolding making
+        making-tame name made_in kind = search (both, bind, did, here) depth 9
+
+        scrolled-tame : (left top : ℤ) (target : Option ScrollTarget) → AreTame (scrolled_to left top target world).resize_observers
+        scrolled-tame left top None = here
+        scrolled-tame left top (Some target) = here
+
+        scrolled-by-tame : (left top : ℤ) (target : Option ScrollTarget) → AreTame (scrolled_by left top target world).resize_observers
+        scrolled-by-tame left top None = here
+        scrolled-by-tame left top (Some target) = here
+
+        made-tame : (document : ℕ) (handler : Option ℕ) → IfSome handler (Tame script) →
+            AreTame (record {
+              given = world.resize_observers.given;
+              made = world.resize_observers.made ++ record { document = document; handler = handler; targets = []; active = []; skipped = [] } ∷ [];
+            })
+        made-tame document handler tame = record { each = all-add HasTame (world.resize_observers.made) _ here.each tame }
+
+        target-tame : (change : ResizeObserver → ResizeObserver) → ((it : ResizeObserver) → (change it).handler ≡ it.handler) → (given observer : ℕ) →
+            AreTame (record { given = given; made = change_at change observer (world.resize_observers.made) })
+        target-tame change same given observer = changed-tame change same given observer (world.resize_observers) here
+
+        pub does-tame : (present : Present) (action : Action) → Names unnamed action → OnDid (does (handler_names script) world present action) Done
+        unfolding does
+        does-tame present (Viewport width height) named = did _ Done here
+        does-tame present (MakeBlock name made_in) named = making-tame name made_in _
+        does-tame present (MakeImage name made_in width height) named = making-tame name made_in _
+        does-tame present (MakeFrame name made_in inside) named = search (both, bind, did, here) depth 12
+        does-tame present (Append parent node) named = search (bind, tree-tame) depth 9
+        does-tame present (Before parent node sibling) named = search (bind, tree-tame) depth 9
+        does-tame present (Remove node) named = search (bind, did, here) depth 9
+        does-tame present (SetStyle node declaration) named = search (bind, did, here) depth 9
+        does-tame present (Grow node dimension by) named = search (bind, tree-tame) depth 9
+        does-tame present (Load node width height) named = search (bind, tree-tame) depth 9
+        does-tame present (MakeResizeObserver name owner handler) named =
+            both _ _ Done (bind _ _ Done (λ made_in. bind-in _ _ _ Done (given-tame handler named) (λ called tame.
+            both _ _ Done (did _ Done (made-tame made_in called tame)))))
+        does-tame present (ObserveResize observer node observed) named = search (both, bind, did, target-tame) depth 9
+        does-tame present (UnobserveResize observer node) named = search (bind, did, target-tame) depth 9
+        does-tame present (DisconnectResize observer) named = search (bind, did, target-tame) depth 9
+        does-tame present (MakeIntersectionObserver made) named = search (both, bind, did, here) depth 12
+        does-tame present (ObserveIntersection observer node) named = search (bind, intersections-tame) depth 9
+        does-tame present (UnobserveIntersection observer node) named = search (bind, did, here) depth 9
+        does-tame present (DisconnectIntersection observer) named = search (bind, did, here) depth 9
+        does-tame present (TakeIntersections observer) named = search (bind, did, here) depth 9
+        does-tame present (Listen aim event handler) named = search (bind, listeners-tame) depth 9
+        does-tame present (Unlisten aim event handler) named = search (bind, did, here) depth 9
+        does-tame present (MakeQueryList name owner query) named = search (both, bind, did, here) depth 9
+        does-tame present (ScrollTo scrolled left top) named = search (bind, did, scrolled-tame) depth 9
+        does-tame present (ScrollBy scrolled left top) named = search (bind, did, scrolled-by-tame) depth 9
+        does-tame present (RequestFrame owner key handler) named = search (both, bind, did, here) depth 9
+        does-tame present (CancelFrame owner key) named = search (bind, did, here) depth 9
+        does-tame present (SetTimer owner key delay handler) named = search (both, bind, did, here) depth 9
+        does-tame present (ClearTimer owner key) named = search (bind, did, here) depth 9
+        does-tame present (Post owner handler) named = search (both, bind, did, here) depth 9
+        does-tame present (Say word) named = did _ Done here
+        does-tame present (Read shown) named = search (bind, did, here) depth 9

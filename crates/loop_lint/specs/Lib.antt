@@ -1,0 +1,6 @@
+pub mod LoopHandlers
+pub mod Verdicts
+pub mod Seen
+pub mod Searches
+pub mod RunLoops
+pub mod Examples

@@ -1,0 +1,79 @@
+-- The resize loops of a script's run, read off the run as page_model has it: each with its document and the page in which it begins.
+use Rattle.std.specs.Prelude.{◌≤◌, ◌<◌, ℕ, Bool, true, false, List, [], ◌∷◌, map, flat_map, length, ⊤}
+use Rattle.script_model.specs.Syntax.{Item, Outside, Tick, Handler}
+use Rattle.script_model.specs.Scripts.{handlers_in}
+use Rattle.script_model.specs.TraceLines.{TraceLine, TickLine, EventLine, FiredError}
+use Rattle.page_model.specs.World.{World}
+use Rattle.page_model.specs.Documents.{is_active, active_documents}
+use Rattle.page_model.specs.Commands.{begun_in}
+use Rattle.page_model.specs.Runs.{Said, say, ◌followed_by◌, for_each}
+use Rattle.page_model.specs.Callbacks.{Script, while_active}
+use Rattle.page_model.specs.Loop.{resize_loop}
+use Rattle.page_model.specs.Ticks.{run_timers, resize_steps, scroll_steps, media_steps, frame_steps, time_set}
+use Rattle.page_model.specs.Outcome.{opening_world, run_item}
+use Rattle.loop_laws.specs.Moments.{following, where_did, along_each, listed_if}
+use Rattle.loop_laws.specs.Rounds.{round_depth}
+use Rattle.loop_laws.specs.WholeLoops.{round_starts, delivered_depths, greatest}
+
+-- a resize loop that is run for a document, and the page as it begins
+pub record Loop : Type 0 where
+  pub document : ℕ
+  pub world : World
+
+abbrev pub over : List ℕ → (ℕ → World → Said World) → World → Said World
+over documents part = for_each (λ document. while_active document (part document)) documents
+
+-- the parts of an update of the rendering before its resize loops
+abbrev pub earlier_parts : Script → List (ℕ → World → Said World)
+earlier_parts script = resize_steps script ∷ scroll_steps script ∷ media_steps script ∷ frame_steps script ∷ []
+
+-- the loops of the documents that are listed as Active when the resize loops begin, of each one that still is
+unfoldable pub document_loops : Script → List ℕ → World → List Loop
+unfolding along_each resize_loop
+document_loops script documents =
+    along_each
+    (λ document now. listed_if (λ at. record { document = document; world = at } ∷ []) now (is_active (now.tree) document))
+    (λ document. while_active document (resize_loop script document))
+    documents
+
+unfoldable pub update_loops : Script → World → List Loop
+unfolding document_loops for_each active_documents resize_steps scroll_steps media_steps frame_steps
+update_loops script world =
+    following (for_each (over (active_documents (world.tree))) (earlier_parts script) world) (document_loops script (active_documents (world.tree)))
+
+unfoldable pub tick_loops : Script → World → List Loop
+unfolding update_loops run_timers ◌followed_by◌
+tick_loops script world = following (say (TickLine (world.clock) ∷ []) world followed_by run_timers script) (update_loops script)
+
+-- loops are run in ticks alone
+abbrev pub item_loops : Script → Item → World → List Loop
+item_loops script (Outside command) world = []
+item_loops script (Tick line time) world = where_did (begun_in world) λ begun. where_did (time_set time begun) (tick_loops script)
+item_loops script (Handler line name block end_line) world = []
+
+unfoldable pub loops_of_run : List Item → List Loop
+unfolding along_each tick_loops run_item handlers_in begun_in
+loops_of_run items = along_each (item_loops (handlers_in items)) (run_item (handlers_in items)) items opening_world
+
+-- the depths of the rounds of a loop, as they stand on its round lines, and the depths of all that it delivers
+abbrev pub depths_of : Script → Loop → List ℕ
+depths_of script loop = map (round_depth script (loop.document)) (round_starts script (loop.document) (loop.world))
+
+abbrev pub delivered_by : Script → Loop → List ℕ
+delivered_by script loop = flat_map (delivered_depths script (loop.document)) (round_starts script (loop.document) (loop.world))
+
+-- each greater than the one before it
+abbrev pub AreGrowing : ℕ → List ℕ → Type 0
+AreGrowing before [] = ⊤
+AreGrowing before (depth ∷ depths) = (before < depth) × AreGrowing depth depths
+
+-- a loop whose depths grow from 0 on, and so with at most as many rounds as the greatest depth that it delivers, one that is broken
+-- off counted
+pub record IsSteadyLoop (script : Script) (loop : Loop) : Type 0 where
+  pub growing : AreGrowing 0 (depths_of script loop)
+  pub short : length (depths_of script loop) ≤ greatest (delivered_by script loop)
+
+-- the line of an error event that a resize loop fires
+abbrev pub is_error_line : TraceLine → Bool
+is_error_line (EventLine (FiredError document)) = true
+is_error_line line = false

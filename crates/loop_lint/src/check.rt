@@ -1,0 +1,72 @@
+//! The verdicts on a script, and the command that one rests on.
+
+ghost use Rattle.std.specs.Prelude.{◌≡◌, ◌↔◌, IsTrue, IsNone, cond, [], slice_get, map};
+ghost use Rattle.script_syntax.specs.Seen.{item_of};
+ghost use Rattle.loop_lint.specs.LoopHandlers.{is_empty, is_unnamed, block_lines, loop_handler_lines};
+ghost use Rattle.loop_lint.specs.Searches.{lines_at};
+ghost use Rattle.loop_lint.specs.Verdicts.{is_steady, is_quiet};
+ghost use Rattle.loop_lint.specs.Seen.{forbidden_by};
+
+use crate::kinds::{Law, Verdict};
+use crate::search::{Sought, first_in, first_in_item};
+use script_syntax::{CommandList, Item, Script};
+use text_io::Name;
+
+/// Whether no `ro` among these items names a handler.
+fn is_unnamed(items: &[Item], name: Name) -> bool
+    ensures { result ≡ is_unnamed (map item_of items.now) name }
+{
+    for item in items {
+        if first_in_item(item, &Sought::Naming(name)).is_some() {
+            return false;
+        }
+    }
+    true
+}
+
+/// The line of the first command of a handler that a law forbids, where the handler is a loop handler.
+fn blame_in(items: &[Item], name: Name, commands: &CommandList, law: Law) -> Option<u32>
+    ensures { result ≡ slice_get (cond (is_unnamed (map item_of items.now) name) [] (block_lines (forbidden_by law) commands.now)) 0 }
+{
+    let line = first_in(commands.commands(), &Sought::Forbidden(law))?;
+    if is_unnamed(items, name) {
+        return None;
+    }
+    Some(line)
+}
+
+/// The same of an item, which has none where it is no handler.
+fn blame_at(items: &[Item], item: &Item, law: Law) -> Option<u32>
+    ensures { result ≡ slice_get (lines_at (forbidden_by law) (map item_of items.now) (item_of item.now)) 0 }
+{
+    match item {
+        Item::Command(_) => None,
+        Item::Handler { name, commands, .. } => blame_in(items, *name, commands, law),
+    }
+}
+
+/// The line, from 1, of the first command in the text that stands in a loop handler, at any nesting, and that a law forbids. A loop
+/// handler is one that an `ro` command anywhere in the script names. None exactly where the script keeps the law. No memory is taken.
+pub fn blame(script: &Script, law: Law) -> Option<u32>
+    ensures line { result ≡ slice_get (loop_handler_lines (forbidden_by law) script.now) 0 }
+    ensures none { IsNone result ↔ IsTrue (is_empty (loop_handler_lines (forbidden_by law) script.now)) }
+{
+    let items = script.items();
+    for item in items {
+        let found = blame_at(items, item, law);
+        if found.is_some() {
+            return found;
+        }
+    }
+    None
+}
+
+/// Which laws a script keeps, by what its loop handlers hold. No memory is taken.
+pub fn lint(script: &Script) -> Verdict
+    ensures { result ≡ record { steady = is_steady script.now; quiet = is_quiet script.now } }
+{
+    Verdict {
+        steady: blame(script, Law::Steady).is_none(),
+        quiet: blame(script, Law::Quiet).is_none(),
+    }
+}

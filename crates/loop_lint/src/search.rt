@@ -1,0 +1,92 @@
+//! A search through commands at any nesting, in the order of their lines.
+
+ghost use Rattle.std.specs.Prelude.{◌≡◌, slice_get};
+ghost use Rattle.script_model.specs.Syntax.{Action};
+ghost use Rattle.script_syntax.specs.Seen.{action_of, command_of, block_of, item_of};
+ghost use Rattle.loop_lint.specs.LoopHandlers.{names_handler, lines_in, block_lines, item_lines};
+ghost use Rattle.loop_lint.specs.Seen.{forbidden_by};
+ghost use Rattle.loop_lint.specs.Searches.{is_sought};
+
+use crate::kinds::Law;
+use script_syntax::{Command, Item, What};
+use text_io::Name;
+
+/// What is looked for.
+#[derive(Clone, Copy)]
+pub enum Sought {
+    /// An `ro` that names this handler.
+    Naming(Name),
+    /// A command that a law forbids.
+    Forbidden(Law),
+}
+
+/// Whether a command is an `ro` that names this handler.
+fn names_handler(what: &What, name: Name) -> bool
+    ensures { result ≡ names_handler name (action_of what.now) }
+{
+    match what {
+        What::Ro(_, _, Some(handler)) => *handler == name,
+        _ => false,
+    }
+}
+
+/// Whether a law forbids a command in loop handlers.
+fn is_forbidden(what: &What, law: Law) -> bool
+    ensures { result ≡ forbidden_by law (action_of what.now) }
+{
+    match what {
+        What::Append(..) | What::Before(..) | What::Remove(..) => true,
+        What::Viewport(..)
+        | What::Set(..)
+        | What::Grow(..)
+        | What::Load(..)
+        | What::RoObserve(..) => law == Law::Quiet,
+        _ => false,
+    }
+}
+
+/// Whether a command without a block is what is looked for.
+fn is_sought(what: &What, sought: &Sought) -> bool
+    ensures { result ≡ is_sought sought.now (action_of what.now) }
+{
+    match sought {
+        Sought::Naming(name) => names_handler(what, *name),
+        Sought::Forbidden(law) => is_forbidden(what, *law),
+    }
+}
+
+/// The line of the first command that is looked for, among a command and those in its block.
+#[cycle(walk)]
+pub fn first_in_command(command: &Command, sought: &Sought) -> Option<u32>
+    ensures { result ≡ slice_get (lines_in (is_sought sought.now) (command_of command.now)) 0 }
+{
+    match &command.what {
+        What::Each(body) => first_in(body.commands.commands(), sought),
+        What::When(_, body) => first_in(body.commands.commands(), sought),
+        what => is_sought(what, sought).then_some(command.line),
+    }
+}
+
+/// The line of the first command that is looked for, among these commands and those in their blocks.
+#[cycle(walk)]
+pub fn first_in(commands: &[Command], sought: &Sought) -> Option<u32>
+    ensures { result ≡ slice_get (block_lines (is_sought sought.now) (block_of commands.now)) 0 }
+{
+    for command in commands {
+        let found = first_in_command(command, sought);
+        if found.is_some() {
+            return found;
+        }
+    }
+    None
+}
+
+/// The line of the first command that is looked for, in an item.
+pub fn first_in_item(item: &Item, sought: &Sought) -> Option<u32>
+    ensures { result ≡ slice_get (item_lines (is_sought sought.now) (item_of item.now)) 0 }
+{
+    match item {
+        Item::Command(command) => first_in_command(command, sought),
+        Item::Handler { commands, .. } => first_in(commands.commands(), sought),
+    }
+}
