@@ -1,7 +1,7 @@
 -- What comes of one clip that is asked for.
-use Rattle.std.proofs.Common.{◌≡◌, ◌∙◌, ℕ, ◌+◌, Bool, true, false, cond, refl, sym, subst, arith}
+use Rattle.std.proofs.Common.{◌≡◌, ℕ, ◌+◌, Bool, true, false, cond, refl, subst, arith}
 use Rattle.candidate_index.specs.declared.scene.Standing.{Standing}
-use Rattle.candidate_index.specs.declared.scene.Standing.TheVariants.{Apart, NoBox, Chained}
+use Rattle.candidate_index.specs.declared.scene.Standing.TheVariants.{Chained}
 use Rattle.candidate_index.specs.Registrations.{IfChained}
 
 pub once : {A : Type 0} (b : Bool) (new old changed : A) → (b ≡ true → new ≡ old) → (b ≡ false → new ≡ changed) → new ≡ cond b old changed

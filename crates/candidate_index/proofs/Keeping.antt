@@ -1,15 +1,15 @@
 -- What a registration needs of the clips stays there when the clip of another one is computed.
-use Rattle.std.proofs.Common.{◌≡◌, ◌∙◌, ℕ, Option, Some, None, ap, refl, sym, subst, unwrap_or, option_map, is_some}
-use Rattle.page_model.specs.World.{Root, IntersectionObservers}
+use Rattle.std.proofs.Common.{◌≡◌, ◌∙◌, ℕ, Option, Some, None, ap, refl, sym, unwrap_or, option_map, is_some}
+use Rattle.page_model.specs.World.{Root}
 use Rattle.clip_chain.specs.declared.spot.Spot.{Spot}
 use Rattle.clip_chain.specs.declared.spot.Spot.TheVariants.{View}
 use Rattle.clip_chain.specs.Scenes.{Scene}
 use Rattle.kept_clips.specs.declared.pair.Pair.{Pair}
-use Rattle.kept_clips.specs.Held.{HeldClips, new_pair, pair_at, pair_of, spots_of, spots_at}
+use Rattle.kept_clips.specs.Held.{HeldClips, new_pair, pair_at, spots_of, spots_at}
 use Rattle.kept_clips.specs.Chains.{IsExact}
 use Rattle.candidate_index.specs.declared.scene.Standing.{Standing}
 use Rattle.candidate_index.specs.declared.scene.Standing.TheVariants.{Apart, NoBox, Chained}
-use Rattle.candidate_index.specs.Registrations.{IfChained, HasClip, standing_for, observer_of, target_of, IsReady}
+use Rattle.candidate_index.specs.Registrations.{IfChained, HasClip}
 
 abbrev no_spots : Spot × Spot
 no_spots = (View 0, View 0)

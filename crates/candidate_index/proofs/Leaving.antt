@@ -10,10 +10,9 @@ use Rattle.page_model.specs.World.{IntersectionObserver}
 use Rattle.clip_chain.proofs.Parts.{none_left}
 use Rattle.clip_chain.specs.declared.spot.Spot.{Spot}
 use Rattle.clip_chain.specs.Scenes.{Scene}
-use Rattle.clip_chain.specs.Visible.{part_between}
 use Rattle.clip_chain.specs.Worlds.{element_spot}
 use Rattle.kept_clips.specs.declared.clip.Clip.{Clip}
-use Rattle.kept_clips.specs.Clips.{cut_or_nothing, common_clip, clip_between}
+use Rattle.kept_clips.specs.Clips.{cut_or_nothing, common_clip}
 use Rattle.candidate_index.specs.declared.scene.Standing.{Standing}
 use Rattle.candidate_index.specs.declared.scene.Standing.TheVariants.{Apart, NoBox, Chained}
 use Rattle.candidate_index.specs.Findings.{limits_of, seen, left_by, cut_to, finding_over, basis_over, found_from}

@@ -1,5 +1,5 @@
 -- Registrations by their serial numbers: what is found of their targets, and what is asked of whoever holds their clips.
-use Rattle.std.specs.Prelude.{◌≡◌, ℕ, List, map, Option, unwrap_or}
+use Rattle.std.specs.Prelude.{◌≡◌, ℕ, List, map, unwrap_or}
 use Rattle.page_model.specs.World.{Root, Finding, Registration, IntersectionObserver, IntersectionObservers}
 use Rattle.page_model.specs.Lookups.{intersection_observer_at}
 use Rattle.clip_chain.specs.declared.spot.Spot.{Spot}

@@ -5,7 +5,7 @@ use Rattle.std.specs.Int.{int_min, int_max}
 use Rattle.std.specs.List.{cons_option}
 use Rattle.std.proofs.lemmas.Int.{ints}
 use Rattle.px_units.specs.declared.Rect.{Rect}
-use Rattle.px_units.specs.Rects.{has_points, overlap, meeting}
+use Rattle.px_units.specs.Rects.{has_points, overlap}
 use Rattle.page_model.specs.Chains.{common_part}
 use Rattle.clip_chain.proofs.Parts.{none_left, all_left, one_more}
 use Rattle.clip_chain.specs.declared.spot.Spot.{Spot}

@@ -1,16 +1,16 @@
 -- The pair of a number after pairs were held, let go or computed.
-use Rattle.std.proofs.Common.{◌≡◌, ◌∙◌, ℕ, ◌≤◌, Bool, true, false, cond, ◌==◌, Option, Some, None, [], arith, ap, refl, sym, subst, unwrap_or, Result, Ok, Err}
+use Rattle.std.proofs.Common.{◌≡◌, ◌∙◌, ℕ, Bool, true, false, cond, ◌==◌, Option, Some, None, [], arith, ap, refl, sym, subst, unwrap_or, Result, Ok, Err}
 use Rattle.std.specs.Prelude.{OnOk, OnErr, option_map, is_some}
 use Rattle.std.proofs.lemmas.Bool.{eqb-true}
 use Rattle.kept_clips.specs.declared.clip.Clip.{Clip}
 use Rattle.std.specs.Cmp.{nat_cmp_total, unsigned_tied}
-use Rattle.std.specs.FinMap.{FinMap, get, insert, remove, get-insert, get-remove, get-empty, empty}
+use Rattle.std.specs.FinMap.{get, insert, remove, get-insert, get-remove, get-empty, empty}
 use Rattle.std.specs.Ordering.{nat_cmp, eq_by_cmp}
 use Rattle.clip_chain.specs.declared.spot.Spot.{Spot}
 use Rattle.clip_chain.specs.declared.spot.Spot.TheVariants.{View}
 use Rattle.clip_chain.specs.Scenes.{Scene}
 use Rattle.kept_clips.specs.declared.pair.Pair.{Pair}
-use Rattle.kept_clips.specs.Touches.{Touched, last_number}
+use Rattle.kept_clips.specs.Touches.{Touched}
 use Rattle.kept_clips.specs.Held.{HeldClips, new_pair, pair_of, spots_of, spots_at, IsHeld, computed_now}
 use Rattle.kept_clips.specs.Numbers.{IsNumbered, AreNumbered}
 use Rattle.kept_clips.specs.Chains.{IsExactPair, IsExact}

@@ -1,24 +1,21 @@
 -- A touched spot: clips that hang on it stand no more, and all others stay exact.
-use Rattle.std.proofs.Common.{◌≡◌, ◌∙◌, ℕ, suc, ◌<◌, ◌≤◌, ◌≢◌, ◌&&◌, Bool, true, false, nat_le, nat_lt, min, List, [], ◌∷◌, ◌++◌, Option, Some, None, length, get_or, ap, refl, sym, subst, arith, get_or-set_other, get_or-set_same}
-use Rattle.std.specs.Prelude.{filter_map, replicate, slice_index, slice_set, IfSome}
+use Rattle.std.proofs.Common.{◌≡◌, ◌∙◌, ℕ, suc, ◌<◌, ◌≤◌, ◌≢◌, ◌&&◌, true, nat_le, nat_lt, min, List, [], ◌∷◌, ◌++◌, Option, Some, None, ap, refl, sym, subst, arith, get_or-set_other, get_or-set_same}
+use Rattle.std.specs.Prelude.{filter_map, IfSome}
 use Rattle.std.specs.List.{list_all, cons_option}
 use Rattle.std.proofs.lemmas.Bool.Decides.{nat_tests}
-use Rattle.std.proofs.lemmas.List.{get_or_append_left, get_or-append-add, get_or-replicate}
 use Rattle.px_units.specs.declared.Rect.{Rect}
 use Rattle.clip_chain.specs.declared.spot.Spot.{Spot}
 use Rattle.clip_chain.specs.declared.spot.Spot.TheVariants.{Node, View}
 use Rattle.clip_chain.specs.Scenes.{Scene}
 use Rattle.clip_chain.specs.Chains.{Leads}
-use Rattle.kept_clips.specs.declared.clip.Clip.{Clip}
-use Rattle.kept_clips.specs.declared.pair.Pair.{Pair}
 use Rattle.kept_clips.specs.declared.pair.Computed.{Computed}
 use Rattle.kept_clips.specs.Clips.{common_clip, clip_between}
 use Rattle.kept_clips.specs.Touches.{Touched, last_number, last_touch, IsAdded, touched, touched_at}
-use Rattle.kept_clips.specs.Chains.{chain_of, is_untouched, stands, IsExactPair, IsExact}
+use Rattle.kept_clips.specs.Chains.{is_untouched, stands, IsExact}
 use Rattle.kept_clips.specs.Held.{HeldClips, pair_of}
 use Rattle.kept_clips.specs.Numbers.{IsNumbered, AreNumbered}
-use Rattle.kept_clips.specs.Scenes.{AgreesAt, DiffersOnlyAt}
-use Rattle.kept_clips.proofs.Testing.{both, at_most}
+use Rattle.kept_clips.specs.Scenes.{DiffersOnlyAt}
+use Rattle.kept_clips.proofs.Testing.{both}
 
 -- the last touches afterwards
 

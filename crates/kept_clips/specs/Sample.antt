@@ -1,6 +1,6 @@
 -- A row of five elements to try clips on: the first stands in the top document's viewport, each other in the one before, and
 -- each clips to the rectangle of its number, if there is one.
-use Rattle.std.specs.Prelude.{ℕ, suc, ◌-◌, ◌<◌, cond, ◌==◌, nat_lt, pos, List, Option, Some, None, option_map, option_and_then, slice_get}
+use Rattle.std.specs.Prelude.{ℕ, suc, ◌-◌, cond, ◌==◌, nat_lt, pos, List, Option, Some, None, option_map, slice_get}
 use Rattle.px_units.specs.declared.Rect.{Rect}
 use Rattle.page_model.specs.Chains.{zero_rect}
 use Rattle.clip_chain.specs.declared.spot.Spot.{Spot}

@@ -1,5 +1,4 @@
-use Rattle.std.proofs.Common.{◌≡◌, ◌∙◌, ℕ, ◌+◌, true, false, length, List, ap, sym, subst}
-use Rattle.px_units.specs.declared.Rect.{Rect}
+use Rattle.std.proofs.Common.{◌≡◌, ◌∙◌, ◌+◌, length, ap, sym, subst}
 use Rattle.clip_chain.specs.declared.spot.Spot.{Spot}
 use Rattle.clip_chain.specs.Chains.{Leads}
 use Rattle.clip_chain.specs.Worlds.{element_spot, spot_of_root}
@@ -12,7 +11,7 @@ use Rattle.candidate_index.specs.declared.scene.Standing.{Standing}
 use Rattle.candidate_index.specs.declared.scene.Standing.TheVariants.{Chained}
 use Rattle.candidate_index.specs.declared.basis.Sight.TheVariants as sights
 use Rattle.candidate_index.specs.Findings.{sight_over}
-use Rattle.candidate_index.specs.Registrations.{IfChained, HasClip}
+use Rattle.candidate_index.specs.Registrations.{HasClip}
 use Rattle.candidate_index.specs.Asked.{asked_if, steps_if}
 use Rattle.candidate_index.proofs.Asking.{once, counted, where_chained}
 use Rattle.candidate_index.proofs.Keeping.{has_clip_still}

@@ -1,6 +1,5 @@
-use Rattle.std.proofs.Common.{◌≡◌, ◌≤◌, ◌<◌, ◌∙◌, List, [], ◌∷◌, Some, true, false, nat_le, inl, inr, sym, ap, subst}
+use Rattle.std.proofs.Common.{◌≡◌, ◌≤◌, ◌<◌, ◌∙◌, ◌∷◌, Some, true, false, nat_le, inl, inr, sym, ap}
 use Rattle.std.specs.List.{list_all}
-use Rattle.clip_chain.specs.declared.spot.Spot.{Spot}
 use Rattle.clip_chain.proofs.Leading.{above_outwards, none_above}
 use Rattle.kept_clips.specs.Chains.{is_untouched}
 use Rattle.kept_clips.proofs.Coming.{comes_first, comes_next, comes_last}

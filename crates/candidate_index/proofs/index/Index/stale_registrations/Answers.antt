@@ -1,6 +1,4 @@
-use Rattle.std.proofs.Common.{◌≡◌, ◌∙◌, ℕ, ◌+◌, ◌<◌, ◌≤◌, List, ◌∷◌, ◌++◌, length, get_or, drop, filter, arith}
-use Rattle.std.specs.List.{All}
-use Rattle.clip_chain.specs.declared.spot.Spot.{Spot}
+use Rattle.std.proofs.Common.{◌≡◌, ◌∙◌, ◌+◌, ◌<◌, ◌∷◌, length, get_or, drop, arith}
 use Rattle.intersection_observer.specs.Seen.{serial_numbers}
 use Rattle.candidate_index.specs.Registrations.{serials_at, IsReady, IsBetween}
 use Rattle.candidate_index.specs.Asked.{all_asked, all_steps}

@@ -1,4 +1,4 @@
-use Rattle.std.proofs.Common.{◌≡◌, Result, sym, subst, arith}
+use Rattle.std.proofs.Common.{◌≡◌, sym, subst, arith}
 use Rattle.std.specs.Prelude.{Some, OnOk}
 use Rattle.std.specs.FinMap.{FinMap, insert}
 use Rattle.std.specs.Ordering.{nat_cmp}
