@@ -37,7 +37,8 @@ fn in_pieces(piece: usize) -> Streams {
 }
 
 // What a run answered and wrote.
-struct Replayed {
+#[derive(Drop)]
+struct Answer {
     status: Status,
     has_page: bool,
     sink: MemorySink,
@@ -48,14 +49,14 @@ fn replayed(
     words: &[String],
     text: &[u8],
     streams: Streams,
-) -> Result<Replayed, AllocError> {
+) -> Result<Answer, AllocError> {
     let bytes = text.to_vec(alloc)?;
     let failing = numbers(alloc, streams.failing_read)?;
     let mut source = MemorySource::new(bytes, streams.piece, failing);
     let failing = numbers(alloc, streams.failing_write)?;
     let mut sink = MemorySink::new(alloc, streams.room, streams.piece, failing)?;
     let report = run_uncounted::<_, _, Brand>(Blank::new(1), alloc, words, &mut source, &mut sink);
-    Ok(Replayed {
+    Ok(Answer {
         status: report.status,
         has_page: report.page.is_some(),
         sink,
