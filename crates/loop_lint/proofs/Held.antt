@@ -1,19 +1,21 @@
 -- What each world of a run is, where each `ro` names a loop handler: numbers are in range, limits are kept, and each handler of a
 -- resize observer is a loop handler.
 use Rattle.std.proofs.Common.{◌≡◌, refl, sym, subst}
-use Rattle.std.specs.Prelude.{ℕ, zero, suc, ◌<◌, Bool, true, false, cond, List, [], ◌∷◌, length, slice_get, unwrap_or, Option, Some, None, IfSome, ⊤}
+use Rattle.std.specs.Prelude.{ℕ, zero, suc, ◌<◌, ◌&&◌, Bool, true, false, cond, List, [], ◌∷◌, length, slice_get, unwrap_or, Option, Some, None, IfSome, ⊤}
 use Rattle.std.specs.List.{AllByRecursion}
 use Rattle.script_model.specs.Syntax.{Action, Command}
 use Rattle.script_model.specs.Scripts.{NamedBlock}
-use Rattle.script_model.specs.TraceLines.{TraceLine}
-use Rattle.page_model.specs.World.{World, Entry, Observation, ResizeObserver, ResizeObservers, IntersectionObserver}
+use Rattle.text_io.specs.declared.kinds.EventKind.TheVariants as events
+use Rattle.script_model.specs.TraceLines.{TraceLine, FiredError}
+use Rattle.page_model.specs.World.{World, WindowTarget, Entry, Observation, ResizeObserver, ResizeObservers, IntersectionObserver}
 use Rattle.page_model.specs.Documents.{is_active}
 use Rattle.page_model.specs.Lookups.{no_resize_observer, no_intersection_observer, resize_observer_at}
-use Rattle.page_model.specs.Gathering.{sight_of, is_of, without_active}
+use Rattle.page_model.specs.Gathering.{sight_of, is_of, has_skipped, without_active}
+use Rattle.page_model.specs.Names.{document_text}
 use Rattle.page_model.specs.Operands.{Present, NoEntry}
-use Rattle.page_model.specs.Callbacks.{Script, Entries, handler_block, presents, run_command, call}
+use Rattle.page_model.specs.Callbacks.{Script, Entries, handler_block, presents, run_command, call, fire}
 use Rattle.page_model.specs.Ranges.{Counts, counts_of, AreObserved, IsResizeObserverIn, IsIntersectionObserverIn, IsInRange, IsPresentIn}
-use Rattle.page_model.specs.Loop.{emptied, gather}
+use Rattle.page_model.specs.Loop.{emptied, gather, report_skipped, resize_loop}
 use Rattle.page_model.specs.Outcome.{opening_world}
 use Rattle.page_laws.specs.Bounds.{IsWithinLimits}
 use Rattle.page_laws.proofs.Keeping.{counted}
@@ -23,11 +25,13 @@ use Rattle.page_laws.proofs.Limits.{as-many, counted-within}
 use Rattle.page_laws.proofs.Turns.{call-within, command-within, opening-within}
 use Rattle.page_laws.proofs.RunsInRange.{call-in, command-in, opening-in}
 use Rattle.page_laws.proofs.Later.{all-so}
-use Rattle.loop_lint.specs.RunLoops.{is_error_line}
+use Rattle.loop_laws.specs.Rounds.{rounds_up_to}
+use Rattle.loop_laws.specs.WholeLoops.{resize_rounds}
+use Rattle.loop_lint.specs.RunLoops.{is_loop_line}
 use Rattle.loop_lint.proofs.Holding.{CommandHolds, BlockHolds, Names, IsClean, block-holds}
 use Rattle.loop_lint.proofs.Carried.{IsCarried, command-carries, call-carries}
 use Rattle.loop_lint.proofs.Tame.{AreTame, changed-tame, gathering-tame, does-tame}
-use Rattle.loop_lint.proofs.Walk.{IsWalked}
+use Rattle.loop_lint.proofs.Walk.{IsGood, IsWalked, then-good, if-good, fire-good, rounds-good}
 
 -- lists that callbacks are handed entries of
 
@@ -134,7 +138,7 @@ module _ (test : Action → Bool) (unnamed : List ℕ → Bool) (script : Script
 
   module _ (clean : AllByRecursion (IsClean test unnamed) script)
       (named : AllByRecursion (λ (handler : NamedBlock). BlockHolds (Names unnamed) (handler.block)) script) (Q : TraceLine → Type 0)
-      (plain : (line : TraceLine) → is_error_line line ≡ false → Q line)
+      (plain : (line : TraceLine) → is_loop_line line ≡ false → Q line)
       (said : (document : ℕ) (handler : Option ℕ) (handed : Entries) (world : World) → AllByRecursion Q (call script document handler handed world).lines) where
     pub held-walked : IsWalked script IsHeld Q
     held-walked = record {
@@ -157,3 +161,22 @@ module _ (test : Action → Bool) (unnamed : List ℕ → Bool) (script : Script
           own-in (λ (it : Observation). it.target < length world.tree.elements) (is_of document (resize_observer_at (world.resize_observers) observer)) _
           (observed-in (counts_of (length script) world) (world.resize_observers.made) observer here.range.resize_observers);
     }
+
+  -- a loop keeps it, whatever it says
+
+  abbrev pub Any : TraceLine → Type 0
+  Any line = ⊤
+
+  module _ (clean : AllByRecursion (IsClean test unnamed) script)
+      (named : AllByRecursion (λ (handler : NamedBlock). BlockHolds (Names unnamed) (handler.block)) script) where
+    pub any-walked : IsWalked script IsHeld Any
+    any-walked = held-walked clean named Any (λ line plain. tt) (λ document handler handed world. all-so _)
+
+    pub any-loop : (document : ℕ) (world : World) → IsHeld world → IsGood Any IsHeld (resize_loop script document world)
+    unfolding resize_loop resize_rounds rounds_up_to
+    any-loop document world here =
+        then-good Any IsHeld (resize_rounds script document world) (report_skipped script document)
+        (rounds-good script IsHeld Any any-walked (λ text depth. tt) document world here)
+        (λ now held. if-good Any IsHeld (fire script (FiredError (document_text (now.names) document)) (WindowTarget document) events.Error) now
+        (is_active (now.tree) document && has_skipped document (now.resize_observers))
+        (fire-good script IsHeld Any any-walked (FiredError (document_text (now.names) document)) (WindowTarget document) events.Error tt) held)

@@ -11,3 +11,4 @@ mod Waiting
 mod Lines
 mod Quiet
 mod Searching
+mod Listing

@@ -1,4 +1,4 @@
--- No command and no callback says an error line: only the end of a resize loop does.
+-- No command and no callback says the line of a round or of a loop error: only a resize loop does.
 use Rattle.std.proofs.Common.{◌≡◌, refl}
 use Rattle.std.specs.Prelude.{ℕ, false, List, [], ◌∷◌, map, Option, Some, None, ⊤}
 use Rattle.std.specs.List.{AllByRecursion}
@@ -19,11 +19,11 @@ use Rattle.page_model.specs.Runs.{Said, say, ◌followed_by◌}
 use Rattle.page_model.specs.Callbacks.{Script, Entries, NoEntries, SizeEntries, CutEntries, handler_names, handler_block, resize_line, entry_lines, presents, once_begun, said_by, run_command, run_block, run_handler, call}
 use Rattle.page_laws.specs.Successors.{OnDid}
 use Rattle.page_laws.proofs.Steps.{bind, both, did, on_did-all, on_did-map}
-use Rattle.loop_lint.specs.RunLoops.{is_error_line}
+use Rattle.loop_lint.specs.RunLoops.{is_loop_line}
 use Rattle.loop_lint.proofs.Walk.{IsGood, silent-good, then-good, if-good, each-good, caught-good, answered-good}
 
 abbrev pub IsPlain : TraceLine → Type 0
-IsPlain line = is_error_line line ≡ false
+IsPlain line = is_loop_line line ≡ false
 
 -- entries
 

@@ -5,7 +5,7 @@ use Rattle.std.specs.List.{AllByRecursion}
 use Rattle.script_model.specs.Syntax.{Item, Outside, Tick, Handler}
 use Rattle.script_model.specs.Scripts.{NamedBlock, handlers_in}
 use Rattle.script_model.specs.Reading.{Reading, reading}
-use Rattle.script_model.specs.TraceLines.{TraceLine}
+use Rattle.script_model.specs.TraceLines.{TraceLine, EventLine, FiredError}
 use Rattle.page_model.specs.World.{World, Observation}
 use Rattle.page_model.specs.Documents.{is_active}
 use Rattle.page_model.specs.Lookups.{resize_observer_at}
@@ -23,14 +23,14 @@ use Rattle.loop_laws.specs.Rounds.{goes_on, rounds_up_to, IsDeeper, rounds_left}
 use Rattle.loop_laws.specs.WholeLoops.{resize_rounds, has_undelivered, fire_error}
 use Rattle.loop_lint.specs.LoopHandlers.{is_unnamed}
 use Rattle.loop_lint.specs.Verdicts.{disturbs, is_quiet}
-use Rattle.loop_lint.specs.RunLoops.{is_error_line}
+use Rattle.loop_lint.specs.RunLoops.{is_loop_line, is_error_line}
 use Rattle.loop_lint.proofs.Holding.{BlockHolds, ItemHolds, Names, IsClean, all-named, handlers-hold, loop-handlers-clean}
 use Rattle.loop_lint.proofs.Tame.{tame-at}
 use Rattle.loop_lint.proofs.Walk.{IsGood, IsWalked, delivery-good, round-good, rounds-good, IsOutsideGood, items-good}
 use Rattle.loop_lint.proofs.Held.{IsHeld, held-walked, command-held, counts-held, timed-held, opening-held}
 use Rattle.loop_lint.proofs.Calm.{call-calm}
 use Rattle.loop_lint.proofs.Waiting.{AreFine, passed-fine, reported-now, emptied-fine, calm-fine, gather-fine, settled-gather, rest-settled, all-waiting, waiting-all, all-settled}
-use Rattle.loop_lint.proofs.Lines.{IsPlain, command-plain, call-plain}
+use Rattle.loop_lint.proofs.Lines.{command-plain, call-plain}
 
 -- a loop over a list by place that ends without a throw or a limit ends by its test -------------------------------------------------------
 
@@ -113,6 +113,16 @@ when-true : (a b : Bool) → (a ≡ true → b ≡ false) → (a && b) ≡ false
 when-true true b each = each refl
 when-true false b each = refl
 
+-- lines that aren't an error's
+
+abbrev IsPlain : TraceLine → Type 0
+IsPlain line = is_error_line line ≡ false
+
+no-error : (line : TraceLine) → is_loop_line line ≡ false → IsPlain line
+no-error (EventLine (FiredError document)) is = absurd (true≢false is)
+no-error (EventLine other) is = refl
+no-error other is = refl
+
 -- a quiet script -----------------------------------------------------------------------------------------------------------------------
 
 module _ (items : List Item) (quiet : is_quiet items ≡ true) where
@@ -130,8 +140,8 @@ module _ (items : List Item) (quiet : is_quiet items ≡ true) where
   named = handlers-hold (Names (is_unnamed items)) items (all-named items)
 
   walked : IsWalked script Held IsPlain
-  walked = held-walked disturbs (is_unnamed items) script clean named IsPlain (λ line plain. plain)
-      (λ document handler handed world. (call-plain script document handler handed world).lines)
+  walked = held-walked disturbs (is_unnamed items) script clean named IsPlain no-error
+      (λ document handler handed world. all-map (λ line. is_loop_line line ≡ false) IsPlain no-error _ (call-plain script document handler handed world).lines)
 
   module _ (document : ℕ) where
     abbrev Fine : ℕ → World → Type 0
@@ -264,7 +274,7 @@ module _ (items : List Item) (quiet : is_quiet items ≡ true) where
     rounds-waiting world held =
         repeat-keeps IsWaiting (goes_on document) (round script document) most_steps
         (λ now waiting is. record {
-          held = (round-good script Held IsPlain walked document now (waiting.held)).state;
+          held = (round-good script Held IsPlain walked (λ text depth. refl) document now (waiting.held)).state;
           fine = round-fine now (waiting.held) (waiting.fine);
         })
         (gather document 0 world)
@@ -298,13 +308,13 @@ module _ (items : List Item) (quiet : is_quiet items ≡ true) where
     loop-quiet document world held =
         subst (λ (said : Said World). IsGood IsPlain Held said) (sym (exact script document world (held.limits)))
         (then-not IsPlain Held (fire_error script document) (λ now. is_active (now.tree) document && has_undelivered document now)
-        (resize_rounds script document world) (rounds-good script Held IsPlain walked document world held)
+        (resize_rounds script document world) (rounds-good script Held IsPlain walked (λ text depth. refl) document world held)
         (λ next. at-rest document (resize_rounds script document world).state (rounds-waiting document world held).fine (rounds-end document world held next)))
 
     outside : (item : Item) → ItemHolds (Names (is_unnamed items)) item → IsOutsideGood script Held IsPlain walked loop-quiet item
     outside (Outside command) holds = λ world here. record {
       state = command-held disturbs (is_unnamed items) script clean named command world holds here;
-      lines = (command-plain script [] command NoEntry world).lines;
+      lines = all-map (λ line. is_loop_line line ≡ false) IsPlain no-error _ (command-plain script [] command NoEntry world).lines;
     }
     outside (Tick line time) holds = tt
     outside (Handler line name block end_line) holds = tt

@@ -5,33 +5,31 @@ use Rattle.std.specs.List.{AllByRecursion}
 use Rattle.std.proofs.lemmas.List.Sums.{sum_by-cons}
 use Rattle.script_model.specs.Syntax.{Action, Viewport, MakeBlock, MakeImage, MakeFrame, Append, Before, Remove, SetStyle, Grow, Load, MakeResizeObserver, ObserveResize, UnobserveResize, DisconnectResize, MakeIntersectionObserver, ObserveIntersection, UnobserveIntersection, DisconnectIntersection, TakeIntersections, Listen, Unlisten, MakeQueryList, ScrollTo, ScrollBy, RequestFrame, CancelFrame, SetTimer, ClearTimer, Post, Say, Read, Command, Simple, Each, When, Item, Outside, Tick, Handler}
 use Rattle.script_model.specs.Scripts.{NamedBlock, handlers_in}
-use Rattle.script_model.specs.TraceLines.{TraceLine, FiredError}
-use Rattle.text_io.specs.declared.kinds.EventKind.TheVariants as events
-use Rattle.page_model.specs.World.{World, Observation, WindowTarget}
+use Rattle.script_model.specs.TraceLines.{TraceLine}
+use Rattle.page_model.specs.World.{World, Observation}
 use Rattle.page_model.specs.Documents.{is_active}
-use Rattle.page_model.specs.Names.{document_text}
 use Rattle.page_model.specs.Lookups.{resize_observer_at}
-use Rattle.page_model.specs.Gathering.{sight_of, size_entry, with_reported, has_skipped, due_at}
+use Rattle.page_model.specs.Gathering.{sight_of, size_entry, with_reported, due_at}
 use Rattle.page_model.specs.Operands.{Present}
 use Rattle.page_model.specs.Runs.{Flow, Next, Thrown, Limited, Said, Turn, lifted, at_place, most_steps}
-use Rattle.page_model.specs.Callbacks.{Script, SizeEntries, presents, fire}
-use Rattle.page_model.specs.Loop.{Broadcast, gather, deliver_some, round, report_skipped, resize_loop}
+use Rattle.page_model.specs.Callbacks.{Script, SizeEntries, presents}
+use Rattle.page_model.specs.Loop.{Broadcast, gather, deliver_some, round, resize_loop}
 use Rattle.page_model.specs.Outcome.{opening_world}
 use Rattle.page_laws.specs.Bounds.{IsWithinLimits}
 use Rattle.page_laws.proofs.Lists.{all-append, all-map}
 use Rattle.page_laws.proofs.Later.{all-so}
 use Rattle.loop_laws.specs.Moments.{Moment, onward, following, listed_if, along_repeat, along_places, delivery_moments, broadcast_moments}
-use Rattle.loop_laws.specs.Rounds.{goes_on, rounds_up_to, round_depth}
+use Rattle.loop_laws.specs.Rounds.{goes_on, round_depth}
 use Rattle.loop_laws.specs.Uprooting.{moved_operand, lifts, uproots_by, uproots, gathered_targets, uprootings}
-use Rattle.loop_laws.specs.WholeLoops.{resize_rounds, round_starts, delivered_depths, greatest, GoesDeeper}
+use Rattle.loop_laws.specs.WholeLoops.{round_starts, delivered_depths, greatest, GoesDeeper}
 use Rattle.loop_lint.specs.LoopHandlers.{is_unnamed}
 use Rattle.loop_lint.specs.Verdicts.{moves, is_steady}
 use Rattle.loop_lint.specs.RunLoops.{loops_of_run, AreGrowing, IsSteadyLoop}
 use Rattle.loop_lint.proofs.Holding.{CommandHolds, BlockHolds, ItemHolds, Fails, Names, IsClean, simple-holds, all-named, handlers-hold, loop-handlers-clean}
 use Rattle.loop_lint.proofs.Listed.{IsFine, call-listed}
 use Rattle.loop_lint.proofs.Tame.{tame-at}
-use Rattle.loop_lint.proofs.Walk.{IsGood, IsWalked, then-good, if-good, fire-good, delivery-good, round-good, rounds-good, IsOutsideGood, items-loops}
-use Rattle.loop_lint.proofs.Held.{IsHeld, held-walked, command-held, counts-held, timed-held, opening-held}
+use Rattle.loop_lint.proofs.Walk.{IsGood, IsWalked, delivery-good, round-good, IsOutsideGood, items-loops}
+use Rattle.loop_lint.proofs.Held.{IsHeld, Any, any-walked, any-loop, command-held, counts-held, timed-held, opening-held}
 
 -- lists along a run -------------------------------------------------------------------------------------------------------------
 
@@ -163,11 +161,11 @@ module _ (items : List Item) (steady : is_steady items ≡ true)
   abbrev script : Script
   script = handlers_in items
 
+  abbrev Says : TraceLine → Type 0
+  Says = Any moves (is_unnamed items) script
+
   abbrev Held : World → Type 0
   Held world = IsHeld moves (is_unnamed items) script world
-
-  abbrev Any : TraceLine → Type 0
-  Any line = ⊤
 
   clean : AllByRecursion (IsClean moves (is_unnamed items)) script
   unfolding is_steady
@@ -176,8 +174,8 @@ module _ (items : List Item) (steady : is_steady items ≡ true)
   named : AllByRecursion (λ (handler : NamedBlock). BlockHolds (Names (is_unnamed items)) (handler.block)) script
   named = handlers-hold (Names (is_unnamed items)) items (all-named items)
 
-  walked : IsWalked script Held Any
-  walked = held-walked moves (is_unnamed items) script clean named Any (λ line plain. tt) (λ document handler handed world. all-so _)
+  walked : IsWalked script Held Says
+  walked = any-walked moves (is_unnamed items) script clean named
 
   module _ (document : ℕ) where
     delivered-listed : (start : World) (observer : ℕ) (so_far : Broadcast) (delivered : List Observation) → Held (so_far.world) →
@@ -201,7 +199,7 @@ module _ (items : List Item) (steady : is_steady items ≡ true)
         (λ observer so_far. deliver_some script document observer so_far (due_at document observer (so_far.world.resize_observers)))
         (λ observer so_far held. (
           delivered-listed start observer so_far (due_at document observer (so_far.world.resize_observers)) held,
-          (delivery-good script Held Any walked document observer so_far held).state,
+          (delivery-good script Held Says walked document observer so_far held).state,
         ))
         (record { world = start; shallowest = None }) here)
 
@@ -209,7 +207,7 @@ module _ (items : List Item) (steady : is_steady items ≡ true)
     unfolding round_starts
     starts-rooted world here =
         repeat-listed (λ start. uprootings script document start ≡ 0) Held (goes_on document) (λ now. now ∷ []) (round script document) most_steps
-        (λ now held is. ((rooted now held, tt), (round-good script Held Any walked document now held).state))
+        (λ now held is. ((rooted now held, tt), (round-good script Held Says walked (λ text depth. tt) document now held).state))
         (gather document 0 world) (walked.gathered document 0 world here)
 
     steady-loop : (world : World) → Held world → IsSteadyLoop script (record { document = document; world = world })
@@ -219,15 +217,10 @@ module _ (items : List Item) (steady : is_steady items ≡ true)
           (none-summed script document (round_starts script document world) (starts-rooted world here)) (few script document world (here.limits));
     }
 
-    loop-keeps : (world : World) → Held world → IsGood Any Held (resize_loop script document world)
-    unfolding resize_loop resize_rounds rounds_up_to
-    loop-keeps world here =
-        then-good Any Held (resize_rounds script document world) (report_skipped script document) (rounds-good script Held Any walked document world here)
-        (λ now held. if-good Any Held (fire script (FiredError (document_text (now.names) document)) (WindowTarget document) events.Error) now
-        (is_active (now.tree) document && has_skipped document (now.resize_observers))
-        (fire-good script Held Any walked (FiredError (document_text (now.names) document)) (WindowTarget document) events.Error tt) held)
+    loop-keeps : (world : World) → Held world → IsGood Says Held (resize_loop script document world)
+    loop-keeps world here = any-loop moves (is_unnamed items) script clean named document world here
 
-  outside : (item : Item) → ItemHolds (Names (is_unnamed items)) item → IsOutsideGood script Held Any walked loop-keeps item
+  outside : (item : Item) → ItemHolds (Names (is_unnamed items)) item → IsOutsideGood script Held Says walked loop-keeps item
   outside (Outside command) holds = λ world here. record {
     state = command-held moves (is_unnamed items) script clean named command world holds here;
     lines = all-so _;
@@ -238,7 +231,7 @@ module _ (items : List Item) (steady : is_steady items ≡ true)
   pub steady-loops : AllByRecursion (IsSteadyLoop script) (loops_of_run items)
   unfolding loops_of_run
   steady-loops =
-      items-loops script Held Any walked loop-keeps (counts-held moves (is_unnamed items) script) (timed-held moves (is_unnamed items) script)
+      items-loops script Held Says walked loop-keeps (counts-held moves (is_unnamed items) script) (timed-held moves (is_unnamed items) script)
       (IsSteadyLoop script) steady-loop items
-      (all-map (ItemHolds (Names (is_unnamed items))) (IsOutsideGood script Held Any walked loop-keeps) outside items (all-named items))
+      (all-map (ItemHolds (Names (is_unnamed items))) (IsOutsideGood script Held Says walked loop-keeps) outside items (all-named items))
       opening_world (opening-held moves (is_unnamed items) script)

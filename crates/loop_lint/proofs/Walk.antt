@@ -8,7 +8,7 @@ use Rattle.text_io.specs.declared.kinds.LimitKind.TheVariants as limits
 use Rattle.text_io.specs.declared.kinds.LimitKind.{LimitKind}
 use Rattle.text_io.specs.declared.kinds.ThrowKind.{ThrowKind}
 use Rattle.script_model.specs.Syntax.{Item, Outside, Tick, Handler}
-use Rattle.script_model.specs.TraceLines.{TraceLine, FiredEvent, FiredResize, FiredScroll, FiredChange, EventLine, TimerLine, FrameLine, TaskLine, TickLine, ThrowLine, LimitLine}
+use Rattle.script_model.specs.TraceLines.{TraceLine, FiredEvent, FiredResize, FiredScroll, FiredChange, EventLine, TimerLine, FrameLine, TaskLine, TickLine, RoundLine, ThrowLine, LimitLine}
 use Rattle.page_model.specs.World.{World, Tree, Entry, EventTarget, ElementTarget, DocumentTarget, WindowTarget, QueryTarget, IntersectionObservers, Observation, Task, Notify, Posted, Timer, FrameCallback}
 use Rattle.page_model.specs.Lookups.{resize_observer_at, intersection_observer_at, query_list_at}
 use Rattle.page_model.specs.Documents.{is_active, active_documents}
@@ -43,7 +43,7 @@ use Rattle.page_laws.proofs.WholeRuns.{time-kept}
 use Rattle.loop_laws.specs.Moments.{onward, where_did, listed_if, along_each}
 use Rattle.loop_laws.specs.Rounds.{goes_on, rounds_up_to}
 use Rattle.loop_laws.specs.WholeLoops.{resize_rounds}
-use Rattle.loop_lint.specs.RunLoops.{Loop, over, earlier_parts, document_loops, update_loops, tick_loops, item_loops, is_error_line}
+use Rattle.loop_lint.specs.RunLoops.{Loop, over, earlier_parts, document_loops, update_loops, tick_loops, item_loops, is_loop_line}
 
 -- folds of steps -----------------------------------------------------------------------------------------------------------
 
@@ -124,7 +124,7 @@ module _ (script : Script) (P : World → Type 0) (Q : TraceLine → Type 0) whe
   Good said = IsGood Q P said
 
   pub record IsWalked : Type 0 where
-    pub plain : (line : TraceLine) → is_error_line line ≡ false → Q line
+    pub plain : (line : TraceLine) → is_loop_line line ≡ false → Q line
     pub next : (before now : World) → IsNext before now → now.resize_observers ≡ before.resize_observers → P before → P now
     pub calls : (document : ℕ) (handler : Option ℕ) (handed : Entries) (world : World) → AllByRecursion (IsPresentIn world) (presents handed) → P world →
         Good (call script document handler handed world)
@@ -161,10 +161,10 @@ module _ (script : Script) (P : World → Type 0) (Q : TraceLine → Type 0) (wa
   abbrev Fine : Said World → Type 0
   Fine said = IsGood Q P said
 
-  said-good : (line : TraceLine) (world : World) → is_error_line line ≡ false → P world → Fine (say (line ∷ []) world)
+  said-good : (line : TraceLine) (world : World) → is_loop_line line ≡ false → P world → Fine (say (line ∷ []) world)
   said-good line world plain here = record { state = here; lines = (walked.plain line plain, tt) }
 
-  active-line-good : (tree : Tree) (document : ℕ) (line : TraceLine) (world : World) → is_error_line line ≡ false → P world →
+  active-line-good : (tree : Tree) (document : ℕ) (line : TraceLine) (world : World) → is_loop_line line ≡ false → P world →
       Fine (say (line_while_active tree document line) world)
   active-line-good tree document line world plain here = by (is_active tree document)
     where
@@ -258,7 +258,7 @@ module _ (script : Script) (P : World → Type 0) (Q : TraceLine → Type 0) (wa
       world
       here
 
-  size-good : (document : ℕ) (world : World) → is_active (world.tree) document ≡ true → P world → Fine (resize_steps script document world)
+  pub size-good : (document : ℕ) (world : World) → is_active (world.tree) document ≡ true → P world → Fine (resize_steps script document world)
   unfolding resize_steps
   size-good document world is here =
       let size = viewport_of (world.tree) (world.viewports.size) document in
@@ -269,7 +269,7 @@ module _ (script : Script) (P : World → Type 0) (Q : TraceLine → Type 0) (wa
       (walked.plain _ refl))
       (walked.next world now (noted-next world document size (active-in (world.tree) document is)) refl here)
 
-  scroll-good : (document : ℕ) (world : World) → P world → Fine (scroll_steps script document world)
+  pub scroll-good : (document : ℕ) (world : World) → P world → Fine (scroll_steps script document world)
   unfolding scroll_steps
   scroll-good document world here =
       each-good Q P
@@ -298,7 +298,7 @@ module _ (script : Script) (P : World → Type 0) (Q : TraceLine → Type 0) (wa
       (λ each there. evaluated-good query (matches_now each document (it.query)) each there)
       here
 
-  media-good : (document : ℕ) (world : World) → P world → Fine (media_steps script document world)
+  pub media-good : (document : ℕ) (world : World) → P world → Fine (media_steps script document world)
   unfolding media_steps
   media-good document world here =
       places-good Q P (λ now. length (now.queries)) (λ now. is_active (now.tree) document) (evaluate script document)
@@ -314,7 +314,7 @@ module _ (script : Script) (P : World → Type 0) (Q : TraceLine → Type 0) (wa
       (walked.next world without (frame-next world (callback.serial)) refl here))
       (call-good (callback.document) (Some (callback.handler)))
 
-  frames-good : (document : ℕ) (world : World) → P world → Fine (frame_steps script document world)
+  pub frames-good : (document : ℕ) (world : World) → P world → Fine (frame_steps script document world)
   unfolding frame_steps
   frames-good document world here =
       each-good Q P (λ callback now. only_if (run_frame_callback script callback) now
@@ -325,7 +325,7 @@ module _ (script : Script) (P : World → Type 0) (Q : TraceLine → Type 0) (wa
       world
       here
 
-  over-good : (part : ℕ → World → Said World) (documents : List ℕ) →
+  pub over-good : (part : ℕ → World → Said World) (documents : List ℕ) →
       ((document : ℕ) (world : World) → is_active (world.tree) document ≡ true → P world → Fine (part document world)) → (world : World) →
       P world → Fine (over documents part world)
   over-good part documents each world here =
@@ -333,7 +333,7 @@ module _ (script : Script) (P : World → Type 0) (Q : TraceLine → Type 0) (wa
       (λ document now held. active-good document (part document) (each document) now held) world here
 
   -- the parts before the loops
-  earlier-good : (documents : List ℕ) (world : World) → P world → Fine (for_each (over documents) (earlier_parts script) world)
+  pub earlier-good : (documents : List ℕ) (world : World) → P world → Fine (for_each (over documents) (earlier_parts script) world)
   unfolding for_each
   earlier-good documents world here =
       then-good Q P (over documents (resize_steps script) world) _ (over-good (resize_steps script) documents size-good world here) (λ a ha.
@@ -379,22 +379,56 @@ module _ (script : Script) (P : World → Type 0) (Q : TraceLine → Type 0) (wa
       (record { world = world; shallowest = None })
       here
 
-  pub round-good : (document : ℕ) (world : World) → P world → Fine (round script document world)
-  round-good document world here =
+  pub round-good : ((text : List ℕ) (depth : ℕ) → Q (RoundLine text depth)) → (document : ℕ) (world : World) → P world → Fine (round script document world)
+  round-good rounds document world here =
       let ended = then-good Q (λ (b : Broadcast). P (b.world)) (broadcast script document world) _ (broadcast-good document world here)
       (λ so_far held. if-good Q (λ (b : Broadcast). P (b.world)) (round_ended document) so_far (is_active (so_far.world.tree) document)
-      (λ it there. record { state = walked.gathered document _ (it.world) there; lines = (walked.plain _ refl, tt) })
+      (λ it there. record { state = walked.gathered document _ (it.world) there; lines = (rounds _ _, tt) })
       held) in
       record { state = ended.state; lines = ended.lines }
 
-  pub rounds-good : (document : ℕ) (world : World) → P world → Fine (resize_rounds script document world)
+  pub rounds-good : ((text : List ℕ) (depth : ℕ) → Q (RoundLine text depth)) → (document : ℕ) (world : World) → P world → Fine (resize_rounds script document world)
   unfolding resize_rounds rounds_up_to
-  rounds-good document world here =
-      repeat-good Q P (goes_on document) (round script document) most_steps (λ now held is. round-good document now held)
+  rounds-good rounds document world here =
+      repeat-good Q P (goes_on document) (round script document) most_steps (λ now held is. round-good rounds document now held)
       (gather document 0 world) (walked.gathered document 0 world here)
 
+  -- the intersections, behind the loops
+  pub later-good : (documents : List ℕ) (world : World) → P world → Fine (for_each (over documents) (intersection_steps ∷ []) world)
+  unfolding for_each
+  later-good documents world here =
+      then-good Q P (over documents intersection_steps world) (λ f. silent f)
+      (over-good intersection_steps documents (λ document now is held. silent-good Q P _ (walked.next now _
+      (update-next document now (active-in (now.tree) document is)) (update-same document now) held)) world here) (λ f hf. silent-good Q P f hf)
+
+  -- tasks and ticks
+
+  posted-good : (document handler : ℕ) (world : World) → P world → Fine (run_task script (Posted document handler) world)
+  posted-good document handler world here =
+      then-good Q P
+      (say (line_while_active (world.tree) document (TaskLine (document_text (world.names) document) (handler_text script handler))) world)
+      (call script document (Some handler) NoEntries)
+      (active-line-good (world.tree) document (TaskLine (document_text (world.names) document) (handler_text script handler)) world refl here)
+      (call-good document (Some handler))
+
+  first-good : (tasks : List Task) (world : World) → world.tasks ≡ tasks → P world → Fine (run_first script tasks world)
+  first-good [] world are here = silent-good Q P world here
+  first-good (Notify document ∷ others) world are here = notify-good document others world are here
+  first-good (Posted document handler ∷ others) world are here =
+      posted-good document handler (record world { tasks = others }) (walked.next world _ (tasks-next world (Posted document handler) others are) refl here)
+
+  pub tasks-good : (world : World) → P world → Fine (run_tasks script world)
+  unfolding run_tasks
+  tasks-good world here =
+      repeat-good Q P (λ now. has_tasks (now.tasks)) (λ now. run_first script (now.tasks) now) most_steps
+      (λ now held is. first-good (now.tasks) now refl held) world here
+
+  pub begins-good : (world : World) → P world → Fine (say (TickLine (world.clock) ∷ []) world followed_by run_timers script)
+  begins-good world here =
+      then-good Q P (say (TickLine (world.clock) ∷ []) world) (run_timers script) (said-good (TickLine (world.clock)) world refl here) timers-good
+
   module _ (loops : (document : ℕ) (world : World) → P world → Fine (resize_loop script document world)) where
-    update-good : (world : World) → P world → Fine (update_rendering script world)
+    pub update-good : (world : World) → P world → Fine (update_rendering script world)
     unfolding update_rendering for_each
     update-good world here =
         let documents = active_documents (world.tree) in
@@ -410,32 +444,6 @@ module _ (script : Script) (P : World → Type 0) (Q : TraceLine → Type 0) (wa
         then-good Q P (over documents intersection_steps e) (λ f. silent f)
         (over-good intersection_steps documents (λ document now is held. silent-good Q P _ (walked.next now _
         (update-next document now (active-in (now.tree) document is)) (update-same document now) held)) e he) (λ f hf. silent-good Q P f hf))))))
-
-    -- tasks and ticks
-
-    posted-good : (document handler : ℕ) (world : World) → P world → Fine (run_task script (Posted document handler) world)
-    posted-good document handler world here =
-        then-good Q P
-        (say (line_while_active (world.tree) document (TaskLine (document_text (world.names) document) (handler_text script handler))) world)
-        (call script document (Some handler) NoEntries)
-        (active-line-good (world.tree) document (TaskLine (document_text (world.names) document) (handler_text script handler)) world refl here)
-        (call-good document (Some handler))
-
-    first-good : (tasks : List Task) (world : World) → world.tasks ≡ tasks → P world → Fine (run_first script tasks world)
-    first-good [] world are here = silent-good Q P world here
-    first-good (Notify document ∷ others) world are here = notify-good document others world are here
-    first-good (Posted document handler ∷ others) world are here =
-        posted-good document handler (record world { tasks = others }) (walked.next world _ (tasks-next world (Posted document handler) others are) refl here)
-
-    tasks-good : (world : World) → P world → Fine (run_tasks script world)
-    unfolding run_tasks
-    tasks-good world here =
-        repeat-good Q P (λ now. has_tasks (now.tasks)) (λ now. run_first script (now.tasks) now) most_steps
-        (λ now held is. first-good (now.tasks) now refl held) world here
-
-    begins-good : (world : World) → P world → Fine (say (TickLine (world.clock) ∷ []) world followed_by run_timers script)
-    begins-good world here =
-        then-good Q P (say (TickLine (world.clock) ∷ []) world) (run_timers script) (said-good (TickLine (world.clock)) world refl here) timers-good
 
     pub tick-good : (world : World) → P world → Fine (tick script world)
     unfolding tick
@@ -494,10 +502,10 @@ module _ (script : Script) (P : World → Type 0) (Q : TraceLine → Type 0) (wa
 
   module _ (counts : (world : World) → world.begun < 1000000 → P world → P (counted world))
       (timed : (time : ℕ) (world : World) → P world → P (record world { clock = time })) where
-    time-held : (time : ℕ) (world : World) → P world → OnDid (time_set time world) P
+    pub time-held : (time : ℕ) (world : World) → P world → OnDid (time_set time world) P
     time-held time world here = time-kept P world time (λ later. timed time world here)
 
-    begun-held : (world : World) → P world → OnDid (begun_in world) P
+    pub begun-held : (world : World) → P world → OnDid (begun_in world) P
     unfolding begun_in
     begun-held world here = room-then limits.Commands (world.begun) 1000000 _ _ (λ room. did (counted world) P (counts world room here))
 
@@ -516,7 +524,7 @@ module _ (script : Script) (P : World → Type 0) (Q : TraceLine → Type 0) (wa
         (on_did-map (time_set time begun) P _ (tick-good script P Q walked loops) (time-held time begun held)))
         (begun-held world here))
 
-    item-good : (item : Item) → IsOutsideGood item → (world : World) → P world → IsGood Q P (run_item script item world)
+    pub item-good : (item : Item) → IsOutsideGood item → (world : World) → P world → IsGood Q P (run_item script item world)
     unfolding run_item
     item-good (Outside command) outside world here = caught-good Q P (run_command script [] command NoEntry world) (outside world here)
     item-good (Tick line time) outside world here = caught-good Q P (run_tick script line time world) (run_tick-good line time world here)

@@ -1,8 +1,8 @@
 -- The resize loops of a script's run, read off the run as page_model has it: each with its document and the page in which it begins.
-use Rattle.std.specs.Prelude.{◌≤◌, ◌<◌, ℕ, Bool, true, false, List, [], ◌∷◌, map, flat_map, length, ⊤}
+use Rattle.std.specs.Prelude.{◌≤◌, ◌<◌, ℕ, Bool, true, false, List, [], ◌∷◌, map, flat_map, filter, length, ⊤}
 use Rattle.script_model.specs.Syntax.{Item, Outside, Tick, Handler}
 use Rattle.script_model.specs.Scripts.{handlers_in}
-use Rattle.script_model.specs.TraceLines.{TraceLine, TickLine, EventLine, FiredError}
+use Rattle.script_model.specs.TraceLines.{TraceLine, TickLine, RoundLine, EventLine, FiredError}
 use Rattle.page_model.specs.World.{World}
 use Rattle.page_model.specs.Documents.{is_active, active_documents}
 use Rattle.page_model.specs.Commands.{begun_in}
@@ -72,6 +72,18 @@ AreGrowing before (depth ∷ depths) = (before < depth) × AreGrowing depth dept
 pub record IsSteadyLoop (script : Script) (loop : Loop) : Type 0 where
   pub growing : AreGrowing 0 (depths_of script loop)
   pub short : length (depths_of script loop) ≤ greatest (delivered_by script loop)
+
+-- what a resize loop alone writes of its own: the line of a round and that of the error
+abbrev pub is_loop_line : TraceLine → Bool
+is_loop_line (RoundLine document depth) = true
+is_loop_line (EventLine (FiredError document)) = true
+is_loop_line line = false
+
+abbrev pub loop_lines : List TraceLine → List TraceLine
+loop_lines lines = filter is_loop_line lines
+
+abbrev pub lines_of_loop : Script → Loop → List TraceLine
+lines_of_loop script loop = loop_lines (resize_loop script (loop.document) (loop.world)).lines
 
 -- the line of an error event that a resize loop fires
 abbrev pub is_error_line : TraceLine → Bool

@@ -1,14 +1,14 @@
 //! What the certificates promise of every run of a script.
 
-ghost use Rattle.std.specs.Prelude.{◌≡◌, IsTrue, false, List, ℕ, Ok, Bool};
+ghost use Rattle.std.specs.Prelude.{◌≡◌, IsTrue, false, List, ℕ, Ok, Bool, flat_map};
 ghost use Rattle.std.specs.List.{AllByRecursion};
 ghost use Rattle.script_model.specs.Syntax.{Action, Item};
 ghost use Rattle.script_model.specs.Scripts.{handlers_in};
 ghost use Rattle.script_model.specs.Reading.{reading};
-ghost use Rattle.page_model.specs.Outcome.{outcome};
+ghost use Rattle.page_model.specs.Outcome.{opening_world, run_items, outcome};
 ghost use Rattle.loop_lint.specs.LoopHandlers.{is_unnamed, loop_handler_lines};
 ghost use Rattle.loop_lint.specs.Verdicts.{is_steady, is_quiet};
-ghost use Rattle.loop_lint.specs.RunLoops.{IsSteadyLoop, loops_of_run, is_error_line};
+ghost use Rattle.loop_lint.specs.RunLoops.{IsSteadyLoop, loops_of_run, loop_lines, lines_of_loop, is_error_line};
 
 use loop_laws::{
     loop_errors_are_exact, loops_go_deeper, loops_have_few_rounds, resize_loops_come_to_rest,
@@ -32,6 +32,13 @@ pub fn quiet_scripts_report_no_errors()
     resize_loops_come_to_rest();
     loop_errors_are_exact();
 }
+
+/// The loops that are listed of a run are all that there are: the lines of rounds and of loop errors in its trace are those that these loops
+/// write, in their order.
+pub fn all_loops_are_listed()
+    ensures { (items : List Item) →
+        loop_lines (run_items items opening_world).lines ≡ flat_map (lines_of_loop (handlers_in items)) (loops_of_run items) }
+{}
 
 /// What a script holds outside handlers doesn't matter, but for its `ro` commands: with the same handlers, of which the same ones are loop
 /// handlers, the same commands are forbidden.
