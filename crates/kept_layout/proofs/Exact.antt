@@ -65,11 +65,11 @@ module _ (at : ℕ → Node) (shaped : IsShaped at) (linked : IsLinked at) (shal
       let below : Inputs = child_inputs (at n).item (seen_inputs found.inputs) in
       let same : sum_by (counted at (box_held slot)) (kids_of (at n)) ≡ sum_by (counted at (box_in at below)) (kids_of (at n))
       = heights_like at (box_held slot) (box_in at below) (kids_of (at n)) (λ c kid shown.
-        let one : IsCounted at n c = record { listed = kid; shown = shown } in
-        let own = right.kids c one in
-        ap box_found own.held
-        ∙ exact_within high c own.found (omega (arith, kid_falls at shaped n c kid)) (kid_unmarked n c unmarked one) own.held
-        ∙ ap (λ i. box_in at i c) own.from) in
+      let one : IsCounted at n c = record { listed = kid; shown = shown } in
+      let own = right.kids c one in
+      ap box_found own.held
+      ∙ exact_within high c own.found (omega (arith, kid_falls at shaped n c kid)) (kid_unmarked n c unmarked one) own.held
+      ∙ ap (λ i. box_in at i c) own.from) in
       right.box ∙ ap (λ h. computed (at n).item (seen_inputs found.inputs) (cap h)) same ∙ sym (box_of_children at linked shallow (seen_inputs found.inputs) n)
 
   pub exact : (n : ℕ) (found : Found) → (slot n).marked ≡ false → (slot n).found ≡ Some found → found.own ≡ box_in at (seen_inputs found.inputs) n

@@ -127,7 +127,7 @@ module _ (at : ℕ → Node) (shaped : IsShaped at) (n : ℕ) (inputs : Inputs) 
         sound_ends at shaped n inputs now new own given seen (set (slots n itself)) others above
         (subst (λ ys. Walked at now n inputs ys above) whole (going.walked slots)) is
         (λ p counted. let fall = kid_falls at shaped p n counted.listed in
-            ap (λ s. s.marked) (going.frame p (omega arith) (λ same. kid_differs at shaped p n counted.listed (sym same))) ∙ up p counted)
+        ap (λ s. s.marked) (going.frame p (omega arith) (λ same. kid_differs at shaped p n counted.listed (sym same))) ∙ up p counted)
         (going.sound slots up sound);
   }
 

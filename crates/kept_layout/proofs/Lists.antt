@@ -82,6 +82,7 @@ before_chain n c m (x ∷ xs) e f = by (before_chain n c m xs) (nat_eq x n) refl
           | inl here ↦ ap (λ b. b || has (before n xs) m) here
           | inr deep ↦ let more : has (before n xs) m ≡ true = below inside deep in grind (arith, nat_tests)
         ]
+
     by : (has (before n xs) c ≡ true → has (before c xs) m ≡ true → has (before n xs) m ≡ true) → (b : Bool) → nat_eq x n ≡ b → has (before n (x ∷ xs)) m ≡ true
     by below true is = absurd (none_has c (sym (ap (λ ys. has ys c) (before_here n x xs is)) ∙ e))
     by below false is = there below is (nat_eq x c) refl
@@ -103,6 +104,7 @@ ahead_step n (x ∷ xs) once here = by (ahead_step n xs once.1) (nat_eq n x) ref
     last (y ∷ ys) alone is =
         let other : nat_eq x y ≡ false = grind (arith, nat_tests) in
         before_on y x (y ∷ ys) other ∙ ap (λ zs. x ∷ zs) (before_here y y ys (itself y)) ∙ ap (λ k. k ∷ []) (sym (eqb-true n x is))
+
     by : (has xs n ≡ true → ahead_of (next_of n xs) xs ≡ before n xs ++ n ∷ []) → (b : Bool) → nat_eq n x ≡ b → ahead_of (next_of n (x ∷ xs)) (x ∷ xs) ≡ before n (x ∷ xs) ++ n ∷ []
     by below true is =
         let back : nat_eq x n ≡ true = grind (arith, nat_tests) in
@@ -116,7 +118,7 @@ ahead_step n (x ∷ xs) once here = by (ahead_step n xs once.1) (nat_eq n x) ref
         ∙ sym (ap (λ ys. ys ++ n ∷ []) (before_on n x xs back))
 
 pub has_end : (n c : ℕ) (xs : List ℕ) → has (xs ++ n ∷ []) c ≡ true → (has xs c ≡ true) ⊎ (c ≡ n)
-has_end n c [] e = elim (or_cases _ _ e) [ | inl here ↦ inr (eqb-true c n here) | inr there ↦ absurd (none_has c there) ]
+has_end n c [] e = elim (or_cases _ _ e) [ inl here ↦ inr (eqb-true c n here) | inr there ↦ absurd (none_has c there) ]
 has_end n c (x ∷ xs) e =
     elim (or_cases _ _ e) [
       | inl here ↦ inl (ap (λ b. b || has xs c) here)

@@ -113,6 +113,7 @@ module _ (at : ℕ → Node) (old new : ℕ → Slot) (path others : ℕ → Boo
       parent p c apart counted false is false child marked =
           ap (λ b. b || (old p).marked) is
           ∙ sound.marks p c (ap (λ b. b || others p) is ∙ apart) counted (sym (ap (λ b. b || (old c).marked) child) ∙ marked)
+
       right : (n : ℕ) (found : Found) → others n ≡ false → (b : Bool) → path n ≡ b → (path n || (old n).marked) ≡ false → (old n).found ≡ Some found → IsRight at new n found
       right n found apart true is unmarked held = absurd (false≢true (sym unmarked ∙ ap (λ b. b || (old n).marked) is))
       right n found apart false is unmarked held =

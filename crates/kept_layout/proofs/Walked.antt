@@ -133,8 +133,8 @@ module _ (at : ℕ → Node) (shaped : IsShaped at) (n : ℕ) (inputs : Inputs) 
     sound_on marked sound =
         sound_set at shaped x mid new others sound
         (λ p counted. let same : p ≡ n = one_parent at shaped n p x kid counted.listed in
-            let own = kid_falls at shaped n x kid in
-            subst (λ q. (mid q).marked ≡ true) (sym same) (ap (λ s. s.marked) (near n (omega arith) (λ e. kid_differs at shaped n x kid (sym e))) ∙ marked))
+        let own = kid_falls at shaped n x kid in
+        subst (λ q. (mid q).marked ≡ true) (sym same) (ap (λ s. s.marked) (near n (omega arith) (λ e. kid_differs at shaped n x kid (sym e))) ∙ marked))
         (λ c counted was. absurd (false≢true (sym settled.unmarked ∙ sound.marks x c refl counted was)))
         (λ found unmarked held. above_right found held (sound.right x settled.found refl settled.unmarked settled.held))
 

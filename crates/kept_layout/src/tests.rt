@@ -15,7 +15,9 @@ use step_count::Steps;
 use style_values::{Overflow, Style};
 
 const ELEMENTS: u32 = 500;
+
 const EDITS: u32 = 2000;
+
 const ROOT: NodeId = NodeId(0);
 
 const SCREEN: Inputs = Inputs {
@@ -82,10 +84,7 @@ impl Styled for Element {
 #[derive(Drop)]
 struct Scrolled;
 
-const SCROLLED: Point = Point {
-    left: 64,
-    top: 128,
-};
+const SCROLLED: Point = Point { left: 64, top: 128 };
 
 /// How far the viewport is scrolled.
 const VIEW: Point = Point {
@@ -140,7 +139,13 @@ fn mark_parent(tree: &Tree<Element>, kept: &mut Kept, node: NodeId) {
     }
 }
 
-fn restyle(rt: &impl Abort, random: &mut Random, tree: &mut Tree<Element>, kept: &mut Kept, node: NodeId)
+fn restyle(
+    rt: &impl Abort,
+    random: &mut Random,
+    tree: &mut Tree<Element>,
+    kept: &mut Kept,
+    node: NodeId,
+)
     requires { node.0 < length tree.old.nodes }
 {
     let (property, value) = DECLARATIONS[random.below(24) as usize];
@@ -148,12 +153,19 @@ fn restyle(rt: &impl Abort, random: &mut Random, tree: &mut Tree<Element>, kept:
         return;
     }
     let item = tree.payload_mut(node);
-    assert!(rt; item.style.set(property.as_bytes(), value.as_bytes()) == Ok(()), "{property}");
+    assert!(rt; item.style.set(property.as_bytes(), value.as_bytes()) == Ok(()));
     kept.mark(tree, node);
 }
 
 // Moves a node last into another, or before it, where that is allowed.
-fn place(rt: &impl Abort, tree: &mut Tree<Element>, kept: &mut Kept, node: NodeId, other: NodeId, before: bool)
+fn place(
+    rt: &impl Abort,
+    tree: &mut Tree<Element>,
+    kept: &mut Kept,
+    node: NodeId,
+    other: NodeId,
+    before: bool,
+)
     requires node { node.0 < length tree.old.nodes }
     requires other { other.0 < length tree.old.nodes }
 {
@@ -185,7 +197,13 @@ fn edit(rt: &impl Abort, random: &mut Random, tree: &mut Tree<Element>, kept: &m
     }
 }
 
-fn lay_out<L: Ledger>(blank: Blank, kept: &mut Kept, fresh: &mut FreshBoxes, tree: &Tree<Element>, inputs: Inputs)
+fn lay_out<L: Ledger>(
+    blank: Blank,
+    kept: &mut Kept,
+    fresh: &mut FreshBoxes,
+    tree: &Tree<Element>,
+    inputs: Inputs,
+)
     requires name { blank.name ≡ L.name }
     requires parts { blank.parts ≡ L.parts }
     requires one_part { 0 < blank.parts }
@@ -274,7 +292,13 @@ fn place_anew(rt: &impl Abort, tree: &Tree<Element>, boxes: &FreshBoxes, node: N
     place
 }
 
-fn compare(rt: &impl Abort, tree: &Tree<Element>, kept: &Kept, fresh: &FreshBoxes, node: NodeId) -> bool {
+fn compare(
+    rt: &impl Abort,
+    tree: &Tree<Element>,
+    kept: &Kept,
+    fresh: &FreshBoxes,
+    node: NodeId,
+) -> bool {
     if !tree.is_ancestor(ROOT, node) {
         return false;
     }
@@ -282,9 +306,18 @@ fn compare(rt: &impl Abort, tree: &Tree<Element>, kept: &Kept, fresh: &FreshBoxe
         return false;
     };
     assert_eq!(rt; kept.box_of(node), Some(own));
-    assert_eq!(rt; kept.size_of(node, BoxKind::Content), own.size(BoxKind::Content));
-    assert_eq!(rt; kept.size_of(node, BoxKind::Border), own.size(BoxKind::Border));
-    assert_eq!(rt; kept.place_of(tree, node, VIEW, &Scrolled), place_anew(rt, tree, fresh, node));
+    assert_eq!(rt;
+        kept.size_of(node, BoxKind::Content),
+        own.size(BoxKind::Content)
+    );
+    assert_eq!(rt;
+        kept.size_of(node, BoxKind::Border),
+        own.size(BoxKind::Border)
+    );
+    assert_eq!(rt;
+        kept.place_of(tree, node, VIEW, &Scrolled),
+        place_anew(rt, tree, fresh, node)
+    );
     true
 }
 
