@@ -8,6 +8,7 @@ pub mod Paid
 pub mod Going
 pub mod Exact
 pub mod Climbs
+pub mod Moved
 pub mod Scrollers
 pub mod Climbed
 pub mod Shifted

@@ -182,3 +182,20 @@ new_node at slot n others none nothing sound = record {
   where
     no_found : (o : Option Found) (found : Found) → o ≡ None → o ≡ Some found → ⊥
     no_found o found first second = cc
+
+-- a marked node, and more exceptions
+pub marked_fits : (at : ℕ → Node) (slot : ℕ → Slot) (others : ℕ → Bool) → IsSoundBut at slot (λ n. (slot n).marked || others n) → IsSoundBut at slot others
+marked_fits at slot others sound = record {
+  marks = λ p c apart counted marked. parent p c apart counted marked (slot p).marked refl;
+  right = λ n found apart unmarked held. sound.right n found (ap (λ b. b || others n) unmarked ∙ apart) unmarked held;
+}
+  where
+    parent : (p c : ℕ) → others p ≡ false → IsCounted at p c → (slot c).marked ≡ true → (b : Bool) → (slot p).marked ≡ b → (slot p).marked ≡ true
+    parent p c apart counted marked true is = is
+    parent p c apart counted marked false is = sound.marks p c (ap (λ b. b || others p) is ∙ apart) counted marked
+
+pub more_fits : (at : ℕ → Node) (slot : ℕ → Slot) (few more : ℕ → Bool) → ((n : ℕ) → more n ≡ false → few n ≡ false) → IsSoundBut at slot few → IsSoundBut at slot more
+more_fits at slot few more within sound = record {
+  marks = λ p c apart counted marked. sound.marks p c (within p apart) counted marked;
+  right = λ n found apart unmarked held. sound.right n found (within n apart) unmarked held;
+}

@@ -1,4 +1,4 @@
--- Which boxes are to be computed, now or again.
+-- Which boxes are to be computed, now or again. That boxes are kept, and when they are computed, is this project's own.
 use Rattle.std.specs.Prelude.{ℕ, zero, suc, ◌+◌, ◌==◌, Bool, true, false, ◌&&◌, ◌||◌, not, Option, Some, None}
 use Rattle.layout_model.specs.Boxes.{Inputs}
 use Rattle.block_layout.specs.Seen.{seen_inputs}

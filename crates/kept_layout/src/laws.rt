@@ -1,10 +1,15 @@
-//! That what is kept stays right where a tree changes elsewhere.
+//! That what is kept stays right where a tree changes elsewhere, and which nodes a change of a tree is at.
 
-ghost use Rattle.std.specs.Prelude.{◌≡◌, ◌==◌, ◌||◌, ℕ, Bool, false, None, []};
+ghost use Rattle.std.specs.Prelude.{◌≡◌, ◌==◌, ◌||◌, ◌++◌, ◌∷◌, ℕ, Bool, false, Option, None, List, [], length};
 ghost use Rattle.layout_model.specs.Nodes.{Node};
+ghost use Rattle.element_tree.specs.Edits.{change_at, with_payload, lone, removed, inserted};
+ghost use Rattle.element_tree.specs.Forest.{Knot, IsForest, names, parent_of};
+ghost use Rattle.block_layout.specs.Trees.{layout_tree};
 ghost use Rattle.kept_layout.specs.declared.slots.Slot.{Slot};
 ghost use Rattle.kept_layout.specs.Changes.{ChangesOnly};
 ghost use Rattle.kept_layout.specs.Sound.{IsSound, IsSoundBut};
+
+use block_layout::Styled;
 
 /// Where a tree changes at some nodes alone, what is kept fits it but for these. So marks on them mend it: a node that is
 /// shown or hidden counts as a change of its parent too, whose children are then no longer alike.
@@ -17,4 +22,29 @@ pub fn changes_leave_the_rest_right()
 pub fn new_nodes_need_no_mark()
     ensures { (at : ℕ → Node) (slot : ℕ → Slot) (n : ℕ) (others : ℕ → Bool) → (at n).children ≡ [] → (slot n).found ≡ None →
         IsSoundBut at slot (λ m. m == n || others m) → IsSoundBut at slot others }
+{}
+
+/// A node that is marked needs no exception: so the marks may come before the change, too.
+pub fn marked_nodes_are_no_exception()
+    ensures { (at : ℕ → Node) (slot : ℕ → Slot) (others : ℕ → Bool) →
+        IsSoundBut at slot (λ n. (slot n).marked || others n) → IsSoundBut at slot others }
+{}
+
+/// What fits but for some nodes fits but for more.
+pub fn exceptions_may_be_more()
+    ensures { (at : ℕ → Node) (slot : ℕ → Slot) (few more : ℕ → Bool) → ((n : ℕ) → more n ≡ false → few n ≡ false) →
+        IsSoundBut at slot few → IsSoundBut at slot more }
+{}
+
+/// At which nodes a tree changes: at the parent that a node leaves, at the parent that it comes to, at a node that is added,
+/// and at a node whose payload is written and its parent.
+pub fn trees_change_at_few_nodes<P: Styled>()
+    ensures removed { (nodes : List (Knot P)) (n : ℕ) →
+        ChangesOnly (names (parent_of nodes n)) (layout_tree P.style P.kind nodes) (layout_tree P.style P.kind (removed n nodes)) }
+    ensures inserted { (nodes : List (Knot P)) (p n : ℕ) (mark : Option ℕ) →
+        ChangesOnly (λ m. names (parent_of nodes n) m || m == p) (layout_tree P.style P.kind nodes) (layout_tree P.style P.kind (inserted p n mark nodes)) }
+    ensures added { (most : ℕ) (nodes : List (Knot P)) (payload : P) → IsForest most nodes →
+        ChangesOnly (λ m. m == length nodes) (layout_tree P.style P.kind nodes) (layout_tree P.style P.kind (nodes ++ lone payload ∷ [])) }
+    ensures written { (most : ℕ) (nodes : List (Knot P)) (n : ℕ) (payload : P) → IsForest most nodes →
+        ChangesOnly (λ m. m == n || names (parent_of nodes n) m) (layout_tree P.style P.kind nodes) (layout_tree P.style P.kind (change_at (with_payload payload) n nodes)) }
 {}

@@ -12,6 +12,9 @@ mod trees;
 mod walk;
 
 pub use kept::Kept;
-pub use laws::{changes_leave_the_rest_right, new_nodes_need_no_mark};
+pub use laws::{
+    changes_leave_the_rest_right, exceptions_may_be_more, marked_nodes_are_no_exception,
+    new_nodes_need_no_mark, trees_change_at_few_nodes,
+};
 pub use positions::Offsets;
 pub use slots::{Found, Slot};

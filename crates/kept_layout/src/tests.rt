@@ -153,10 +153,7 @@ fn restyle(
         return;
     }
     let item = tree.payload_mut(node);
-    assert!(rt;
-        item.style.set(property.as_bytes(), value.as_bytes()) == Ok(()),
-        "{property}"
-    );
+    assert!(rt; item.style.set(property.as_bytes(), value.as_bytes()) == Ok(()));
     kept.mark(tree, node);
 }
 
