@@ -1,0 +1,9 @@
+pub mod Consecutive
+pub mod Plain
+pub mod Items
+pub mod Cards
+pub mod Texts
+pub mod WellFormed
+pub mod Generated
+pub mod Fillings
+pub mod Periods
