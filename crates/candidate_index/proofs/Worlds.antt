@@ -1,10 +1,10 @@
 -- What is found over a world's containers, clips and boxes is the world's finding.
-use Rattle.std.proofs.Common.{◌≡◌, ◌∙◌, ℕ, ◌≤◌, Bool, true, false, cond, List, ◌∷◌, length, Option, Some, None, ap, refl, sym, unwrap_or, option_map, is_some}
+use Rattle.std.proofs.Common.{◌≡◌, ◌∙◌, ℕ, Bool, true, false, cond, List, ◌∷◌, Option, Some, None, ap, refl, sym, unwrap_or, option_map, is_some}
 use Rattle.px_units.specs.declared.Point.{Point}
 use Rattle.px_units.specs.declared.Rect.{Rect}
-use Rattle.page_model.specs.World.{World, Root, ImplicitRoot, DocumentRoot, ElementRoot, Finding, IntersectionObserver}
+use Rattle.page_model.specs.World.{World, Root, ImplicitRoot, DocumentRoot, ElementRoot, IntersectionObserver}
 use Rattle.page_model.specs.PageBoxes.{has_box}
-use Rattle.page_model.specs.Chains.{zero_rect, moved_back, moved_out, origin_of_element, border_rect, padding_rect, clips_in, clips_between, common_part, element_root_bounds, root_bounds as root_bounds_in, root_rect, most_containers}
+use Rattle.page_model.specs.Chains.{zero_rect, moved_back, moved_out, origin_of_element, border_rect, padding_rect, clips_in, clips_between, common_part, element_root_bounds, root_bounds as root_bounds_in, root_rect}
 use Rattle.page_model.specs.Findings.{Relation, Apart, Boxless, Chained, is_apart, relation, unseen, seen_at, found, finding, root_origin}
 use Rattle.clip_chain.specs.declared.spot.Spot.{Spot}
 use Rattle.clip_chain.specs.Scenes.{root_bounds}
