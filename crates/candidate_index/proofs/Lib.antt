@@ -5,4 +5,4 @@ pub mod Asking
 pub mod Keeping
 pub mod Looking
 pub mod Same
-pub mod Trying
+pub mod Worlds

@@ -5,4 +5,4 @@ pub mod Registrations
 pub mod Asked
 pub mod Held
 pub mod Codes
-pub mod Sample
+pub mod Worlds

@@ -1,7 +1,10 @@
-//! What it means that a registration isn't stale: the clauses of a function that does nothing.
+//! What findings over a scene are in a world, and what it means that a registration isn't stale: each law is the clause of a
+//! function that does nothing.
 
 ghost use Rattle.std.specs.Prelude.{◌≡◌, ◌↔◌, ℕ, List, Some, true, false};
-ghost use Rattle.page_model.specs.World.{Root, IntersectionObservers};
+ghost use Rattle.page_model.specs.World.{World, Root, IntersectionObserver, IntersectionObservers};
+ghost use Rattle.page_model.specs.Findings.{relation, finding};
+ghost use Rattle.clip_chain.specs.Worlds.{scene_of};
 ghost use Rattle.clip_chain.specs.declared.spot.Spot.{Spot as SpotOf};
 ghost use Rattle.clip_chain.specs.Scenes.{Scene as SceneOf};
 ghost use Rattle.intersection_observer.specs.Seen.{seen_finding};
@@ -9,9 +12,10 @@ ghost use Rattle.candidate_index.specs.declared.scene.Standing.{Standing as Stan
 ghost use Rattle.candidate_index.specs.declared.basis.Basis.{Basis as BasisOf};
 ghost use Rattle.candidate_index.specs.declared.index.Kept.{Kept as KeptOf};
 ghost use Rattle.candidate_index.specs.Bases.{is_same_basis};
-ghost use Rattle.candidate_index.specs.Findings.{found_from};
-ghost use Rattle.candidate_index.specs.Registrations.{observer_of, basis_for, finding_for};
+ghost use Rattle.candidate_index.specs.Findings.{finding_over, found_from};
+ghost use Rattle.candidate_index.specs.Registrations.{observer_of, basis_for, finding_for, IfChained};
 ghost use Rattle.candidate_index.specs.Held.{is_stale};
+ghost use Rattle.candidate_index.specs.Worlds.{standing_in, told, IsChain};
 
 /// Two bases are told to be the same exactly where they are equal. Where a registration isn't stale, and its finding was found
 /// from its basis by its observer's thresholds, as `recompute` keeps them, that is what is found of it now.
@@ -20,4 +24,13 @@ pub fn what_is_not_stale_is_found_as_it_was()
     ensures found { (scene : SceneOf) (standings : Root → ℕ → StandingOf) (it : IntersectionObservers) (serial : ℕ) (between : List SpotOf) (kept : KeptOf) →
         seen_finding kept.finding ≡ found_from (observer_of it serial).thresholds kept.basis → is_stale (Some kept) (basis_for scene standings it serial between) ≡ false →
         seen_finding kept.finding ≡ finding_for scene standings it serial between }
+{}
+
+/// In any world, what is found over its containers, clips and boxes by how the target lies to the root is the world's finding, once
+/// the target's box and what is seen of it are told in the coordinates of the target's document, and the root rectangle in those
+/// of the root's.
+pub fn findings_are_those_of_any_world()
+    ensures { (world : World) (observer : IntersectionObserver) (target : ℕ) (between : List SpotOf) →
+        IfChained (standing_in (relation world observer.root target)) (IsChain world observer.root target between) →
+        finding world observer target ≡ told world observer target (relation world observer.root target) (finding_over (scene_of world) (standing_in (relation world observer.root target)) observer target between) }
 {}

@@ -15,5 +15,5 @@ mod tests;
 
 pub use basis::{Basis, Sight};
 pub use index::{Index, Kept};
-pub use laws::what_is_not_stale_is_found_as_it_was;
+pub use laws::{findings_are_those_of_any_world, what_is_not_stale_is_found_as_it_was};
 pub use scene::{Scene, Standing};

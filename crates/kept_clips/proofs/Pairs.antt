@@ -102,3 +102,7 @@ spots_computed it number other clip held =
     ap (λ (o : Option Pair). option_map spots_of o)
     (get-insert nat_cmp_total (it.pairs) number p other ∙ ap (λ b. cond b (Some p) (get (it.pairs) other)) (unsigned_tied other number))
     ∙ same_or it number other p (other == number) refl (of_held (get (it.pairs) number) held)
+
+pub exact_empty : (scene : Scene) (touches : Touched) (number : ℕ) → IsExact scene (record { touches = touches; pairs = empty }) number
+exact_empty scene touches number =
+    subst (IsExactPair scene touches) (sym (ap (λ (o : Option Pair). unwrap_or o no_pair) (get-empty nat_cmp number))) (exact_new scene touches (View 0) (View 0))

@@ -61,7 +61,8 @@ impl Model for Clips {
 impl Clips {
     /// No pairs, and no spot that was touched; it takes no memory yet.
     pub fn new(alloc: Global) -> Clips
-        ensures { result ≡ record { touches = record { count = 0; nodes = []; views = [] }; pairs = empty } }
+        ensures empty { result ≡ record { touches = record { count = 0; nodes = []; views = [] }; pairs = empty } }
+        ensures exact { (scene : Scene) (number : ℕ) → IsExact scene result number }
     {
         Clips {
             touches: Touches::new(alloc),

@@ -1,0 +1,38 @@
+-- What is found over a page's containers, clips and boxes, told as a world tells it: the target's box and what is seen of it in the
+-- coordinates of the target's document, the root rectangle in those of the root's. What isn't there isn't moved.
+use Rattle.std.specs.Prelude.{ℕ, ◌≤◌, Bool, true, false, List, length}
+use Rattle.px_units.specs.declared.Point.{Point}
+use Rattle.px_units.specs.declared.Rect.{Rect}
+use Rattle.page_model.specs.World.{World, Root, Finding, IntersectionObserver}
+use Rattle.page_model.specs.Chains.{moved_back, origin_of_element, most_containers}
+use Rattle.page_model.specs.Findings.{Relation, Apart, Boxless, Chained, root_origin}
+use Rattle.clip_chain.specs.declared.spot.Spot.{Spot}
+use Rattle.clip_chain.specs.Chains.{Leads}
+use Rattle.clip_chain.specs.Worlds.{scene_of, element_spot, spot_of_root}
+use Rattle.candidate_index.specs.declared.scene.Standing.{Standing}
+use Rattle.candidate_index.specs.declared.scene.Standing.TheVariants as standings
+
+abbrev pub standing_in : Relation → Standing
+standing_in Apart = standings.Apart
+standing_in Boxless = standings.NoBox
+standing_in Chained = standings.Chained
+
+abbrev pub told_cut : Bool → Point → Rect → Rect
+told_cut true from cut = moved_back from cut
+told_cut false from cut = cut
+
+abbrev pub told_box : Relation → Point → Rect → Rect
+told_box Apart from box = box
+told_box Boxless from box = box
+told_box Chained from box = moved_back from box
+
+abbrev pub told : World → IntersectionObserver → ℕ → Relation → Finding → Finding
+told world observer target relation it = record it {
+  root = moved_back (root_origin world observer.root) (it.root);
+  bounds = told_box relation (origin_of_element world target) (it.bounds);
+  cut = told_cut (it.meets) (origin_of_element world target) (it.cut);
+}
+
+-- a chain from a target to a root, no longer than a world's definitions look along
+abbrev pub IsChain : World → Root → ℕ → List Spot → Type 0
+IsChain world root target between = Leads (scene_of world) (element_spot target) between (spot_of_root root) × (length between ≤ most_containers)
