@@ -6,14 +6,13 @@ use Rattle.script_model.specs.Syntax.{Item}
 use Rattle.script_model.specs.TraceLines.{TraceLine}
 use Rattle.page_model.specs.Callbacks.{Script, NoEntries, call, entry_lines, run_handler}
 use Rattle.page_model.specs.Documents.{is_active}
-use Rattle.page_model.specs.Outcome.{bytes_of}
 use Rattle.page_model.specs.Runs.{Said, only_if, say, silent, ◌followed_by◌}
 use Rattle.page_model.specs.Ticks.{line_while_active}
 use Rattle.page_model.specs.World.{World}
 use Rattle.trace_runs.specs.declared.faults.RunFault.{RunFault}
 use Rattle.trace_runs.specs.Flows.{goes_on}
 use Rattle.trace_runs.specs.Runs.{Runs}
-use Rattle.trace_runs.specs.Writes.{Wrote}
+use Rattle.trace_runs.specs.Writes.{Told}
 use Rattle.trace_runs.proofs.Following.{cut_run, followed_next, then_run}
 use Rattle.trace_runs.proofs.Runs.{run_same, say_run}
 use Rattle.frame_update.specs.Ready.{IsReady}
@@ -45,12 +44,12 @@ module _ (script : Script) (document : ℕ) (handler : Option ℕ) where
   module _ {before after : Option (List ℕ)} {f g : ℕ} {line other : TraceLine} (world : World) (named : line ≡ other) where
     -- the line was written, and the callback was called
     pub told_run : {A : Type 0} {state : A → World} (result : Result A RunFault) {mid : Option (List ℕ)} {fm : ℕ}
-        → Wrote {A = Unit {0}} (Ok tt) before mid f fm (bytes_of (line ∷ [])) → Runs goes_on state result mid after fm g (call script document handler NoEntries world)
+        → Told {A = Unit {0}} (Ok tt) before mid f fm (line ∷ []) → Runs goes_on state result mid after fm g (call script document handler NoEntries world)
         → Runs goes_on state result before after f g (told_call other world)
     told_run result wrote called = run_same (ap (λ it. told_call it world) named) (then_run result (call script document handler NoEntries) refl (say_run (Ok (tt {0})) wrote) called)
 
     -- the writing of the line was cut off
-    pub untold_run : {A : Type 0} {state : A → World} (fault : RunFault) → Wrote {A = Unit {0}} (Err fault) before after f g (bytes_of (line ∷ []))
+    pub untold_run : {A : Type 0} {state : A → World} (fault : RunFault) → Told {A = Unit {0}} (Err fault) before after f g (line ∷ [])
         → Runs goes_on state (Err fault) before after f g (told_call other world)
     untold_run fault wrote = run_same (ap (λ it. told_call it world) named) (cut_run fault (call script document handler NoEntries) (say_run {A = Unit {0}} (Err fault) wrote))
 

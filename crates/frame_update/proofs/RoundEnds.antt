@@ -7,7 +7,6 @@ use Rattle.page_model.specs.World.{World}
 use Rattle.page_model.specs.Documents.{is_active}
 use Rattle.page_model.specs.Gathering.{has_active}
 use Rattle.page_model.specs.Names.{document_text}
-use Rattle.page_model.specs.Outcome.{bytes_of}
 use Rattle.page_model.specs.Runs.{Said, only_if}
 use Rattle.page_model.specs.Callbacks.{Script}
 use Rattle.page_model.specs.Loop.{Broadcast, broadcast, gather, round, round_ended}
@@ -16,7 +15,7 @@ use Rattle.loop_laws.specs.Rounds.{goes_on as has_round, round_depth}
 use Rattle.trace_runs.specs.declared.faults.RunFault.{RunFault}
 use Rattle.trace_runs.specs.Flows.{goes_on}
 use Rattle.trace_runs.specs.Runs.{Runs}
-use Rattle.trace_runs.specs.Writes.{Wrote}
+use Rattle.trace_runs.specs.Writes.{Told}
 use Rattle.trace_runs.proofs.Following.{cut_run, then_run}
 use Rattle.trace_runs.proofs.Runs.{run_same, silent_run, say_run, cut_as, lifted_run, only_if_true, only_if_false}
 use Rattle.frame_update.specs.Ready.{IsReady}
@@ -66,7 +65,7 @@ module _ (script : Script) (document : ℕ) (world : World) where
         (run_same (sym (only_if_false (round_ended document) (broadcast_at least now) fails)) (silent_run refl)))
 
     module _ (holds : is_active (now.tree) document ≡ true) {after : Option (List ℕ)} {g : ℕ} where
-      ended-run : {A : Type 0} (result : Result A RunFault) → Wrote result mid after fm g (bytes_of (line ∷ []))
+      ended-run : {A : Type 0} (result : Result A RunFault) → Told result mid after fm g (line ∷ [])
           → Runs goes_on (λ (value : A). gather document depth now) result before after f g (round script document world)
       ended-run {A = A} result wrote =
           lifted_run (λ (so_far : Broadcast). so_far.world) result
@@ -76,22 +75,22 @@ module _ (script : Script) (document : ℕ) (world : World) where
 
       -- the writing of the line was cut off
       pub round_unsaid : {A : Type 0} {state : A → World} (name : List ℕ) (least_depth : ℕ) (fault : RunFault) → name ≡ document_text (now.names) document → least_depth ≡ depth
-          → Wrote {A = Unit {0}} (Err fault) mid after fm g (bytes_of (RoundLine name least_depth ∷ [])) → Runs goes_on state (Err fault) before after f g (round script document world)
+          → Told {A = Unit {0}} (Err fault) mid after fm g (RoundLine name least_depth ∷ []) → Runs goes_on state (Err fault) before after f g (round script document world)
       round_unsaid name least_depth fault named is wrote =
           cut_as fault {other = round script document world} refl (λ limited. limited)
           (ended-run {A = Unit {0}} (Err fault)
-          (subst (λ (it : TraceLine). Wrote {A = Unit {0}} (Err fault) mid after fm g (bytes_of (it ∷ [])))
+          (subst (λ (it : TraceLine). Told {A = Unit {0}} (Err fault) mid after fm g (it ∷ []))
           (ap (λ (text : List ℕ). RoundLine text least_depth) named ∙ ap (RoundLine (document_text (now.names) document)) is) wrote))
 
       -- the line was written, and observations were gathered
       pub round_said : {A : Type 0} (name : List ℕ) (least_depth : ℕ) (new : World) (value : A) → name ≡ document_text (now.names) document → least_depth ≡ depth
-          → new ≡ gather document least_depth now → Wrote {A = Unit {0}} (Ok (tt {0})) mid after fm g (bytes_of (RoundLine name least_depth ∷ []))
+          → new ≡ gather document least_depth now → Told {A = Unit {0}} (Ok (tt {0})) mid after fm g (RoundLine name least_depth ∷ [])
           → Runs goes_on (λ (it : A). new) (Ok value) before after f g (round script document world)
       round_said {A = A} name least_depth new value named is gathered wrote =
           subst (λ (end : World). Runs goes_on (λ (it : A). end) (Ok value) before after f g (round script document world))
           (sym (gathered ∙ ap (λ (at : ℕ). gather document at now) is))
           (ended-run {A = A} (Ok value)
-          (subst (λ (it : TraceLine). Wrote {A = Unit {0}} (Ok (tt {0})) mid after fm g (bytes_of (it ∷ [])))
+          (subst (λ (it : TraceLine). Told {A = Unit {0}} (Ok (tt {0})) mid after fm g (it ∷ []))
           (ap (λ (text : List ℕ). RoundLine text least_depth) named ∙ ap (RoundLine (document_text (now.names) document)) is) wrote))
 
     depth-is : depth ≡ round_depth script document world

@@ -10,7 +10,7 @@ use Rattle.script_model.specs.Scripts.{handlers_in}
 use Rattle.script_model.specs.TraceLines.{TickLine, ThrowLine}
 use Rattle.page_model.specs.Callbacks.{Script, answered}
 use Rattle.page_model.specs.Commands.{begun_in}
-use Rattle.page_model.specs.Outcome.{bytes_of, run_tick}
+use Rattle.page_model.specs.Outcome.{run_tick}
 use Rattle.page_model.specs.Ranges.{IsInRange}
 use Rattle.page_model.specs.Runs.{Said, Next, say, ◌followed_by◌, caught, caught_flow}
 use Rattle.page_model.specs.Steps.{Step, Did, Threw, ◌>>◌, met_unless}
@@ -26,7 +26,7 @@ use Rattle.trace_runs.specs.declared.faults.RunFault.{RunFault}
 use Rattle.trace_runs.specs.declared.faults.RunFault.TheVariants as faults
 use Rattle.trace_runs.specs.Flows.{goes_on}
 use Rattle.trace_runs.specs.Runs.{Runs}
-use Rattle.trace_runs.specs.Writes.{Wrote}
+use Rattle.trace_runs.specs.Writes.{Told}
 use Rattle.trace_runs.proofs.Answered.{answered_did, answered_threw, met_run, once_begun_is}
 use Rattle.trace_runs.proofs.Following.{cut_run, then_run}
 use Rattle.trace_runs.proofs.Runs.{caught_cut, lines_run, run_same, say_run}
@@ -142,14 +142,14 @@ module _ (script : Script) (time : ℕ) (world : World) (clock : world.clock ≡
 
   module _ {before : Option (List ℕ)} {f : ℕ} where
     -- the writing of its line was cut off
-    pub tick_unsaid : {B : Type 0} {state : B → World} (fault : RunFault) {after : Option (List ℕ)} {g : ℕ} → Wrote {A = Unit {0}} (Err fault) before after f g (bytes_of (TickLine time ∷ []))
+    pub tick_unsaid : {B : Type 0} {state : B → World} (fault : RunFault) {after : Option (List ℕ)} {g : ℕ} → Told {A = Unit {0}} (Err fault) before after f g (TickLine time ∷ [])
         → Runs goes_on state (Err fault) before after f g (tick script world)
     tick_unsaid fault wrote =
         run_same tick-is
         (cut_run {flow = λ (_ : Unit {0}). Next} {state = λ (_ : Unit {0}). world} fault (run_tasks script)
         (cut_run {flow = λ (_ : Unit {0}). Next} {state = λ (_ : Unit {0}). world} fault (update_rendering script) (cut_run fault (run_timers script) (say_run {A = Unit {0}} (Err fault) wrote))))
 
-    module _ {said : Option (List ℕ)} {fs : ℕ} (wrote : Wrote {A = Unit {0}} (Ok tt) before said f fs (bytes_of (TickLine time ∷ []))) where
+    module _ {said : Option (List ℕ)} {fs : ℕ} (wrote : Told {A = Unit {0}} (Ok tt) before said f fs (TickLine time ∷ [])) where
       timers-run : {A : Type 0} {state : A → World} (result : Result A RunFault) {after : Option (List ℕ)} {g : ℕ} → Runs goes_on state result said after fs g (run_timers script world)
           → Runs goes_on state result before after f g (say (TickLine time ∷ []) world followed_by run_timers script)
       timers-run result run = then_run result (run_timers script) refl (say_run (Ok (tt {0})) wrote) run

@@ -1,10 +1,9 @@
 -- What is written of a tick that was refused on a line.
 use Rattle.std.specs.Prelude.{◌≡◌, ℕ, List, [], ◌∷◌, Option, Result, Err}
 use Rattle.script_model.specs.TraceLines.{ThrowLine}
-use Rattle.page_model.specs.Outcome.{bytes_of}
 use Rattle.trace_runs.specs.declared.faults.RunFault.{RunFault}
 use Rattle.trace_runs.specs.declared.faults.RunFault.TheVariants as run
-use Rattle.trace_runs.specs.Writes.{Wrote}
+use Rattle.trace_runs.specs.Writes.{Told}
 use Rattle.page_state.specs.declared.answers.PageFault.{PageFault}
 use Rattle.page_state.specs.declared.answers.PageFault.TheVariants.{Throw, Limit, Memory}
 
@@ -15,6 +14,6 @@ IsLeft fault result before after faults faults_after = (result ≡ Err fault) ×
 -- the line of an exception is written, which ends the tick alone; a limit ends the run, with its line left to the top call,
 -- and so does want of memory
 abbrev pub Refused : {A : Type 0} → PageFault → ℕ → Result A RunFault → Option (List ℕ) → Option (List ℕ) → ℕ → ℕ → Type 0
-Refused (Throw kind) line result before after faults faults_after = Wrote result before after faults faults_after (bytes_of (ThrowLine line kind ∷ []))
+Refused (Throw kind) line result before after faults faults_after = Told result before after faults faults_after (ThrowLine line kind ∷ [])
 Refused (Limit kind) line result before after faults faults_after = IsLeft (run.Limit kind line) result before after faults faults_after
 Refused Memory line result before after faults faults_after = IsLeft run.Memory result before after faults faults_after

@@ -9,7 +9,6 @@ use Rattle.page_model.specs.Callbacks.{answered, once_begun, said_by}
 use Rattle.page_model.specs.Commands.{begun_in, does, holds}
 use Rattle.page_model.specs.Operands.{Handlers, Present, present_target}
 use Rattle.script_model.specs.Syntax.{Action, Condition}
-use Rattle.page_model.specs.Outcome.{bytes_of}
 use Rattle.page_model.specs.Runs as runs
 use Rattle.page_model.specs.Runs.{Said, say, silent, only_if}
 use Rattle.page_model.specs.Steps.{Step, Did, Threw, Met, Effect as ModelEffect}
@@ -20,7 +19,7 @@ use Rattle.trace_runs.specs.declared.faults.RunFault.{RunFault}
 use Rattle.trace_runs.specs.declared.faults.RunFault.TheVariants as faults
 use Rattle.trace_runs.specs.Flows.{flow_of}
 use Rattle.trace_runs.specs.Runs.{Runs}
-use Rattle.trace_runs.specs.Writes.{Wrote}
+use Rattle.trace_runs.specs.Writes.{Told}
 use Rattle.trace_runs.proofs.Answered.{answered_did, answered_met, met_run, threw_run, once_begun_is}
 use Rattle.trace_runs.proofs.Runs.{run_same, cut_as, ended_as, only_if_true, only_if_false, say_run}
 use Rattle.page_state.specs.Answers.{Applied, Moved}
@@ -66,11 +65,11 @@ begun_is line old begun run is = sym (answered_did line old run is) ∙ once_beg
 
 -- a command that was done, with its lines
 pub told_run : (line : ℕ) (old : World) {new : World} {step : Step ModelEffect} {before after : Option (List ℕ)} {f g : ℕ} {lines : List TraceLine} → step ≡ Did (record { world = new; lines = lines })
-    → Wrote {A = Unit {0}} (Ok tt) before after f g (bytes_of lines) → Runs flow_of (λ (value : Flow). new) (Ok Next) before after f g (answered line old said_by step)
+    → Told {A = Unit {0}} (Ok tt) before after f g lines → Runs flow_of (λ (value : Flow). new) (Ok Next) before after f g (answered line old said_by step)
 told_run line old {new} {lines = lines} is wrote = run_same (sym (answered_did line old said_by is)) (ended_as refl refl (say_run (Ok (tt {0})) {lines = lines} {state = new} wrote))
 
 pub untold_run : (fault : RunFault) (line : ℕ) (old : World) {new : World} {step : Step ModelEffect} {before after : Option (List ℕ)} {f g : ℕ} {lines : List TraceLine}
-    → step ≡ Did (record { world = new; lines = lines }) → Wrote {A = Unit {0}} (Err fault) before after f g (bytes_of lines)
+    → step ≡ Did (record { world = new; lines = lines }) → Told {A = Unit {0}} (Err fault) before after f g lines
     → Runs flow_of (λ (value : Flow). new) (Err fault) before after f g (answered line old said_by step)
 untold_run fault line old {new} {lines = lines} is wrote =
     run_same (sym (answered_did line old said_by is)) (cut_as fault refl (λ limited. limited) (say_run {A = Unit {0}} (Err fault) {lines = lines} {state = new} wrote))

@@ -14,10 +14,8 @@ use Rattle.element_tree.specs.declared.node.NodeId.{NodeId}
 use Rattle.page_model.specs.Operands.{Present, ResizeEntry as Sized, IntersectionEntry as Cut}
 use Rattle.page_model.specs.Ranges.{IsPresentIn}
 use Rattle.page_model.specs.World.{World, Name, Entry}
-use Rattle.page_model.specs.Outcome.{bytes_of}
-use Rattle.std.specs.Io.KnownBytes.{Appends}
-use Rattle.trace_runs.proofs.Lines.{bytes_none}
-use Rattle.trace_runs.proofs.Writes.{nothing}
+use Rattle.trace_runs.specs.Writes.{Says}
+use Rattle.trace_runs.proofs.Lines.{says_none}
 use Rattle.page_state.specs.Things.{present_with, IsSubject}
 use Rattle.resize_observer.specs.declared.observation.ObserverId.{ObserverId}
 use Rattle.page_model.specs.Callbacks.{CutEntries, presents, entry_lines}
@@ -92,6 +90,6 @@ pub length_again : (given : ℤ) (units : ℕ) → units < 2 ^ 63 → given ≡ 
 length_again given units low is = ap (λ z. to_z w64 (of_z w64 z)) is ∙ omega (arith, ints)
 
 -- no entries have no lines
-pub nothing_told : (names : List Name) (entries : Entries) (now : Option (List ℕ)) → entries ≡ Nothing → Appends now now (bytes_of (entry_lines names (entries_of entries)))
+pub nothing_told : (names : List Name) (entries : Entries) (now : Option (List ℕ)) → entries ≡ Nothing → Says now now (entry_lines names (entries_of entries))
 nothing_told names entries now none =
-    subst (λ (it : Entries). Appends now now (bytes_of (entry_lines names (entries_of it)))) (sym none) (subst (λ (t : List ℕ). Appends now now t) (sym bytes_none) (nothing now))
+    subst (λ (it : Entries). Says now now (entry_lines names (entries_of it))) (sym none) (says_none now)

@@ -2,7 +2,6 @@
 use Rattle.std.proofs.Common.{◌≡◌, ℕ, zero, suc, ◌<◌, List, [], ◌∷◌, length, get_or, Option, map, sym, ap, subst, ◌∙◌, arith}
 use Rattle.std.proofs.lemmas.List.{length-map}
 use Rattle.std.specs.Prelude.{Result, Ok, Err}
-use Rattle.std.specs.Io.KnownBytes.{Appends}
 use Rattle.std.specs.List.{AllByRecursion}
 use Rattle.script_model.specs.TraceLines.{TraceLine, TakeLine}
 use Rattle.intersection_observer.specs.Seen.{seen_entries, seen_entry}
@@ -11,17 +10,15 @@ use Rattle.intersection_observer.specs.declared.root.WatcherId.{WatcherId}
 use Rattle.intersection_update.specs.Watching.{AreWritten, IsWritten}
 use Rattle.page_model.specs.Callbacks.{CutEntries}
 use Rattle.page_model.specs.EntryLines.{intersection_line, intersection_lines}
-use Rattle.page_model.specs.Outcome.{bytes_of}
 use Rattle.page_model.specs.Operands.{IntersectionEntry}
 use Rattle.page_model.specs.Runs.{say}
 use Rattle.page_model.specs.World.{Entry, Name, World}
 use Rattle.trace_text.specs.Ranges.{HasReach}
 use Rattle.trace_runs.specs.declared.faults.RunFault.{RunFault}
-use Rattle.trace_runs.specs.Writes.{Wrote}
+use Rattle.trace_runs.specs.Writes.{Says, Told}
 use Rattle.trace_runs.proofs.Following.{cut_run, say_more}
-use Rattle.trace_runs.proofs.Lines.{bytes_none}
+use Rattle.trace_runs.proofs.Lines.{says_none}
 use Rattle.trace_runs.proofs.Runs.{behind_run, run_same, say_run, wrote_run}
-use Rattle.trace_runs.proofs.Writes.{nothing}
 use Rattle.page_state.specs.Answers.{lines_of}
 use Rattle.page_state.specs.declared.answers.Effect.{Effect}
 use Rattle.page_state.specs.declared.answers.Effect.TheVariants as effect
@@ -88,13 +85,13 @@ handed_written world entries observer told are handed =
 module _ (before after : Option (List ℕ)) (f g : ℕ) where
   -- a line and then others
   wrote_behind : (result : Result (Unit {0}) RunFault) (mid : Option (List ℕ)) (fm : ℕ) (line : TraceLine) (lines : List TraceLine)
-      → Wrote {A = Unit {0}} (Ok tt) before mid f fm (bytes_of (line ∷ [])) → Wrote result mid after fm g (bytes_of lines) → Wrote result before after f g (bytes_of (line ∷ lines))
+      → Told {A = Unit {0}} (Ok tt) before mid f fm (line ∷ []) → Told result mid after fm g lines → Told result before after f g (line ∷ lines)
   wrote_behind result mid fm line lines first second =
       wrote_run {state = λ (value : Unit {0}). tt {0}} result (behind_run result (line ∷ []) first.0 first.1 (say_run result {lines = lines} {state = tt {0}} second))
 
   -- a line, of which a part was written, and then others
-  wrote_begun : (fault : RunFault) (line : TraceLine) (lines : List TraceLine) → Wrote {A = Unit {0}} (Err fault) before after f g (bytes_of (line ∷ []))
-      → Wrote {A = Unit {0}} (Err fault) before after f g (bytes_of (line ∷ lines))
+  wrote_begun : (fault : RunFault) (line : TraceLine) (lines : List TraceLine) → Told {A = Unit {0}} (Err fault) before after f g (line ∷ [])
+      → Told {A = Unit {0}} (Err fault) before after f g (line ∷ lines)
   wrote_begun fault line lines wrote =
       wrote_run {A = Unit {0}} {state = λ value. tt {0}} (Err fault)
       (run_same (sym (say_more line lines (tt {0}))) (cut_run fault (say lines) (say_run {A = Unit {0}} (Err fault) {lines = line ∷ []} {state = tt {0}} wrote)))
@@ -112,20 +109,20 @@ module _ (before after : Option (List ℕ)) (f g : ℕ) where
         ap (λ (line : TraceLine). line ∷ intersection_lines names observer (seen_entries list)) line_is
         ∙ ap (λ (it : List Entry). TakeLine text (length entries) ∷ intersection_lines names observer it) seen
 
-    pub taken_told : (result : Result (Unit {0}) RunFault) (mid : Option (List ℕ)) (fm : ℕ) → Wrote {A = Unit {0}} (Ok tt) before mid f fm (bytes_of (TakeLine name (length list) ∷ []))
-        → Wrote result mid after fm g (bytes_of (intersection_lines names observer (seen_entries list)))
-        → Wrote result before after f g (bytes_of (TakeLine text (length entries) ∷ intersection_lines names observer entries))
+    pub taken_told : (result : Result (Unit {0}) RunFault) (mid : Option (List ℕ)) (fm : ℕ) → Told {A = Unit {0}} (Ok tt) before mid f fm (TakeLine name (length list) ∷ [])
+        → Told result mid after fm g (intersection_lines names observer (seen_entries list))
+        → Told result before after f g (TakeLine text (length entries) ∷ intersection_lines names observer entries)
     taken_told result mid fm first second =
-        subst (λ (lines : List TraceLine). Wrote result before after f g (bytes_of lines)) lines_are
+        subst (λ (lines : List TraceLine). Told result before after f g lines) lines_are
         (wrote_behind result mid fm (TakeLine name (length list)) (intersection_lines names observer (seen_entries list)) first second)
 
-    pub taken_untold : (fault : RunFault) → Wrote {A = Unit {0}} (Err fault) before after f g (bytes_of (TakeLine name (length list) ∷ []))
-        → Wrote {A = Unit {0}} (Err fault) before after f g (bytes_of (TakeLine text (length entries) ∷ intersection_lines names observer entries))
+    pub taken_untold : (fault : RunFault) → Told {A = Unit {0}} (Err fault) before after f g (TakeLine name (length list) ∷ [])
+        → Told {A = Unit {0}} (Err fault) before after f g (TakeLine text (length entries) ∷ intersection_lines names observer entries)
     taken_untold fault wrote =
-        subst (λ (lines : List TraceLine). Wrote {A = Unit {0}} (Err fault) before after f g (bytes_of lines)) lines_are
+        subst (λ (lines : List TraceLine). Told {A = Unit {0}} (Err fault) before after f g lines) lines_are
         (wrote_begun fault (TakeLine name (length list)) (intersection_lines names observer (seen_entries list)) wrote)
 
 -- a command that has no line
-pub untold : (world : World) (done : Effect) (now : Option (List ℕ)) → done ≡ effect.Nothing → Appends now now (bytes_of (lines_of world done))
+pub untold : (world : World) (done : Effect) (now : Option (List ℕ)) → done ≡ effect.Nothing → Says now now (lines_of world done)
 untold world done now none =
-    subst (λ (it : Effect). Appends now now (bytes_of (lines_of world it))) (sym none) (subst (λ (text : List ℕ). Appends now now text) (sym bytes_none) (nothing now))
+    subst (λ (it : Effect). Says now now (lines_of world it)) (sym none) (says_none now)

@@ -7,12 +7,11 @@ ghost use Rattle.trace_text.specs.Seen.{seen_line};
 ghost use Rattle.page_model.specs.Callbacks.{SizeEntries, presents, entry_lines, resize_line};
 ghost use Rattle.page_model.specs.EntryLines.{intersection_line, intersection_lines};
 ghost use Rattle.page_model.specs.Names.{intersection_observer_text};
-ghost use Rattle.page_model.specs.Outcome.{bytes_of};
 ghost use Rattle.depth_gather.specs.Entries.{seen_entry};
 ghost use Rattle.intersection_observer.specs.Seen as cuts;
 ghost use Rattle.intersection_observer.specs.Seen.{seen_entries};
 ghost use Rattle.intersection_update.specs.Watching.{AreWritten, IsWritten};
-ghost use Rattle.trace_runs.specs.Writes.{Wrote};
+ghost use Rattle.trace_runs.specs.Writes.{Told};
 ghost use Rattle.handlers.specs.Entries.{entries_of, present_at, subject_of, AreHanded};
 
 use depth_gather::{ResizeEntry, ResizeList};
@@ -136,8 +135,8 @@ fn write_sizes<K: Sink>(
     sink: &mut K,
 ) -> Result<(), RunFault>
     requires { AreHanded page.now.world (SizeEntries observer.0 (map seen_entry entries.now)) }
-    ensures { Wrote result (K.taken sink.old) (K.taken sink.new) (K.faults sink.old) (K.faults sink.new)
-        (bytes_of (map (resize_line page.now.world.names observer.0) (map seen_entry entries.now))) }
+    ensures { Told result (K.taken sink.old) (K.taken sink.new) (K.faults sink.old) (K.faults sink.new)
+        (map (resize_line page.now.world.names observer.0) (map seen_entry entries.now)) }
 {
     for entry in entries {
         let line = resize_line(page, observer, entry);
@@ -179,8 +178,8 @@ fn write_cuts<K: Sink>(
 ) -> Result<(), RunFault>
     requires caller { observer.0 < length page.now.world.intersection_observers.made }
     requires written { AreWritten (length page.now.world.tree.elements) (seen_entries entries.now) }
-    ensures { Wrote result (K.taken sink.old) (K.taken sink.new) (K.faults sink.old) (K.faults sink.new)
-        (bytes_of (intersection_lines page.now.world.names observer.0 (seen_entries entries.now))) }
+    ensures { Told result (K.taken sink.old) (K.taken sink.new) (K.faults sink.old) (K.faults sink.new)
+        (intersection_lines page.now.world.names observer.0 (seen_entries entries.now)) }
 {
     for entry in entries {
         let line = intersection_line(page, observer, entry);
@@ -202,9 +201,9 @@ pub(crate) fn write_taken<K: Sink>(
 ) -> Result<(), RunFault>
     requires caller { observer.0 < length page.now.world.intersection_observers.made }
     requires written { AreWritten (length page.now.world.tree.elements) entries.now }
-    ensures { Wrote result (K.taken sink.old) (K.taken sink.new) (K.faults sink.old) (K.faults sink.new)
-        (bytes_of (TakeLine (intersection_observer_text page.now.world.names observer.0) (length entries.now)
-        ∷ intersection_lines page.now.world.names observer.0 entries.now)) }
+    ensures { Told result (K.taken sink.old) (K.taken sink.new) (K.faults sink.old) (K.faults sink.new)
+        (TakeLine (intersection_observer_text page.now.world.names observer.0) (length entries.now)
+        ∷ intersection_lines page.now.world.names observer.0 entries.now) }
 {
     let entries = entries.as_slice();
     let name = page.label(Label::Watcher(observer));
@@ -222,8 +221,8 @@ pub(crate) fn write_entries<K: Sink>(
     sink: &mut K,
 ) -> Result<(), RunFault>
     requires { AreHanded page.now.world (entries_of entries.now) }
-    ensures { Wrote result (K.taken sink.old) (K.taken sink.new) (K.faults sink.old) (K.faults sink.new)
-        (bytes_of (entry_lines page.now.world.names (entries_of entries.now))) }
+    ensures { Told result (K.taken sink.old) (K.taken sink.new) (K.faults sink.old) (K.faults sink.new)
+        (entry_lines page.now.world.names (entries_of entries.now)) }
 {
     match entries {
         Entries::Nothing => Ok(()),

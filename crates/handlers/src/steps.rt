@@ -6,10 +6,9 @@ ghost use Rattle.script_syntax.specs.Allowed.{ActionAllowed};
 ghost use Rattle.script_syntax.specs.Seen.{action_of};
 ghost use Rattle.page_model.specs.Callbacks.{answered, handler_names, said_by};
 ghost use Rattle.page_model.specs.Commands.{does};
-ghost use Rattle.page_model.specs.Outcome.{bytes_of};
 ghost use Rattle.trace_runs.specs.Flows.{flow_of};
 ghost use Rattle.trace_runs.specs.Runs.{Runs};
-ghost use Rattle.trace_runs.specs.Writes.{Wrote};
+ghost use Rattle.trace_runs.specs.Writes.{Told};
 ghost use Rattle.page_state.specs.Answers.{IsHanded, lines_of};
 ghost use Rattle.page_state.specs.Things.{IsSubject};
 ghost use Rattle.handlers.specs.Answers.{Refused};
@@ -45,7 +44,7 @@ pub(crate) fn refuse<K: Sink>(
 // Writes the lines of a command that was applied.
 fn tell<K: Sink>(alloc: Global, page: &Page, effect: &Effect, sink: &mut K) -> Result<(), RunFault>
     requires { IsHanded page.now.world effect.now }
-    ensures { Wrote result (K.taken sink.old) (K.taken sink.new) (K.faults sink.old) (K.faults sink.new) (bytes_of (lines_of page.now.world effect.now)) }
+    ensures { Told result (K.taken sink.old) (K.taken sink.new) (K.faults sink.old) (K.faults sink.new) (lines_of page.now.world effect.now) }
 {
     match effect {
         Effect::Nothing => Ok(()),

@@ -14,7 +14,7 @@ use Rattle.page_model.specs.World.{World}
 use Rattle.trace_runs.specs.declared.faults.RunFault.{RunFault}
 use Rattle.trace_runs.specs.declared.faults.RunFault.TheVariants as fault
 use Rattle.trace_runs.specs.Runs as Run
-use Rattle.trace_runs.specs.Writes.{AppendsPart, FailsWithin, Wrote}
+use Rattle.trace_runs.specs.Writes.{AppendsPart, FailsWithin, Told}
 use Rattle.trace_runs.proofs.Lines.{bytes_both}
 use Rattle.trace_runs.proofs.Writes.{both, part_behind, failure_behind}
 use Rattle.replay_run.specs.Answers.{Tells, Answers, Ends}
@@ -30,13 +30,13 @@ all_written LimitMet outcome before after f g is w = (is, w)
 
 -- a text that was written whole, or stopped
 pub concluded : {A : Type 0} (r : Result A RunFault) (ending : Ending) (outcome : Outcome) (before after : Option (List ℕ)) (f g : ℕ) → outcome.ending ≡ ending
-    → Wrote r before after f g (bytes_of outcome.lines) → Answers (status_after r (status_at ending)) outcome before after f g
-concluded (Ok done) ending outcome before after f g is w = all_written ending outcome before after f g is w.0
+    → Told r before after f g outcome.lines → Answers (status_after r (status_at ending)) outcome before after f g
+concluded (Ok done) ending outcome before after f g is w = all_written ending outcome before after f g is w.0.written
 concluded (Err (fault.Limit kind line)) ending outcome before after f g is w = absurd w
 concluded (Err fault.Memory) ending outcome before after f g is w = w
 concluded (Err fault.WriteFault) ending outcome before after f g is w = w
 
-tells_end : (status : Status) (ending : Ending) (text : List ℕ) (before after : Option (List ℕ)) (f g : ℕ) → Tells status ending text before after f g → Ends status ending text before after f g
+pub tells_end : (status : Status) (ending : Ending) (text : List ℕ) (before after : Option (List ℕ)) (f g : ℕ) → Tells status ending text before after f g → Ends status ending text before after f g
 tells_end Done ending text before after f g w = w
 tells_end Syntax ending text before after f g w = w
 tells_end Limit ending text before after f g w = w
@@ -57,24 +57,24 @@ answers_end status text before after f g w =
 
 -- a text that was refused
 pub refused_answers : {A : Type 0} (r : Result A RunFault) (refusal : Refusal) (before after : Option (List ℕ)) (f g : ℕ)
-    → Wrote r before after f g (bytes_of (refusal_line refusal ∷ [])) → Answers (status_after r (status_at (refused_ending refusal))) (outcome_read (Err refusal)) before after f g
+    → Told r before after f g (refusal_line refusal ∷ []) → Answers (status_after r (status_at (refused_ending refusal))) (outcome_read (Err refusal)) before after f g
 unfolding outcome_read
 refused_answers r refusal before after f g w =
     concluded r (refused_ending refusal) (outcome_read (Err refusal)) before after f g refl w
 
 pub limit_answers : {A : Type 0} (r : Result A RunFault) (kind : LimitKind) (line : ℕ) (before after : Option (List ℕ)) (f g : ℕ)
-    → Wrote r before after f g (bytes_of (LimitLine kind line (limit_number kind) ∷ [])) → Answers (status_after r Limit) (outcome_read (Err (LimitAt kind line))) before after f g
+    → Told r before after f g (LimitLine kind line (limit_number kind) ∷ []) → Answers (status_after r Limit) (outcome_read (Err (LimitAt kind line))) before after f g
 limit_answers r kind line before after f g w = refused_answers r (LimitAt kind line) before after f g w
 
 pub syntax_answers : {A : Type 0} (r : Result A RunFault) (line column : ℕ) (read : Reading) (before after : Option (List ℕ)) (f g : ℕ) → read ≡ Err (SyntaxAt line column)
-    → Wrote r before after f g (bytes_of (refusal_line (SyntaxAt line column) ∷ [])) → Answers (status_after r Syntax) (outcome_read read) before after f g
+    → Told r before after f g (refusal_line (SyntaxAt line column) ∷ []) → Answers (status_after r Syntax) (outcome_read read) before after f g
 syntax_answers r line column read before after f g is w =
     subst (λ (x : Reading). Answers (status_after r Syntax) (outcome_read x) before after f g) (sym is) (refused_answers r (SyntaxAt line column) before after f g w)
 
 -- the line of a limit, with its number
 pub limit_wrote : {A : Type 0} (r : Result A RunFault) (kind : LimitKind) (line most : ℕ) (before after : Option (List ℕ)) (f g : ℕ) → most ≡ limit_number kind
-    → Wrote r before after f g (bytes_of (LimitLine kind line most ∷ [])) → Wrote r before after f g (bytes_of (LimitLine kind line (limit_number kind) ∷ []))
-limit_wrote r kind line most before after f g is w = subst (λ (n : ℕ). Wrote r before after f g (bytes_of (LimitLine kind line n ∷ []))) is w
+    → Told r before after f g (LimitLine kind line most ∷ []) → Told r before after f g (LimitLine kind line (limit_number kind) ∷ [])
+limit_wrote r kind line most before after f g is w = subst (λ (n : ℕ). Told r before after f g (LimitLine kind line n ∷ [])) is w
 
 -- a script that was run
 
@@ -92,7 +92,7 @@ module _ (script : List Item) (world : World) (opening : world ≡ opening_world
   -- to its end
   done-so : {new : World} {after : Option (List ℕ)} {g : ℕ} → Run.Ended runs.Next new before after f g said → Answers Done (outcome_said said) before after f g
   unfolding ending_of
-  done-so ended = (ap ending_of ended.flow_is, ended.written)
+  done-so ended = (ap ending_of ended.flow_is, ended.written.written)
 
   pub done_answers : {new : World} {after : Option (List ℕ)} {g : ℕ} → Run.Ended runs.Next new before after f g said → Answers Done (outcome_read (Ok script)) before after f g
   done_answers {after = after} {g = g} ended = as_run Done after g (done-so ended)
@@ -105,15 +105,15 @@ module _ (script : List Item) (world : World) (opening : world ≡ opening_world
     whole : bytes_of met.lines ++ bytes_of (LimitLine kind line (limit_number kind) ∷ []) ≡ bytes_of said.lines
     whole = bytes_both met.lines (LimitLine kind line (limit_number kind) ∷ []) ∙ sym (ap bytes_of met.last)
 
-    limit-so : {A : Type 0} (r : Result A RunFault) (after : Option (List ℕ)) (g : ℕ) → Wrote r mid after fm g (bytes_of (LimitLine kind line (limit_number kind) ∷ [])) → Answers (status_after r Limit) (outcome_said said) before after f g
+    limit-so : {A : Type 0} (r : Result A RunFault) (after : Option (List ℕ)) (g : ℕ) → Told r mid after fm g (LimitLine kind line (limit_number kind) ∷ []) → Answers (status_after r Limit) (outcome_said said) before after f g
     unfolding ending_of
     limit-so (Ok done) after g w =
-        (ap ending_of met.flow_is, subst (λ (t : List ℕ). Appends before after t) whole (both before mid after (bytes_of met.lines) (bytes_of (LimitLine kind line (limit_number kind) ∷ [])) met.written w.0))
+        (ap ending_of met.flow_is, subst (λ (t : List ℕ). Appends before after t) whole (both before mid after (bytes_of met.lines) (bytes_of (LimitLine kind line (limit_number kind) ∷ [])) met.written.written w.0.written))
     limit-so (Err (fault.Limit other at)) after g w = absurd w
-    limit-so (Err fault.Memory) after g w = subst (λ (t : List ℕ). AppendsPart before after t) whole (part_behind before (bytes_of met.lines) met.written w)
-    limit-so (Err fault.WriteFault) after g w = subst (λ (t : List ℕ). FailsWithin before after f g t) whole (failure_behind before f (bytes_of met.lines) met.written met.unfailed w)
+    limit-so (Err fault.Memory) after g w = subst (λ (t : List ℕ). AppendsPart before after t) whole (part_behind before (bytes_of met.lines) met.written.written w)
+    limit-so (Err fault.WriteFault) after g w = subst (λ (t : List ℕ). FailsWithin before after f g t) whole (failure_behind before f (bytes_of met.lines) met.written.written met.unfailed w)
 
-    pub limit_said : {A : Type 0} (r : Result A RunFault) (after : Option (List ℕ)) (g : ℕ) → Wrote r mid after fm g (bytes_of (LimitLine kind line (limit_number kind) ∷ [])) → Answers (status_after r Limit) (outcome_read (Ok script)) before after f g
+    pub limit_said : {A : Type 0} (r : Result A RunFault) (after : Option (List ℕ)) (g : ℕ) → Told r mid after fm g (LimitLine kind line (limit_number kind) ∷ []) → Answers (status_after r Limit) (outcome_read (Ok script)) before after f g
     limit_said r after g w = as_run (status_after r Limit) after g (limit-so r after g w)
 
   -- cut off for want of memory or by a write

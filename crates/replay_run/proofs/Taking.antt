@@ -1,16 +1,14 @@
 -- What was taken of a text, and the outcome of one that is too long.
-use Rattle.std.proofs.Common.{◌≡◌, ◌<◌, ◌≤◌, ◌+◌, ◌∙◌, ap, sym, subst, arith, tests, ℕ, List, [], length, drop, Option}
+use Rattle.std.proofs.Common.{◌≡◌, ◌<◌, ◌≤◌, ◌+◌, ◌∙◌, ap, sym, arith, tests, ℕ, List, [], length, drop, Option}
 use Rattle.std.proofs.lemmas.List.{drop_all}
 use Rattle.std.specs.Prelude.{Some, None, Err, IfSome, true, cond, nat_lt, take, count_by, ◌==◌}
 use Rattle.text_io.specs.Streams.{PassesLimit}
 use Rattle.text_io.specs.declared.kinds.LimitKind.TheVariants as limits
 use Rattle.script_model.specs.Lexing.{lexed}
-use Rattle.script_model.specs.Reading.{LimitAt, reading, read_lexed, last_line}
-use Rattle.page_model.specs.Outcome.{outcome, outcome_read, trace}
-use Rattle.replay_run.specs.Answers.{Answers, Ends, IsTaken}
+use Rattle.script_model.specs.Reading.{LimitAt, Reading, reading, read_lexed, last_line}
+use Rattle.replay_run.specs.Answers.{IsTaken}
 use Rattle.replay_run.specs.declared.status.Status.{Status}
 use Rattle.replay_run.specs.declared.status.Status.TheVariants.{Done, Syntax, Limit, NoMemory, ReadFault, WriteFault, Usage}
-use Rattle.replay_run.proofs.Endings.{answers_end}
 
 taken : (status : Status) (text : List ℕ) (after : Option (List ℕ)) → after ≡ Some (drop 16777217 text) → IsTaken status text after
 taken Done text after is = is
@@ -31,13 +29,6 @@ pub taken_whole : (status : Status) (left after : Option (List ℕ)) (bytes : Li
 taken_whole status None after bytes all end short = tt
 taken_whole status (Some text) after bytes all end short = taken status text after (end ∙ ap Some (sym (nothing-left text bytes all short)))
 
--- the answer of a text that was read to its end
-pub whole_ends : (status : Status) (left : Option (List ℕ)) (bytes : List ℕ) (before after : Option (List ℕ)) (f g : ℕ) → IfSome left (λ text. bytes ≡ text)
-    → Answers status (outcome bytes) before after f g → IfSome left (λ text. Ends status (outcome text).ending (trace text) before after f g)
-whole_ends status None bytes before after f g all w = tt
-whole_ends status (Some text) bytes before after f g all w =
-    answers_end status text before after f g (subst (λ (it : List ℕ). Answers status (outcome it) before after f g) all w)
-
 pub taken_past : (status : Status) (left after : Option (List ℕ)) (feeds : ℕ) → IfSome left (λ text. PassesLimit text after 16777216 feeds)
     → IfSome left (λ text. IsTaken status text after)
 taken_past status None after feeds passes = tt
@@ -48,22 +39,15 @@ taken_past status (Some text) after feeds passes = taken status text after passe
 longer : (n : ℕ) → 16777216 < n → nat_lt 16777216 n ≡ true
 longer n more = grind (arith, tests)
 
-long-reading : (text : List ℕ) → nat_lt 16777216 (length text) ≡ true → reading text ≡ Err (LimitAt limits.Script (last_line 16777216 text))
+refused-long : (text : List ℕ) → nat_lt 16777216 (length text) ≡ true → reading text ≡ Err (LimitAt limits.Script (last_line 16777216 text))
 unfolding reading
-long-reading text more = ap (λ long. cond long (Err (LimitAt limits.Script (last_line 16777216 text))) (read_lexed (lexed text))) more
+refused-long text more = ap (λ long. cond long (Err (LimitAt limits.Script (last_line 16777216 text))) (read_lexed (lexed text))) more
 
 long-line : (text : List ℕ) (feeds : ℕ) → feeds ≡ count_by (λ b. b == 10) (take 16777216 text) → last_line 16777216 text ≡ feeds + 1
 unfolding last_line
 long-line text feeds is = omega arith
 
-long-outcome : (text : List ℕ) (after : Option (List ℕ)) (feeds : ℕ) → PassesLimit text after 16777216 feeds → outcome text ≡ outcome_read (Err (LimitAt limits.Script (feeds + 1)))
-unfolding outcome
-long-outcome text after feeds passes =
-    ap outcome_read (long-reading text (longer (length text) passes.longer))
-    ∙ ap (λ line. outcome_read (Err (LimitAt limits.Script line))) (long-line text feeds passes.feeds_counted)
-
-pub long_ends : (status : Status) (left rest : Option (List ℕ)) (feeds : ℕ) (before after : Option (List ℕ)) (f g : ℕ) → IfSome left (λ text. PassesLimit text rest 16777216 feeds)
-    → Answers status (outcome_read (Err (LimitAt limits.Script (feeds + 1)))) before after f g → IfSome left (λ text. Ends status (outcome text).ending (trace text) before after f g)
-long_ends status None rest feeds before after f g passes w = tt
-long_ends status (Some text) rest feeds before after f g passes w =
-    answers_end status text before after f g (subst (λ it. Answers status it before after f g) (sym (long-outcome text rest feeds passes)) w)
+pub long_reading : (text : List ℕ) (after : Option (List ℕ)) (feeds : ℕ) → PassesLimit text after 16777216 feeds → reading text ≡ Err (LimitAt limits.Script (feeds + 1))
+long_reading text after feeds passes =
+    refused-long text (longer (length text) passes.longer)
+    ∙ ap (λ (line : ℕ). let read : Reading = Err (LimitAt limits.Script line) in read) (long-line text feeds passes.feeds_counted)

@@ -1,20 +1,27 @@
 //! The top call.
 
-ghost use Rattle.std.specs.Prelude.{◌≡◌, ◌↔◌, ◌<◌, ◌≤◌, None, Ok, Err, length, is_some, false, IfSome, Some, [], ◌∷◌};
+ghost use Rattle.std.specs.Prelude.{◌≡◌, ◌↔◌, ◌<◌, ◌&&◌, None, Ok, Err, is_some, true, false, map, string_bytes, IfSome, [], ◌∷◌};
 ghost use Rattle.text_io.specs.Streams.{Rose};
 ghost use Rattle.text_io.specs.Limits.{limit_number};
+ghost use Rattle.script_model.specs.Generator.{generated};
 ghost use Rattle.script_model.specs.TraceLines.{LimitLine};
 ghost use Rattle.script_model.specs.Reading.{Reading, reading, LimitAt};
 ghost use Rattle.script_syntax.specs.Parsing.{Parses};
-ghost use Rattle.page_model.specs.Outcome.{bytes_of, opening_world, outcome, outcome_read, trace};
-ghost use Rattle.trace_runs.specs.Writes.{Wrote};
-ghost use Rattle.replay_run.specs.Answers.{Answers, Ends, IsTaken};
+ghost use Rattle.page_model.specs.Outcome.{opening_world, outcome_read};
+ghost use Rattle.trace_runs.specs.Writes.{Told};
+ghost use Rattle.replay_run.specs.Answers.{Answers, Ends, IsTaken, Tells};
 ghost use Rattle.replay_run.specs.Statuses.{is_done, status_after, status_of};
+ghost use Rattle.replay_run.specs.Words.{asked, ending_by, given, has_page, is_run, is_source, written_by};
 
+use crate::check::check;
 use crate::input::feed_all;
 use crate::play::play;
+use crate::printing::write_script;
 use crate::status::Status;
+use crate::summary::summarize;
+use crate::words::{Job, Origin, Words};
 use page_state::Page;
+use script_generator::make;
 use script_lexer::Lexer;
 use script_syntax::{ParseFault, Script, parse};
 use std::alloc::Global;
@@ -68,8 +75,8 @@ fn write_limit<K: Sink>(
     line: u32,
     sink: &mut K,
 ) -> Result<(), RunFault>
-    ensures { Wrote result (K.taken sink.old) (K.taken sink.new) (K.faults sink.old) (K.faults sink.new)
-        (bytes_of (LimitLine kind line (limit_number kind) ∷ [])) }
+    ensures { Told result (K.taken sink.old) (K.taken sink.new) (K.faults sink.old) (K.faults sink.new)
+        (LimitLine kind line (limit_number kind) ∷ []) }
 {
     let line = TraceLine::Limit(kind, line, kind.number());
     write_one(alloc, &line, sink)
@@ -77,7 +84,8 @@ fn write_limit<K: Sink>(
 
 // A limit that was met while the text was read.
 fn meet_limit<K: Sink>(alloc: Global, kind: LimitKind, line: u32, sink: &mut K) -> Report
-    ensures answers { Answers result.status (outcome_read (Err (LimitAt kind line))) (K.taken sink.old) (K.taken sink.new) (K.faults sink.old) (K.faults sink.new) }
+    ensures tells { (job : Job) → Tells result.status (ending_by job (Err (LimitAt kind line))) (written_by job (Err (LimitAt kind line)))
+        (K.taken sink.old) (K.taken sink.new) (K.faults sink.old) (K.faults sink.new) }
     ensures page { result.page ≡ None }
     ensures done { is_done result.status ≡ false }
 {
@@ -96,7 +104,8 @@ fn parse_text(alloc: Global, lexer: Lexer) -> Result<Script, ParseFault>
 
 // A text that is no script.
 fn refuse_text<K: Sink>(alloc: Global, fault: ParseFault, sink: &mut K) -> Report
-    ensures answers { (read : Reading) → Parses (Err fault) read → Answers result.status (outcome_read read) (K.taken sink.old) (K.taken sink.new) (K.faults sink.old) (K.faults sink.new) }
+    ensures tells { (job : Job) (read : Reading) → Parses (Err fault) read → Tells result.status (ending_by job read) (written_by job read)
+        (K.taken sink.old) (K.taken sink.new) (K.faults sink.old) (K.faults sink.new) }
     ensures page { result.page ≡ None }
     ensures done { is_done result.status ≡ false }
 {
@@ -153,32 +162,109 @@ fn run_script<K: Sink, L: Ledger>(
     }
 }
 
-// The script of a text.
-fn replay<K: Sink, L: Ledger>(
+// What is done with a script.
+fn perform<K: Sink, L: Ledger>(
     alloc: Global,
+    job: Job,
+    script: &Script,
+    sink: &mut K,
+    steps: &mut Steps<L>,
+) -> Report
+    ensures tells { Tells result.status (ending_by job (Ok script.now)) (written_by job (Ok script.now)) (K.taken sink.old) (K.taken sink.new) (K.faults sink.old) (K.faults sink.new) }
+    ensures page { is_some result.page ≡ (is_run job && is_done result.status) }
+    ensures world { IfSome result.page (λ page. page.world ≡ (outcome_read (Ok script.now)).world) }
+{
+    match job {
+        Job::Replay => run_script(alloc, script, sink, steps),
+        Job::Check => Report {
+            status: check(alloc, script, sink),
+            page: None,
+        },
+        Job::Summary => summarize(alloc, script, sink, steps),
+        Job::Print => Report {
+            status: write_script(alloc, script, sink),
+            page: None,
+        },
+    }
+}
+
+// The same with the script of a text.
+fn perform_on_text<K: Sink, L: Ledger>(
+    alloc: Global,
+    job: Job,
     lexer: Lexer,
     sink: &mut K,
     steps: &mut Steps<L>,
 ) -> Report
     requires { lexer.most_line ≡ 4096 }
-    ensures answers { Answers result.status (outcome lexer.text) (K.taken sink.old) (K.taken sink.new) (K.faults sink.old) (K.faults sink.new) }
-    ensures page { is_some result.page ≡ is_done result.status }
-    ensures world { IfSome result.page (λ page. page.world ≡ (outcome lexer.text).world) }
+    ensures tells { Tells result.status (ending_by job (reading lexer.text)) (written_by job (reading lexer.text)) (K.taken sink.old) (K.taken sink.new) (K.faults sink.old) (K.faults sink.new) }
+    ensures page { is_some result.page ≡ (is_run job && is_done result.status) }
+    ensures world { IfSome result.page (λ page. page.world ≡ (outcome_read (reading lexer.text)).world) }
 {
     match parse_text(alloc, lexer) {
-        Ok(script) => run_script(alloc, &script, sink, steps),
+        Ok(script) => perform(alloc, job, &script, sink, steps),
         Err(fault) => refuse_text(alloc, fault, sink),
     }
 }
 
-/// Replays the script that the source has left, and writes its trace line by line to the sink. No words are accepted so
-/// far. `steps` counts the boxes that are computed: a `read`, and a tick where there is an observer, computes
-/// every box of the page anew.
+// The same with the script of the source.
+fn perform_on_source<S: Source, K: Sink, L: Ledger>(
+    alloc: Global,
+    job: Job,
+    source: &mut S,
+    sink: &mut K,
+    steps: &mut Steps<L>,
+) -> Report
+    ensures usage { result.status ≡ Status.Usage → ⊥ }
+    ensures ends { IfSome (S.left source.old) (λ text.
+        Ends result.status (ending_by job (reading text)) (written_by job (reading text)) (K.taken sink.old) (K.taken sink.new) (K.faults sink.old) (K.faults sink.new)) }
+    ensures read { IfSome (S.left source.old) (λ text. IsTaken result.status text (S.left source.new)) }
+    ensures read_fault { result.status ≡ Status.ReadFault → Rose (S.faults source.old) (S.faults source.new) × (sink.new ≡ sink.old) }
+    ensures write_fault { result.status ≡ Status.WriteFault → Rose (K.faults sink.old) (K.faults sink.new) }
+    ensures page { is_some result.page ≡ (is_run job && is_done result.status) }
+    ensures world { IfSome result.page (λ page. IfSome (S.left source.old) (λ text. page.world ≡ (outcome_read (reading text)).world)) }
+{
+    match feed_all(alloc, source) {
+        Ok(lexer) => perform_on_text(alloc, job, lexer, sink, steps),
+        Err(TextFault::TooLong { feeds }) => meet_limit(alloc, LimitKind::Script, feeds + 1, sink),
+        Err(TextFault::ReadFault) => without_page(Status::ReadFault),
+        Err(_) => without_page(Status::NoMemory),
+    }
+}
+
+// The same with the script of a number.
+fn perform_on_number<K: Sink, L: Ledger>(
+    alloc: Global,
+    job: Job,
+    number: u64,
+    sink: &mut K,
+    steps: &mut Steps<L>,
+) -> Report
+    ensures tells { Tells result.status (ending_by job (reading (generated number))) (written_by job (reading (generated number))) (K.taken sink.old) (K.taken sink.new) (K.faults sink.old) (K.faults sink.new) }
+    ensures page { is_some result.page ≡ (is_run job && is_done result.status) }
+    ensures world { IfSome result.page (λ page. page.world ≡ (outcome_read (reading (generated number))).world) }
+{
+    match make(alloc, number) {
+        Ok(script) => perform(alloc, job, &script, sink, steps),
+        Err(_) => without_page(Status::NoMemory),
+    }
+}
+
+/// Does what the words ask for, and writes what is to be said of it line by line to the sink:
 ///
-/// - `Done`, `Syntax` and `Limit`: exactly by how the outcome of the text ends; its whole trace was written.
-///   The source is at its end then; of more bytes than a script may have one more than that many were taken.
+/// - no words: replays the script that the source has left, and writes its trace;
+/// - `--check`: reads that script, and writes `ok` and the number of its commands, those of handlers and blocks included;
+/// - `--summary`: replays it, and writes for each kind of trace lines how many there are;
+/// - `--generate N`: writes the script of the number N, which is at most 1,000,000; reads nothing;
+/// - `--generate-run N`: replays the script of the number, and writes its summary; reads nothing.
+///
+/// Of a source that is no script, the first three write the line that says where alone. `steps` counts the boxes that are
+/// computed: a `read`, and a tick where there is an observer, computes every box of the page anew.
+///
+/// - `Done`, `Syntax` and `Limit`: exactly by how what is asked for ends; all that is to be written was. A source that was read
+///   is at its end then; of more bytes than a script may have one more than that many were taken.
 /// - `ReadFault` and `WriteFault`: only where that count of faults rose in this call.
-/// - `Usage`: exactly for words that aren't accepted; nothing is read or written, and no memory is asked for.
+/// - `Usage`: exactly for any other words; nothing is read or written, and no memory is asked for.
 pub fn run<S: Source, K: Sink, L: Ledger>(
     alloc: Global,
     words: &[String],
@@ -186,26 +272,35 @@ pub fn run<S: Source, K: Sink, L: Ledger>(
     sink: &mut K,
     steps: &mut Steps<L>,
 ) -> Report
-    ensures usage { (result.status ≡ Status.Usage) ↔ (0 < length words.now) }
-    ensures untouched { 0 < length words.now → (source.new ≡ source.old) × (sink.new ≡ sink.old) × (steps.new ≡ steps.old) }
-    // What the status says of a text that the source tells, and of what was written.
-    ensures ends { length words.now ≡ 0 → IfSome (S.left source.old) (λ text.
-        Ends result.status (outcome text).ending (trace text) (K.taken sink.old) (K.taken sink.new) (K.faults sink.old) (K.faults sink.new)) }
-    ensures read { IfSome (S.left source.old) (λ text. IsTaken result.status text (S.left source.new)) }
+    ensures usage { (result.status ≡ Status.Usage) ↔ (asked (map string_bytes words.now) ≡ None) }
+    ensures untouched { asked (map string_bytes words.now) ≡ None → (source.new ≡ source.old) × (sink.new ≡ sink.old) }
+    // What the status says of the script's text, where it is told, and of what was written.
+    ensures ends { IfSome (asked (map string_bytes words.now)) (λ asks. IfSome (given asks.origin (S.left source.old)) (λ text.
+        Ends result.status (ending_by asks.job (reading text)) (written_by asks.job (reading text)) (K.taken sink.old) (K.taken sink.new) (K.faults sink.old) (K.faults sink.new))) }
+    ensures read { IfSome (asked (map string_bytes words.now)) (λ asks. is_source asks.origin ≡ true → IfSome (S.left source.old) (λ text. IsTaken result.status text (S.left source.new))) }
+    ensures unread { IfSome (asked (map string_bytes words.now)) (λ asks. is_source asks.origin ≡ false → source.new ≡ source.old) }
     // The causes, also where neither tells its bytes.
     ensures read_fault { result.status ≡ Status.ReadFault → Rose (S.faults source.old) (S.faults source.new) × (sink.new ≡ sink.old) }
     ensures write_fault { result.status ≡ Status.WriteFault → Rose (K.faults sink.old) (K.faults sink.new) }
-    ensures page { is_some result.page ≡ is_done result.status }
-    ensures world { IfSome result.page (λ page. IfSome (S.left source.old) (λ text. page.world ≡ (outcome text).world)) }
+    ensures page { is_some result.page ≡ (has_page (asked (map string_bytes words.now)) && is_done result.status) }
+    ensures world { IfSome result.page (λ page. IfSome (asked (map string_bytes words.now)) (λ asks. IfSome (given asks.origin (S.left source.old)) (λ text.
+        page.world ≡ (outcome_read (reading text)).world))) }
+    ensures steps { asked (map string_bytes words.now) ≡ None → steps.new ≡ steps.old }
 {
-    if !words.is_empty() {
-        return without_page(Status::Usage);
-    }
-    match feed_all(alloc, source) {
-        Ok(lexer) => replay(alloc, lexer, sink, steps),
-        Err(TextFault::TooLong { feeds }) => meet_limit(alloc, LimitKind::Script, feeds + 1, sink),
-        Err(TextFault::ReadFault) => without_page(Status::ReadFault),
-        Err(_) => without_page(Status::NoMemory),
+    match Words::read(words) {
+        None => without_page(Status::Usage),
+        Some(
+            Words {
+                job,
+                origin: Origin::Source,
+            },
+        ) => perform_on_source(alloc, job, source, sink, steps),
+        Some(
+            Words {
+                job,
+                origin: Origin::Number(number),
+            },
+        ) => perform_on_number(alloc, job, number, sink, steps),
     }
 }
 
@@ -220,15 +315,19 @@ pub fn run_uncounted<S: Source, K: Sink, L: Ledger>(
     requires name { blank.name ≡ L.name }
     requires parts { blank.parts ≡ L.parts }
     requires one_part { 0 < blank.parts }
-    ensures usage { (result.status ≡ Status.Usage) ↔ (0 < length words.now) }
-    ensures untouched { 0 < length words.now → (source.new ≡ source.old) × (sink.new ≡ sink.old) }
-    ensures ends { length words.now ≡ 0 → IfSome (S.left source.old) (λ text.
-        Ends result.status (outcome text).ending (trace text) (K.taken sink.old) (K.taken sink.new) (K.faults sink.old) (K.faults sink.new)) }
-    ensures read { IfSome (S.left source.old) (λ text. IsTaken result.status text (S.left source.new)) }
+    ensures usage { (result.status ≡ Status.Usage) ↔ (asked (map string_bytes words.now) ≡ None) }
+    ensures untouched { asked (map string_bytes words.now) ≡ None → (source.new ≡ source.old) × (sink.new ≡ sink.old) }
+    // What the status says of the script's text, where it is told, and of what was written.
+    ensures ends { IfSome (asked (map string_bytes words.now)) (λ asks. IfSome (given asks.origin (S.left source.old)) (λ text.
+        Ends result.status (ending_by asks.job (reading text)) (written_by asks.job (reading text)) (K.taken sink.old) (K.taken sink.new) (K.faults sink.old) (K.faults sink.new))) }
+    ensures read { IfSome (asked (map string_bytes words.now)) (λ asks. is_source asks.origin ≡ true → IfSome (S.left source.old) (λ text. IsTaken result.status text (S.left source.new))) }
+    ensures unread { IfSome (asked (map string_bytes words.now)) (λ asks. is_source asks.origin ≡ false → source.new ≡ source.old) }
+    // The causes, also where neither tells its bytes.
     ensures read_fault { result.status ≡ Status.ReadFault → Rose (S.faults source.old) (S.faults source.new) × (sink.new ≡ sink.old) }
     ensures write_fault { result.status ≡ Status.WriteFault → Rose (K.faults sink.old) (K.faults sink.new) }
-    ensures page { is_some result.page ≡ is_done result.status }
-    ensures world { IfSome result.page (λ page. IfSome (S.left source.old) (λ text. page.world ≡ (outcome text).world)) }
+    ensures page { is_some result.page ≡ (has_page (asked (map string_bytes words.now)) && is_done result.status) }
+    ensures world { IfSome result.page (λ page. IfSome (asked (map string_bytes words.now)) (λ asks. IfSome (given asks.origin (S.left source.old)) (λ text.
+        page.world ≡ (outcome_read (reading text)).world))) }
 {
     let mut steps = Steps::<L>::new(blank);
     run(alloc, words, source, sink, &mut steps)

@@ -4,15 +4,24 @@
 #![tactic(auto)]
 
 mod call;
+mod check;
+#[cfg(test)]
+mod forms;
 mod input;
+mod laws;
 #[cfg(test)]
 mod limits;
+mod lines;
 mod play;
+mod printing;
 #[cfg(test)]
 mod scripts;
 mod status;
+mod summary;
 #[cfg(test)]
 mod tests;
+mod words;
 
 pub use call::{Report, run, run_uncounted};
+pub use laws::no_words_give_the_trace;
 pub use status::Status;

@@ -38,13 +38,13 @@ fn in_pieces(piece: usize) -> Streams {
 
 // What a run answered and wrote.
 #[derive(Drop)]
-struct Answer {
-    status: Status,
-    has_page: bool,
-    sink: MemorySink,
+pub(crate) struct Answer {
+    pub(crate) status: Status,
+    pub(crate) has_page: bool,
+    pub(crate) sink: MemorySink,
 }
 
-fn replayed(
+pub(crate) fn replayed(
     alloc: Global,
     words: &[String],
     text: &[u8],
@@ -196,17 +196,4 @@ fn calls_fail_in_pieces_and_behind_the_end(rt: HostRuntime) -> Result<(), Fail> 
         ..WHOLE
     };
     expect(&rt, rt.alloc(), PAGE, behind, Status::Done, TOLD)
-}
-
-#[test]
-fn words_are_refused(rt: HostRuntime) -> Result<(), Fail> {
-    let alloc = rt.alloc();
-    let mut words = Vec::new(alloc);
-    words.push(String::from_str(alloc, "--check")?)?;
-    words.push(String::from_str(alloc, "x")?)?;
-    let it = replayed(alloc, &words, PAGE.as_bytes(), WHOLE)?;
-    assert_eq!(&rt; it.status, Status::Usage);
-    assert_eq!(&rt; it.status.code(), 6);
-    assert!(&rt; it.sink.taken().is_empty());
-    Ok(())
 }

@@ -13,10 +13,8 @@ use Rattle.page_model.specs.World.{World}
 use Rattle.trace_runs.specs.declared.faults.RunFault.{RunFault}
 use Rattle.trace_runs.specs.declared.faults.RunFault.TheVariants as faults
 use Rattle.trace_runs.specs.Runs.{Runs}
-use Rattle.trace_runs.proofs.Lines.{bytes_none}
+use Rattle.trace_runs.proofs.Lines.{says_none}
 use Rattle.trace_runs.proofs.Runs.{run_same}
-use Rattle.trace_runs.proofs.Writes.{nothing}
-use Rattle.std.specs.Io.KnownBytes.{Appends}
 
 module _ {A : Type 0} (line : ℕ) (world : World) (next : A → Said World) {step : Step A} where
   pub answered_did : {value : A} → step ≡ Did value → answered line world next step ≡ next value
@@ -46,7 +44,7 @@ module _ {A : Type 0} (line : ℕ) (world : World) (next : A → Said World) {st
     cut_off = record {
       lines = [];
       last = refl;
-      written = subst (λ (t : List ℕ). Appends now now t) (sym bytes_none) (nothing now);
+      written = says_none now;
       unfailed = refl;
       flow_is = refl;
     };

@@ -2,28 +2,27 @@
 use Rattle.std.proofs.Common.{◌≡◌, ℕ, ◌+◌, ◌<◌, ◌≤◌, List, [], ◌∷◌, ◌++◌, length, drop, get_or, Option, refl, ap, sym, subst, ◌∙◌, append_assoc}
 use Rattle.std.proofs.lemmas.List.{append-nil, drop_more, drop_all}
 use Rattle.std.specs.Prelude.{map, Result, Ok, Err}
-use Rattle.std.specs.Io.KnownBytes.{Appends}
 use Rattle.script_model.specs.TraceLines.{TraceLine}
 use Rattle.page_model.specs.Outcome.{bytes_of}
 use Rattle.page_model.specs.Runs.{Said, Flow, Next, Thrown, Limited, say, silent, behind, ◌followed_by◌, follow}
 use Rattle.trace_runs.specs.declared.faults.RunFault.{RunFault}
 use Rattle.trace_runs.specs.declared.faults.RunFault.TheVariants.{Limit, Memory, WriteFault}
 use Rattle.trace_runs.specs.Runs.{Runs}
-use Rattle.trace_runs.specs.Writes.{AppendsPart, FailsWithin, Wrote}
-use Rattle.trace_runs.proofs.Lines.{bytes_none, bytes_both}
+use Rattle.trace_runs.specs.Writes.{AppendsPart, FailsWithin, Says, Told}
+use Rattle.trace_runs.proofs.Lines.{bytes_both, says_none, says_both}
 use Rattle.trace_runs.proofs.Runs.{behind_run, run_same, cut_as, ended_as, memory_run, silent_run, say_run}
-use Rattle.trace_runs.proofs.Writes.{nothing, both, part_begins, failure_begins}
+use Rattle.trace_runs.proofs.Writes.{part_begins, failure_begins}
 
 -- what was written so far, no write failed, and both the lines so far and the rest make the whole
 pub record Following {S : Type 0} (before now : Option (List ℕ)) (faults faults_now : ℕ) (whole rest : Said S) : Type 0 where
   pub part : List TraceLine
   pub makes : behind part rest ≡ whole
-  pub written : Appends before now (bytes_of part)
+  pub written : Says before now part
   pub unfailed : faults_now ≡ faults
 
 -- nothing was written yet
 pub begin : {S : Type 0} {now : Option (List ℕ)} {f : ℕ} {whole : Said S} → Following now now f f whole whole
-begin {now = now} = record { part = []; makes = refl; written = subst (λ (t : List ℕ). Appends now now t) (sym bytes_none) (nothing now); unfailed = refl }
+begin {now = now} = record { part = []; makes = refl; written = says_none now; unfailed = refl }
 
 -- the rest in other words
 pub rest_same : {S : Type 0} {before now : Option (List ℕ)} {f g : ℕ} {whole rest other : Said S} → rest ≡ other → Following before now f g whole rest → Following before now f g whole other
@@ -102,7 +101,7 @@ pub go_on : {A S : Type 0} {flow : A → Flow} {state : A → S} {value : A} {be
 go_on {before = before} {mid} {after} {said = said} rest goes here run = record {
   part = here.part ++ said.lines;
   makes = behind-both here.part (said.lines) _ ∙ ap (behind here.part) (sym (followed_next said rest (run.ended.flow_is ∙ goes) run.ended.state_is)) ∙ here.makes;
-  written = subst (λ (t : List ℕ). Appends before after t) (bytes_both here.part (said.lines)) (both before mid after _ _ here.written run.ended.written);
+  written = says_both here.written run.ended.written;
   unfailed = run.ended.unfailed ∙ here.unfailed;
 }
 
@@ -129,12 +128,12 @@ done {value = value} goes here = finish (Ok value) here (silent_run goes)
 
 -- lines were written
 pub go_on_said : {S : Type 0} {before mid after : Option (List ℕ)} {f fm g : ℕ} {whole : Said S} (lines : List TraceLine) (state : S) (rest : S → Said S)
-    → Following before mid f fm whole (say lines state followed_by rest) → Appends mid after (bytes_of lines) → g ≡ fm → Following before after f g whole (rest state)
+    → Following before mid f fm whole (say lines state followed_by rest) → Says mid after lines → g ≡ fm → Following before after f g whole (rest state)
 go_on_said lines state rest here written unfailed = go_on {state = λ (value : Unit {0}). state} rest refl here (say_run (Ok tt) {lines = lines} (written, unfailed))
 
 -- the writing of lines was cut off
 pub end_unsaid : {B S : Type 0} {flow : B → Flow} {state' : B → S} (fault : RunFault) {before mid after : Option (List ℕ)} {f fm g : ℕ} {whole : Said S} (lines : List TraceLine) (state : S)
-    (rest : S → Said S) → Following before mid f fm whole (say lines state followed_by rest) → Wrote {A = Unit {0}} (Err fault) mid after fm g (bytes_of lines)
+    (rest : S → Said S) → Following before mid f fm whole (say lines state followed_by rest) → Told {A = Unit {0}} (Err fault) mid after fm g lines
     → Runs flow state' (Err fault) before after f g whole
 end_unsaid fault lines state rest here wrote = end_cut fault rest here (say_run {A = Unit {0}} (Err fault) {lines = lines} wrote)
 

@@ -1,9 +1,17 @@
 -- The bytes of lines, one after another.
-use Rattle.std.proofs.Common.{◌≡◌, List, [], ◌∷◌, ◌++◌, refl, ap, sym, ◌∙◌, append_assoc}
+use Rattle.std.proofs.Common.{◌≡◌, ℕ, List, [], ◌∷◌, ◌++◌, Option, refl, ap, sym, ◌∙◌, append_assoc, subst}
 use Rattle.std.proofs.lemmas.List.{append-nil}
+use Rattle.std.proofs.lemmas.List.Elements.{All-nil, All-cons, All-append}
+use Rattle.std.specs.Prelude.{Result, Ok, Err}
+use Rattle.std.specs.Io.KnownBytes.{Appends}
 use Rattle.script_model.specs.TraceLines.{TraceLine}
 use Rattle.script_model.specs.TraceText.{line_text}
 use Rattle.page_model.specs.Outcome.{bytes_of}
+use Rattle.trace_text.specs.Ranges.{IsLine}
+use Rattle.trace_runs.specs.declared.faults.RunFault.{RunFault}
+use Rattle.trace_runs.specs.declared.faults.RunFault.TheVariants.{Limit, Memory, WriteFault}
+use Rattle.trace_runs.specs.Writes.{AppendsPart, FailsWithin, Says, Told, Wrote}
+use Rattle.trace_runs.proofs.Writes.{nothing, both}
 
 pub bytes_none : bytes_of [] ≡ []
 unfolding bytes_of
@@ -17,3 +25,26 @@ pub bytes_both : (xs ys : List TraceLine) → bytes_of xs ++ bytes_of ys ≡ byt
 unfolding bytes_of
 bytes_both [] ys = refl
 bytes_both (x ∷ xs) ys = append_assoc (line_text x) (bytes_of xs) (bytes_of ys) ∙ ap (λ rest. line_text x ++ rest) (bytes_both xs ys)
+
+-- no line was written
+pub says_none : (now : Option (List ℕ)) → Says now now []
+says_none now = record { written = subst (λ (t : List ℕ). Appends now now t) (sym bytes_none) (nothing now); fit = All-nil IsLine }
+
+-- lines behind others
+pub says_both : {before mid after : Option (List ℕ)} {xs ys : List TraceLine} → Says before mid xs → Says mid after ys → Says before after (xs ++ ys)
+says_both {before} {mid} {after} {xs} {ys} first second = record {
+  written = subst (λ (t : List ℕ). Appends before after t) (bytes_both xs ys) (both before mid after _ _ first.written second.written);
+  fit = All-append IsLine xs ys first.fit second.fit;
+}
+
+-- one line
+pub says_one : {before after : Option (List ℕ)} {line : TraceLine} → IsLine line → Appends before after (line_text line) → Says before after (line ∷ [])
+says_one {before} {after} {line} is written =
+    record { written = subst (λ (t : List ℕ). Appends before after t) (bytes_one line) written; fit = All-cons IsLine line [] is (All-nil IsLine) }
+
+pub told_one : {A : Type 0} (result : Result A RunFault) (before after : Option (List ℕ)) (f g : ℕ) (line : TraceLine) → IsLine line
+    → Wrote result before after f g (line_text line) → Told result before after f g (line ∷ [])
+told_one (Ok value) before after f g line is wrote = (says_one is wrote.0, wrote.1)
+told_one (Err (Limit kind number)) before after f g line is wrote = absurd wrote
+told_one (Err Memory) before after f g line is wrote = subst (λ (t : List ℕ). AppendsPart before after t) (bytes_one line) wrote
+told_one (Err WriteFault) before after f g line is wrote = subst (λ (t : List ℕ). FailsWithin before after f g t) (bytes_one line) wrote

@@ -1,7 +1,6 @@
 -- Runs of one step, and of a step that is another one in other words.
 use Rattle.std.proofs.Common.{◌≡◌, ℕ, Bool, true, false, List, ◌++◌, Option, refl, ap, sym, subst, ◌∙◌, append_assoc}
 use Rattle.std.specs.Prelude.{Result, Ok, Err}
-use Rattle.std.specs.Io.KnownBytes.{Appends}
 use Rattle.script_model.specs.TraceLines.{TraceLine}
 use Rattle.page_model.specs.Outcome.{bytes_of}
 use Rattle.page_model.specs.Runs.{Said, Flow as Going, Next as Goes, Limited, say, silent, behind, caught, caught_flow, lifted, only_if}
@@ -11,9 +10,9 @@ use Rattle.trace_runs.specs.declared.faults.Flow.{Flow}
 use Rattle.trace_runs.specs.declared.faults.Flow.TheVariants.{Next, Thrown}
 use Rattle.trace_runs.specs.Flows.{flow_of, goes_on}
 use Rattle.trace_runs.specs.Runs.{CutOff, Runs}
-use Rattle.trace_runs.specs.Writes.{AppendsPart, FailsWithin, Wrote}
-use Rattle.trace_runs.proofs.Lines.{bytes_none, bytes_both}
-use Rattle.trace_runs.proofs.Writes.{nothing, both, no_part, part_behind, failure_behind}
+use Rattle.trace_runs.specs.Writes.{AppendsPart, FailsWithin, Says, Told}
+use Rattle.trace_runs.proofs.Lines.{bytes_both, says_none, says_both}
+use Rattle.trace_runs.proofs.Writes.{no_part, part_behind, failure_behind}
 
 -- the same step in other words
 pub run_same : {A S : Type 0} {flow : A → Going} {state : A → S} {result : Result A RunFault} {before after : Option (List ℕ)} {f g : ℕ} {said other : Said S}
@@ -24,7 +23,7 @@ run_same {flow = flow} {state} {result} {before} {after} {f} {g} same run = subs
 pub silent_run : {A S : Type 0} {flow : A → Going} {state : A → S} {value : A} {now : Option (List ℕ)} {f : ℕ}
     → flow value ≡ Goes → Runs flow state (Ok value) now now f f (silent (state value))
 silent_run {now = now} goes = record {
-  ended = record { written = subst (λ (t : List ℕ). Appends now now t) (sym bytes_none) (nothing now); unfailed = refl; flow_is = sym goes; state_is = refl };
+  ended = record { written = says_none now; unfailed = refl; flow_is = sym goes; state_is = refl };
   cut_off = tt;
 }
 
@@ -34,7 +33,7 @@ memory_run {now = now} said = record { ended = tt; cut_off = no_part now (bytes_
 
 -- the lines of a step
 pub lines_run : {A S : Type 0} {flow : A → Going} {state : A → S} (result : Result A RunFault) {before after : Option (List ℕ)} {f g : ℕ} {said : Said S}
-    → Wrote result before after f g (bytes_of (said.lines)) → ((value : A) → said.flow ≡ flow value) → ((value : A) → said.state ≡ state value)
+    → Told result before after f g (said.lines) → ((value : A) → said.flow ≡ flow value) → ((value : A) → said.state ≡ state value)
     → Runs flow state result before after f g said
 lines_run (Ok value) wrote flow_is state_is =
     record { ended = record { written = wrote.0; unfailed = wrote.1; flow_is = flow_is value; state_is = state_is value }; cut_off = tt }
@@ -47,29 +46,29 @@ goes≢limited same = cc
 
 -- lines alone
 pub say_run : {A S : Type 0} (result : Result A RunFault) {before after : Option (List ℕ)} {f g : ℕ} {lines : List TraceLine} {state : S}
-    → Wrote result before after f g (bytes_of lines) → Runs goes_on (λ (value : A). state) result before after f g (say lines state)
+    → Told result before after f g lines → Runs goes_on (λ (value : A). state) result before after f g (say lines state)
 say_run result {lines = lines} {state} wrote = lines_run result {said = say lines state} wrote (λ value. refl) (λ value. refl)
 
 behind_cut : {S : Type 0} (fault : RunFault) (before mid after : Option (List ℕ)) (f fm g : ℕ) (part : List TraceLine) (said : Said S)
-    → Appends before mid (bytes_of part) → fm ≡ f → CutOff fault mid after fm g said → CutOff fault before after f g (behind part said)
+    → Says before mid part → fm ≡ f → CutOff fault mid after fm g said → CutOff fault before after f g (behind part said)
 behind_cut (Limit kind line) before mid after f fm g part said first unfailed cut = record {
   lines = part ++ cut.lines;
   last = ap (λ (rest : List TraceLine). part ++ rest) cut.last ∙ sym (append_assoc part cut.lines _);
-  written = subst (λ (t : List ℕ). Appends before after t) (bytes_both part cut.lines) (both before mid after _ _ first cut.written);
+  written = says_both first cut.written;
   unfailed = cut.unfailed ∙ unfailed;
   flow_is = cut.flow_is;
 }
 behind_cut Memory before mid after f fm g part said first unfailed cut =
-    subst (λ (t : List ℕ). AppendsPart before after t) (bytes_both part (said.lines)) (part_behind before (bytes_of part) first cut)
+    subst (λ (t : List ℕ). AppendsPart before after t) (bytes_both part (said.lines)) (part_behind before (bytes_of part) first.written cut)
 behind_cut WriteFault before mid after f fm g part said first unfailed cut =
-    subst (λ (t : List ℕ). FailsWithin before after f g t) (bytes_both part (said.lines)) (failure_behind before f (bytes_of part) first unfailed cut)
+    subst (λ (t : List ℕ). FailsWithin before after f g t) (bytes_both part (said.lines)) (failure_behind before f (bytes_of part) first.written unfailed cut)
 
 -- a run behind lines that were written
 pub behind_run : {A S : Type 0} {flow : A → Going} {state : A → S} (result : Result A RunFault) {before mid after : Option (List ℕ)} {f fm g : ℕ} (part : List TraceLine) {said : Said S}
-    → Appends before mid (bytes_of part) → fm ≡ f → Runs flow state result mid after fm g said → Runs flow state result before after f g (behind part said)
+    → Says before mid part → fm ≡ f → Runs flow state result mid after fm g said → Runs flow state result before after f g (behind part said)
 behind_run (Ok value) {before} {mid} {after} part {said} first unfailed run = record {
   ended = record {
-    written = subst (λ (t : List ℕ). Appends before after t) (bytes_both part (said.lines)) (both before mid after _ _ first run.ended.written);
+    written = says_both first run.ended.written;
     unfailed = run.ended.unfailed ∙ unfailed;
     flow_is = run.ended.flow_is;
     state_is = run.ended.state_is;
@@ -155,7 +154,7 @@ only_if_false step state fails = ap (only_if step state) fails
 
 -- what a run of lines alone wrote; no limit is met there
 pub wrote_run : {A S : Type 0} {state : A → S} (result : Result A RunFault) {before after : Option (List ℕ)} {f g : ℕ} {lines : List TraceLine} {now : S}
-    → Runs goes_on state result before after f g (say lines now) → Wrote result before after f g (bytes_of lines)
+    → Runs goes_on state result before after f g (say lines now) → Told result before after f g lines
 wrote_run (Ok value) run = (run.ended.written, run.ended.unfailed)
 wrote_run (Err (Limit kind line)) run = absurd (goes≢limited run.cut_off.flow_is)
 wrote_run (Err Memory) run = run.cut_off

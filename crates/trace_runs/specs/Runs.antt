@@ -1,7 +1,6 @@
 -- What a run of the definitions writes to a sink that may fail: all its lines, and the run is where the definition leaves
 -- it; or it was cut off, and what was written begins them. This project's own choice.
 use Rattle.std.specs.Prelude.{◌≡◌, ℕ, List, [], ◌∷◌, ◌++◌, Option, Result, IfOk, IfErr}
-use Rattle.std.specs.Io.KnownBytes.{Appends}
 use Rattle.text_io.specs.declared.kinds.LimitKind.{LimitKind}
 use Rattle.text_io.specs.Limits.{limit_number}
 use Rattle.script_model.specs.TraceLines.{TraceLine, LimitLine}
@@ -9,11 +8,11 @@ use Rattle.page_model.specs.Outcome.{bytes_of}
 use Rattle.page_model.specs.Runs.{Said, Flow, Limited}
 use Rattle.trace_runs.specs.declared.faults.RunFault.{RunFault}
 use Rattle.trace_runs.specs.declared.faults.RunFault.TheVariants.{Limit, Memory, WriteFault}
-use Rattle.trace_runs.specs.Writes.{AppendsPart, FailsWithin}
+use Rattle.trace_runs.specs.Writes.{AppendsPart, FailsWithin, Says}
 
 -- every line was written, no write failed, and the run goes on or was thrown out of in this state
 pub record Ended {S : Type 0} (flow : Flow) (state : S) (before after : Option (List ℕ)) (faults faults_after : ℕ) (said : Said S) : Type 0 where
-  pub written : Appends before after (bytes_of said.lines)
+  pub written : Says before after (said.lines)
   pub unfailed : faults_after ≡ faults
   pub flow_is : said.flow ≡ flow
   pub state_is : said.state ≡ state
@@ -22,7 +21,7 @@ pub record Ended {S : Type 0} (flow : Flow) (state : S) (before after : Option (
 pub record MeetsLimit {S : Type 0} (kind : LimitKind) (line : ℕ) (before after : Option (List ℕ)) (faults faults_after : ℕ) (said : Said S) : Type 0 where
   pub lines : List TraceLine
   pub last : said.lines ≡ lines ++ LimitLine kind line (limit_number kind) ∷ []
-  pub written : Appends before after (bytes_of lines)
+  pub written : Says before after lines
   pub unfailed : faults_after ≡ faults
   pub flow_is : said.flow ≡ Limited
 

@@ -1,7 +1,11 @@
--- What is written of a text to a sink that may fail. This project's own choice.
+-- What is written of a text, and of lines, to a sink that may fail. This project's own choice.
 use Rattle.std.specs.Prelude.{◌≡◌, ℕ, List, ◌++◌, Option, Result, Ok, Err}
+use Rattle.std.specs.List.{All}
 use Rattle.std.specs.Io.KnownBytes.{Appends}
 use Rattle.text_io.specs.Streams.{Rose}
+use Rattle.script_model.specs.TraceLines.{TraceLine}
+use Rattle.page_model.specs.Outcome.{bytes_of}
+use Rattle.trace_text.specs.Ranges.{IsLine}
 use Rattle.trace_runs.specs.declared.faults.RunFault.{RunFault}
 use Rattle.trace_runs.specs.declared.faults.RunFault.TheVariants.{Limit, Memory, WriteFault}
 
@@ -23,3 +27,15 @@ Wrote (Ok value) before after faults faults_after text = Appends before after te
 Wrote (Err (Limit kind line)) before after faults faults_after text = ⊥
 Wrote (Err Memory) before after faults faults_after text = AppendsPart before after text
 Wrote (Err WriteFault) before after faults faults_after text = FailsWithin before after faults faults_after text
+
+-- lines were written, of which each can be read back
+pub record Says (before after : Option (List ℕ)) (lines : List TraceLine) : Type 0 where
+  pub written : Appends before after (bytes_of lines)
+  pub fit : All IsLine lines
+
+-- the same of lines: they were written, and no write failed, or a first part of their text was, and the reason stands
+abbrev pub Told : {A : Type 0} → Result A RunFault → Option (List ℕ) → Option (List ℕ) → ℕ → ℕ → List TraceLine → Type 0
+Told (Ok value) before after faults faults_after lines = Says before after lines × (faults_after ≡ faults)
+Told (Err (Limit kind line)) before after faults faults_after lines = ⊥
+Told (Err Memory) before after faults faults_after lines = AppendsPart before after (bytes_of lines)
+Told (Err WriteFault) before after faults faults_after lines = FailsWithin before after faults faults_after (bytes_of lines)

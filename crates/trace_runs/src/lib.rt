@@ -8,4 +8,4 @@ mod tests;
 mod write;
 
 pub use faults::{Flow, RunFault};
-pub use write::{write_each, write_one, write_throw};
+pub use write::{write_each, write_one, write_text, write_throw};

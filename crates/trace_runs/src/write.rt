@@ -3,21 +3,23 @@
 ghost use Rattle.std.specs.Prelude.{◌≡◌, [], ◌∷◌, map};
 ghost use Rattle.std.specs.List.{All};
 ghost use Rattle.script_model.specs.TraceLines.{ThrowLine};
-ghost use Rattle.page_model.specs.Outcome.{bytes_of};
 ghost use Rattle.page_model.specs.Runs.{Thrown};
 ghost use Rattle.page_model.specs.World.{World};
 ghost use Rattle.trace_text.specs.Seen.{seen_line};
 ghost use Rattle.trace_text.specs.Ranges.{HasReach};
 ghost use Rattle.trace_runs.specs.Flows.{flow_of};
 ghost use Rattle.trace_runs.specs.Runs.{Runs};
-ghost use Rattle.trace_runs.specs.Writes.{Wrote};
+ghost use Rattle.trace_runs.specs.Writes.{Told, Wrote};
 
 use crate::faults::{Flow, RunFault};
 use std::alloc::Global;
 use text_io::{Sink, ThrowKind, write_all};
-use trace_text::{TraceLine, write_line};
+use trace_text::{TraceLine, value_is_a_line, write_line};
 
-fn write<K: Sink>(sink: &mut K, text: &[u8]) -> Result<(), RunFault>
+/// Writes a text.
+///
+/// - `WriteFault` only where the sink's count of faults rose in this call; a first part of the text was written. No other fault comes.
+pub fn write_text<K: Sink>(sink: &mut K, text: &[u8]) -> Result<(), RunFault>
     ensures { Wrote result (K.taken sink.old) (K.taken sink.new) (K.faults sink.old) (K.faults sink.new) text.now }
 {
     match write_all(sink, text) {
@@ -26,25 +28,26 @@ fn write<K: Sink>(sink: &mut K, text: &[u8]) -> Result<(), RunFault>
     }
 }
 
-/// Writes a line.
+/// Writes a line. What is written can be read back.
 ///
 /// - `WriteFault` only where the sink's count of faults rose in this call; a first part of the line was written.
 /// - `Memory` for want of memory. No other fault comes.
 pub fn write_one<K: Sink>(alloc: Global, line: &TraceLine, sink: &mut K) -> Result<(), RunFault>
     requires { HasReach (seen_line line.now) }
-    ensures { Wrote result (K.taken sink.old) (K.taken sink.new) (K.faults sink.old) (K.faults sink.new) (bytes_of (seen_line line.now ∷ [])) }
+    ensures { Told result (K.taken sink.old) (K.taken sink.new) (K.faults sink.old) (K.faults sink.new) (seen_line line.now ∷ []) }
 {
+    value_is_a_line(line);
     let mut text = Vec::new(alloc);
     let Ok(()) = write_line(alloc, line, &mut text) else {
         return Err(RunFault::Memory);
     };
-    write(sink, &text)
+    write_text(sink, &text)
 }
 
 /// Writes lines one after another. Refused as `write_one`, and a first part of the lines was written then.
 pub fn write_each<K: Sink>(alloc: Global, lines: &[TraceLine], sink: &mut K) -> Result<(), RunFault>
     requires { All (λ line. HasReach (seen_line line)) lines.now }
-    ensures { Wrote result (K.taken sink.old) (K.taken sink.new) (K.faults sink.old) (K.faults sink.new) (bytes_of (map seen_line lines.now)) }
+    ensures { Told result (K.taken sink.old) (K.taken sink.new) (K.faults sink.old) (K.faults sink.new) (map seen_line lines.now) }
 {
     for line in lines {
         if let Err(fault) = write_one(alloc, line, sink) {

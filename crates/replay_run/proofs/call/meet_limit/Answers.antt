@@ -1,5 +1,6 @@
-use Rattle.replay_run.proofs.Endings.{limit_answers}
+use Rattle.script_model.specs.Reading.{LimitAt}
+use Rattle.replay_run.proofs.Summaries.{refused_tells}
 use Rattle.replay_run.proofs.call.meet_limit.Goals as goal
 
-pub returns-clause-answers : goal.returns-clause-answers
-returns-clause-answers g c = rw c.conclude.ensures.report (limit_answers c.write_limit.result c.args.kind _ _ _ _ _ c.write_limit.ensures)
+pub returns-clause-tells : goal.returns-clause-tells
+returns-clause-tells g c = rw c.conclude.ensures.report (refused_tells c.write_limit.result (LimitAt c.args.kind c.args.line) _ _ _ _ c.write_limit.ensures)

@@ -1,0 +1,17 @@
+use Rattle.replay_run.proofs.Asking.{job_tells}
+use Rattle.replay_run.proofs.Summaries.{replay_tells, check_tells, summary_tells, print_tells}
+use Rattle.replay_run.proofs.call.perform.Goals as goal
+
+pub returns-in-Replay-clause-tells : goal.returns-in-Replay-clause-tells
+returns-in-Replay-clause-tells g c =
+    job_tells c.run_script.result.status _ _ _ _ _ _ _ c.in-Replay.is (replay_tells c.run_script.result.status _ _ _ _ _ c.run_script.ensures.answers)
+
+pub returns-in-Check-clause-tells : goal.returns-in-Check-clause-tells
+returns-in-Check-clause-tells g c = job_tells c.check.result _ _ _ _ _ _ _ c.in-Check.is (check_tells c.check.result _ _ _ _ _ c.check.ensures)
+
+pub returns-in-Summary-clause-tells : goal.returns-in-Summary-clause-tells
+returns-in-Summary-clause-tells g c =
+    job_tells c.summarize.result.status _ _ _ _ _ _ _ c.in-Summary.is (summary_tells c.summarize.result.status _ _ _ _ _ c.summarize.ensures.tells)
+
+pub returns-in-Print-clause-tells : goal.returns-in-Print-clause-tells
+returns-in-Print-clause-tells g c = job_tells c.write_script.result _ _ _ _ _ _ _ c.in-Print.is (print_tells c.write_script.result _ _ _ _ _ c.write_script.ensures)

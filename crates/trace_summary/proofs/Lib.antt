@@ -1,0 +1,4 @@
+pub mod Splits
+pub mod Counting
+pub mod Traces
+pub mod Rows

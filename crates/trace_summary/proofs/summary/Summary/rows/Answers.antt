@@ -1,0 +1,7 @@
+use Rattle.std.proofs.Common.{refl}
+use Rattle.trace_summary.specs.Counts.{rows_text}
+use Rattle.trace_summary.proofs.summary.Summary.rows.Goals as goal
+
+pub returns-clause-text : goal.returns-clause-text
+unfolding rows_text
+returns-clause-text c = refl

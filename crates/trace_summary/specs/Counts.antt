@@ -1,0 +1,56 @@
+-- How many lines of each kind a trace has, and the text that tells it: a line for each kind. This form is this project's own
+-- choice.
+use Rattle.std.specs.Prelude.{◌≡◌, ℕ, List, [], ◌∷◌, ◌++◌, codes}
+use Rattle.std.specs.List.{All}
+use Rattle.word_model.specs.Numbers.{decimal}
+use Rattle.script_model.specs.Summary.{count_of}
+use Rattle.script_model.specs.TraceLines.{TraceLine}
+use Rattle.page_model.specs.Outcome.{bytes_of}
+use Rattle.trace_text.specs.Ranges.{IsLine}
+use Rattle.trace_summary.specs.declared.summary.Summary.{Summary}
+
+-- a text is that of these lines of a trace
+pub record IsTrace (text : List ℕ) (lines : List TraceLine) : Type 0 where
+  pub fit : All IsLine lines
+  pub makes : bytes_of lines ≡ text
+
+unfoldable pub summary_of : List TraceLine → Summary
+unfolding count_of
+summary_of lines = record {
+  tick = count_of (codes "tick") lines;
+  timer = count_of (codes "timer") lines;
+  frame = count_of (codes "frame") lines;
+  task = count_of (codes "task") lines;
+  event = count_of (codes "event") lines;
+  resize = count_of (codes "resize") lines;
+  round = count_of (codes "round") lines;
+  intersect = count_of (codes "intersect") lines;
+  take = count_of (codes "take") lines;
+  say = count_of (codes "say") lines;
+  read = count_of (codes "read") lines;
+  throw = count_of (codes "throw") lines;
+  limit = count_of (codes "limit") lines;
+  syntax = count_of (codes "syntax") lines;
+}
+
+unfoldable pub row_text : List ℕ → ℕ → List ℕ
+unfolding decimal
+row_text kind count = kind ++ (32 ∷ decimal count) ++ (10 ∷ [])
+
+unfoldable pub rows_text : Summary → List ℕ
+unfolding row_text
+rows_text s =
+    row_text (codes "tick") s.tick
+    ++ (row_text (codes "timer") s.timer
+    ++ (row_text (codes "frame") s.frame
+    ++ (row_text (codes "task") s.task
+    ++ (row_text (codes "event") s.event
+    ++ (row_text (codes "resize") s.resize
+    ++ (row_text (codes "round") s.round
+    ++ (row_text (codes "intersect") s.intersect
+    ++ (row_text (codes "take") s.take
+    ++ (row_text (codes "say") s.say
+    ++ (row_text (codes "read") s.read
+    ++ (row_text (codes "throw") s.throw
+    ++ (row_text (codes "limit") s.limit
+    ++ (row_text (codes "syntax") s.syntax ++ [])))))))))))))

@@ -1,0 +1,14 @@
+//! Summaries of traces: a trace is gathered in memory, its lines are read back, and those of each kind are counted.
+#![tactic(auto)]
+
+mod gather;
+mod laws;
+mod lines;
+mod summary;
+#[cfg(test)]
+mod tests;
+
+pub use gather::GatherSink;
+pub use laws::{a_text_has_one_trace, rows_are_the_summary};
+pub use lines::split_line;
+pub use summary::Summary;
