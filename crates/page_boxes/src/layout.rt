@@ -121,18 +121,21 @@ fn fill_up<L: Ledger>(
     }
 }
 
-/// Computes every box of the page anew, with this size of the viewport of `top`, and holds it. Each element has its place in
-/// `boxes` before. It takes one step for each box, and no memory.
+/// Computes what is due of the page's boxes, with this size of the viewport of `top`: each box of the page is then held as it is
+/// now, and none is due. What is kept fits the page before, and afterwards. It takes at most one step for each box that was due,
+/// and no memory.
 pub fn refresh<L: Ledger>(
-    boxes: &mut FreshBoxes,
+    boxes: &mut Kept,
     page: &PageTree,
     viewport: Size,
     steps: &mut Steps<L>,
 )
-    requires { length page.now.tree.elements ≤ length boxes.old }
+    requires { AreKept page.now.tree boxes.old }
     ensures fresh { IsFresh page.now.tree (seen_size viewport) (held_in boxes.new) }
-    ensures places { length boxes.new ≡ length boxes.old }
-    ensures ticks { steps.new ≡ steps.old + box_number page.now.tree (seen_size viewport) }
+    ensures kept { AreKept page.now.tree boxes.new }
+    ensures done { (n : ℕ) → is_due page.now.tree (seen_size viewport) boxes.new n ≡ false }
+    ensures slots { length boxes.new ≡ length boxes.old }
+    ensures ticks { steps.new + due_count page.now.tree (seen_size viewport) boxes.new ≤ steps.old + due_count page.now.tree (seen_size viewport) boxes.old }
 {
     let mut filled = Filled::new();
     let count = page.document_count();
@@ -141,38 +144,40 @@ pub fn refresh<L: Ledger>(
     }
 }
 
-// Computes the boxes of a document anew and those of the documents around it.
+// Computes what is due of the boxes of a document and of the documents around it.
 fn refresh_document<L: Ledger>(
-    boxes: &mut FreshBoxes,
+    boxes: &mut Kept,
     page: &PageTree,
     viewport: Size,
     document: u32,
     steps: &mut Steps<L>,
 )
-    requires { length page.now.tree.elements ≤ length boxes.old }
+    requires { AreKept page.now.tree boxes.old }
     ensures fresh { IsFreshIn page.now.tree (seen_size viewport) (held_in boxes.new) document }
-    ensures places { length boxes.new ≡ length boxes.old }
-    ensures ticks { steps.new ≤ steps.old + box_number page.now.tree (seen_size viewport) }
+    ensures kept { AreKept page.now.tree boxes.new }
+    ensures slots { length boxes.new ≡ length boxes.old }
+    ensures ticks { steps.new + due_count page.now.tree (seen_size viewport) boxes.new ≤ steps.old + due_count page.now.tree (seen_size viewport) boxes.old }
 {
     let mut filled = Filled::new();
     let count = page.document_count();
     fill_up(boxes, page, viewport, document, count, &mut filled, steps);
 }
 
-/// Computes the boxes anew that a reading of an element or a document rests on, with this size of the viewport of `top`, and holds
-/// them: those of one document and of the documents around it. Each element has its place in `boxes` before. It takes one step for
-/// each of these boxes, and no memory.
+/// Computes what is due of the boxes that a reading of an element or a document rests on, with this size of the viewport of `top`:
+/// those of one document and of the documents around it are then held as they are now. What is kept fits the page before, and
+/// afterwards. It takes at most one step for each box that was due, and no memory.
 pub fn refresh_for<L: Ledger>(
-    boxes: &mut FreshBoxes,
+    boxes: &mut Kept,
     page: &PageTree,
     viewport: Size,
     container: Container,
     steps: &mut Steps<L>,
 )
-    requires { length page.now.tree.elements ≤ length boxes.old }
+    requires { AreKept page.now.tree boxes.old }
     ensures fresh { IsFreshFor page.now.tree (seen_size viewport) (held_in boxes.new) (seen_container container) }
-    ensures places { length boxes.new ≡ length boxes.old }
-    ensures ticks { steps.new ≤ steps.old + box_number page.now.tree (seen_size viewport) }
+    ensures kept { AreKept page.now.tree boxes.new }
+    ensures slots { length boxes.new ≡ length boxes.old }
+    ensures ticks { steps.new + due_count page.now.tree (seen_size viewport) boxes.new ≤ steps.old + due_count page.now.tree (seen_size viewport) boxes.old }
 {
     let around = match container {
         Container::Element(node) => Some(node),

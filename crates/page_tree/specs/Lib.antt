@@ -4,3 +4,4 @@ pub mod Faults
 pub mod Steps
 pub mod Trees
 pub mod Answers
+pub mod Changes

@@ -16,6 +16,7 @@ ghost use Rattle.page_model.specs.Commands.{placing, growing, loading};
 ghost use Rattle.block_layout.specs.Seen.{seen_kind};
 ghost use Rattle.page_tree.specs.Items.{IsKind, IsNatural};
 ghost use Rattle.page_tree.specs.Faults.{refusal, element_room, frame_room, has_element_room, has_document_room, IsMakeFault, IsFrameFault};
+ghost use Rattle.page_tree.specs.Changes.{ChangesAtNext, ChangesAtParents, ChangesAtParent, ChangesAtElement};
 ghost use Rattle.page_tree.specs.Answers.{put_fault, mark_for, refusal_of, unmade_of, is_elsewhere};
 ghost use Rattle.page_tree.specs.Steps.{seen_container, seen_axis, IsContainerIn};
 
@@ -143,6 +144,7 @@ impl PageTree {
         }) }
         ensures count { OnOk result (length self.new.tree.elements ≡ length self.old.tree.elements + 1) }
         ensures documents { OnOk result (length self.new.tree.documents ≡ length self.old.tree.documents) }
+        ensures changes { OnOk result (ChangesAtNext self.old.tree self.new.tree) }
         ensures kept { OnErr result (self.old.ready ≡ true → self.new.ready ≡ true) }
         ensures same { OnErr result (self.new ≡ record self.old { ready = self.new.ready }) }
         ensures refused { IfErr result (IsMakeFault self.old) }
@@ -172,6 +174,7 @@ impl PageTree {
         }) }
         ensures count { OnOk result (length self.new.tree.elements ≡ length self.old.tree.elements + 1) }
         ensures documents { OnOk result (length self.new.tree.documents ≡ length self.old.tree.documents + 1) }
+        ensures changes { OnOk result (ChangesAtNext self.old.tree self.new.tree) }
         ensures kept { OnErr result (self.old.ready ≡ true → self.new.ready ≡ true) }
         ensures same { OnErr result (self.new ≡ record self.old { ready = self.new.ready }) }
         ensures refused { IfErr result (IsFrameFault self.old) }
@@ -213,6 +216,7 @@ impl PageTree {
         ensures rest { OnOk result (self.new ≡ record self.old { tree = self.new.tree }) }
         ensures count { length self.new.tree.elements ≡ length self.old.tree.elements }
         ensures documents { length self.new.tree.documents ≡ length self.old.tree.documents }
+        ensures changes { OnOk result (ChangesAtParents (seen_container container) node.0 self.old.tree self.new.tree) }
         ensures refused { IfErr result (λ fault. placing (seen_container container) node.0 (option_map number sibling) (self.old.tree)
             ≡ refusal fault) }
         ensures same { OnErr result (self.new ≡ self.old) }
@@ -232,6 +236,7 @@ impl PageTree {
         ensures rest { self.new ≡ record self.old { tree = self.new.tree } }
         ensures count { length self.new.tree.elements ≡ length self.old.tree.elements }
         ensures documents { length self.new.tree.documents ≡ length self.old.tree.documents }
+        ensures changes { ChangesAtParent node.0 self.old.tree self.new.tree }
     {
         let held = self.tree.holds(node);
         prove!(held);
@@ -247,6 +252,7 @@ impl PageTree {
         ensures rest { self.new ≡ record self.old { tree = self.new.tree } }
         ensures count { length self.new.tree.elements ≡ length self.old.tree.elements }
         ensures documents { length self.new.tree.documents ≡ length self.old.tree.documents }
+        ensures changes { ChangesAtElement node.0 self.old.tree self.new.tree }
     {
         self.tree.payload_mut(node).apply(declaration);
     }
@@ -260,6 +266,7 @@ impl PageTree {
         ensures rest { OnOk result (self.new ≡ record self.old { tree = self.new.tree }) }
         ensures count { length self.new.tree.elements ≡ length self.old.tree.elements }
         ensures documents { length self.new.tree.documents ≡ length self.old.tree.documents }
+        ensures changes { OnOk result (ChangesAtElement node.0 self.old.tree self.new.tree) }
         ensures refused { IfErr result (λ kind. growing (seen_axis axis) node.0 by.0 (self.old.tree) ≡ Threw kind) }
         ensures same { OnErr result (self.new ≡ self.old) }
     {
@@ -281,6 +288,7 @@ impl PageTree {
         ensures rest { OnOk result (self.new ≡ record self.old { tree = self.new.tree }) }
         ensures count { length self.new.tree.elements ≡ length self.old.tree.elements }
         ensures documents { length self.new.tree.documents ≡ length self.old.tree.documents }
+        ensures changes { OnOk result (ChangesAtElement node.0 self.old.tree self.new.tree) }
         ensures refused { IfErr result (λ kind. loading node.0 (unsigned_abs size.width) (unsigned_abs size.height) (self.old.tree)
             ≡ Threw kind) }
         ensures same { OnErr result (self.new ≡ self.old) }
@@ -307,6 +315,7 @@ impl PageTree {
         ensures rest { OnOk result (self.new ≡ record self.old { tree = self.new.tree }) }
         ensures count { length self.new.tree.elements ≡ length self.old.tree.elements }
         ensures documents { length self.new.tree.documents ≡ length self.old.tree.documents }
+        ensures changes { OnOk result (ChangesAtParents (InElement parent.0) node.0 self.old.tree self.new.tree) }
         ensures refused { IfErr result (λ fault. placing (InElement parent.0) node.0 (option_map number sibling) (self.old.tree)
             ≡ refusal fault) }
         ensures same { OnErr result (self.new ≡ self.old) }
@@ -337,6 +346,7 @@ impl PageTree {
         ensures rest { OnOk result (self.new ≡ record self.old { tree = self.new.tree }) }
         ensures count { length self.new.tree.elements ≡ length self.old.tree.elements }
         ensures documents { length self.new.tree.documents ≡ length self.old.tree.documents }
+        ensures changes { OnOk result (ChangesAtParents (InDocument document) node.0 self.old.tree self.new.tree) }
         ensures refused { IfErr result (λ fault. placing (InDocument document) node.0 (option_map number sibling) (self.old.tree)
             ≡ refusal fault) }
         ensures same { OnErr result (self.new ≡ self.old) }

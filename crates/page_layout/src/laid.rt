@@ -1,0 +1,284 @@
+//! The elements and documents of a page with their boxes.
+
+ghost use Rattle.std.specs.Prelude.{◌≡◌, ◌+◌, ◌<◌, ◌≤◌, ◌++◌, ◌∷◌, [], ℕ, true, false, not, length, option_map, unsigned_abs, Some, None, IfOk, IfErr, OnOk, OnErr};
+ghost use Rattle.std.specs.Option.{ForSome};
+ghost use Rattle.style_values.specs.Ranges.{IsAllowed};
+ghost use Rattle.style_values.specs.Seen.{seen_declaration};
+ghost use Rattle.element_tree.specs.Links.{number};
+ghost use Rattle.page_model.specs.Outcome.{opening_world};
+ghost use Rattle.page_model.specs.Documents.{removed};
+ghost use Rattle.page_model.specs.Steps.{Did, Threw};
+ghost use Rattle.page_model.specs.Edits.{with_element, with_frame, with_declaration};
+ghost use Rattle.page_model.specs.Commands.{placing, growing, loading};
+ghost use Rattle.block_layout.specs.Seen.{seen_kind};
+ghost use Rattle.kept_layout.specs.Slots.{held_in};
+ghost use Rattle.page_tree.specs.Items.{IsKind, IsNatural};
+ghost use Rattle.page_tree.specs.Faults.{refusal, element_room, frame_room, IsMakeFault, IsFrameFault};
+ghost use Rattle.page_tree.specs.Steps.{seen_container, seen_axis, IsContainerIn};
+ghost use Rattle.page_boxes.specs.Fresh.{IsFresh, IsFreshFor};
+ghost use Rattle.page_boxes.specs.Kept.{is_due, due_count};
+ghost use Rattle.page_boxes.specs.Pages.{seen_size};
+
+use block_layout::ItemKind;
+use element_tree::NodeId;
+use kept_layout::Kept;
+use page_boxes::{refresh, refresh_for};
+use page_tree::{Axis, Container, MakeFault, PageTree, PlaceFault};
+use px_units::{Px, Size};
+use std::alloc::{AllocError, Global};
+use std::marker::Model;
+use std::sync::ledger::Ledger;
+use step_count::Steps;
+use style_values::Declaration;
+use text_io::{Name, ThrowKind};
+
+/// The elements and documents of a page with their boxes, which are kept. A contract sees them as a page's elements, and as what
+/// is kept for each (`specs/Views.antt`).
+///
+/// Each call that changes the tree or a style marks what it changed, so that what is kept always fits the page; `refresh` computes
+/// what is due.
+#[derive(Drop)]
+pub struct LaidTree {
+    page: PageTree,
+    boxes: Kept,
+}
+
+impl Model for LaidTree {
+    ghost use Rattle.page_layout.specs.Views.{LaidElements, seen_laid};
+    ghost use Rattle.page_boxes.specs.Kept.{AreKept};
+
+    ghost Value = { LaidElements };
+
+    ghost view = { λ l. seen_laid l.page l.boxes };
+
+    ghost invariant = { λ l. AreKept l.page.tree l.boxes };
+}
+
+impl LaidTree {
+    /// No element, and `top` alone, which is Active. The room for all documents is made here.
+    ///
+    /// # Errors
+    ///
+    /// Where there is no memory.
+    pub fn new(alloc: Global) -> Result<LaidTree, AllocError>
+        ensures tree { IfOk result (λ laid. laid.elements.tree ≡ opening_world.tree) }
+        ensures names { IfOk result (λ laid. laid.elements.names ≡ []) }
+    {
+        let page = PageTree::new(alloc)?;
+        Ok(LaidTree {
+            page,
+            boxes: Kept::new(alloc),
+        })
+    }
+
+    /// The elements and documents by themselves.
+    pub fn page(&self) -> &PageTree
+        ensures value { result.now ≡ record self.now.elements { ready = result.now.ready } }
+        ensures tree { result.now.tree ≡ self.now.elements.tree }
+        ensures names { result.now.names ≡ self.now.elements.names }
+    {
+        &self.page
+    }
+
+    /// The boxes that are held by now.
+    pub fn boxes(&self) -> &Kept
+        ensures { result.now ≡ self.now.kept }
+    {
+        &self.boxes
+    }
+
+    /// Makes room for one element and its box, and tells the number that the next `make` or `make_frame` gives it.
+    ///
+    /// That call doesn't answer `Memory`. `Limit` comes exactly where 20,000 elements were made; else `Memory` where there is
+    /// none. Besides the room nothing changes.
+    pub fn reserve(&mut self) -> Result<NodeId, MakeFault>
+        ensures node { IfOk result (λ node. node.0 ≡ length self.old.elements.tree.elements) }
+        ensures roomy { OnOk result (element_room self.old.elements ≡ Did tt) }
+        ensures ready { OnOk result (self.new.elements.ready ≡ true) }
+        ensures kept { self.old.elements.ready ≡ true → self.new.elements.ready ≡ true }
+        ensures same { self.new.elements ≡ record self.old.elements { ready = self.new.elements.ready } }
+        ensures refused { IfErr result (IsMakeFault self.old.elements) }
+    {
+        let node = self.page.reserve()?;
+        let Ok(()) = self.boxes.add(node) else {
+            return Err(MakeFault::Memory);
+        };
+        Ok(node)
+    }
+
+    /// Makes an element with this name and kind, in a document and standing nowhere, and gives its number. It has no style set.
+    ///
+    /// `Limit` comes exactly where 20,000 elements were made; else `Memory` where there is none, which isn't after
+    /// `reserve`. Nothing is changed then but that room may have been made.
+    pub fn make(&mut self, document: u32, name: Name, kind: ItemKind) -> Result<NodeId, MakeFault>
+        requires { IsKind kind }
+        ensures node { IfOk result (λ node. node.0 ≡ length self.old.elements.tree.elements) }
+        ensures roomy { OnOk result (element_room self.old.elements ≡ Did tt) }
+        ensures made { OnOk result (self.new.elements ≡ record self.old.elements {
+          tree = with_element (seen_kind kind) document None (self.old.elements.tree);
+          names = self.old.elements.names ++ name ∷ [];
+          ready = self.new.elements.ready;
+        }) }
+        ensures count { OnOk result (length self.new.elements.tree.elements ≡ length self.old.elements.tree.elements + 1) }
+        ensures documents { OnOk result (length self.new.elements.tree.documents ≡ length self.old.elements.tree.documents) }
+        ensures kept { OnErr result (self.old.elements.ready ≡ true → self.new.elements.ready ≡ true) }
+        ensures same { OnErr result (self.new.elements ≡ record self.old.elements { ready = self.new.elements.ready }) }
+        ensures refused { IfErr result (IsMakeFault self.old.elements) }
+    {
+        let _node = self.reserve()?;
+        self.page.make(document, name, kind)
+    }
+
+    /// Makes a frame with this name, in a document and standing nowhere, and the Fresh document in it, which has no root element
+    /// (HTML, 4.8.5 and 7.3), and gives both numbers. The frame has no style set.
+    ///
+    /// `Limit(Nodes)` comes exactly where 20,000 elements were made, then `Limit(Documents)` where 64 documents were; else
+    /// `Memory` where there is none, which isn't after `reserve`. Nothing is changed then but that room may have been made.
+    pub fn make_frame(&mut self, document: u32, name: Name) -> Result<(NodeId, u32), MakeFault>
+        ensures node { IfOk result (λ made. made.0.0 ≡ length self.old.elements.tree.elements) }
+        ensures document { IfOk result (λ made. made.1 ≡ length self.old.elements.tree.documents) }
+        ensures roomy { OnOk result (frame_room self.old.elements ≡ Did tt) }
+        ensures made { OnOk result (self.new.elements ≡ record self.old.elements {
+          tree = with_frame document (self.old.elements.tree);
+          names = self.old.elements.names ++ name ∷ [];
+          ready = self.new.elements.ready;
+        }) }
+        ensures count { OnOk result (length self.new.elements.tree.elements ≡ length self.old.elements.tree.elements + 1) }
+        ensures documents { OnOk result (length self.new.elements.tree.documents ≡ length self.old.elements.tree.documents + 1) }
+        ensures kept { OnErr result (self.old.elements.ready ≡ true → self.new.elements.ready ≡ true) }
+        ensures same { OnErr result (self.new.elements ≡ record self.old.elements { ready = self.new.elements.ready }) }
+        ensures refused { IfErr result (IsFrameFault self.old.elements) }
+    {
+        if self.page.is_full_of_documents() {
+            return self.page.make_frame(document, name);
+        }
+        let _node = self.reserve()?;
+        self.page.make_frame(document, name)
+    }
+
+    /// Puts an element, with its subtree, among the children of an element, before a sibling or last, or makes it the
+    /// root element of a document (DOM, 4.2.3 pre-insert), as `PageTree::place` does, and marks where it leaves and where it comes
+    /// to stand.
+    ///
+    /// Refused, with nothing changed, by HierarchyRequestError where it would stand in itself, then by NotFoundError
+    /// where the sibling isn't a child there, then by HierarchyRequestError where the document has its root element,
+    /// then by `Limit` where an element would stand deeper than 256. No memory.
+    pub fn place(
+        &mut self,
+        container: Container,
+        node: NodeId,
+        sibling: Option<NodeId>,
+    ) -> Result<(), PlaceFault>
+        requires container { IsContainerIn self.old.elements container }
+        requires node { node.0 < length self.old.elements.tree.elements }
+        requires sibling { ForSome sibling (λ s. s.0 < length self.old.elements.tree.elements) }
+        ensures done { OnOk result (placing (seen_container container) node.0 (option_map number sibling) (self.old.elements.tree)
+            ≡ Did (self.new.elements.tree)) }
+        ensures rest { OnOk result (self.new.elements ≡ record self.old.elements { tree = self.new.elements.tree }) }
+        ensures count { length self.new.elements.tree.elements ≡ length self.old.elements.tree.elements }
+        ensures documents { length self.new.elements.tree.documents ≡ length self.old.elements.tree.documents }
+        ensures refused { IfErr result (λ fault. placing (seen_container container) node.0 (option_map number sibling) (self.old.elements.tree)
+            ≡ refusal fault) }
+        ensures same { OnErr result (self.new ≡ self.old) }
+    {
+        let before = self.page.tree().parent(node);
+        self.page.place(container, node, sibling)?;
+        self.mark(before);
+        if let Container::Element(parent) = container {
+            self.mark(Some(parent));
+        }
+        Ok(())
+    }
+
+    /// Takes an element, with its subtree, out of its parent's children, or as root element out of its document (DOM,
+    /// 4.2.3 remove), as `PageTree::remove` does, and marks where it stood. No memory.
+    pub fn remove(&mut self, node: NodeId)
+        requires { node.0 < length self.old.elements.tree.elements }
+        ensures done { self.new.elements.tree ≡ removed (self.old.elements.tree) node.0 }
+        ensures rest { self.new.elements ≡ record self.old.elements { tree = self.new.elements.tree } }
+        ensures count { length self.new.elements.tree.elements ≡ length self.old.elements.tree.elements }
+        ensures documents { length self.new.elements.tree.documents ≡ length self.old.elements.tree.documents }
+    {
+        let before = self.page.tree().parent(node);
+        self.page.remove(node);
+        self.mark(before);
+    }
+
+    /// Sets a property of an element's style (CSSOM, 6.6), and marks the element.
+    pub fn set(&mut self, node: NodeId, declaration: Declaration)
+        requires node { node.0 < length self.old.elements.tree.elements }
+        requires allowed { IsAllowed declaration }
+        ensures done { self.new.elements.tree ≡ with_declaration (seen_declaration declaration) node.0 (self.old.elements.tree) }
+        ensures rest { self.new.elements ≡ record self.old.elements { tree = self.new.elements.tree } }
+        ensures count { length self.new.elements.tree.elements ≡ length self.old.elements.tree.elements }
+        ensures documents { length self.new.elements.tree.documents ≡ length self.old.elements.tree.documents }
+    {
+        self.page.set(node, declaration);
+        self.mark(Some(node));
+    }
+
+    /// Adds so many units of 1/64 pixel to an element's width or height, which stays between 0 and 1,000,000 pixels, and marks the
+    /// element.
+    ///
+    /// TypeError comes exactly where that property isn't in pixels. Nothing is changed then.
+    pub fn grow(&mut self, node: NodeId, axis: Axis, by: Px) -> Result<(), ThrowKind>
+        requires { node.0 < length self.old.elements.tree.elements }
+        ensures done { OnOk result (growing (seen_axis axis) node.0 by.0 (self.old.elements.tree) ≡ Did (self.new.elements.tree)) }
+        ensures rest { OnOk result (self.new.elements ≡ record self.old.elements { tree = self.new.elements.tree }) }
+        ensures count { length self.new.elements.tree.elements ≡ length self.old.elements.tree.elements }
+        ensures documents { length self.new.elements.tree.documents ≡ length self.old.elements.tree.documents }
+        ensures refused { IfErr result (λ kind. growing (seen_axis axis) node.0 by.0 (self.old.elements.tree) ≡ Threw kind) }
+        ensures same { OnErr result (self.new ≡ self.old) }
+    {
+        self.page.grow(node, axis, by)?;
+        self.mark(Some(node));
+        Ok(())
+    }
+
+    /// Sets the natural size of an image, in units of 1/64 pixel, and marks the image.
+    ///
+    /// TypeError comes exactly where the element is no image. Nothing is changed then.
+    pub fn load(&mut self, node: NodeId, size: Size) -> Result<(), ThrowKind>
+        requires node { node.0 < length self.old.elements.tree.elements }
+        requires size { IsNatural size }
+        ensures done { OnOk result (loading node.0 (unsigned_abs size.width) (unsigned_abs size.height) (self.old.elements.tree)
+            ≡ Did (self.new.elements.tree)) }
+        ensures rest { OnOk result (self.new.elements ≡ record self.old.elements { tree = self.new.elements.tree }) }
+        ensures count { length self.new.elements.tree.elements ≡ length self.old.elements.tree.elements }
+        ensures documents { length self.new.elements.tree.documents ≡ length self.old.elements.tree.documents }
+        ensures refused { IfErr result (λ kind. loading node.0 (unsigned_abs size.width) (unsigned_abs size.height) (self.old.elements.tree)
+            ≡ Threw kind) }
+        ensures same { OnErr result (self.new ≡ self.old) }
+    {
+        self.page.load(node, size)?;
+        self.mark(Some(node));
+        Ok(())
+    }
+
+    /// Computes what is due of the boxes, with this size of the viewport of `top`: each box of the page is then held as it is now,
+    /// and none is due. It takes at most one step for each box that was due, and no memory.
+    pub fn refresh<L: Ledger>(&mut self, viewport: Size, steps: &mut Steps<L>)
+        ensures fresh { IsFresh self.new.elements.tree (seen_size viewport) (held_in self.new.kept) }
+        ensures done { (n : ℕ) → is_due self.new.elements.tree (seen_size viewport) self.new.kept n ≡ false }
+        ensures same { self.new.elements ≡ self.old.elements }
+        ensures ticks { steps.new + due_count self.old.elements.tree (seen_size viewport) self.new.kept ≤ steps.old + due_count self.old.elements.tree (seen_size viewport) self.old.kept }
+    {
+        refresh(&mut self.boxes, &self.page, viewport, steps);
+    }
+
+    /// Computes what is due of the boxes that a reading of an element or a document rests on, with this size of the viewport of
+    /// `top`: those of one document and of the documents around it are then held as they are now. It takes at most one step for
+    /// each box that was due, and no memory.
+    pub fn refresh_for<L: Ledger>(
+        &mut self,
+        viewport: Size,
+        container: Container,
+        steps: &mut Steps<L>,
+    )
+        ensures fresh { IsFreshFor self.new.elements.tree (seen_size viewport) (held_in self.new.kept) (seen_container container) }
+        ensures same { self.new.elements ≡ self.old.elements }
+        ensures ticks { steps.new + due_count self.old.elements.tree (seen_size viewport) self.new.kept ≤ steps.old + due_count self.old.elements.tree (seen_size viewport) self.old.kept }
+    {
+        refresh_for(&mut self.boxes, &self.page, viewport, container, steps);
+    }
+}

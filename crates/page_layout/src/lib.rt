@@ -1,0 +1,6 @@
+//! The elements and documents of a page with their boxes, which are kept from one reading to the next and exact at each.
+#![tactic(auto)]
+
+mod laid;
+
+pub use laid::LaidTree;
