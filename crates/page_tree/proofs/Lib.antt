@@ -11,3 +11,5 @@ pub mod Trees
 pub mod Items
 pub mod Growing
 pub mod Making
+pub mod Moves
+pub mod Differences

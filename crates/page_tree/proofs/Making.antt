@@ -48,7 +48,7 @@ module _ (forest : Forest Described) (documents : HeldDocuments) (is : IsPage fo
       })
 
 -- what is made comes last among the elements
-last_seen : (nodes : List (Knot Described)) (payload : Described)
+pub last_seen : (nodes : List (Knot Described)) (payload : Described)
     → map (element_of carried_in) (nodes ++ lone payload ∷ []) ≡ map (element_of carried_in) nodes ++ element_of carried_in (lone payload) ∷ []
 last_seen [] payload = refl
 last_seen (knot ∷ nodes) payload = ap (λ elements. element_of carried_in knot ∷ elements) (last_seen nodes payload)

@@ -2,6 +2,7 @@ use Rattle.std.proofs.Common.{◌<◌, length, refl, ap, sym, subst}
 use Rattle.page_documents.specs.Held.{HeldDocuments}
 use Rattle.page_tree.specs.Views.{PageElements}
 use Rattle.page_tree.proofs.Making.{frame_met_nodes, frame_met_documents, frame_roomy, frame_unready, IsPage-made, element_roomy, frame_made, few_documents}
+use Rattle.page_tree.proofs.Differences.{added_only}
 use Rattle.page_tree.proofs.page.PageTree.make_frame.Goals as goal
 
 pub returns-then-is_full-clause-refused : goal.returns-then-is_full-clause-refused
@@ -36,3 +37,8 @@ invariant_of-self-2 c =
     (c.in-Ok.node.0) c.in-Ok.ensures.node c.make-framed.new.self c.make-framed.ensures.made
     (subst (λ (page : PageElements). length page.tree.documents < 65536) (sym c.self.view_is)
     (few_documents c.args.self.now c.is_full_of_documents.result c.is_full_of_documents.ensures c.if-is_full_of_documents.false)))
+
+pub returns-clause-changes : goal.returns-clause-changes
+returns-clause-changes c =
+    added_only c.self.inside.tree c.add.new.self c.self.inside.documents.held c.make-framed.new.self.held c.self.invariant.framed
+    c.new-element.result c.in-Ok.ensures.added c.args.self.now.tree (ap (λ (page : PageElements). page.tree) c.self.view_is)

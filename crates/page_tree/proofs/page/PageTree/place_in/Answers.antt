@@ -14,6 +14,7 @@ use Rattle.page_tree.proofs.Places.{removed_count, shown_count}
 use Rattle.page_tree.proofs.Placing.{in_refused}
 use Rattle.page_tree.proofs.Inserting.{put_done}
 use Rattle.page_tree.proofs.Outcomes.{kept_then, kept_put, kept_adopted, kept_rest, kept_count, IsPage-kept}
+use Rattle.page_tree.proofs.Moves.{placed_only}
 use Rattle.page_tree.proofs.page.PageTree.place_in.Goals as goal
 
 pub returns-in-Err-clause-refused : goal.returns-in-Err-clause-refused
@@ -76,3 +77,7 @@ returns-clause-documents c =
     ∙ ap (λ (it : HeldDocuments). length it.held) c.leave.ensures
     ∙ removed_count _ (c.args.node.0)
     ∙ ap (λ (page : PageElements). length page.tree.documents) c.self.view_is
+
+pub returns-clause-changes : goal.returns-clause-changes
+returns-clause-changes c =
+    placed_only (InElement (c.args.parent.0)) (c.args.node.0) (option_map number c.args.sibling) c.args.self.now.tree _ (returns-clause-done c)

@@ -12,6 +12,7 @@ use Rattle.page_tree.proofs.Places.{removed_count, shown_count}
 use Rattle.page_tree.proofs.Placing.{top_missing, top_full}
 use Rattle.page_tree.proofs.Inserting.{top_put}
 use Rattle.page_tree.proofs.Outcomes.{kept_then, kept_removed, kept_adopted, kept_rest, kept_count, IsPage-kept, document_within, some_still}
+use Rattle.page_tree.proofs.Moves.{placed_only}
 use Rattle.page_tree.proofs.page.PageTree.place_on_top.Goals as goal
 
 pub returns-then-is_no_root-clause-refused : goal.returns-then-is_no_root-clause-refused
@@ -84,3 +85,7 @@ returns-clause-documents c =
     ∙ ap (λ (it : HeldDocuments). length it.held) c.leave.ensures
     ∙ removed_count _ (c.args.node.0)
     ∙ ap (λ (page : PageElements). length page.tree.documents) c.self.view_is
+
+pub returns-clause-changes : goal.returns-clause-changes
+returns-clause-changes c =
+    placed_only (InDocument c.args.document) (c.args.node.0) (option_map number c.args.sibling) c.args.self.now.tree _ (returns-clause-done c)

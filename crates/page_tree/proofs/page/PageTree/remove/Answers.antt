@@ -9,6 +9,8 @@ use Rattle.page_tree.specs.Views.{PageElements}
 use Rattle.page_tree.proofs.Places.{removed_count}
 use Rattle.page_tree.proofs.Inserting.{removed_done}
 use Rattle.page_tree.proofs.Outcomes.{kept_removed, kept_rest, IsPage-kept}
+use Rattle.page_tree.proofs.Moves.{removed_only}
+use Rattle.page_tree.specs.Changes.{ChangesAtParent}
 use Rattle.page_tree.proofs.page.PageTree.remove.Goals as goal
 
 pub invariant_of-self : goal.invariant_of-self
@@ -37,3 +39,6 @@ returns-clause-documents c =
     ap (λ (it : HeldDocuments). length it.held) c.leave.ensures
     ∙ removed_count _ (c.args.node.0)
     ∙ ap (λ (page : PageElements). length page.tree.documents) c.self.view_is
+
+pub returns-clause-changes : goal.returns-clause-changes
+returns-clause-changes c = subst (ChangesAtParent (c.args.node.0) c.args.self.now.tree) (sym (returns-clause-done c)) (removed_only c.args.self.now.tree (c.args.node.0))
