@@ -130,12 +130,7 @@ fn lay_out_up<L: Ledger>(
 /// Computes what is due of the page's boxes, with this size of the viewport of `top`: each box of the page is then held as it is
 /// now, and none is due. What is kept fits the page before, and afterwards. It takes at most one step for each box that was due,
 /// and no memory.
-pub fn refresh<L: Ledger>(
-    boxes: &mut Kept,
-    page: &PageTree,
-    viewport: Size,
-    steps: &mut Steps<L>,
-)
+pub fn refresh<L: Ledger>(boxes: &mut Kept, page: &PageTree, viewport: Size, steps: &mut Steps<L>)
     requires { AreKept page.now.tree boxes.old }
     ensures fresh { IsFresh page.now.tree (seen_size viewport) (held_in boxes.new) }
     ensures kept { AreKept page.now.tree boxes.new }
@@ -146,15 +141,7 @@ pub fn refresh<L: Ledger>(
     let mut laid_out = LaidOut::new();
     let count = page.document_count();
     for document in 0..count {
-        lay_out_up(
-            boxes,
-            page,
-            viewport,
-            document,
-            count,
-            &mut laid_out,
-            steps,
-        );
+        lay_out_up(boxes, page, viewport, document, count, &mut laid_out, steps);
     }
 }
 
@@ -174,15 +161,7 @@ fn refresh_document<L: Ledger>(
 {
     let mut laid_out = LaidOut::new();
     let count = page.document_count();
-    lay_out_up(
-            boxes,
-            page,
-            viewport,
-            document,
-            count,
-            &mut laid_out,
-            steps,
-        );
+    lay_out_up(boxes, page, viewport, document, count, &mut laid_out, steps);
 }
 
 /// Computes what is due of the boxes that a reading of an element or a document rests on, with this size of the viewport of `top`:
