@@ -5,9 +5,11 @@ pub mod Sums
 pub mod Shown
 pub mod Views
 pub mod Pages
-pub mod Counted
+pub mod Marks
+pub mod Rooted
 pub mod Renewed
 pub mod Going
+pub mod Nothing
 pub mod Reaching
 pub mod InForce
 pub mod Rects

@@ -1,6 +1,7 @@
 -- What a page tells of boxes and viewports.
 use Rattle.std.proofs.Common.{◌≡◌, ◌<◌, ◌≤◌, ℕ, zero, suc, Bool, true, false, List, [], ◌∷◌, length, Option, Some, None, option_map, unwrap_or, slice_get, refl, ap, sym, ◌∙◌, arith, nat_lt}
 use Rattle.std.proofs.lemmas.Bool.Decides.{nat_tests}
+use Rattle.std.proofs.lemmas.List.{length-map}
 use Rattle.std.specs.Prelude.{is_some, not, ◌&&◌, pos, unsigned_abs}
 use Rattle.px_units.specs.declared.Size.{Size}
 use Rattle.px_units.specs.declared.Point.{Point}
@@ -11,7 +12,10 @@ use Rattle.page_model.specs.Lookups.{element_at, no_element, document_at, no_ext
 use Rattle.page_model.specs.Documents.{nodes_of, is_number}
 use Rattle.page_model.specs.PageBoxes.{pair_of, framed_size, view_of, viewport_of, view_at, inputs_of, has_box, box_of}
 use Rattle.block_layout.specs.Seen.{as_size, as_point}
-use Rattle.page_tree.specs.Items.{IsNatural}
+use Rattle.element_tree.specs.Forest.{Forest}
+use Rattle.page_documents.specs.Seen.{element_of}
+use Rattle.page_tree.specs.Items.{Described, IsNatural, carried_in}
+use Rattle.page_tree.specs.Views.{PageElements, seen_with}
 use Rattle.page_boxes.specs.Fresh.{IsFreshIn}
 use Rattle.page_boxes.specs.Pages.{seen_pair}
 use Rattle.page_boxes.proofs.Boxed.{boxed_top}
@@ -23,11 +27,15 @@ past_end [] n past = refl
 past_end (x ∷ elements) zero past = absurd (omega arith)
 past_end (x ∷ elements) (suc n) past = past_end elements n (omega arith)
 
+pub missing_element : (tree : Tree) (n : ℕ) → nat_lt n (length tree.elements) ≡ false → element_at tree n ≡ no_element
+missing_element tree n past =
+    let beyond : length tree.elements ≤ n = grind (arith, nat_tests) in
+    ap (λ it. unwrap_or it no_element) (past_end tree.elements n beyond)
+
 -- an element that wasn't made has no box in any view
 pub absent_unboxed : (tree : Tree) (view : View) (n : ℕ) → nat_lt n (length tree.elements) ≡ false → is_some (inputs_in_view (nodes_of tree) view n) ≡ false
 absent_unboxed tree view n past =
-    let beyond : length tree.elements ≤ n = grind (arith, nat_tests) in
-    let missing : element_at tree n ≡ no_element = ap (λ it. unwrap_or it no_element) (past_end tree.elements n beyond) in
+    let missing = missing_element tree n past in
     boxed_top (nodes_of tree) view n (ap (λ (it : Element). it.parent) missing)
     ∙ ap (λ (it : Element). not it.item.style.hidden && is_number view.root n) missing
 
@@ -89,3 +97,7 @@ pub as_pair : (point : Point) (pair : ℕ × ℕ) → point ≡ as_point pair �
     → ◌≡◌ {A = ℕ × ℕ} (across, down) pair
 as_pair point pair is across down one two =
     pair_is across down pair (one ∙ ap (λ (p : Point). unsigned_abs p.left) is) (two ∙ ap (λ (p : Point). unsigned_abs p.top) is)
+
+-- a page whose tree holds these nodes
+pub count_here : (page : PageElements) (forest : Forest Described) → seen_with forest page.tree.documents ≡ page → length forest.nodes ≡ length page.tree.elements
+count_here page forest same = sym (length-map forest.nodes (element_of carried_in)) ∙ ap (λ (p : PageElements). length p.tree.elements) same

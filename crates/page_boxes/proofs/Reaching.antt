@@ -25,7 +25,7 @@ use Rattle.block_layout.proofs.Nodes.{item_is, parent_is, some_ids}
 use Rattle.page_boxes.specs.Fresh.{HoldsAll, IsFreshIn}
 use Rattle.page_boxes.specs.Pages.{seen_pair}
 use Rattle.page_boxes.proofs.Shifts.{pair_is, some_found, same_box, none_held}
-use Rattle.page_boxes.proofs.Renewed.{rootless_here, view_filled}
+use Rattle.page_boxes.proofs.Renewed.{rootless_here, view_shown}
 
 -- a scroll container, by what is asked of its node
 regroup : (block visible clip inner : Bool) → ((block && not visible && inner) && not clip) ≡ (block && (not visible && not clip) && inner)
@@ -171,7 +171,7 @@ module _ (tree : Tree) (size : Extent) where
       (pair : ℕ × ℕ) (shown : Some pair ≡ framed_size tree size (view_of tree size) (document_at tree document).frame)
       (at : ℕ → Node) (nodes : nodes_of tree ≡ at) (root : ℕ) (rooted : (document_at tree document).root ≡ Some root) where
     view_here : view_of tree size document ≡ view_with (Some root) (Some pair)
-    view_here = view_filled tree framed size document active pair shown at nodes root rooted
+    view_here = view_shown tree framed size document active pair shown at nodes root rooted
 
     top_here : (at root).parent ≡ None
     top_here = sym (ap (λ at. (at root).parent) nodes) ∙ (framed.owners.roots document root rooted).top

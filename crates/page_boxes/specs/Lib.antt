@@ -1,5 +1,5 @@
 pub mod Fresh
 pub mod Pages
-pub mod Filled
 pub mod Ranges
 pub mod Kept
+pub mod LaidOut

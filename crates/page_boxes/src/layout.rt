@@ -1,19 +1,21 @@
-//! Laying out a page: its boxes, computed anew, document by document.
+//! Laying out a page over the boxes that are kept: what is due is computed, document by document.
 
-ghost use Rattle.std.specs.Prelude.{◌≡◌, ◌≢◌, ℕ, ◌+◌, ◌<◌, ◌≤◌, true, Some, length, unsigned_abs};
+ghost use Rattle.std.specs.Prelude.{◌≡◌, ◌≢◌, ℕ, ◌+◌, ◌<◌, ◌≤◌, true, false, Some, length, unsigned_abs};
 ghost use Rattle.page_model.specs.Documents.{first_of_list, is_active};
 ghost use Rattle.page_documents.specs.Frames.{AreFramed};
 ghost use Rattle.page_documents.specs.Paths.{way_down};
-ghost use Rattle.block_layout.specs.Held.{held_in};
 ghost use Rattle.block_layout.specs.Seen.{seen_inputs};
+ghost use Rattle.kept_layout.specs.Slots.{held_in};
 ghost use Rattle.page_tree.specs.Steps.{seen_container};
-ghost use Rattle.page_boxes.specs.Filled.{is_filled, AreFilled, GoesOn, filled_number};
 ghost use Rattle.page_boxes.specs.Fresh.{IsFresh, IsFreshIn, IsFreshAbove, IsFreshFor};
-ghost use Rattle.page_boxes.specs.Pages.{seen_size, boxes_of, box_number};
+ghost use Rattle.page_boxes.specs.Kept.{AreKept, is_due, due_count};
+ghost use Rattle.page_boxes.specs.LaidOut.{is_marked, IsLaidOut, AreLaidOut, GoesOn};
+ghost use Rattle.page_boxes.specs.Pages.{seen_size};
 
 use crate::documents::framed_size;
-use crate::filled::Filled;
-use block_layout::{FreshBoxes, Inputs};
+use crate::laid_out::LaidOut;
+use block_layout::Inputs;
+use kept_layout::Kept;
 use page_tree::{Container, PageTree};
 use px_units::Size;
 use std::sync::ledger::Ledger;
@@ -29,22 +31,24 @@ fn root_inputs(viewport: Size) -> Inputs
     }
 }
 
-// Computes the boxes of an Active document, where those of the document around it are held.
-fn fill<L: Ledger>(
-    boxes: &mut FreshBoxes,
+// Computes what is due of the boxes of an Active document, where those of the document around it are held as they are now.
+fn lay_out<L: Ledger>(
+    boxes: &mut Kept,
     page: &PageTree,
     viewport: Size,
     document: u32,
     steps: &mut Steps<L>,
 )
-    requires places { length page.now.tree.elements ≤ length boxes.old }
+    requires kept { AreKept page.now.tree boxes.old }
     requires active { is_active page.now.tree document ≡ true }
     requires around { IsFreshAbove page.now.tree (seen_size viewport) (held_in boxes.old) document }
-    ensures fresh { IsFreshIn page.now.tree (seen_size viewport) (held_in boxes.new) document }
-    ensures others { (other : ℕ) → other ≢ document → IsFreshIn page.now.tree (seen_size viewport) (held_in boxes.old) other →
-        IsFreshIn page.now.tree (seen_size viewport) (held_in boxes.new) other }
-    ensures places { length boxes.new ≡ length boxes.old }
-    ensures ticks { steps.new ≡ steps.old + boxes_of page.now.tree (seen_size viewport) document }
+    ensures laid_out { IsLaidOut page.now.tree (seen_size viewport) boxes.new document }
+    ensures others { (other : ℕ) → other ≢ document → IsLaidOut page.now.tree (seen_size viewport) boxes.old other →
+        IsLaidOut page.now.tree (seen_size viewport) boxes.new other }
+    ensures kept { AreKept page.now.tree boxes.new }
+    ensures slots { length boxes.new ≡ length boxes.old }
+    ensures ticks { steps.new + due_count page.now.tree (seen_size viewport) boxes.new
+        ≤ steps.old + due_count page.now.tree (seen_size viewport) boxes.old }
 {
     let Some(root) = page.root(document) else {
         return;
@@ -52,58 +56,60 @@ fn fill<L: Ledger>(
     let Some(size) = framed_size(page, boxes, viewport, document) else {
         return;
     };
-    boxes.fill(page.tree(), root, root_inputs(size), steps);
+    boxes.refresh(page.tree(), root, root_inputs(size), steps);
 }
 
-// Computes the boxes of an Active document that isn't marked yet, and marks it.
-fn fill_once<L: Ledger>(
-    boxes: &mut FreshBoxes,
+// Lays out an Active document that isn't marked yet, and marks it.
+fn lay_out_once<L: Ledger>(
+    boxes: &mut Kept,
     page: &PageTree,
     viewport: Size,
     document: u32,
-    filled: &mut Filled,
+    laid_out: &mut LaidOut,
     steps: &mut Steps<L>,
 )
-    requires places { length page.now.tree.elements ≤ length boxes.old }
+    requires kept { AreKept page.now.tree boxes.old }
     requires known { document < 64 }
     requires active { is_active page.now.tree document ≡ true }
-    requires marks { length filled.old ≡ 64 }
+    requires marks { length laid_out.old ≡ 64 }
     requires around { IsFreshAbove page.now.tree (seen_size viewport) (held_in boxes.old) document }
-    requires filled { AreFilled page.now.tree (seen_size viewport) filled.old (held_in boxes.old) }
-    ensures places { length boxes.new ≡ length boxes.old }
-    ensures goes { GoesOn page.now.tree (seen_size viewport) filled.old filled.new (held_in boxes.new) }
-    ensures marked { is_filled filled.new document ≡ true }
-    ensures ticks { steps.new + filled_number page.now.tree (seen_size viewport) filled.old
-        ≡ steps.old + filled_number page.now.tree (seen_size viewport) filled.new }
+    requires laid_out { AreLaidOut page.now.tree (seen_size viewport) laid_out.old boxes.old }
+    ensures goes { GoesOn page.now.tree (seen_size viewport) laid_out.old laid_out.new boxes.new }
+    ensures marked { is_marked laid_out.new document ≡ true }
+    ensures kept { AreKept page.now.tree boxes.new }
+    ensures slots { length boxes.new ≡ length boxes.old }
+    ensures ticks { steps.new + due_count page.now.tree (seen_size viewport) boxes.new
+        ≤ steps.old + due_count page.now.tree (seen_size viewport) boxes.old }
 {
-    if filled.has(document) {
+    if laid_out.has(document) {
         return;
     }
-    fill(boxes, page, viewport, document, steps);
-    filled.mark(document);
+    lay_out(boxes, page, viewport, document, steps);
+    laid_out.mark(document);
 }
 
-// Computes the boxes of a document after those of the documents around it, each that isn't marked yet. So many frames are looked
-// at, which lead up to `top`.
-fn fill_up<L: Ledger>(
-    boxes: &mut FreshBoxes,
+// Lays out a document after the documents around it, each that isn't marked yet. So many frames are looked at, which lead up to
+// `top`.
+fn lay_out_up<L: Ledger>(
+    boxes: &mut Kept,
     page: &PageTree,
     viewport: Size,
     document: u32,
     high: u32,
-    filled: &mut Filled,
+    laid_out: &mut LaidOut,
     steps: &mut Steps<L>,
 )
-    requires places { length page.now.tree.elements ≤ length boxes.old }
+    requires kept { AreKept page.now.tree boxes.old }
     requires framed { AreFramed page.now.tree }
     requires leads { is_active page.now.tree document ≡ true → first_of_list (way_down high page.now.tree document) ≡ Some 0 }
-    requires marks { length filled.old ≡ 64 }
-    requires filled { AreFilled page.now.tree (seen_size viewport) filled.old (held_in boxes.old) }
-    ensures places { length boxes.new ≡ length boxes.old }
-    ensures goes { GoesOn page.now.tree (seen_size viewport) filled.old filled.new (held_in boxes.new) }
-    ensures marked { is_active page.now.tree document ≡ true → is_filled filled.new document ≡ true }
-    ensures ticks { steps.new + filled_number page.now.tree (seen_size viewport) filled.old
-        ≡ steps.old + filled_number page.now.tree (seen_size viewport) filled.new }
+    requires marks { length laid_out.old ≡ 64 }
+    requires laid_out { AreLaidOut page.now.tree (seen_size viewport) laid_out.old boxes.old }
+    ensures goes { GoesOn page.now.tree (seen_size viewport) laid_out.old laid_out.new boxes.new }
+    ensures marked { is_active page.now.tree document ≡ true → is_marked laid_out.new document ≡ true }
+    ensures kept { AreKept page.now.tree boxes.new }
+    ensures slots { length boxes.new ≡ length boxes.old }
+    ensures ticks { steps.new + due_count page.now.tree (seen_size viewport) boxes.new
+        ≤ steps.old + due_count page.now.tree (seen_size viewport) boxes.old }
 {
     if high == 0 {
         return;
@@ -114,22 +120,17 @@ fn fill_up<L: Ledger>(
     match page.frame_of(document) {
         Some(frame) => {
             let holder = page.document_of(frame);
-            fill_up(boxes, page, viewport, holder, high - 1, filled, steps);
-            fill_once(boxes, page, viewport, document, filled, steps);
+            lay_out_up(boxes, page, viewport, holder, high - 1, laid_out, steps);
+            lay_out_once(boxes, page, viewport, document, laid_out, steps);
         }
-        None => fill_once(boxes, page, viewport, document, filled, steps),
+        None => lay_out_once(boxes, page, viewport, document, laid_out, steps),
     }
 }
 
 /// Computes what is due of the page's boxes, with this size of the viewport of `top`: each box of the page is then held as it is
 /// now, and none is due. What is kept fits the page before, and afterwards. It takes at most one step for each box that was due,
 /// and no memory.
-pub fn refresh<L: Ledger>(
-    boxes: &mut Kept,
-    page: &PageTree,
-    viewport: Size,
-    steps: &mut Steps<L>,
-)
+pub fn refresh<L: Ledger>(boxes: &mut Kept, page: &PageTree, viewport: Size, steps: &mut Steps<L>)
     requires { AreKept page.now.tree boxes.old }
     ensures fresh { IsFresh page.now.tree (seen_size viewport) (held_in boxes.new) }
     ensures kept { AreKept page.now.tree boxes.new }
@@ -137,10 +138,10 @@ pub fn refresh<L: Ledger>(
     ensures slots { length boxes.new ≡ length boxes.old }
     ensures ticks { steps.new + due_count page.now.tree (seen_size viewport) boxes.new ≤ steps.old + due_count page.now.tree (seen_size viewport) boxes.old }
 {
-    let mut filled = Filled::new();
+    let mut laid_out = LaidOut::new();
     let count = page.document_count();
     for document in 0..count {
-        fill_up(boxes, page, viewport, document, count, &mut filled, steps);
+        lay_out_up(boxes, page, viewport, document, count, &mut laid_out, steps);
     }
 }
 
@@ -158,9 +159,9 @@ fn refresh_document<L: Ledger>(
     ensures slots { length boxes.new ≡ length boxes.old }
     ensures ticks { steps.new + due_count page.now.tree (seen_size viewport) boxes.new ≤ steps.old + due_count page.now.tree (seen_size viewport) boxes.old }
 {
-    let mut filled = Filled::new();
+    let mut laid_out = LaidOut::new();
     let count = page.document_count();
-    fill_up(boxes, page, viewport, document, count, &mut filled, steps);
+    lay_out_up(boxes, page, viewport, document, count, &mut laid_out, steps);
 }
 
 /// Computes what is due of the boxes that a reading of an element or a document rests on, with this size of the viewport of `top`:

@@ -2,15 +2,16 @@
 //! size of that viewport; and how far an element or a viewport can be scrolled and is scrolled (CSS 2.2, 8 to 11; CSS
 //! Overflow 3, 2.2; CSSOM View, 4 to 6). All lengths are in units of 1/64 CSS pixel.
 //!
-//! The boxes are held in places of their own, a `FreshBoxes` or another holder of boxes, which gets a place for each element
-//! as it is made. `refresh` computes them for all documents, and `refresh_for` for what one reading rests on; a reading makes
-//! no box and takes no memory. The stored scroll positions are handed in.
+//! The boxes are kept beside the page in a `Kept`, which gets a slot for each element as it is made, and marks where the page
+//! changes. `refresh` computes what is due in all documents, and `refresh_for` what one reading rests on; a reading goes over any
+//! holder of boxes, makes no box and takes no memory. The stored scroll positions are handed in.
 #![tactic(auto)]
 
 mod climb;
 mod documents;
-mod filled;
 mod in_force;
+mod laid_out;
+mod laws;
 mod layout;
 mod offsets;
 mod ranges;
@@ -20,6 +21,7 @@ mod tests;
 
 pub use documents::{has_box, viewport_of};
 pub use in_force::offset_of;
+pub use laws::nothing_kept_fits;
 pub use layout::{refresh, refresh_for};
 pub use ranges::{is_scroller, range_of};
 pub use readings::{

@@ -1,14 +1,17 @@
 //! Readings of a page with the numbers that an independent program for the same rules gives.
 
-ghost use Rattle.std.specs.Prelude.{◌≡◌, ◌==◌, ◌<◌, ◌≤◌, cond, length};
+ghost use Rattle.std.specs.Prelude.{◌≡◌, ◌==◌, ◌<◌, ◌≤◌, ℕ, IfOk, cond, length};
+ghost use Rattle.kept_layout.specs.Slots.{slot_in, no_slot};
 ghost use Rattle.page_tree.specs.Items.{IsKind, IsNatural};
+ghost use Rattle.page_boxes.specs.Kept.{AreKept};
 
 use crate::{
-    Reading, border_rect, content_origin, corner_of, has_box, is_scroller, offset_of, padding_rect,
-    range_of, read, refresh, refresh_for, size_of,
+    Reading, border_rect, content_origin, corner_of, has_box, is_scroller, nothing_kept_fits,
+    offset_of, padding_rect, range_of, read, refresh, refresh_for, size_of,
 };
-use block_layout::{FreshBoxes, ItemKind};
+use block_layout::ItemKind;
 use element_tree::NodeId;
+use kept_layout::Kept;
 use page_tree::{Container, PageTree};
 use px_units::{BoxKind, Point, Rect, Size};
 use scrolling::{ScrollTarget, Scrolls};
@@ -139,14 +142,37 @@ fn page_of(rt: &impl Abort, alloc: Global) -> Result<PageTree, Fail> {
     Ok(page)
 }
 
-fn renew<L: Ledger>(blank: Blank, boxes: &mut FreshBoxes, page: &PageTree, viewport: Size)
+// A slot for each element of a page of 8, with nothing held.
+fn empty_slots(alloc: Global) -> Result<Kept, Fail>
+    ensures room { IfOk result (λ kept. 8 ≤ length kept) }
+    ensures empty { IfOk result (λ kept. (n : ℕ) → slot_in kept n ≡ no_slot) }
+{
+    let mut boxes = Kept::new(alloc);
+    boxes.add(NodeId(7))?;
+    Ok(boxes)
+}
+
+fn renew<L: Ledger>(blank: Blank, boxes: &mut Kept, page: &PageTree, viewport: Size)
     requires name { blank.name ≡ L.name }
     requires parts { blank.parts ≡ L.parts }
     requires one_part { 0 < blank.parts }
-    requires places { length page.now.tree.elements ≤ length boxes.old }
+    requires kept { AreKept page.now.tree boxes.old }
 {
     let mut steps = Steps::<L>::new(blank);
     refresh(boxes, page, viewport, &mut steps);
+}
+
+fn all_boxes(
+    rt: &impl Abort,
+    alloc: Global,
+    page: &PageTree,
+    viewport: Size,
+) -> Result<Kept, Fail> {
+    let mut boxes = empty_slots(alloc)?;
+    assert!(rt; !page.holds(NodeId(8)));
+    nothing_kept_fits();
+    renew::<Brand>(Blank::new(1), &mut boxes, page, viewport);
+    Ok(boxes)
 }
 
 fn reading(edges: (i64, i64, i64, i64), scrolled: i64) -> Reading {
@@ -184,14 +210,11 @@ fn screen(is_narrow: bool) -> Size
 #[test]
 fn pages_are_read_as_they_are(rt: HostRuntime) -> Result<(), Fail> {
     let mut page = page_of(&rt, rt.alloc())?;
-    let mut boxes = FreshBoxes::new(rt.alloc());
     let scrolls = Scrolls::new(rt.alloc());
     let mut is_narrow = false;
     for step in STEPS {
-        boxes.add(NodeId(7))?;
-        assert!(rt; !page.holds(NodeId(8)));
         let viewport = screen(is_narrow);
-        renew::<Brand>(Blank::new(1), &mut boxes, &page, viewport);
+        let boxes = all_boxes(&rt, rt.alloc(), &page, viewport)?;
         match step {
             Step::Narrow => is_narrow = true,
             Step::Show(node) => set(&rt, &mut page, node, "display", "block"),
@@ -409,7 +432,7 @@ fn nested_page(rt: &impl Abort, alloc: Global) -> Result<PageTree, Fail> {
 
 fn renew_for<L: Ledger>(
     blank: Blank,
-    boxes: &mut FreshBoxes,
+    boxes: &mut Kept,
     page: &PageTree,
     viewport: Size,
     container: Container,
@@ -417,23 +440,10 @@ fn renew_for<L: Ledger>(
     requires name { blank.name ≡ L.name }
     requires parts { blank.parts ≡ L.parts }
     requires one_part { 0 < blank.parts }
-    requires places { length page.now.tree.elements ≤ length boxes.old }
+    requires kept { AreKept page.now.tree boxes.old }
 {
     let mut steps = Steps::<L>::new(blank);
     refresh_for(boxes, page, viewport, container, &mut steps);
-}
-
-fn all_boxes(
-    rt: &impl Abort,
-    alloc: Global,
-    page: &PageTree,
-    viewport: Size,
-) -> Result<FreshBoxes, Fail> {
-    let mut boxes = FreshBoxes::new(alloc);
-    boxes.add(NodeId(7))?;
-    assert!(rt; !page.holds(NodeId(8)));
-    renew::<Brand>(Blank::new(1), &mut boxes, page, viewport);
-    Ok(boxes)
 }
 
 // What is read of an element, from boxes that are all computed, and again from those of its document and of those around it.
@@ -449,9 +459,9 @@ fn read_twice(
     let container = Container::Element(NodeId(node));
     let all = all_boxes(rt, alloc, page, viewport)?;
     let found = read(page, &all, scrolls, viewport, container);
-    let mut some = FreshBoxes::new(alloc);
-    some.add(NodeId(7))?;
+    let mut some = empty_slots(alloc)?;
     assert!(rt; !page.holds(NodeId(8)));
+    nothing_kept_fits();
     renew_for::<Brand>(Blank::new(1), &mut some, page, viewport, container);
     let again = read(page, &some, scrolls, viewport, container);
     assert_eq!(rt; found, again);

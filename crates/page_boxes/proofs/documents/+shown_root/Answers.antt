@@ -6,7 +6,7 @@ use Rattle.page_model.specs.PageBoxes.{view_up}
 use Rattle.element_tree.specs.Links.{number}
 use Rattle.block_layout.specs.Trees.{layout_tree}
 use Rattle.page_tree.specs.Items.{style_in, kind_in}
-use Rattle.page_boxes.proofs.Renewed.{count_here}
+use Rattle.page_boxes.proofs.Pages.{count_here}
 use Rattle.page_boxes.proofs.Views.{view_none, view_idle, root_unframed, root_framed, frame_known}
 use Rattle.page_boxes.proofs.documents.+shown_root.Goals as goal
 

@@ -5,9 +5,8 @@ use Rattle.page_model.specs.Lookups.{element_at}
 use Rattle.page_model.specs.PageBoxes.{view_of, stored_in}
 use Rattle.block_layout.specs.Seen.{as_point}
 use Rattle.page_boxes.specs.Fresh.{HoldsAll}
-use Rattle.page_boxes.proofs.Pages.{boxed_is, made_if_boxed}
+use Rattle.page_boxes.proofs.Pages.{boxed_is, made_if_boxed, count_here}
 use Rattle.page_boxes.proofs.InForce.{element_offset, element_offsetless}
-use Rattle.page_boxes.proofs.Renewed.{count_here}
 use Rattle.page_boxes.proofs.in_force.element_offset.Goals as goal
 
 pub boxed_offset-requires : goal.boxed_offset-requires

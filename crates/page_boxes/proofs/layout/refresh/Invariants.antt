@@ -1,15 +1,16 @@
-use Rattle.std.proofs.Common.{◌≡◌, ◌<◌, ◌+◌, ℕ, true, length}
+use Rattle.std.proofs.Common.{◌≡◌, ◌<◌, ◌+◌, ◌≤◌, ℕ, true, length}
 use Rattle.page_model.specs.Documents.{is_active}
-use Rattle.block_layout.specs.Held.{held_in}
+use Rattle.page_boxes.specs.Kept.{AreKept, due_count}
+use Rattle.page_boxes.specs.LaidOut.{is_marked, AreLaidOut}
 use Rattle.page_boxes.specs.Pages.{seen_size}
-use Rattle.page_boxes.specs.Filled.{is_filled, AreFilled, filled_number}
 use Rattle.page_boxes.proofs.layout.refresh.Given as goal
 
 abbrev pub invariant-loop-document : goal.invariant-loop-document
 invariant-loop-document g l = record {
-  places : length l.boxes ≡ length l.initial.boxes;
-  count : length l.filled ≡ 64;
-  filled : AreFilled l.page.tree (seen_size l.viewport) l.filled (held_in l.boxes);
-  done : (document : ℕ) → document < l.document → is_active l.page.tree document ≡ true → is_filled l.filled document ≡ true;
-  ticks : l.steps ≡ l.initial.steps + filled_number l.page.tree (seen_size l.viewport) l.filled;
+  kept : AreKept l.page.tree l.boxes;
+  slots : length l.boxes ≡ length l.initial.boxes;
+  count : length l.laid_out ≡ 64;
+  laid_out : AreLaidOut l.page.tree (seen_size l.viewport) l.laid_out l.boxes;
+  marked : (document : ℕ) → document < l.document → is_active l.page.tree document ≡ true → is_marked l.laid_out document ≡ true;
+  ticks : l.steps + due_count l.page.tree (seen_size l.viewport) l.boxes ≤ l.initial.steps + due_count l.page.tree (seen_size l.viewport) l.initial.boxes;
 }

@@ -6,9 +6,8 @@ use Rattle.page_model.specs.Lookups.{element_at}
 use Rattle.page_model.specs.PageBoxes.{view_of}
 use Rattle.block_layout.specs.Seen.{as_size}
 use Rattle.page_boxes.specs.Fresh.{HoldsAll}
-use Rattle.page_boxes.proofs.Pages.{boxed_is, made_if_boxed}
+use Rattle.page_boxes.proofs.Pages.{boxed_is, made_if_boxed, count_here}
 use Rattle.page_boxes.proofs.Reaching.{element_range, element_rangeless}
-use Rattle.page_boxes.proofs.Renewed.{count_here}
 use Rattle.page_boxes.proofs.ranges.element_range.Goals as goal
 
 pub boxed_range-requires : goal.boxed_range-requires

@@ -1,8 +1,7 @@
 use Rattle.std.proofs.Common.{ap, sym, ◌∙◌, arith}
 use Rattle.layout_model.specs.Clips.{is_scroll_container}
-use Rattle.page_boxes.proofs.Pages.{made_if_boxed}
+use Rattle.page_boxes.proofs.Pages.{made_if_boxed, count_here}
 use Rattle.page_boxes.proofs.Reaching.{scroller_is, no_scroller}
-use Rattle.page_boxes.proofs.Renewed.{count_here}
 use Rattle.page_boxes.proofs.ranges.is_scroller.Goals as goal
 
 pub is_scroll_container-requires : goal.is_scroll_container-requires

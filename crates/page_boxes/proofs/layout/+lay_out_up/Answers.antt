@@ -3,19 +3,19 @@ use Rattle.element_tree.specs.Links.{number}
 use Rattle.page_model.specs.Lookups.{element_at}
 use Rattle.page_model.specs.Documents.{first_of_list}
 use Rattle.page_documents.specs.Paths.{way_down}
-use Rattle.block_layout.specs.Held.{held_in}
+use Rattle.kept_layout.specs.Slots.{held_in}
 use Rattle.page_boxes.specs.Fresh.{IsFreshIn}
 use Rattle.page_boxes.specs.Pages.{seen_size}
 use Rattle.page_boxes.proofs.Views.{no_way, way_less}
 use Rattle.page_boxes.proofs.Going.{fresh_in}
-use Rattle.page_boxes.proofs.layout.+fill_up.Goals as goal
+use Rattle.page_boxes.proofs.layout.+lay_out_up.Goals as goal
 
 pub returns-then-high-eq0-clause-marked : goal.returns-then-high-eq0-clause-marked
 returns-then-high-eq0-clause-marked g t c active =
     absurd (no_way c.args.page.now.tree c.requires.framed c.args.high c.args.document c.if-high-eq0.true (c.requires.leads active))
 
-pub fill_up-requires : goal.fill_up-requires
-fill_up-requires g t c κs within =
+pub lay_out_up-requires : goal.lay_out_up-requires
+lay_out_up-requires g t c κs within =
     let tree = c.args.page.now.tree in
     let active = sym c.is_active.ensures.value ∙ c.if-not-is_active.false in
     let is = sym c.frame_of.ensures.value ∙ ap (option_map number) c.in-Some.is in
@@ -24,14 +24,14 @@ fill_up-requires g t c κs within =
       (
         within,
         (
-          c.requires.places,
+          c.requires.kept,
           (
             c.requires.framed,
             (
               λ held. ap (λ holder. first_of_list (way_down (c.args.high - 1) tree holder)) c.document_of-holder.ensures ∙ less,
               (
                 c.requires.marks,
-                c.requires.filled,
+                c.requires.laid_out,
               ),
             ),
           ),
@@ -39,12 +39,12 @@ fill_up-requires g t c κs within =
       ),
     )
 
-pub fill_once-requires-clause-around : goal.fill_once-requires-clause-around
-fill_once-requires-clause-around g t c frame is =
+pub lay_out_once-requires-clause-around : goal.lay_out_once-requires-clause-around
+lay_out_once-requires-clause-around g t c frame is =
     let tree = c.args.page.now.tree in
     let there = sym c.frame_of.ensures.value ∙ ap (option_map number) c.in-Some.is in
     let same : c.in-Some.frame.0 ≡ frame = cc (sym there ∙ is) in
-    subst (IsFreshIn tree (seen_size c.args.viewport) (held_in c.fill_up.new.boxes))
+    subst (IsFreshIn tree (seen_size c.args.viewport) (held_in c.lay_out_up.new.boxes))
     (c.document_of-holder.ensures ∙ ap (λ n. (element_at tree n).document) same)
-    (fresh_in tree (seen_size c.args.viewport) c.fill_up.new.filled (held_in c.fill_up.new.boxes) c.fill_up.ensures.goes.filled c.document_of-holder.result
-    c.fill_up.ensures.marked)
+    (fresh_in tree (seen_size c.args.viewport) c.lay_out_up.new.laid_out c.lay_out_up.new.boxes c.lay_out_up.ensures.goes.laid_out c.document_of-holder.result
+    c.lay_out_up.ensures.marked)

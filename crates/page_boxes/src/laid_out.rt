@@ -1,7 +1,7 @@
 //! Which documents are laid out so far.
 
 ghost use Rattle.std.specs.Prelude.{◌≡◌, ◌<◌, false, true, replicate, slice_set};
-ghost use Rattle.page_boxes.specs.Filled.{is_filled};
+ghost use Rattle.page_boxes.specs.LaidOut.{is_marked};
 
 use std::marker::Model;
 
@@ -10,30 +10,30 @@ const MOST_DOCUMENTS: usize = 64;
 
 // A mark for each document. It takes no memory.
 #[derive(Drop)]
-pub(crate) struct Filled {
+pub(crate) struct LaidOut {
     marks: [bool; MOST_DOCUMENTS],
 }
 
-impl Model for Filled {
+impl Model for LaidOut {
     ghost use Rattle.std.specs.Prelude.{Bool, List};
 
     ghost Value = { List Bool };
 
-    ghost view = { λ f. f.marks };
+    ghost view = { λ l. l.marks };
 }
 
-impl Filled {
-    pub(crate) fn new() -> Filled
+impl LaidOut {
+    pub(crate) fn new() -> LaidOut
         ensures { result ≡ replicate 64 false }
     {
-        Filled {
+        LaidOut {
             marks: [false; MOST_DOCUMENTS],
         }
     }
 
     pub(crate) fn has(&self, document: u32) -> bool
         requires { document < 64 }
-        ensures { result ≡ is_filled self.now document }
+        ensures { result ≡ is_marked self.now document }
     {
         self.marks[document as usize]
     }
