@@ -2,5 +2,6 @@
 #![tactic(auto)]
 
 mod laid;
+mod marks;
 
 pub use laid::LaidTree;
