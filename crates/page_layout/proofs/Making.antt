@@ -1,5 +1,5 @@
 -- An element that is made, with its slot.
-use Rattle.std.proofs.Common.{◌≡◌, ◌+◌, ◌-◌, ◌<◌, ◌≤◌, ℕ, suc, Bool, true, false, not, ◌&&◌, ◌||◌, nat_eq, nat_lt, List, [], ◌∷◌, ◌++◌, length, replicate, Option, Some, None, OnOk, OnErr, Result, Ok, Err, IfErr, refl, ap, sym, subst, ◌∙◌, arith}
+use Rattle.std.proofs.Common.{◌≡◌, ◌+◌, ◌-◌, ◌<◌, ◌≤◌, ℕ, suc, Bool, true, false, not, ◌&&◌, ◌||◌, nat_eq, nat_lt, List, [], length, replicate, Option, OnOk, OnErr, Result, Ok, Err, IfErr, refl, ap, sym, subst, ◌∙◌, arith}
 use Rattle.std.proofs.lemmas.Bool.{false≢true}
 use Rattle.std.proofs.lemmas.Bool.Decides.{nat_tests}
 use Rattle.std.proofs.lemmas.List.{length-append, length-replicate}
@@ -13,7 +13,6 @@ use Rattle.page_model.specs.Edits.{with_element, with_frame}
 use Rattle.page_model.specs.Steps.{Did, ◌>>◌, room, met_unless}
 use Rattle.page_documents.proofs.Entries.{append_new}
 use Rattle.kept_layout.specs.declared.slots.Slot.{Slot}
-use Rattle.kept_layout.specs.declared.slots.Found.{Found}
 use Rattle.kept_layout.specs.Slots.{no_slot, slot_in, with_slot}
 use Rattle.kept_layout.specs.Sound.{IsSound}
 use Rattle.kept_layout.proofs.Steady.{changed_elsewhere, more_fits, new_node}

@@ -1,5 +1,5 @@
 -- A change of an element's style or kind leaves parents.
-use Rattle.std.proofs.Common.{◌≡◌, ℕ, ℤ, Bool, true, false, not, Option, Some, None, refl, ap, sym, ◌∙◌}
+use Rattle.std.proofs.Common.{◌≡◌, ℕ, ℤ, Bool, true, false, not, Option, Some, None, refl, ap, ◌∙◌}
 use Rattle.layout_model.specs.Styles.{Declaration, declared}
 use Rattle.layout_model.specs.Items.{Item, ImageKind}
 use Rattle.text_io.specs.declared.kinds.ThrowKind.TheVariants.{TypeError}
@@ -9,7 +9,7 @@ use Rattle.page_model.specs.Lookups.{element_at, no_element}
 use Rattle.page_model.specs.Documents.{nodes_of}
 use Rattle.page_model.specs.Edits.{change_item, with_declaration, set_dimension, dimension_of, pixels_of, grown, is_image, with_natural_size}
 use Rattle.page_model.specs.Commands.{growing, loading}
-use Rattle.page_model.specs.Steps.{Step, Did, required, throw_if, ◌>>=◌, ◌>>◌}
+use Rattle.page_model.specs.Steps.{Did, required, throw_if, ◌>>=◌, ◌>>◌}
 use Rattle.page_documents.proofs.Entries.{kept}
 
 module _ (n : ℕ) (tree : Tree) where

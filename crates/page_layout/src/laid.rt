@@ -193,10 +193,11 @@ impl LaidTree {
             (λ m. is_over self.new.elements.tree (nodes_of self.old.elements.tree node.0).parent m || is_over self.new.elements.tree (element_of (seen_container container)) m)
             self.old.kept self.new.kept) }
     {
-        let before = parent_of(&self.page, node);
+        let from = parent_of(&self.page, node);
+        let to = element_of(container);
         self.page.place(container, node, sibling)?;
-        mark(&mut self.boxes, &self.page, before);
-        mark(&mut self.boxes, &self.page, element_of(container));
+        mark(&mut self.boxes, &self.page, from);
+        mark(&mut self.boxes, &self.page, to);
         Ok(())
     }
 
@@ -210,9 +211,9 @@ impl LaidTree {
         ensures documents { length self.new.elements.tree.documents ≡ length self.old.elements.tree.documents }
         ensures marks { MarksOnly (is_over self.new.elements.tree (nodes_of self.old.elements.tree node.0).parent) self.old.kept self.new.kept }
     {
-        let before = parent_of(&self.page, node);
+        let parent = parent_of(&self.page, node);
         self.page.remove(node);
-        mark(&mut self.boxes, &self.page, before);
+        mark(&mut self.boxes, &self.page, parent);
     }
 
     /// Sets a property of an element's style (CSSOM, 6.6), and marks the element.

@@ -1,4 +1,4 @@
-use Rattle.std.proofs.Common.{ap, sym, subst}
+use Rattle.std.proofs.Common.{sym, subst}
 use Rattle.page_boxes.specs.Kept.{AreKept}
 use Rattle.page_tree.specs.Views.{PageElements}
 use Rattle.page_layout.proofs.Making.{roomier, kept_roomier}
