@@ -30,7 +30,7 @@ or_none true none = none
 pub roomier : (n : ℕ) (slots later : List Slot) → later ≡ with_slot n slots → (length slots ≤ length later) × (n < length later)
 roomier n slots later is =
     let count : length later ≡ length slots + (suc n - length slots) =
-        ap length is ∙ length-append slots (replicate (suc n - length slots) no_slot) ∙ ap (λ k. length slots + k) (length-replicate (suc n - length slots) no_slot) in
+    ap length is ∙ length-append slots (replicate (suc n - length slots) no_slot) ∙ ap (λ k. length slots + k) (length-replicate (suc n - length slots) no_slot) in
     (omega arith, omega arith)
 
 -- more slots hold what is kept as well
@@ -54,10 +54,10 @@ module _ (old new : PageElements) (kept : List Slot) (was : AreKept old.tree kep
   kept_next room alone longer changes = record {
     slots = omega arith;
     sound =
-      new_node (nodes_of new.tree) (slot_in kept) (length old.tree.elements) (λ m. false) alone (was.unmade (length old.tree.elements) (omega arith))
-      (more_fits (nodes_of new.tree) (slot_in kept) (λ m. nat_eq m (length old.tree.elements)) (λ m. nat_eq m (length old.tree.elements) || false)
-      (λ m none. or_none (nat_eq m (length old.tree.elements)) none)
-      (changed_elsewhere (nodes_of old.tree) (nodes_of new.tree) (slot_in kept) (λ m. nat_eq m (length old.tree.elements)) changes was.sound));
+        new_node (nodes_of new.tree) (slot_in kept) (length old.tree.elements) (λ m. false) alone (was.unmade (length old.tree.elements) (omega arith))
+        (more_fits (nodes_of new.tree) (slot_in kept) (λ m. nat_eq m (length old.tree.elements)) (λ m. nat_eq m (length old.tree.elements) || false)
+        (λ m none. or_none (nat_eq m (length old.tree.elements)) none)
+        (changed_elsewhere (nodes_of old.tree) (nodes_of new.tree) (slot_in kept) (λ m. nat_eq m (length old.tree.elements)) changes was.sound));
     unmade = λ n far. was.unmade n (omega arith);
   }
 

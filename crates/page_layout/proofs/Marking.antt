@@ -66,8 +66,8 @@ module _ (old new : Tree) (kept : List Slot) (test : ℕ → Bool) (was : AreKep
   left more covers = record {
     slots = subst (λ k. k ≤ length kept) (sym count) was.slots;
     sound =
-      more_fits (nodes_of new) (slot_in kept) test more (λ m none. off (test m) (more m) (covers m) none)
-      (changed_elsewhere (nodes_of old) (nodes_of new) (slot_in kept) test only was.sound);
+        more_fits (nodes_of new) (slot_in kept) test more (λ m none. off (test m) (more m) (covers m) none)
+        (changed_elsewhere (nodes_of old) (nodes_of new) (slot_in kept) test only was.sound);
     unmade = λ m far. was.unmade m (subst (λ k. k ≤ m) count far);
   }
 
@@ -123,7 +123,7 @@ module _ (tree : Tree) (trees : MakeTrees tree) (old new : List Slot) (n : ℕ) 
   mends_over mended others was = record {
     slots = subst (λ k. length tree.elements ≤ k) (sym same) slots;
     sound =
-      subst (λ f. IsSoundBut f (slot_in new) others) (sym is)
-      (mended within others (subst (λ f. IsSoundBut f (slot_in old) (λ k. is_in_path f k n || others k)) is was.sound));
+        subst (λ f. IsSoundBut f (slot_in new) others) (sym is)
+        (mended within others (subst (λ f. IsSoundBut f (slot_in old) (λ k. is_in_path f k n || others k)) is was.sound));
     unmade = λ m far. ap (λ (slot : Slot). slot.found) (marks_over m) ∙ found_if (is_in_path (nodes_of tree) m n) (slot_in old m) ∙ was.unmade m far;
   }

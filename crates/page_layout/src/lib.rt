@@ -3,5 +3,7 @@
 
 mod laid;
 mod marks;
+#[cfg(test)]
+mod tests;
 
 pub use laid::LaidTree;
