@@ -64,10 +64,12 @@ impl Kept {
     }
 
     /// Makes the slot of a node, which needn't be in a tree yet, and those of all lower numbers; what is kept stays as it is. No
-    /// other call on these nodes takes memory. Refused only where there is no memory, and then nothing changes.
+    /// other call on these nodes takes memory. Refused only where the slot isn't there and there is no memory for it, and then
+    /// nothing changes.
     pub fn add(&mut self, node: NodeId) -> Result<(), AllocError>
         ensures added { OnOk result (self.new ≡ with_slot node.0 self.old) }
         ensures same { OnErr result (self.new ≡ self.old) }
+        ensures needed { OnErr result (length self.old ≤ node.0) }
         ensures kept { (n : ℕ) → slot_in self.new n ≡ slot_in self.old n }
     {
         let count = node.0 as usize + 1;

@@ -1,12 +1,12 @@
 //! The elements and documents of a page with their boxes.
 
-ghost use Rattle.std.specs.Prelude.{◌≡◌, ◌+◌, ◌<◌, ◌≤◌, ◌++◌, ◌∷◌, [], ℕ, true, false, not, length, option_map, unsigned_abs, Some, None, IfOk, IfErr, OnOk, OnErr};
+ghost use Rattle.std.specs.Prelude.{◌≡◌, ◌+◌, ◌<◌, ◌≤◌, ◌++◌, ◌∷◌, ◌||◌, [], ℕ, true, false, not, length, option_map, unsigned_abs, Some, None, IfOk, IfErr, OnOk, OnErr};
 ghost use Rattle.std.specs.Option.{ForSome};
 ghost use Rattle.style_values.specs.Ranges.{IsAllowed};
 ghost use Rattle.style_values.specs.Seen.{seen_declaration};
 ghost use Rattle.element_tree.specs.Links.{number};
 ghost use Rattle.page_model.specs.Outcome.{opening_world};
-ghost use Rattle.page_model.specs.Documents.{removed};
+ghost use Rattle.page_model.specs.Documents.{nodes_of, removed};
 ghost use Rattle.page_model.specs.Steps.{Did, Threw};
 ghost use Rattle.page_model.specs.Edits.{with_element, with_frame, with_declaration};
 ghost use Rattle.page_model.specs.Commands.{placing, growing, loading};
@@ -18,7 +18,9 @@ ghost use Rattle.page_tree.specs.Steps.{seen_container, seen_axis, IsContainerIn
 ghost use Rattle.page_boxes.specs.Fresh.{IsFresh, IsFreshFor};
 ghost use Rattle.page_boxes.specs.Kept.{is_due, due_count};
 ghost use Rattle.page_boxes.specs.Pages.{seen_size};
+ghost use Rattle.page_layout.specs.Marks.{element_of, is_over, MarksOnly, MarksNone};
 
+use crate::marks::{element_of, mark, parent_of};
 use block_layout::ItemKind;
 use element_tree::NodeId;
 use kept_layout::Kept;
@@ -30,7 +32,7 @@ use std::marker::Model;
 use std::sync::ledger::Ledger;
 use step_count::Steps;
 use style_values::Declaration;
-use text_io::{Name, ThrowKind};
+use text_io::{LimitKind, Name, ThrowKind};
 
 /// The elements and documents of a page with their boxes, which are kept. A contract sees them as a page's elements, and as what
 /// is kept for each (`specs/Views.antt`).
@@ -63,6 +65,7 @@ impl LaidTree {
     pub fn new(alloc: Global) -> Result<LaidTree, AllocError>
         ensures tree { IfOk result (λ laid. laid.elements.tree ≡ opening_world.tree) }
         ensures names { IfOk result (λ laid. laid.elements.names ≡ []) }
+        ensures kept { IfOk result (λ laid. laid.kept ≡ []) }
     {
         let page = PageTree::new(alloc)?;
         Ok(LaidTree {
@@ -98,6 +101,7 @@ impl LaidTree {
         ensures kept { self.old.elements.ready ≡ true → self.new.elements.ready ≡ true }
         ensures same { self.new.elements ≡ record self.old.elements { ready = self.new.elements.ready } }
         ensures refused { IfErr result (IsMakeFault self.old.elements) }
+        ensures marks { MarksNone self.old.kept self.new.kept }
     {
         let node = self.page.reserve()?;
         let Ok(()) = self.boxes.add(node) else {
@@ -124,6 +128,7 @@ impl LaidTree {
         ensures kept { OnErr result (self.old.elements.ready ≡ true → self.new.elements.ready ≡ true) }
         ensures same { OnErr result (self.new.elements ≡ record self.old.elements { ready = self.new.elements.ready }) }
         ensures refused { IfErr result (IsMakeFault self.old.elements) }
+        ensures marks { MarksNone self.old.kept self.new.kept }
     {
         let _node = self.reserve()?;
         self.page.make(document, name, kind)
@@ -148,9 +153,13 @@ impl LaidTree {
         ensures kept { OnErr result (self.old.elements.ready ≡ true → self.new.elements.ready ≡ true) }
         ensures same { OnErr result (self.new.elements ≡ record self.old.elements { ready = self.new.elements.ready }) }
         ensures refused { IfErr result (IsFrameFault self.old.elements) }
+        ensures marks { MarksNone self.old.kept self.new.kept }
     {
+        if self.page.is_full() {
+            return Err(MakeFault::Limit(LimitKind::Nodes));
+        }
         if self.page.is_full_of_documents() {
-            return self.page.make_frame(document, name);
+            return Err(MakeFault::Limit(LimitKind::Documents));
         }
         let _node = self.reserve()?;
         self.page.make_frame(document, name)
@@ -180,13 +189,15 @@ impl LaidTree {
         ensures refused { IfErr result (λ fault. placing (seen_container container) node.0 (option_map number sibling) (self.old.elements.tree)
             ≡ refusal fault) }
         ensures same { OnErr result (self.new ≡ self.old) }
+        ensures marks { OnOk result (MarksOnly
+            (λ m. is_over self.new.elements.tree (nodes_of self.old.elements.tree node.0).parent m || is_over self.new.elements.tree (element_of (seen_container container)) m)
+            self.old.kept self.new.kept) }
     {
-        let before = self.page.tree().parent(node);
+        let from = parent_of(&self.page, node);
+        let to = element_of(container);
         self.page.place(container, node, sibling)?;
-        self.mark(before);
-        if let Container::Element(parent) = container {
-            self.mark(Some(parent));
-        }
+        mark(&mut self.boxes, &self.page, from);
+        mark(&mut self.boxes, &self.page, to);
         Ok(())
     }
 
@@ -198,10 +209,11 @@ impl LaidTree {
         ensures rest { self.new.elements ≡ record self.old.elements { tree = self.new.elements.tree } }
         ensures count { length self.new.elements.tree.elements ≡ length self.old.elements.tree.elements }
         ensures documents { length self.new.elements.tree.documents ≡ length self.old.elements.tree.documents }
+        ensures marks { MarksOnly (is_over self.new.elements.tree (nodes_of self.old.elements.tree node.0).parent) self.old.kept self.new.kept }
     {
-        let before = self.page.tree().parent(node);
+        let parent = parent_of(&self.page, node);
         self.page.remove(node);
-        self.mark(before);
+        mark(&mut self.boxes, &self.page, parent);
     }
 
     /// Sets a property of an element's style (CSSOM, 6.6), and marks the element.
@@ -212,9 +224,10 @@ impl LaidTree {
         ensures rest { self.new.elements ≡ record self.old.elements { tree = self.new.elements.tree } }
         ensures count { length self.new.elements.tree.elements ≡ length self.old.elements.tree.elements }
         ensures documents { length self.new.elements.tree.documents ≡ length self.old.elements.tree.documents }
+        ensures marks { MarksOnly (is_over self.new.elements.tree (Some node.0)) self.old.kept self.new.kept }
     {
         self.page.set(node, declaration);
-        self.mark(Some(node));
+        mark(&mut self.boxes, &self.page, Some(node));
     }
 
     /// Adds so many units of 1/64 pixel to an element's width or height, which stays between 0 and 1,000,000 pixels, and marks the
@@ -229,9 +242,10 @@ impl LaidTree {
         ensures documents { length self.new.elements.tree.documents ≡ length self.old.elements.tree.documents }
         ensures refused { IfErr result (λ kind. growing (seen_axis axis) node.0 by.0 (self.old.elements.tree) ≡ Threw kind) }
         ensures same { OnErr result (self.new ≡ self.old) }
+        ensures marks { OnOk result (MarksOnly (is_over self.new.elements.tree (Some node.0)) self.old.kept self.new.kept) }
     {
         self.page.grow(node, axis, by)?;
-        self.mark(Some(node));
+        mark(&mut self.boxes, &self.page, Some(node));
         Ok(())
     }
 
@@ -249,9 +263,10 @@ impl LaidTree {
         ensures refused { IfErr result (λ kind. loading node.0 (unsigned_abs size.width) (unsigned_abs size.height) (self.old.elements.tree)
             ≡ Threw kind) }
         ensures same { OnErr result (self.new ≡ self.old) }
+        ensures marks { OnOk result (MarksOnly (is_over self.new.elements.tree (Some node.0)) self.old.kept self.new.kept) }
     {
         self.page.load(node, size)?;
-        self.mark(Some(node));
+        mark(&mut self.boxes, &self.page, Some(node));
         Ok(())
     }
 

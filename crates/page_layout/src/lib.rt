@@ -2,5 +2,8 @@
 #![tactic(auto)]
 
 mod laid;
+mod marks;
+#[cfg(test)]
+mod tests;
 
 pub use laid::LaidTree;

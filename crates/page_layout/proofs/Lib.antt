@@ -1,0 +1,4 @@
+mod Paths
+mod Parents
+mod Marking
+mod Making

@@ -1,0 +1,43 @@
+//! Marks on what is kept, where the elements of a page change.
+
+ghost use Rattle.std.specs.Prelude.{◌≡◌, ◌<◌, ◌≤◌, length, option_map};
+ghost use Rattle.std.specs.Option.{ForSome};
+ghost use Rattle.element_tree.specs.Links.{number};
+ghost use Rattle.page_model.specs.Documents.{nodes_of};
+ghost use Rattle.page_tree.specs.Steps.{seen_container};
+ghost use Rattle.page_layout.specs.Marks.{element_of, is_over, Mends, MarksOnly};
+
+use element_tree::NodeId;
+use kept_layout::Kept;
+use page_tree::{Container, PageTree};
+
+// The element that an element is a child of.
+pub(crate) fn parent_of(page: &PageTree, node: NodeId) -> Option<NodeId>
+    ensures value { option_map number result ≡ (nodes_of page.now.tree node.0).parent }
+    ensures made { ForSome result (λ parent. parent.0 < length page.now.tree.elements) }
+{
+    page.tree().parent(node)
+}
+
+// The element that a container is, none where it is a document.
+pub(crate) fn element_of(container: Container) -> Option<NodeId>
+    ensures { option_map number result ≡ element_of (seen_container container) }
+{
+    match container {
+        Container::Element(parent) => Some(parent),
+        Container::Document(_) => None,
+    }
+}
+
+// Marks an element with its ancestors, where there is one.
+pub(crate) fn mark(boxes: &mut Kept, page: &PageTree, node: Option<NodeId>)
+    requires made { ForSome node (λ n. n.0 < length page.now.tree.elements) }
+    requires slots { length page.now.tree.elements ≤ length boxes.old }
+    ensures mended { Mends page.now.tree (option_map number node) boxes.old boxes.new }
+    ensures marks { MarksOnly (is_over page.now.tree (option_map number node)) boxes.old boxes.new }
+    ensures slots { length boxes.new ≡ length boxes.old }
+{
+    if let Some(named) = node {
+        boxes.mark(page.tree(), named);
+    }
+}
