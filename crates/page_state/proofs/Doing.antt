@@ -10,7 +10,7 @@ use Rattle.page_model.specs.Commands.{does, placing, with_tree}
 use Rattle.page_tree.specs.declared.faults.PlaceFault.{PlaceFault}
 use Rattle.page_tree.specs.declared.faults.PlaceFault.TheVariants as place
 use Rattle.page_tree.specs.Faults.{refusal}
-use Rattle.page_tree.specs.Views.{PageElements}
+use Rattle.page_layout.specs.Views.{LaidElements}
 use Rattle.page_state.specs.declared.answers.Effect.{Effect}
 use Rattle.page_state.specs.declared.answers.Effect.TheVariants.{Nothing, Line, Taken}
 use Rattle.intersection_observer.specs.declared.root.WatcherId.{WatcherId}
@@ -92,25 +92,25 @@ done_so : (old : World) (step : Step Tree) (tree : Tree) → step ≡ Did tree �
 unfolding with_tree ◌>>=◌
 done_so old step tree e = ap (with_tree old) e
 
-module _ (inside : Inside) (now : PageView) (view_is : record { world = world_of inside; begun = inside.begun } ≡ now) (after : PageElements) (step : Tree → Step Tree) where
+module _ (inside : Inside) (now : PageView) (view_is : record { world = world_of inside; begun = inside.begun } ≡ now) (after : LaidElements) (step : Tree → Step Tree) where
   abbrev then_is : PageView
-  then_is = record { world = world_of (record inside { tree = after }); begun = inside.begun }
+  then_is = record { world = world_of (record inside { laid = after }); begun = inside.begun }
 
-  pub edit_refused : (result : PageFault) (fault : PlaceFault) → result ≡ misplaced fault → step (inside.tree.tree) ≡ refusal fault → after ≡ inside.tree
+  pub edit_refused : (result : PageFault) (fault : PlaceFault) → result ≡ misplaced fault → step (inside.laid.elements.tree) ≡ refusal fault → after ≡ inside.laid
       → Keeps now then_is (Err result) (λ handlers. with_tree now.world (step now.world.tree))
   edit_refused result fault is e same =
       subst (λ (it : PageFault). Keeps now then_is (Err it) (λ handlers. with_tree now.world (step now.world.tree))) (sym is)
       (subst (λ (v : PageView). Keeps v then_is (Err (misplaced fault)) (λ handlers. with_tree v.world (step v.world.tree))) view_is
       (record {
-        applied = λ handlers. refused_so fault (world_of inside) (world_of (record inside { tree = after })) (step (inside.tree.tree)) e (ap (λ (it : PageElements). world_of (record inside { tree = it })) same);
+        applied = λ handlers. refused_so fault (world_of inside) (world_of (record inside { laid = after })) (step (inside.laid.elements.tree)) e (ap (λ (it : LaidElements). world_of (record inside { laid = it })) same);
         begun = refl;
         handed = tt;
       }))
 
-  pub edit_done : step (inside.tree.tree) ≡ Did (after.tree) → Keeps now then_is (Ok Nothing) (λ handlers. with_tree now.world (step now.world.tree))
+  pub edit_done : step (inside.laid.elements.tree) ≡ Did (after.elements.tree) → Keeps now then_is (Ok Nothing) (λ handlers. with_tree now.world (step now.world.tree))
   edit_done e =
       subst (λ (v : PageView). Keeps v then_is (Ok Nothing) (λ handlers. with_tree v.world (step v.world.tree))) view_is
-      (record { applied = λ handlers. done_so (world_of inside) (step (inside.tree.tree)) (after.tree) e; begun = refl; handed = tt })
+      (record { applied = λ handlers. done_so (world_of inside) (step (inside.laid.elements.tree)) (after.elements.tree) e; begun = refl; handed = tt })
 
 -- entries are taken out of a queue
 
@@ -141,7 +141,7 @@ module _ (page : Inside) (now : PageView) (view_is : record { world = world_of p
             (TakeLine (intersection_observer_text page.names.list watcher.0) (length (sym taken i)) ∷ intersection_lines page.names.list watcher.0 (sym taken i))
             (world_of (record page { watchers = sym emptied i })));
         begun = refl;
-        handed = (watcher_here, subst (λ (it : List Entry). AreWritten (length page.tree.tree.elements) it) (sym taken) (queue_written (length page.tree.tree.elements) watcher.0 page.watchers.part is.watched));
+        handed = (watcher_here, subst (λ (it : List Entry). AreWritten (length page.laid.elements.tree.elements) it) (sym taken) (queue_written (length page.laid.elements.tree.elements) watcher.0 page.watchers.part is.watched));
       })
 
 -- something is scrolled

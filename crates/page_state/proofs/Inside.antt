@@ -1,9 +1,7 @@
 -- What a page keeps true once a part of it was changed.
-use Rattle.std.proofs.Common.{◌≡◌, ℕ, suc, ◌<◌, ◌≤◌, ◌+◌, List, [], ◌∷◌, ◌++◌, Option, None, Result, Ok, Err, IfOk, length, ◌-◌, replicate, sym, subst, ap, refl, ◌∙◌, arith, length-append}
+use Rattle.std.proofs.Common.{◌≡◌, ℕ, suc, ◌<◌, ◌≤◌, ◌+◌, List, [], ◌∷◌, ◌++◌, Option, Result, Ok, Err, IfOk, length, sym, subst, ap, refl, ◌∙◌, arith}
 use Rattle.std.specs.Prelude.{slice_get}
-use Rattle.std.proofs.lemmas.List.{length-replicate}
 use Rattle.std.specs.List.{AllByRecursion}
-use Rattle.layout_model.specs.Boxes.{Box}
 use Rattle.text_io.specs.declared.kinds.ThrowKind.{ThrowKind}
 use Rattle.page_model.specs.World.{DocumentThing, ElementThing, ResizeObserverThing, IntersectionObserverThing, QueryListThing, Name}
 use Rattle.page_model.specs.Ranges.{Counts}
@@ -11,14 +9,13 @@ use Rattle.page_model.specs.IntersectionObserving.{with_intersection_observer}
 use Rattle.script_model.specs.Margins.{Margins}
 use Rattle.page_model.specs.World.{Root}
 use Rattle.page_model.specs.ResizeObserving.{with_resize_observer}
-use Rattle.block_layout.specs.Held.{with_place}
 use Rattle.resize_observer.specs.Observers.{HeldObservers}
 use Rattle.intersection_observer.specs.Watchers.{HeldWatchers}
 use Rattle.intersection_update.specs.Watching.{AreWatchers}
 use Rattle.intersection_update.proofs.Watching.{kept_grown, kept_made}
 use Rattle.page_tree.specs.declared.page.Container.{Container}
 use Rattle.page_tree.specs.declared.page.Container.TheVariants.{Element, Document}
-use Rattle.page_tree.specs.Views.{PageElements}
+use Rattle.page_layout.specs.Views.{LaidElements}
 use Rattle.page_state.specs.Known.{KnownNames}
 use Rattle.page_state.specs.Things.{IsContainerBelow}
 use Rattle.page_state.specs.Labels.{IsIn}
@@ -33,17 +30,17 @@ container_in inside (Ok (Element node)) below = below
 container_in inside (Ok (Document document)) below = below
 container_in inside (Err kind) below = tt
 
--- the tree is edited, with as many elements and documents as before
-pub edited : (page : Inside) (after : PageElements) → IsPage page → after.names ≡ page.tree.names → length after.tree.elements ≡ length page.tree.tree.elements
-    → length after.tree.documents ≡ length page.tree.tree.documents → IsPage (record page { tree = after })
+-- the elements and documents are others, with the same names and as many as before
+pub edited : (page : Inside) (after : LaidElements) → IsPage page → after.elements.names ≡ page.laid.elements.names
+    → length after.elements.tree.elements ≡ length page.laid.elements.tree.elements → length after.elements.tree.documents ≡ length page.laid.elements.tree.documents
+    → IsPage (record page { laid = after })
 edited page after is kept count framed = record {
-  known = subst (λ (n : ℕ). AreKnown page.names.list (record (counts_in page) { elements = n; documents = length after.tree.documents })) (sym count)
+  known = subst (λ (n : ℕ). AreKnown page.names.list (record (counts_in page) { elements = n; documents = length after.elements.tree.documents })) (sym count)
       (subst (λ (n : ℕ). AreKnown page.names.list (record (counts_in page) { documents = n })) (sym framed) is.known);
   elements = record {
     count = ap (λ (it : List (List ℕ)). length it) kept ∙ (is.elements.count ∙ sym count);
     each = λ n below. ap (λ (it : List (List ℕ)). slice_get it n) kept ∙ is.elements.each n (subst (λ (most : ℕ). n < most) count below);
   };
-  placed = subst (λ (n : ℕ). n ≤ length page.boxes) (sym count) is.placed;
   limited = is.limited;
   observations = is.observations;
   registrations = is.registrations;
@@ -64,15 +61,14 @@ asked_grown queries documents more grown asked = record { documents = all querie
     all [] are = tt
     all (first ∷ others) are = (omega (arith, are.0, grown), all others are.1)
 
--- an element is made, last, with its name and its place, and a document with its own where it is a frame
-module _ (page : Inside) (is : IsPage page) (after : PageElements) (names : KnownNames) (places : List (Option Box)) (text : List ℕ)
-    (last : after.names ≡ page.tree.names ++ text ∷ []) (count : length after.tree.elements ≡ length page.tree.tree.elements + 1)
-    (room : length page.tree.tree.elements + 1 ≤ length places) where
+-- an element is made, last, with its name, and a document with its own where it is a frame
+module _ (page : Inside) (is : IsPage page) (after : LaidElements) (names : KnownNames) (text : List ℕ)
+    (last : after.elements.names ≡ page.laid.elements.names ++ text ∷ []) (count : length after.elements.tree.elements ≡ length page.laid.elements.tree.elements + 1) where
   abbrev elements : ℕ
-  elements = length page.tree.tree.elements
+  elements = length page.laid.elements.tree.elements
 
   abbrev documents : ℕ
-  documents = length page.tree.tree.documents
+  documents = length page.laid.elements.tree.documents
 
   abbrev one : List Name
   one = page.names.list ++ record { text = text; thing = ElementThing elements } ∷ []
@@ -80,18 +76,17 @@ module _ (page : Inside) (is : IsPage page) (after : PageElements) (names : Know
   known_one : AreKnown one (record (counts_in page) { elements = elements + 1 })
   known_one = known_more page.names.list text (ElementThing elements) (counts_in page) (record (counts_in page) { elements = elements + 1 }) (next_element (counts_in page)) is.known
 
-  names_one : AreElementNames one after
-  names_one = names_made page.names.list page.tree after is.elements (counts_in page) refl is.known text last count
+  names_one : AreElementNames one after.elements
+  names_one = names_made page.names.list page.laid.elements after.elements is.elements (counts_in page) refl is.known text last count
 
-  grown : (list : List Name) (framed : ℕ) → documents ≤ framed → names.list ≡ list → length after.tree.documents ≡ framed
-      → AreKnown list (record (counts_in page) { elements = elements + 1; documents = framed }) → AreElementNames list after
-      → IsPage (record page { names = names; tree = after; boxes = places })
+  grown : (list : List Name) (framed : ℕ) → documents ≤ framed → names.list ≡ list → length after.elements.tree.documents ≡ framed
+      → AreKnown list (record (counts_in page) { elements = elements + 1; documents = framed }) → AreElementNames list after.elements
+      → IsPage (record page { names = names; laid = after })
   grown list framed more listed are known named = record {
-    known = subst (λ (it : List Name). AreKnown it (record (counts_in page) { elements = length after.tree.elements; documents = length after.tree.documents })) (sym listed)
-        (subst (λ (n : ℕ). AreKnown list (record (counts_in page) { elements = n; documents = length after.tree.documents })) (sym count)
+    known = subst (λ (it : List Name). AreKnown it (record (counts_in page) { elements = length after.elements.tree.elements; documents = length after.elements.tree.documents })) (sym listed)
+        (subst (λ (n : ℕ). AreKnown list (record (counts_in page) { elements = n; documents = length after.elements.tree.documents })) (sym count)
         (subst (λ (n : ℕ). AreKnown list (record (counts_in page) { elements = elements + 1; documents = n })) (sym are) known));
-    elements = subst (λ (it : List Name). AreElementNames it after) (sym listed) named;
-    placed = subst (λ (m : ℕ). m ≤ length places) (sym count) room;
+    elements = subst (λ (it : List Name). AreElementNames it after.elements) (sym listed) named;
     limited = is.limited;
     observations = is.observations;
     registrations = is.registrations;
@@ -106,20 +101,20 @@ module _ (page : Inside) (is : IsPage page) (after : PageElements) (names : Know
   }
 
   pub enlarged : (n : ℕ) → n ≡ elements → names.list ≡ page.names.list ++ record { text = text; thing = ElementThing n } ∷ []
-      → length after.tree.documents ≡ documents → IsPage (record page { names = names; tree = after; boxes = places })
+      → length after.elements.tree.documents ≡ documents → IsPage (record page { names = names; laid = after })
   enlarged n number given same =
       grown one documents (omega arith) (given ∙ ap (λ (m : ℕ). page.names.list ++ record { text = text; thing = ElementThing m } ∷ []) number) same known_one names_one
 
   pub framed_page : (n document : ℕ) (inside : List ℕ) → n ≡ elements → document ≡ documents
       → names.list ≡ (page.names.list ++ record { text = text; thing = ElementThing n } ∷ []) ++ record { text = inside; thing = DocumentThing document } ∷ []
-      → length after.tree.documents ≡ documents + 1 → IsPage (record page { names = names; tree = after; boxes = places })
+      → length after.elements.tree.documents ≡ documents + 1 → IsPage (record page { names = names; laid = after })
   framed_page n document inside number framed given more =
       let counts : Counts = record (counts_in page) { elements = elements + 1 } in
       grown (one ++ record { text = inside; thing = DocumentThing documents } ∷ []) (documents + 1) (omega arith)
       (given ∙ (λ i. (page.names.list ++ record { text = text; thing = ElementThing (number i) } ∷ []) ++ record { text = inside; thing = DocumentThing (framed i) } ∷ []))
       more
       (known_more one inside (DocumentThing documents) counts (record counts { documents = documents + 1 }) (next_document counts) known_one)
-      (names_more one after counts (record { text = inside; thing = DocumentThing documents }) (sym count) known_one names_one)
+      (names_more one after.elements counts (record { text = inside; thing = DocumentThing documents }) (sym count) known_one names_one)
 
 one_longer : {A : Type 0} (xs : List A) (x : A) → length (xs ++ x ∷ []) ≡ length xs + 1
 one_longer [] x = refl
@@ -141,8 +136,7 @@ watched_page page names after text document n handler is given number made =
       known = subst (λ (it : List Name). AreKnown it (record (counts_in page) { resize_observers = length new.part.made })) (sym listed)
           (subst (λ (m : ℕ). AreKnown list (record (counts_in page) { resize_observers = m })) (sym count)
           (known_more page.names.list text thing (counts_in page) (record (counts_in page) { resize_observers = observers + 1 }) (next_observer (counts_in page)) is.known));
-      elements = subst (λ (it : List Name). AreElementNames it page.tree) (sym listed) (names_more page.names.list page.tree (counts_in page) _ refl is.known is.elements);
-      placed = is.placed;
+      elements = subst (λ (it : List Name). AreElementNames it page.laid.elements) (sym listed) (names_more page.names.list page.laid.elements (counts_in page) _ refl is.known is.elements);
       limited = record {
         observers = is.limited.observers;
         observations = is.limited.observations;
@@ -180,8 +174,7 @@ seeing_page page names after text document n handler root margins thresholds is 
       known = subst (λ (it : List Name). AreKnown it (record (counts_in page) { intersection_observers = length new.part.made })) (sym listed)
           (subst (λ (m : ℕ). AreKnown list (record (counts_in page) { intersection_observers = m })) (sym count)
           (known_more page.names.list text (IntersectionObserverThing watchers) (counts_in page) (record (counts_in page) { intersection_observers = watchers + 1 }) (next_watcher (counts_in page)) is.known));
-      elements = subst (λ (it : List Name). AreElementNames it page.tree) (sym listed) (names_more page.names.list page.tree (counts_in page) _ refl is.known is.elements);
-      placed = is.placed;
+      elements = subst (λ (it : List Name). AreElementNames it page.laid.elements) (sym listed) (names_more page.names.list page.laid.elements (counts_in page) _ refl is.known is.elements);
       limited = record {
         observers = is.limited.observers;
         observations = is.limited.observations;
@@ -197,7 +190,7 @@ seeing_page page names after text document n handler root margins thresholds is 
       listeners = is.listeners;
       frame_callbacks = is.frame_callbacks;
       timers = is.timers;
-      watched = kept_made (length page.tree.tree.elements) document handler root margins thresholds page.watchers.part is.watched;
+      watched = kept_made (length page.laid.elements.tree.elements) document handler root margins thresholds page.watchers.part is.watched;
       asked = is.asked;
       sized = is.sized;
       noted = is.noted;
@@ -228,23 +221,12 @@ module _ (page : Inside) (names : KnownNames) (queries : List QueryList) (text :
       (subst (λ (m : ℕ). AreKnown list (record (counts_in page) { queries = m })) (sym more)
       (known_more page.names.list text (QueryListThing (length page.queries.items)) (counts_in page) (record (counts_in page) { queries = length page.queries.items + 1 }) (next_query (counts_in page)) is.known))
 
-  pub query_elements : AreElementNames names.list page.tree
-  query_elements = subst (λ (it : List Name). AreElementNames it page.tree) (sym listed) (names_more page.names.list page.tree (counts_in page) _ refl is.known is.elements)
+  pub query_elements : AreElementNames names.list page.laid.elements
+  query_elements = subst (λ (it : List Name). AreElementNames it page.laid.elements) (sym listed) (names_more page.names.list page.laid.elements (counts_in page) _ refl is.known is.elements)
 
-  pub query_asked : last.document < length page.tree.tree.documents → length page.queries.items < 4096 → AreAsked queries (length page.tree.tree.documents)
+  pub query_asked : last.document < length page.laid.elements.tree.documents → length page.queries.items < 4096 → AreAsked queries (length page.laid.elements.tree.documents)
   query_asked of few = record {
-    documents = subst (λ (it : List QueryList). AllByRecursion (λ (each : QueryList). each.document < length page.tree.tree.documents) it) (sym made)
-        (all_asked (length page.tree.tree.documents) page.queries.items last is.asked.documents of);
+    documents = subst (λ (it : List QueryList). AllByRecursion (λ (each : QueryList). each.document < length page.laid.elements.tree.documents) it) (sym made)
+        (all_asked (length page.laid.elements.tree.documents) page.queries.items last is.asked.documents of);
     few = omega (arith, few, more);
   }
-
--- a new element has its place
-
-placed_at : (n : ℕ) (places : List (Option Box)) → n + 1 ≤ length (with_place n places)
-placed_at n places =
-    let nothing : Option Box = None in
-    omega (arith, length-append places (replicate (suc n - length places) nothing), length-replicate (suc n - length places) nothing)
-
-pub place_made : (n elements : ℕ) (places after : List (Option Box)) → n ≡ elements → after ≡ with_place n places → elements + 1 ≤ length after
-place_made n elements places after number added =
-    subst (λ (it : List (Option Box)). elements + 1 ≤ length it) (sym added) (subst (λ (m : ℕ). m + 1 ≤ length (with_place n places)) number (placed_at n places))

@@ -3,6 +3,7 @@ mod Finding
 mod Found
 mod Parts
 mod Inside
+mod Laid
 mod Doing
 mod Noted
 mod Handlers

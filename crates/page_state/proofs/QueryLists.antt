@@ -133,7 +133,7 @@ module _ (handlers : Handlers) (world : World) (present : Present) where
 module _ (inside : Inside) (text : List ℕ) (query : List MediaQuery) (owner : ℕ) (names : List Name) (queries : List QueryList) (copy : List MediaQuery) (matched : Bool) (viewport : Extent)
     (given : names ≡ inside.names.list ++ record { text = text; thing = QueryListThing (length inside.queries.items) } ∷ [])
     (made : queries ≡ inside.queries.items ++ record { document = owner; query = copy; matched = matched } ∷ [])
-    (copied : copy ≡ query) (is : matched ≡ matches_in copy viewport) (here : viewport ≡ viewport_of inside.tree.tree (seen_size inside.size) owner) where
+    (copied : copy ≡ query) (is : matched ≡ matches_in copy viewport) (here : viewport ≡ viewport_of inside.laid.elements.tree (seen_size inside.size) owner) where
   name_given : names ≡ with_name text (QueryListThing (length (map seen_query_list inside.queries.items))) inside.names.list
   name_given = given ∙ ap (λ (n : ℕ). inside.names.list ++ record { text = text; thing = QueryListThing n } ∷ []) (sym (length-map inside.queries.items seen_query_list))
 

@@ -10,10 +10,10 @@ use Rattle.page_state.specs.Worlds.{world_of}
 use Rattle.page_state.specs.declared.page.Page.TheInside.{Inside}
 
 module _ (page : Inside) (document : ℕ) (after : HeldWatchers) (queued : Bool)
-    (is : after ≡ record (page.watchers) { part = updated (world_of page) (page.tree.tree) document (page.clock) (page.watchers.part) })
-    (news : queued ≡ has_news page.tree.tree document page.watchers.part (updated (world_of page) (page.tree.tree) document (page.clock) (page.watchers.part))) where
+    (is : after ≡ record (page.watchers) { part = updated (world_of page) (page.laid.elements.tree) document (page.clock) (page.watchers.part) })
+    (news : queued ≡ has_news page.laid.elements.tree document page.watchers.part (updated (world_of page) (page.laid.elements.tree) document (page.clock) (page.watchers.part))) where
   abbrev settled : HeldWatchers
-  settled = record (page.watchers) { part = updated (world_of page) (page.tree.tree) document (page.clock) (page.watchers.part) }
+  settled = record (page.watchers) { part = updated (world_of page) (page.laid.elements.tree) document (page.clock) (page.watchers.part) }
 
   abbrev quiet : World
   quiet = world_of (record page { watchers = settled })

@@ -1,8 +1,7 @@
 -- What a page keeps true of its parts: one fact for each part that has one, and one for each two parts that go together.
-use Rattle.std.specs.Prelude.{◌≡◌, ℕ, ◌+◌, ◌≤◌, ◌<◌, Bool, true, cond, is_some, find, slice_get, List, length, Option, Some}
+use Rattle.std.specs.Prelude.{◌≡◌, ℕ, ◌+◌, ◌≤◌, ◌<◌, Bool, true, cond, is_some, find, slice_get, List, length, Some}
 use Rattle.std.specs.List.{AllByRecursion}
 use Rattle.std.specs.Option.{ForSome}
-use Rattle.layout_model.specs.Boxes.{Box}
 use Rattle.text_io.specs.declared.kinds.LimitKind.TheVariants as limits
 use Rattle.text_io.specs.Limits.{limit_number}
 use Rattle.page_model.specs.World.{Thing, Name, Listener, FrameCallback, Timer}
@@ -31,10 +30,6 @@ pub record AreElementNames (names : List Name) (tree : PageElements) : Type 0 wh
   pub count : length tree.names ≡ length tree.tree.elements
   pub each : (n : ℕ) → n < length tree.tree.elements → slice_get tree.names n ≡ Some (element_text names n)
 
--- boxes and tree: each element has its place
-abbrev pub ArePlaced : List (Option Box) → PageElements → Type 0
-ArePlaced boxes tree = length tree.tree.elements ≤ length boxes
-
 -- the parts have the limits of a page
 pub record AreLimited (watching : HeldObservers) (seeing : HeldWatchers) (hearing : Bounded Listener) (requested : Bounded FrameCallback) (set : Bounded Timer) (waiting : WaitingTasks) : Type 0 where
   pub observers : watching.most_observers ≡ limit_number limits.ResizeObservers
@@ -58,16 +53,15 @@ pub record AreAsked (queries : List QueryList) (count : ℕ) : Type 0 where
 
 pub record IsPage (page : Inside) : Type 0 where
   pub known : AreKnown page.names.list (counts_in page)
-  pub elements : AreElementNames page.names.list page.tree
-  pub placed : ArePlaced page.boxes page.tree
+  pub elements : AreElementNames page.names.list page.laid.elements
   pub limited : AreLimited page.observers page.watchers page.listeners page.frame_callbacks page.timers page.tasks
   pub observations : IsCounted page.observers.part.given page.count page.begun
   pub registrations : IsCounted page.watchers.part.given page.count page.begun
   pub listeners : IsCounted page.listeners.part.given page.count page.begun
   pub frame_callbacks : IsCounted page.frame_callbacks.part.given page.count page.begun
   pub timers : IsCounted page.timers.part.given page.count page.begun
-  pub watched : AreWatchers (length page.tree.tree.elements) page.watchers.part.made
-  pub asked : AreAsked page.queries.items (length page.tree.tree.documents)
+  pub watched : AreWatchers (length page.laid.elements.tree.elements) page.watchers.part.made
+  pub asked : AreAsked page.queries.items (length page.laid.elements.tree.documents)
   pub sized : IsNatural page.size
   pub noted : AllByRecursion (λ (it : Option Size). ForSome it IsNatural) page.noted
   pub time : page.clock ≤ 1000000000000

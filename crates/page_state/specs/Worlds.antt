@@ -8,7 +8,7 @@ use Rattle.page_state.specs.declared.page.Page.TheInside.{Inside}
 
 abbrev pub world_of : Inside → World
 world_of p = record {
-  tree = p.tree.tree;
+  tree = p.laid.elements.tree;
   names = p.names.list;
   viewports = record { size = seen_size p.size; noted = map (option_map seen_size) p.noted };
   scrolls = p.scrolls;
@@ -27,8 +27,8 @@ world_of p = record {
 -- how much there is of what has a name
 abbrev pub counts_in : Inside → Counts
 counts_in p = record {
-  elements = length p.tree.tree.elements;
-  documents = length p.tree.tree.documents;
+  elements = length p.laid.elements.tree.elements;
+  documents = length p.laid.elements.tree.documents;
   resize_observers = length p.observers.part.made;
   intersection_observers = length p.watchers.part.made;
   queries = length p.queries.items;

@@ -64,10 +64,9 @@ impl Page {
     {
         self.names.check_free(name)?;
         let document = self.document(document)?;
-        let node = self.tree.reserve()?;
-        self.boxes.add(node)?;
+        let node = self.laid.reserve()?;
         self.names.insert(name, Thing::Element(node))?;
-        let _node = self.tree.make(document, name, kind)?;
+        let _node = self.laid.make(document, name, kind)?;
         Ok(Effect::Nothing)
     }
 
@@ -83,19 +82,19 @@ impl Page {
         self.names.check_free(name)?;
         let document = self.document(document)?;
         self.names.check_also_free(name, inside)?;
-        if self.tree.is_full() {
+        let page = self.laid.page();
+        if page.is_full() {
             return Err(PageFault::Limit(LimitKind::Nodes));
         }
-        if self.tree.is_full_of_documents() {
+        if page.is_full_of_documents() {
             return Err(PageFault::Limit(LimitKind::Documents));
         }
-        let node = self.tree.reserve()?;
-        self.boxes.add(node)?;
+        let node = self.laid.reserve()?;
         self.names.reserve(2)?;
-        let framed = self.tree.document_count();
+        let framed = self.laid.page().document_count();
         self.names.insert(name, Thing::Element(node))?;
         self.names.insert(inside, Thing::Document(framed))?;
-        let _made = self.tree.make_frame(document, name)?;
+        let _made = self.laid.make_frame(document, name)?;
         Ok(Effect::Nothing)
     }
 
@@ -142,7 +141,7 @@ impl Page {
         ensures { Keeps self.old self.new result
             (λ handlers. with_tree self.old.world (placing (seen_container container) node.0 (option_map number sibling) (self.old.world.tree))) }
     {
-        if let Err(fault) = self.tree.place(container, node, sibling) {
+        if let Err(fault) = self.laid.place(container, node, sibling) {
             return Err(refused(fault));
         }
         Ok(Effect::Nothing)
@@ -166,7 +165,7 @@ impl Page {
         requires { node.0 < length self.old.world.tree.elements }
         ensures { self.new ≡ record self.old { world = record (self.old.world) { tree = removed (self.old.world.tree) node.0 } } }
     {
-        self.tree.remove(node);
+        self.laid.remove(node);
     }
 
     pub(crate) fn set(
@@ -180,7 +179,7 @@ impl Page {
         ensures { Keeps self.old self.new result (λ handlers. does handlers self.old.world (present_of subject) (SetStyle (operand_of node) (seen_declaration declaration))) }
     {
         let node = self.element(node, subject)?;
-        self.tree.set(node, declaration);
+        self.laid.set(node, declaration);
         Ok(Effect::Nothing)
     }
 
@@ -195,7 +194,7 @@ impl Page {
         ensures { Keeps self.old self.new result (λ handlers. does handlers self.old.world (present_of subject) (Grow (operand_of node) (dimension_of axis) by.0)) }
     {
         let node = self.element(node, subject)?;
-        self.tree.grow(node, side(axis), by)?;
+        self.laid.grow(node, side(axis), by)?;
         Ok(Effect::Nothing)
     }
 
@@ -210,7 +209,7 @@ impl Page {
         ensures { Keeps self.old self.new result (λ handlers. does handlers self.old.world (present_of subject) (Load (operand_of node) (unsigned_abs size.width) (unsigned_abs size.height))) }
     {
         let node = self.element(node, subject)?;
-        self.tree.load(node, size)?;
+        self.laid.load(node, size)?;
         Ok(Effect::Nothing)
     }
 }

@@ -12,7 +12,7 @@ ghost use Rattle.page_state.specs.Things.{present_with, IsSubject};
 
 use crate::page::Page;
 use element_tree::NodeId;
-use page_boxes::{refresh, size_of};
+use page_boxes::size_of;
 use px_units::{BoxKind, Px, Size};
 use script_syntax::{Condition, Test};
 use std::sync::ledger::Ledger;
@@ -75,19 +75,19 @@ impl Page {
             }
             Test::Attached(node) => {
                 let node = self.element(node, subject)?;
-                Ok(self.tree.is_attached(node))
+                Ok(self.laid.page().is_attached(node))
             }
             Test::Seen => is_seen(subject, seen),
         }
     }
 
-    // The size of an element's border box, of boxes that are computed anew.
+    // The size of an element's border box as it is now.
     fn border_size<L: Ledger>(&mut self, node: NodeId, steps: &mut Steps<L>) -> Size
         ensures value { seen_size result ≡ size_of self.old.world.tree self.old.world.viewports.size node.0 Border }
         ensures same { self.new ≡ self.old }
     {
-        refresh(&mut self.boxes, &self.tree, self.size, steps);
-        size_of(&self.tree, &self.boxes, node, BoxKind::Border)
+        self.laid.refresh(self.size, steps);
+        size_of(self.laid.page(), self.laid.boxes(), node, BoxKind::Border)
     }
 }
 

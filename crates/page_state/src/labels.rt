@@ -27,7 +27,7 @@ impl Page {
         ensures { result ≡ label_text self.now.world of }
     {
         match of {
-            Label::Target(EventTarget::Node(node)) => self.tree.name_of(node),
+            Label::Target(EventTarget::Node(node)) => self.laid.page().name_of(node),
             Label::Target(EventTarget::Document(document) | EventTarget::Window(document)) => {
                 self.document_name(document)
             }
@@ -45,7 +45,7 @@ impl Page {
         ensures handler { option_map (λ handler. handler.0) result.1 ≡ label_handler self.now.world of }
     {
         match of {
-            Label::Target(EventTarget::Node(node)) => (self.tree.document_of(node), None),
+            Label::Target(EventTarget::Node(node)) => (self.laid.page().document_of(node), None),
             Label::Target(EventTarget::Document(document) | EventTarget::Window(document)) => {
                 (document, None)
             }

@@ -19,12 +19,12 @@ use crate::answers::{Effect, PageFault};
 use crate::by_document::ByDocument;
 use crate::names::{Names, Thing};
 use crate::queries::QueryList;
-use block_layout::FreshBoxes;
 use element_tree::NodeId;
 use event_tables::{FrameCallbacks, Listeners, Tasks, Timers};
 use intersection_observer::{WatcherId, Watchers};
-use page_boxes::{refresh_for, viewport_of};
-use page_tree::{Container, PageTree};
+use page_boxes::viewport_of;
+use page_layout::LaidTree;
+use page_tree::Container;
 use px_units::Size;
 use resize_observer::{ObserverId, Observers};
 use script_syntax::{Command, Script, What};
@@ -63,14 +63,13 @@ const FIRST_SIZE: Size = Size {
 /// A page with the document `top`. A contract sees it as a world of the definitions, and as whether a command was begun
 /// and not applied yet (`specs/Views.antt`).
 ///
-/// An observation in this page, a target and a name are those of something that the page made. Boxes are kept nowhere:
-/// a reading computes them anew.
+/// An observation in this page, a target and a name are those of something that the page made. Boxes are kept from one
+/// reading to the next (`page_layout`): a reading first computes those that are due.
 #[derive(Drop)]
 pub struct Page {
     pub(crate) names: Names,
-    pub(crate) tree: PageTree,
-    // A place for each element, whose room is made with it.
-    pub(crate) boxes: FreshBoxes,
+    // The elements and documents with their boxes.
+    pub(crate) laid: LaidTree,
     pub(crate) observers: Observers,
     pub(crate) watchers: Watchers,
     // Whether a notify task of a document is queued.
@@ -115,8 +114,7 @@ impl Page {
         }
         Ok(Page {
             names,
-            tree: PageTree::new(alloc)?,
-            boxes: FreshBoxes::new(alloc),
+            laid: LaidTree::new(alloc)?,
             observers: Observers::new(alloc, MOST_OBSERVERS, MOST_OBSERVATIONS),
             watchers: Watchers::new(alloc, MOST_WATCHERS, MOST_REGISTRATIONS),
             notifying: ByDocument::new(alloc)?,
@@ -262,6 +260,14 @@ impl Page {
         }
     }
 
+    /// Computes the boxes that are due: each box of the page is then held as it is now, and none is due. The world and what
+    /// was begun are as before. No memory.
+    pub fn refresh_boxes<L: Ledger>(&mut self, steps: &mut Steps<L>)
+        ensures { self.new ≡ self.old }
+    {
+        self.laid.refresh(self.size, steps);
+    }
+
     pub(crate) fn document_name(&self, document: u32) -> Name
         requires { document < length self.now.world.tree.documents }
         ensures { result ≡ document_text self.now.world.names document }
@@ -293,20 +299,18 @@ impl Page {
     }
 }
 
-// The size of the viewport of a document, of boxes that are computed anew.
+// The size of the viewport of a document as it is now.
 pub(crate) fn viewport_now<L: Ledger>(
-    boxes: &mut FreshBoxes,
-    tree: &PageTree,
+    laid: &mut LaidTree,
     size: Size,
     document: u32,
     steps: &mut Steps<L>,
 ) -> Size
-    requires places { length tree.now.tree.elements ≤ length boxes.old }
-    requires natural { IsNatural size }
-    ensures value { seen_size result ≡ viewport_of tree.now.tree (seen_size size) document }
+    requires { IsNatural size }
+    ensures value { seen_size result ≡ viewport_of laid.new.elements.tree (seen_size size) document }
     ensures natural { IsNatural result }
-    ensures places { length boxes.new ≡ length boxes.old }
+    ensures same { laid.new.elements ≡ laid.old.elements }
 {
-    refresh_for(boxes, tree, size, Container::Document(document), steps);
-    viewport_of(tree, boxes, size, document)
+    laid.refresh_for(size, Container::Document(document), steps);
+    viewport_of(laid.page(), laid.boxes(), size, document)
 }

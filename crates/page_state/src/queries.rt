@@ -82,7 +82,7 @@ impl Page {
         }
         let query = query.copy(*self.queries.allocator())?;
         self.names.reserve(1)?;
-        let viewport = viewport_now(&mut self.boxes, &self.tree, self.size, document, steps);
+        let viewport = viewport_now(&mut self.laid, self.size, document, steps);
         let matched = query.matches(viewport);
         let list = QueryList {
             document,
@@ -104,7 +104,7 @@ impl Page {
         ensures same { self.new ≡ self.old }
     {
         let list = &self.queries[query as usize];
-        let viewport = viewport_now(&mut self.boxes, &self.tree, self.size, list.document, steps);
+        let viewport = viewport_now(&mut self.laid, self.size, list.document, steps);
         list.query.matches(viewport)
     }
 
@@ -123,7 +123,7 @@ impl Page {
         ensures place { IfSome result (λ change. (change.place ≡ ℕ.suc change.query) × change.query < length self.old.world.queries) }
         ensures evaluated { self.new ≡ record self.old { world = once_evaluated document (next_changed document place self.old.world) (self.old.world) } }
     {
-        let size = viewport_now(&mut self.boxes, &self.tree, self.size, document, steps);
+        let size = viewport_now(&mut self.laid, self.size, document, steps);
         let query = changed_from(self.queries.as_slice(), document, size, place)?;
         let list = &mut self.queries[query];
         list.matched = !list.matched;

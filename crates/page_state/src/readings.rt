@@ -1,4 +1,4 @@
-//! What is read of a page. Its boxes are computed anew at each reading.
+//! What is read of a page. Boxes that are due are computed before a reading.
 
 ghost use Rattle.std.specs.Prelude.{◌≡◌, length};
 ghost use Rattle.script_model.specs.Syntax.{Read};
@@ -16,7 +16,7 @@ ghost use Rattle.page_state.specs.Labels.{IsIn};
 use crate::answers::{Effect, PageFault};
 use crate::page::Page;
 use element_tree::NodeId;
-use page_boxes::{read, refresh};
+use page_boxes::read;
 use page_tree::Container;
 use script_syntax::Operand;
 use std::sync::ledger::Ledger;
@@ -48,8 +48,14 @@ impl Page {
         ensures reach { HasReach (seen_line result) }
     {
         let target = self.container_name(container);
-        refresh(&mut self.boxes, &self.tree, self.size, steps);
-        let shown = read(&self.tree, &self.boxes, &self.scrolls, self.size, container);
+        self.laid.refresh(self.size, steps);
+        let shown = read(
+            self.laid.page(),
+            self.laid.boxes(),
+            &self.scrolls,
+            self.size,
+            container,
+        );
         TraceLine::Read {
             target,
             rect: shown.rect,
@@ -62,7 +68,7 @@ impl Page {
         ensures { result ≡ text_in self.now.world.names (seen_container container) }
     {
         match container {
-            Container::Element(node) => self.tree.name_of(node),
+            Container::Element(node) => self.laid.page().name_of(node),
             Container::Document(document) => self.document_name(document),
         }
     }

@@ -1,4 +1,4 @@
-//! What the resize loop asks of a page (Resize Observer, 3.4). Sizes are those of boxes that are computed anew.
+//! What the resize loop asks of a page (Resize Observer, 3.4). Sizes are those of boxes as they are now.
 
 ghost use Rattle.std.specs.Prelude.{◌≡◌, ◌<◌, min, length, option_map, IfOk, IfSome, OnErr};
 ghost use Rattle.page_model.specs.World.{Extent};
@@ -8,17 +8,16 @@ ghost use Rattle.depth_gather.specs.Deliveries.{turn_of, active_at, entries_in};
 ghost use Rattle.depth_gather.specs.Gathering.{active_count};
 ghost use Rattle.depth_gather.specs.Entries.{as_size, as_point, HasLengths};
 ghost use Rattle.std.specs.List.{AllByRecursion};
-ghost use Rattle.block_layout.specs.Held.{held_in};
+ghost use Rattle.kept_layout.specs.Slots.{held_in};
 ghost use Rattle.page_boxes.specs.Fresh.{IsFresh};
 ghost use Rattle.page_boxes.specs.Pages.{seen_size};
 ghost use Rattle.page_state.specs.Rounds.{next_turn, once_reported};
 
 use crate::page::Page;
-use block_layout::FreshBoxes;
 use depth_gather::{Delivery, Sizes};
 use element_tree::NodeId;
-use page_boxes::{corner_of, refresh, size_of};
-use page_tree::PageTree;
+use page_boxes::{corner_of, size_of};
+use page_layout::LaidTree;
 use px_units::{BoxKind, Point, Size};
 use resize_observer::ObserverId;
 use std::alloc::AllocError;
@@ -28,26 +27,26 @@ use step_count::Steps;
 // The sizes of a page whose boxes are all held as they are now.
 #[derive(Clone, Copy)]
 struct Shown<'a> {
-    tree: &'a PageTree,
-    boxes: &'a FreshBoxes,
+    laid: &'a LaidTree,
     size: Size,
-    ghost fresh: { IsFresh tree.now.tree (seen_size size) (held_in boxes.now) },
+    ghost fresh: { IsFresh laid.now.elements.tree (seen_size size) (held_in laid.now.kept) },
 }
 
 impl Sizes for Shown<'_> {
-    ghost sight = { λ it. sight_in it.tree.now.tree (seen_size it.size) };
+    ghost sight = { λ it. sight_in it.laid.now.elements.tree (seen_size it.size) };
 
     fn size_now(&self, node: NodeId, kind: BoxKind) -> Size {
-        size_of(self.tree, self.boxes, node, kind)
+        size_of(self.laid.page(), self.laid.boxes(), node, kind)
     }
 
     fn corner_now(&self, node: NodeId) -> Point {
-        corner_of(self.tree, self.boxes, node)
+        corner_of(self.laid.page(), self.laid.boxes(), node)
     }
 
     fn depth_now(&self, node: NodeId) -> u32 {
-        if self.tree.holds(node) {
-            return self.tree.depth(node);
+        let page = self.laid.page();
+        if page.holds(node) {
+            return page.depth(node);
         }
         1
     }
@@ -60,10 +59,9 @@ impl Page {
         ensures gathered { self.new ≡ record self.old { world = gather document depth (self.old.world) } }
         ensures number { result ≡ min (active_count document self.new.world.resize_observers) 4294967295 }
     {
-        refresh(&mut self.boxes, &self.tree, self.size, steps);
+        self.laid.refresh(self.size, steps);
         let sizes = Shown {
-            tree: &self.tree,
-            boxes: &self.boxes,
+            laid: &self.laid,
             size: self.size,
         };
         depth_gather::gather(&mut self.observers, &sizes, document, depth)
@@ -89,10 +87,9 @@ impl Page {
         ensures lengths { IfOk result (λ next. IfSome next (λ it. AllByRecursion HasLengths it.entries)) }
         ensures same { OnErr result (self.new ≡ self.old) }
     {
-        refresh(&mut self.boxes, &self.tree, self.size, steps);
+        self.laid.refresh(self.size, steps);
         let sizes = Shown {
-            tree: &self.tree,
-            boxes: &self.boxes,
+            laid: &self.laid,
             size: self.size,
         };
         let alloc = *self.queries.allocator();

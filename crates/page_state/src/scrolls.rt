@@ -21,7 +21,7 @@ ghost use Rattle.page_state.specs.Things.{present_of, IsSubject};
 use crate::answers::{Effect, PageFault};
 use crate::page::Page;
 use element_tree::NodeId;
-use page_boxes::{is_scroller, offset_of, range_of, refresh};
+use page_boxes::{is_scroller, offset_of, range_of};
 use page_tree::Container;
 use px_units::{Point, Size};
 use script_syntax::Operand;
@@ -90,9 +90,9 @@ impl Page {
         ensures { option_map seen_target result ≡ scrolled_thing self.now.world.tree self.now.world.viewports.size (InElement node.0) }
     {
         if self.is_root_element(node) {
-            return Some(ScrollTarget::Document(self.tree.document_of(node)));
+            return Some(ScrollTarget::Document(self.laid.page().document_of(node)));
         }
-        if is_scroller(&self.tree, node) {
+        if is_scroller(self.laid.page(), node) {
             Some(ScrollTarget::Node(node))
         } else {
             None
@@ -103,13 +103,14 @@ impl Page {
     fn is_root_element(&self, node: NodeId) -> bool
         ensures { result ≡ is_root_element self.now.world.tree node.0 }
     {
-        match self.tree.root(self.tree.document_of(node)) {
+        let page = self.laid.page();
+        match page.root(page.document_of(node)) {
             Some(root) => root.0 == node.0,
             None => false,
         }
     }
 
-    // The scroll offset in force of a target and its range, of boxes that are computed anew.
+    // The scroll offset in force of a target and its range, of boxes as they are now.
     fn reach<L: Ledger>(&mut self, target: ScrollTarget, steps: &mut Steps<L>) -> Reach
         ensures offset { result.offset ≡ point_of (scroll_offset self.old.world.tree self.old.world.viewports.size self.old.world.scrolls (seen_target target)) }
         ensures range { seen_size result.range ≡ scroll_range self.old.world.tree self.old.world.viewports.size (seen_target target) }
@@ -117,10 +118,12 @@ impl Page {
         ensures bound { IsRange result.range }
         ensures same { self.new ≡ self.old }
     {
-        refresh(&mut self.boxes, &self.tree, self.size, steps);
+        self.laid.refresh(self.size, steps);
+        let page = self.laid.page();
+        let boxes = self.laid.boxes();
         Reach {
-            offset: offset_of(&self.tree, &self.boxes, &self.scrolls, self.size, target),
-            range: range_of(&self.tree, &self.boxes, self.size, target),
+            offset: offset_of(page, boxes, &self.scrolls, self.size, target),
+            range: range_of(page, boxes, self.size, target),
         }
     }
 
@@ -131,7 +134,7 @@ impl Page {
         ensures { Keeps self.old self.new result (λ handlers. becomes (scrolled_to to.left to.top (Some (seen_target target)) self.old.world)) }
     {
         let document = match target {
-            ScrollTarget::Node(node) => self.tree.document_of(node),
+            ScrollTarget::Node(node) => self.laid.page().document_of(node),
             ScrollTarget::Document(document) => document,
         };
         self.scrolls.scroll_to(document, target, to, range)?;

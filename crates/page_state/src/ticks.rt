@@ -14,7 +14,6 @@ use crate::page::{Page, viewport_now};
 use event_tables::Task;
 use intersection_observer::{EntryList, WatcherId};
 use intersection_update::{update, watchers_of};
-use page_boxes::refresh;
 use std::alloc::AllocError;
 use std::sync::ledger::Ledger;
 use step_count::Steps;
@@ -24,14 +23,14 @@ impl Page {
     pub fn is_active(&self, document: u32) -> bool
         ensures { result ≡ is_active self.now.world.tree document }
     {
-        self.tree.is_active(document)
+        self.laid.page().is_active(document)
     }
 
     /// The Active documents, by preorder of the frame tree. The error is want of memory.
     pub fn active_documents(&self) -> Result<Vec<u32>, AllocError>
         ensures { IfOk result (λ documents. documents.items ≡ active_documents self.now.world.tree) }
     {
-        self.tree.active_documents()
+        self.laid.page().active_documents()
     }
 
     /// Whether the size of a document's viewport isn't the one noted at the last call for this document; the size is then
@@ -44,9 +43,9 @@ impl Page {
         } }
         ensures begun { self.new.begun ≡ self.old.begun }
     {
-        let size = viewport_now(&mut self.boxes, &self.tree, self.size, document, steps);
+        let size = viewport_now(&mut self.laid, self.size, document, steps);
         // There are at most 64 documents.
-        let _count = self.tree.document_count();
+        let _count = self.laid.page().document_count();
         let before = self.noted.get(document, None);
         self.noted.set(document, Some(size), None);
         match before {
@@ -71,10 +70,10 @@ impl Page {
         ensures updated { IfOk result (λ _. self.new ≡ record self.old { world = update_intersections document (self.old.world) }) }
         ensures rest { OnErr result (self.new ≡ record self.old { world = record (self.old.world) { intersection_observers = self.new.world.intersection_observers } }) }
     {
-        refresh(&mut self.boxes, &self.tree, self.size, steps);
+        self.laid.refresh(self.size, steps);
         let queued = update(
-            &self.tree,
-            &self.boxes,
+            self.laid.page(),
+            self.laid.boxes(),
             &self.scrolls,
             self.size,
             &mut self.watchers,
@@ -85,7 +84,7 @@ impl Page {
             return Ok(());
         }
         // There are at most 64 documents.
-        let _count = self.tree.document_count();
+        let _count = self.laid.page().document_count();
         let Ok(()) = self.tasks.push(Task::Notify(document)) else {
             return Err(AllocError);
         };
@@ -105,7 +104,7 @@ impl Page {
         ensures same { OnErr result (self.new ≡ self.old) }
     {
         let alloc = *self.queries.allocator();
-        let list = watchers_of(alloc, &self.tree, &self.watchers, document)?;
+        let list = watchers_of(alloc, self.laid.page(), &self.watchers, document)?;
         self.notifying.reset(document, false);
         Ok(list)
     }

@@ -12,7 +12,6 @@ invariant_of-result c =
     record {
       known = known_first c.in-Some.top _ _ _ _ _ _ held (search rules) (search rules) (search rules) (search rules) (search rules);
       elements = no_elements _ _ (search rules) (search rules);
-      placed = search rules;
       limited = search rules;
       observations = search rules;
       registrations = search rules;

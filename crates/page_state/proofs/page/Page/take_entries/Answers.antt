@@ -8,7 +8,7 @@ use Rattle.page_state.proofs.page.Page.take_entries.Goals as goal
 
 pub invariant_of-self : goal.invariant_of-self
 invariant_of-self c =
-    let elements = length c.self.inside.tree.tree.elements in
+    let elements = length c.self.inside.laid.elements.tree.elements in
     let watched : AreWatchers elements c.take_records.new.self.part.made =
     subst (λ (it : HeldWatchers). AreWatchers elements it.part.made) (sym c.take_records.ensures.emptied)
     (kept_taken elements c.in_ok-watcher.watcher.0 c.self.inside.watchers.part c.self.invariant.watched) in

@@ -9,7 +9,7 @@ use Rattle.page_state.proofs.page.Page.take_records.Goals as goal
 
 pub invariant_of-self : goal.invariant_of-self
 invariant_of-self c =
-    let elements = length c.self.inside.tree.tree.elements in
+    let elements = length c.self.inside.laid.elements.tree.elements in
     let watched : AreWatchers elements c.take_records.new.self.part.made =
     subst (λ (it : HeldWatchers). AreWatchers elements it.part.made) (sym c.take_records.ensures.emptied)
     (kept_taken elements c.args.watcher.0 c.self.inside.watchers.part c.self.invariant.watched) in
@@ -18,5 +18,5 @@ invariant_of-self c =
 pub returns-clause-written : goal.returns-clause-written
 returns-clause-written c =
     subst (λ (v : PageView). AreWritten (length v.world.tree.elements) c.take_records.result) c.self.view_is
-    (subst (λ (entries : List Entry). AreWritten (length c.self.inside.tree.tree.elements) entries) (sym c.take_records.ensures.taken)
-    (queue_written (length c.self.inside.tree.tree.elements) c.args.watcher.0 c.self.inside.watchers.part c.self.invariant.watched))
+    (subst (λ (entries : List Entry). AreWritten (length c.self.inside.laid.elements.tree.elements) entries) (sym c.take_records.ensures.taken)
+    (queue_written (length c.self.inside.laid.elements.tree.elements) c.args.watcher.0 c.self.inside.watchers.part c.self.invariant.watched))

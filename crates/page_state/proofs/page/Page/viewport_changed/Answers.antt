@@ -3,7 +3,7 @@ use Rattle.std.proofs.Common.{◌≡◌, ◌<◌, ◌≤◌, Option, Some, None,
 use Rattle.std.specs.List.{AllByRecursion}
 use Rattle.std.specs.Option.{ForSome}
 use Rattle.px_units.specs.declared.Size.{Size}
-use Rattle.page_model.specs.World.{Extent}
+use Rattle.page_model.specs.World.{Extent, Tree}
 use Rattle.page_model.specs.PageBoxes.{viewport_of}
 use Rattle.page_model.specs.Viewports.{noted_size, with_noted, differs_from}
 use Rattle.page_boxes.specs.Pages.{seen_size}
@@ -11,14 +11,16 @@ use Rattle.page_tree.specs.Items.{IsNatural}
 use Rattle.scrolling.proofs.Puts.{map-put}
 use Rattle.page_state.specs.Views.{PageView}
 use Rattle.page_state.specs.Worlds.{world_of}
+use Rattle.page_state.proofs.Laid.{view_refreshed}
 use Rattle.page_state.proofs.Noted.{noted_seen, natural_at, natural_put, natural_some, sizes_differ}
 use Rattle.page_state.proofs.page.Page.viewport_changed.Goals.{in-None, in-Some}
 use Rattle.page_state.proofs.page.Page.viewport_changed.Goals as goal
 
 pub set-requires : goal.set-requires
 set-requires g c =
-    let there : c.args.document < length c.self.inside.tree.tree.documents = subst (λ (v : PageView). c.args.document < length v.world.tree.documents) (sym c.self.view_is) c.requires in
-    let few : length c.self.inside.tree.tree.documents ≤ 64 = c.document_count-count.ensures.bound in
+    let there : c.args.document < length c.self.inside.laid.elements.tree.documents = subst (λ (v : PageView). c.args.document < length v.world.tree.documents) (sym c.self.view_is) c.requires in
+    let few : length c.self.inside.laid.elements.tree.documents ≤ 64 =
+    subst (λ (it : Tree). length it.documents ≤ 64) (c.page.ensures.tree ∙ (λ i. (c.viewport_now-size.ensures.same i).tree)) c.document_count-count.ensures.bound in
     omega (arith, there, few)
 
 pub invariant_of-self : goal.invariant_of-self
@@ -31,7 +33,8 @@ invariant_of-self g c =
 
 pub returns-clause-value : goal.returns-clause-value
 returns-clause-value g c =
-    let p = c.self.inside in
+    let p = record (c.self.inside) { laid = c.viewport_now-size.new.laid } in
+    let view_is = view_refreshed c.self.inside c.viewport_now-size.new.laid c.viewport_now-size.ensures.same c.args.self.now c.self.view_is in
     let size = c.viewport_now-size.result in
     let value : c.match-before.result ≡ differs_from (seen_size size) (option_map seen_size c.get-before.result) =
     elim c.match-before.branch [
@@ -43,13 +46,14 @@ returns-clause-value g c =
     value
     ∙ ap (λ (last : Option Extent). differs_from (seen_size size) last) (ap (option_map seen_size) c.get-before.ensures ∙ noted_seen p.noted c.args.document)
     ∙ ap (λ (now : Extent). differs_from now (noted_size c.args.document ((world_of p).viewports))) c.viewport_now-size.ensures.value
-    ∙ ap (λ (v : PageView). differs_from (viewport_of v.world.tree v.world.viewports.size c.args.document) (noted_size c.args.document v.world.viewports)) c.self.view_is
+    ∙ ap (λ (v : PageView). differs_from (viewport_of v.world.tree v.world.viewports.size c.args.document) (noted_size c.args.document v.world.viewports)) view_is
 
 pub returns-clause-noted : goal.returns-clause-noted
 returns-clause-noted g c =
-    let p = c.self.inside in
+    let p = record (c.self.inside) { laid = c.viewport_now-size.new.laid } in
+    let view_is = view_refreshed c.self.inside c.viewport_now-size.new.laid c.viewport_now-size.ensures.same c.args.self.now c.self.view_is in
     (λ i. world_of (record p { noted = c.set.ensures i }))
     ∙ ap (λ (noted : List (Option Extent)). record (world_of p) { viewports = record { size = seen_size p.size; noted = noted } })
     (map-put (option_map seen_size) None (Some c.viewport_now-size.result) c.args.document p.noted)
     ∙ ap (λ (now : Extent). record (world_of p) { viewports = with_noted c.args.document now ((world_of p).viewports) }) c.viewport_now-size.ensures.value
-    ∙ ap (λ (v : PageView). record (v.world) { viewports = with_noted c.args.document (viewport_of (v.world.tree) (v.world.viewports.size) c.args.document) (v.world.viewports) }) c.self.view_is
+    ∙ ap (λ (v : PageView). record (v.world) { viewports = with_noted c.args.document (viewport_of (v.world.tree) (v.world.viewports.size) c.args.document) (v.world.viewports) }) view_is
