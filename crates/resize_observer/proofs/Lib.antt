@@ -3,3 +3,5 @@ pub mod Places
 pub mod Numbers
 pub mod Counts
 pub mod Reports
+pub mod Rising
+pub mod Kept

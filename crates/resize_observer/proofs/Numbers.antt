@@ -7,7 +7,7 @@ use Rattle.px_units.specs.declared.BoxKind.TheVariants.{Content}
 use Rattle.page_model.specs.World.{Extent, Observation, ResizeObserver}
 use Rattle.page_model.specs.ResizeObserving.{without_observed}
 use Rattle.resize_observer.specs.Reports.{with_last}
-use Rattle.resize_observer.specs.Serials.{Subject, subject_of, IsNumbered, AreNumbered, HasSerials}
+use Rattle.resize_observer.specs.Serials.{Subject, subject_of, IsNumbered, AreNumbered, HasSerials, IsAbove}
 use Rattle.resize_observer.specs.Observers.{ungathered, gathered_at, reported_at, inactive}
 
 -- what keeps each number with its subject
@@ -54,6 +54,12 @@ serials-kept change keeps given made place old new there is same serials = recor
       (subst (AreNumbered serials.subjects given) (sym same) (keeps serials.subjects given old (subst (AreNumbered serials.subjects given) (sym is) (All-get_or (AreNumbered serials.subjects given) made place old there serials.each))))
       serials.each;
 }
+
+-- the number that is given next is above those of an observer's targets
+pub next-above : (given : ℕ) (made : List ResizeObserver) (place : ℕ) (it : ResizeObserver) → place < length made → it ≡ get_or made place it → HasSerials given made → IsAbove given it.targets
+next-above given made place it there is serials =
+    let are : AreNumbered serials.subjects given it = subst (AreNumbered serials.subjects given) (sym is) (All-get_or (AreNumbered serials.subjects given) made place it there serials.each) in
+    All-weaker (IsNumbered serials.subjects given) (λ (each : Observation). each.serial < given) (λ each numbered. numbered.below) it.targets are.targets
 
 pub serials-made : (given : ℕ) (made : List ResizeObserver) (document : ℕ) (handler : Option ℕ) → HasSerials given made → HasSerials given (made ++ record { document = document; handler = handler; targets = []; active = []; skipped = [] } ∷ [])
 serials-made given made document handler serials = record {
