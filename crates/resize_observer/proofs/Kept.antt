@@ -1,5 +1,5 @@
 -- What an observer keeps true of its lists, through its changes.
-use Rattle.std.proofs.Common.{◌≡◌, ℕ, ◌<◌, ◌≤◌, ◌+◌, ◌∙◌, ap, refl, sym, subst, length, length-append, arith, ◌==◌, nat_eq}
+use Rattle.std.proofs.Common.{◌≡◌, ℕ, ◌<◌, ◌≤◌, ◌∙◌, ap, refl, sym, subst, length, arith, ◌==◌, nat_eq}
 use Rattle.std.proofs.lemmas.Bool.{or_parts, cond-true, not_from_false}
 use Rattle.std.proofs.lemmas.Bool.Decides.{nat_tests}
 use Rattle.std.proofs.lemmas.List.{length-map}

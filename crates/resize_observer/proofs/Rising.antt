@@ -6,15 +6,13 @@ use Rattle.std.proofs.lemmas.List.{get_or-map, length-map}
 use Rattle.std.proofs.lemmas.List.Elements.{All-head, All-tail, All-weaker, All-filter, All-map}
 use Rattle.std.proofs.lemmas.List.Quantifiers.{all_pairs_push}
 use Rattle.std.proofs.lemmas.List.Sorted.{IsNonDecreasingBy-from_default}
-use Rattle.std.specs.List.{AllPairs}
 use Rattle.std.specs.List.Sorted.{IsNonDecreasingBy, IsPartitionPoint}
 use Rattle.std.specs.Ordering.{nat_cmp, ordering_index}
 use Rattle.std.specs.declared.cmp.Ordering.TheVariants.{Less, Equal, Greater}
 use Rattle.std.specs.Prelude.{Bool, true, false, cond, List, [], ◌∷◌, ◌++◌, All, map, filter}
-use Rattle.px_units.specs.declared.Size.{Size}
 use Rattle.page_model.specs.World.{Extent, Observation as ModelObservation}
 use Rattle.resize_observer.specs.declared.observation.Observation.{Observation}
-use Rattle.resize_observer.specs.Observations.{seen_size, seen_observation, seen_observations}
+use Rattle.resize_observer.specs.Observations.{seen_observation, seen_observations}
 use Rattle.resize_observer.specs.Reports.{with_last}
 use Rattle.resize_observer.specs.Serials.{IsRising, IsAbove}
 
@@ -103,7 +101,7 @@ module _ (number : ℕ) (last : Extent) where
   missed-reported xs place d rising parted =
       let serials_rise : (i j : ℕ) → i ≤ j → j < length xs → (get_or xs i d).number ≤ (get_or xs j d).number = numbers_rise xs d rising in
       let comparisons_rise : IsNonDecreasingBy (λ (each : Observation). ordering_index (nat_cmp each.number number)) xs = IsNonDecreasingBy-from_default (λ (each : Observation). ordering_index (nat_cmp each.number number)) xs d (λ i j le within.
-          grind (arith, nat_tests, serials_rise i j le within)) in
+      grind (arith, nat_tests, serials_rise i j le within)) in
       let parts = parted comparisons_rise in
       let none : All (λ (each : Observation). number ≡ each.number → ⊥) xs = λ k d within same. elim (cases_lt k place) [
         | inl below ↦ grind (arith, nat_tests, parts.0 k d (omega arith) below)

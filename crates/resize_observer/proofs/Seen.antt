@@ -1,16 +1,12 @@
 -- Lists of observations as they are seen.
-use Rattle.std.proofs.Common.{◌≡◌, ℕ, ◌<◌, ◌+◌, ◌∙◌, ap, refl, sym, subst, get_or, set, take, drop, length}
+use Rattle.std.proofs.Common.{◌≡◌, ℕ, ◌<◌, ◌∙◌, ap, refl, sym, subst, get_or, length}
 use Rattle.std.proofs.lemmas.Option.{slice_get-map, slice_get_read}
-use Rattle.std.proofs.lemmas.List.{map_push, map-set, get_or-map, length-map}
-use Rattle.std.proofs.lemmas.List.Edits.{map_over_more}
-use Rattle.std.specs.Prelude.{Bool, true, false, cond, not, ◌==◌, ◌||◌, List, [], ◌∷◌, ◌++◌, map, filter, slice_get, option_map, option_to_list}
-use Rattle.std.specs.List.{list_any}
-use Rattle.px_units.specs.declared.Size.{Size}
+use Rattle.std.proofs.lemmas.List.{map_push, length-map}
+use Rattle.std.specs.Prelude.{Bool, true, false, cond, not, ◌==◌, List, [], ◌∷◌, ◌++◌, filter, slice_get, option_map, option_to_list}
 use Rattle.page_model.specs.World.{Observation as ModelObservation, ResizeObserver}
-use Rattle.page_model.specs.ResizeObserving.{is_observed, without_observed}
+use Rattle.page_model.specs.ResizeObserving.{without_observed}
 use Rattle.resize_observer.specs.declared.observation.Observation.{Observation}
-use Rattle.resize_observer.specs.Observations.{seen_size, seen_observation, seen_observations}
-use Rattle.resize_observer.specs.Reports.{with_last}
+use Rattle.resize_observer.specs.Observations.{seen_observation, seen_observations}
 use Rattle.resize_observer.specs.Observers.{gathered_at}
 
 kept-seen : (keeps : Bool) (x : Observation) (xs : List Observation) (ys : List ModelObservation) → seen_observations xs ≡ ys → seen_observations (cond keeps (x ∷ xs) xs) ≡ cond keeps (seen_observation x ∷ ys) ys

@@ -3,7 +3,6 @@ use Rattle.std.proofs.lemmas.Bool.{not-true}
 use Rattle.std.proofs.lemmas.List.{map_push}
 use Rattle.page_model.specs.World.{Observation as ModelObservation}
 use Rattle.page_model.specs.ResizeObserving.{is_observed, without_observed}
-use Rattle.resize_observer.specs.declared.observation.Observation.{Observation}
 use Rattle.resize_observer.specs.Observations.{seen_observation, seen_observations}
 use Rattle.resize_observer.proofs.Kept.{absent_same}
 use Rattle.resize_observer.proofs.observation.put_last.Goals as goal

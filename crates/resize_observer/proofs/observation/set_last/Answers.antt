@@ -1,8 +1,5 @@
-use Rattle.std.proofs.Common.{rules, ◌≡◌, ◌≤◌, map, vec_len, vec_capacity, ℕ, ◌+◌, ◌-◌, ◌*◌, ◌<◌, length, ◌/◌, ◌%◌, Bool, true, false, nat_eq, nat_lt, List, [], ◌∷◌, ◌++◌, slice_index_or, slice_set, bit_and, bit_or, Fits, w8, w32, w64, Bor, MutBor}
-use Rattle.page_model.specs.ResizeObserving.{without_observed}
-use Rattle.resize_observer.specs.Observations.{seen_size, seen_observations}
-use Rattle.resize_observer.specs.Reports.{with_last}
-use Rattle.resize_observer.specs.Serials.{IsRising}
+use Rattle.std.proofs.Common.{rules}
+use Rattle.resize_observer.specs.Observations.{seen_size}
 use Rattle.resize_observer.proofs.Rising.{missed-reported, found-reported}
 use Rattle.px_units.specs.declared.BoxKind.TheVariants.{Content}
 use Rattle.std.proofs.lemmas.List.Sorted.{answers_always}
