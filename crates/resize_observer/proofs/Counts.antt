@@ -6,11 +6,14 @@ use Rattle.std.proofs.lemmas.Bool.{false≢true, ltb-true, or_cases}
 use Rattle.std.proofs.lemmas.List.Filters.{length-filter_both}
 use Rattle.page_model.specs.World.{Observation, ResizeObserver}
 use Rattle.page_model.specs.ResizeObserving.{is_observed, without_observed}
+use Rattle.resize_observer.specs.declared.documents.Documents.{Documents}
+use Rattle.resize_observer.specs.Documents.{Tells}
 use Rattle.resize_observer.specs.Held.{IsHeld, targets_in}
 use Rattle.resize_observer.specs.Serials.{HasSerials}
 use Rattle.resize_observer.specs.Observers.{HeldObservers, observer_at, may_observe}
 use Rattle.resize_observer.proofs.Places.{within, read}
-use Rattle.resize_observer.proofs.Numbers.{KeepsSerials, serials-kept, serials-made, serials-observed, with_new, no_serials}
+use Rattle.resize_observer.proofs.Telling.{tells-changed}
+use Rattle.resize_observer.proofs.Numbers.{Keeps, serials-kept, serials-made, serials-observed, with_new, no_serials}
 
 -- the count once one observer is changed
 recounted : (made : List ResizeObserver) (place : ℕ) (old new : ResizeObserver) → place < length made → old ≡ get_or made place old → targets_in (set made place new) + length (old.targets) ≡ targets_in made + length (new.targets)
@@ -25,13 +28,13 @@ counted made place old there is =
     omega (arith, sums)
 
 pub held-changed :
-    (change : ResizeObserver → ResizeObserver) → KeepsSerials change →
-    {inside it : HeldObservers} {count count' place : ℕ} {old new : ResizeObserver} →
-    inside ≡ it → place < length it.part.made → IsHeld inside.part.made inside.part.given count inside.most_observers inside.most_observations →
+    (change : ResizeObserver → ResizeObserver) → Keeps change →
+    {inside it : HeldObservers} {documents : Documents} {count count' place : ℕ} {old new : ResizeObserver} →
+    inside ≡ it → place < length it.part.made → IsHeld inside.part.made documents inside.part.given count inside.most_observers inside.most_observations →
     old ≡ get_or inside.part.made place old → new ≡ change old →
     count' + length (old.targets) ≡ count + length (new.targets) → length (new.targets) ≤ length (old.targets) →
-    IsHeld (set inside.part.made place new) inside.part.given count' inside.most_observers inside.most_observations
-held-changed change keeps {inside} {it} {count} {count'} {place} {old} {new} seen inside_it was is same moves fewer =
+    IsHeld (set inside.part.made place new) documents inside.part.given count' inside.most_observers inside.most_observations
+held-changed change keeps {inside} {it} {documents} {count} {count'} {place} {old} {new} seen inside_it was is same moves fewer =
     let there : place < length inside.part.made = within seen inside_it in
     let sums : targets_in (set inside.part.made place new) + length (old.targets) ≡ targets_in inside.part.made + length (new.targets) = recounted (inside.part.made) place old new there is in
     let counts : count ≡ targets_in inside.part.made = was.counted in
@@ -41,25 +44,27 @@ held-changed change keeps {inside} {it} {count} {count'} {place} {old} {new} see
       numbers = was.numbers;
       counted = omega (arith, sums, counts, moves);
       observations = omega (arith, bound, moves, fewer);
-      serials = serials-kept change keeps (inside.part.given) (inside.part.made) place old new there is same was.serials;
+      serials = serials-kept change keeps.serials (inside.part.given) (inside.part.made) place old new there is same was.serials;
+      told = tells-changed documents (inside.part.made) place old new there is (ap (λ (it : ResizeObserver). it.document) same ∙ keeps.document old) was.told;
     }
 
 -- a change that takes no target away
 pub held-kept :
-    (change : ResizeObserver → ResizeObserver) → KeepsSerials change → ((it : ResizeObserver) → length (change it).targets ≡ length it.targets) →
-    {inside it : HeldObservers} {count place : ℕ} {old new : ResizeObserver} →
-    inside ≡ it → place < length it.part.made → IsHeld inside.part.made inside.part.given count inside.most_observers inside.most_observations →
+    (change : ResizeObserver → ResizeObserver) → Keeps change → ((it : ResizeObserver) → length (change it).targets ≡ length it.targets) →
+    {inside it : HeldObservers} {documents : Documents} {count place : ℕ} {old new : ResizeObserver} →
+    inside ≡ it → place < length it.part.made → IsHeld inside.part.made documents inside.part.given count inside.most_observers inside.most_observations →
     old ≡ get_or inside.part.made place old → new ≡ change old →
-    IsHeld (set inside.part.made place new) inside.part.given count inside.most_observers inside.most_observations
+    IsHeld (set inside.part.made place new) documents inside.part.given count inside.most_observers inside.most_observations
 held-kept change keeps counts {count = count} {old = old} {new = new} seen there was is same =
     let same_count : length (new.targets) ≡ length (old.targets) = ap (λ (it : ResizeObserver). length (it.targets)) same ∙ counts old in
     held-changed change keeps seen there was is same (ap (λ n. count + n) (sym same_count)) (omega (arith, same_count))
 
 pub held-made :
-    {made : List ResizeObserver} {observed count most_observers most_observations : ℕ} (document : ℕ) (handler : Option ℕ) →
-    IsHeld made observed count most_observers most_observations → length made < most_observers →
-    IsHeld (made ++ record { document = document; handler = handler; targets = []; active = []; skipped = [] } ∷ []) observed count most_observers most_observations
-held-made {made} {observed} {count} {most_observers} {most_observations} document handler was room =
+    {made : List ResizeObserver} {documents : Documents} {observed count most_observers most_observations : ℕ} (document : ℕ) (handler : Option ℕ) (documents' : Documents) →
+    IsHeld made documents observed count most_observers most_observations → length made < most_observers →
+    Tells documents' (made ++ record { document = document; handler = handler; targets = []; active = []; skipped = [] } ∷ []) →
+    IsHeld (made ++ record { document = document; handler = handler; targets = []; active = []; skipped = [] } ∷ []) documents' observed count most_observers most_observations
+held-made {made} {documents} {observed} {count} {most_observers} {most_observations} document handler documents' was room told =
     let new : ResizeObserver = record { document = document; handler = handler; targets = []; active = []; skipped = [] } in
     let sums : targets_in (made ++ new ∷ []) ≡ targets_in made + 0 = sum_by_push (λ (it : ResizeObserver). length (it.targets)) made new in
     let longer : length (made ++ new ∷ []) ≡ length made + 1 = length-append made (new ∷ []) in
@@ -70,10 +75,11 @@ held-made {made} {observed} {count} {most_observers} {most_observations} documen
       counted = omega (arith, sums, counts);
       observations = was.observations;
       serials = serials-made observed made document handler was.serials;
+      told = told;
     }
 
-pub held-none : (most_observers most_observations : ℕ) → most_observers < 2 ^ 32 → IsHeld [] 0 0 most_observers most_observations
-held-none most_observers most_observations numbers = record { observers = omega arith; numbers = numbers; counted = refl; observations = omega arith; serials = no_serials }
+pub held-none : (documents : Documents) (most_observers most_observations : ℕ) → most_observers < 2 ^ 32 → Tells documents [] → IsHeld [] documents 0 0 most_observers most_observations
+held-none documents most_observers most_observations numbers told = record { observers = omega arith; numbers = numbers; counted = refl; observations = omega arith; serials = no_serials; told = told }
 
 -- observing
 
@@ -81,13 +87,13 @@ pub without-fewer : (n : ℕ) (xs : List Observation) → length (without_observ
 without-fewer n xs = omega (arith, length-filter_both (λ (each : Observation). not (each.target == n)) (λ (each : Observation). not (not (each.target == n))) (λ _. refl) xs)
 
 pub held-observed :
-    (new : Observation) {inside it : HeldObservers} {count count' place : ℕ} {old after : ResizeObserver} →
-    inside ≡ it → place < length it.part.made → IsHeld inside.part.made inside.part.given count inside.most_observers inside.most_observations →
+    (new : Observation) {inside it : HeldObservers} {documents : Documents} {count count' place : ℕ} {old after : ResizeObserver} →
+    inside ≡ it → place < length it.part.made → IsHeld inside.part.made documents inside.part.given count inside.most_observers inside.most_observations →
     new.serial ≡ inside.part.given →
     old ≡ get_or inside.part.made place old → after ≡ with_new new old →
     count' + length (old.targets) ≡ count + length (after.targets) → count' ≤ inside.most_observations →
-    IsHeld (set inside.part.made place after) (inside.part.given + 1) count' inside.most_observers inside.most_observations
-held-observed new {inside} {it} {count} {count'} {place} {old} {after} seen inside_it was next is same moves bound =
+    IsHeld (set inside.part.made place after) documents (inside.part.given + 1) count' inside.most_observers inside.most_observations
+held-observed new {inside} {it} {documents} {count} {count'} {place} {old} {after} seen inside_it was next is same moves bound =
     let there : place < length inside.part.made = within seen inside_it in
     let sums : targets_in (set inside.part.made place after) + length (old.targets) ≡ targets_in inside.part.made + length (after.targets) = recounted (inside.part.made) place old after there is in
     let counts : count ≡ targets_in inside.part.made = was.counted in
@@ -98,6 +104,7 @@ held-observed new {inside} {it} {count} {count'} {place} {old} {after} seen insi
       counted = omega (arith, sums, counts, moves);
       observations = bound;
       serials = subst (λ n. HasSerials n (set inside.part.made place after)) following (serials-observed (inside.part.made) place new old after there is same (subst (λ n. HasSerials n (inside.part.made)) (sym next) was.serials));
+      told = tells-changed documents (inside.part.made) place old after there is (ap (λ (it : ResizeObserver). it.document) same) was.told;
     }
 
 -- a target that is there leaves a place

@@ -3,3 +3,6 @@ pub mod Places
 pub mod Numbers
 pub mod Counts
 pub mod Reports
+pub mod Telling
+pub mod Rising
+pub mod Kept

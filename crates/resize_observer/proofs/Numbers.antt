@@ -7,44 +7,68 @@ use Rattle.px_units.specs.declared.BoxKind.TheVariants.{Content}
 use Rattle.page_model.specs.World.{Extent, Observation, ResizeObserver}
 use Rattle.page_model.specs.ResizeObserving.{without_observed}
 use Rattle.resize_observer.specs.Reports.{with_last}
-use Rattle.resize_observer.specs.Serials.{Subject, subject_of, IsNumbered, AreNumbered, HasSerials}
+use Rattle.resize_observer.specs.Serials.{Subject, subject_of, IsNumbered, AreNumbered, HasSerials, IsAbove}
 use Rattle.resize_observer.specs.Observers.{ungathered, gathered_at, reported_at, inactive}
 
 -- what keeps each number with its subject
 abbrev pub KeepsSerials : (ResizeObserver → ResizeObserver) → Type 0
 KeepsSerials change = (subjects : ℕ → Subject) (given : ℕ) (it : ResizeObserver) → AreNumbered subjects given it → AreNumbered subjects given (change it)
 
-pub ungathered-keeps : KeepsSerials ungathered
-ungathered-keeps subjects given it are = record { targets = are.targets; active = All-nil _; skipped = All-nil _ }
+ungathered-serials : KeepsSerials ungathered
+ungathered-serials subjects given it are = record { targets = are.targets; active = All-nil _; skipped = All-nil _ }
 
-pub inactive-keeps : KeepsSerials inactive
-inactive-keeps subjects given it are = record { targets = are.targets; active = All-nil _; skipped = are.skipped }
+inactive-serials : KeepsSerials inactive
+inactive-serials subjects given it are = record { targets = are.targets; active = All-nil _; skipped = are.skipped }
 
-pub disconnected-keeps : KeepsSerials (λ it. record it { targets = []; active = [] })
-disconnected-keeps subjects given it are = record { targets = All-nil _; active = All-nil _; skipped = are.skipped }
+disconnected-serials : KeepsSerials (λ it. record it { targets = []; active = [] })
+disconnected-serials subjects given it are = record { targets = All-nil _; active = All-nil _; skipped = are.skipped }
 
-pub unobserved-keeps : (n : ℕ) → KeepsSerials (λ it. record it { targets = without_observed n (it.targets) })
-unobserved-keeps n subjects given it are = record { targets = All-filter _ (IsNumbered subjects given) _ are.targets; active = are.active; skipped = are.skipped }
+unobserved-serials : (n : ℕ) → KeepsSerials (λ it. record it { targets = without_observed n (it.targets) })
+unobserved-serials n subjects given it are = record { targets = All-filter _ (IsNumbered subjects given) _ are.targets; active = are.active; skipped = are.skipped }
 
 one_of : (P : Observation → Type 0) (xs : List Observation) (place : ℕ) → All P xs → All P (option_to_list (slice_get xs place))
 one_of P [] place all = All-nil P
 one_of P (x ∷ xs) zero all = All-cons P x [] (All-head P x xs all) (All-nil P)
 one_of P (x ∷ xs) (suc place) all = one_of P xs place (All-tail P x xs all)
 
-pub gathered-keeps : (place : ℕ) (active : Bool) → KeepsSerials (gathered_at place active)
-gathered-keeps place true subjects given it are = record { targets = are.targets; active = All-append (IsNumbered subjects given) _ _ are.active (one_of (IsNumbered subjects given) (it.targets) place are.targets); skipped = are.skipped }
-gathered-keeps place false subjects given it are = record { targets = are.targets; active = are.active; skipped = All-append (IsNumbered subjects given) _ _ are.skipped (one_of (IsNumbered subjects given) (it.targets) place are.targets) }
+gathered-serials : (place : ℕ) (active : Bool) → KeepsSerials (gathered_at place active)
+gathered-serials place true subjects given it are = record { targets = are.targets; active = All-append (IsNumbered subjects given) _ _ are.active (one_of (IsNumbered subjects given) (it.targets) place are.targets); skipped = are.skipped }
+gathered-serials place false subjects given it are = record { targets = are.targets; active = are.active; skipped = All-append (IsNumbered subjects given) _ _ are.skipped (one_of (IsNumbered subjects given) (it.targets) place are.targets) }
 
 pub reported-numbered : (subjects : ℕ → Subject) (given : ℕ) (last : Extent) (it : Observation) (is : Bool) → IsNumbered subjects given it → IsNumbered subjects given (cond is (record it { last = last }) it)
 reported-numbered subjects given last it true numbered = record { below = numbered.below; subject = numbered.subject }
 reported-numbered subjects given last it false numbered = numbered
 
-pub reported-keeps : (serial : ℕ) (last : Extent) → KeepsSerials (reported_at serial last)
-reported-keeps serial last subjects given it are = record {
+reported-serials : (serial : ℕ) (last : Extent) → KeepsSerials (reported_at serial last)
+reported-serials serial last subjects given it are = record {
   targets = All-map (IsNumbered subjects given) (with_last serial last) (it.targets) (All-weaker _ _ (λ each numbered. reported-numbered subjects given last each (serial == each.serial) numbered) _ are.targets);
   active = are.active;
   skipped = are.skipped;
 }
+
+-- what keeps each number with its subject, and each observer its document's
+pub record Keeps (change : ResizeObserver → ResizeObserver) : Type 0 where
+  pub serials : KeepsSerials change
+  pub document : (it : ResizeObserver) → (change it).document ≡ it.document
+
+pub ungathered-keeps : Keeps ungathered
+ungathered-keeps = record { serials = ungathered-serials; document = λ it. refl }
+
+pub inactive-keeps : Keeps inactive
+inactive-keeps = record { serials = inactive-serials; document = λ it. refl }
+
+pub disconnected-keeps : Keeps (λ it. record it { targets = []; active = [] })
+disconnected-keeps = record { serials = disconnected-serials; document = λ it. refl }
+
+pub unobserved-keeps : (n : ℕ) → Keeps (λ it. record it { targets = without_observed n (it.targets) })
+unobserved-keeps n = record { serials = unobserved-serials n; document = λ it. refl }
+
+pub gathered-keeps : (place : ℕ) (active : Bool) → Keeps (gathered_at place active)
+gathered-keeps place true = record { serials = gathered-serials place true; document = λ it. refl }
+gathered-keeps place false = record { serials = gathered-serials place false; document = λ it. refl }
+
+pub reported-keeps : (serial : ℕ) (last : Extent) → Keeps (reported_at serial last)
+reported-keeps serial last = record { serials = reported-serials serial last; document = λ it. refl }
 
 pub serials-kept : (change : ResizeObserver → ResizeObserver) → KeepsSerials change → (given : ℕ) (made : List ResizeObserver) (place : ℕ) (old new : ResizeObserver) → place < length made → old ≡ get_or made place old → new ≡ change old → HasSerials given made → HasSerials given (set made place new)
 serials-kept change keeps given made place old new there is same serials = record {
@@ -54,6 +78,12 @@ serials-kept change keeps given made place old new there is same serials = recor
       (subst (AreNumbered serials.subjects given) (sym same) (keeps serials.subjects given old (subst (AreNumbered serials.subjects given) (sym is) (All-get_or (AreNumbered serials.subjects given) made place old there serials.each))))
       serials.each;
 }
+
+-- the number that is given next is above those of an observer's targets
+pub next-above : (given : ℕ) (made : List ResizeObserver) (place : ℕ) (it : ResizeObserver) → place < length made → it ≡ get_or made place it → HasSerials given made → IsAbove given it.targets
+next-above given made place it there is serials =
+    let are : AreNumbered serials.subjects given it = subst (AreNumbered serials.subjects given) (sym is) (All-get_or (AreNumbered serials.subjects given) made place it there serials.each) in
+    All-weaker (IsNumbered serials.subjects given) (λ (each : Observation). each.serial < given) (λ each numbered. numbered.below) it.targets are.targets
 
 pub serials-made : (given : ℕ) (made : List ResizeObserver) (document : ℕ) (handler : Option ℕ) → HasSerials given made → HasSerials given (made ++ record { document = document; handler = handler; targets = []; active = []; skipped = [] } ∷ [])
 serials-made given made document handler serials = record {

@@ -1,14 +1,11 @@
 -- One observer changed in its place.
-use Rattle.std.proofs.Common.{◌≡◌, ℕ, zero, suc, ◌<◌, ◌∙◌, ap, refl, sym, subst, get_or, set, length, arith, add-one, ◌+◌, ◌-◌, Bool, true, cond, drop, drop-cons}
-use Rattle.std.proofs.lemmas.Bool.{eq-eqb, cond-true}
+use Rattle.std.proofs.Common.{◌≡◌, ℕ, zero, suc, ◌<◌, ◌∙◌, ap, refl, sym, subst, get_or, set, length, arith, add-one, ◌+◌}
 use Rattle.std.proofs.lemmas.Option.{slice_get_read}
 use Rattle.std.specs.Prelude.{List, [], ◌∷◌, ◌++◌, slice_get, unwrap_or}
 use Rattle.px_units.specs.declared.BoxKind.{BoxKind}
 use Rattle.page_model.specs.World.{ResizeObserver}
 use Rattle.page_model.specs.Lookups.{change_at, no_extent, no_resize_observer}
 use Rattle.page_model.specs.ResizeObserving.{without_observed, with_resize_target}
-use Rattle.page_model.specs.Gathering.{is_of}
-use Rattle.page_model.specs.Intersections.{places_from}
 use Rattle.resize_observer.specs.Observers.{HeldObservers, changing}
 
 pub change_at-set : {A : Type 0} (change : A → A) (xs : List A) (place : ℕ) (x : A) → place < length xs → x ≡ get_or xs place x → set xs place (change x) ≡ change_at change place xs
@@ -44,26 +41,3 @@ once_observed n observed {inside} {it} {place} {old} {new} seen there is same =
     ∙ ap (λ (made : List ResizeObserver). record inside { part = record { given = inside.part.given + 1; made = made } }) (change_at-set change (inside.part.made) place old (within seen there) is)
     ∙ ap (λ (given : ℕ). record inside { part = record { given = given; made = change_at change place (inside.part.made) } }) (add-one inside.part.given)
     ∙ ap (λ (these : HeldObservers). record these { part = with_resize_target place n observed (these.part) }) seen
-
--- the observers of a document, looked up one after the other
-
-found : (test : ResizeObserver → Bool) (made : List ResizeObserver) (number : ℕ) (x : ResizeObserver) → number < length made → x ≡ get_or made number x → test x ≡ true → places_from number test (drop number made) ≡ number ∷ places_from (suc number) test (drop (suc number) made)
-found test made number x there is passes =
-    let others : List ℕ = places_from (suc number) test (drop (suc number) made) in
-    ap (places_from number test) (drop-cons made number x there)
-    ∙ ap (λ (y : ResizeObserver). cond (test y) (number ∷ others) others) (sym is)
-    ∙ cond-true (test x) (number ∷ others) others passes
-
-behind_first : (x : ℕ) (xs : List ℕ) (left : ℕ) → 0 < left → slice_get xs (left - 1) ≡ slice_get (x ∷ xs) left
-behind_first x xs zero some = absurd (elim some [ ])
-behind_first x xs (suc left) some = let one : suc left - 1 ≡ left = omega arith in ap (slice_get xs) one
-
-pub passed :
-    (document : ℕ) (made : List ResizeObserver) (number left : ℕ) (x : ResizeObserver) → number < length made → x ≡ get_or made number x → x.document ≡ document → 0 < left →
-    slice_get (places_from (number + 1) (is_of document) (drop (number + 1) made)) (left - 1)
-    ≡ slice_get (places_from number (is_of document) (drop number made)) left
-passed document made number left x there is its some =
-    let test : ResizeObserver → Bool = is_of document in
-    ap (λ (next : ℕ). slice_get (places_from next test (drop next made)) (left - 1)) (add-one number)
-    ∙ behind_first number _ left some
-    ∙ ap (λ (these : List ℕ). slice_get these left) (sym (found test made number x there is (eq-eqb (x.document) document its)))

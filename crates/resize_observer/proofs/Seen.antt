@@ -1,21 +1,13 @@
 -- Lists of observations as they are seen.
-use Rattle.std.proofs.Common.{◌≡◌, ℕ, ◌<◌, ◌+◌, ◌∙◌, ap, refl, sym, subst, get_or, set, take, drop, length}
+use Rattle.std.proofs.Common.{◌≡◌, ℕ, ◌<◌, ◌∙◌, ap, refl, sym, subst, get_or, length}
 use Rattle.std.proofs.lemmas.Option.{slice_get-map, slice_get_read}
-use Rattle.std.proofs.lemmas.List.{map_push, map-set, get_or-map, length-map}
-use Rattle.std.proofs.lemmas.List.Edits.{map_over_more}
-use Rattle.std.specs.Prelude.{Bool, true, false, cond, not, ◌==◌, ◌||◌, List, [], ◌∷◌, ◌++◌, map, filter, slice_get, option_map, option_to_list}
-use Rattle.std.specs.List.{list_any}
-use Rattle.px_units.specs.declared.Size.{Size}
+use Rattle.std.proofs.lemmas.List.{map_push, length-map}
+use Rattle.std.specs.Prelude.{Bool, true, false, cond, not, ◌==◌, List, [], ◌∷◌, ◌++◌, filter, slice_get, option_map, option_to_list}
 use Rattle.page_model.specs.World.{Observation as ModelObservation, ResizeObserver}
-use Rattle.page_model.specs.ResizeObserving.{is_observed, without_observed}
+use Rattle.page_model.specs.ResizeObserving.{without_observed}
 use Rattle.resize_observer.specs.declared.observation.Observation.{Observation}
-use Rattle.resize_observer.specs.Observations.{seen_size, seen_observation, seen_observations}
-use Rattle.resize_observer.specs.Reports.{with_last}
+use Rattle.resize_observer.specs.Observations.{seen_observation, seen_observations}
 use Rattle.resize_observer.specs.Observers.{gathered_at}
-
-pub observed : (n : ℕ) (xs : List Observation) → list_any (λ (each : Observation). each.target.0 == n) xs ≡ is_observed n (seen_observations xs)
-observed n [] = refl
-observed n (x ∷ xs) = ap (λ others. (x.target.0 == n) || others) (observed n xs)
 
 kept-seen : (keeps : Bool) (x : Observation) (xs : List Observation) (ys : List ModelObservation) → seen_observations xs ≡ ys → seen_observations (cond keeps (x ∷ xs) xs) ≡ cond keeps (seen_observation x ∷ ys) ys
 kept-seen true x xs ys same = ap (λ others. seen_observation x ∷ others) same
@@ -49,12 +41,3 @@ gathered-skipped xs ys after {it} {now} {place} {y} {active} view is from_skippe
     (ap seen_observations put ∙ copied-seen xs ys place y there read ∙ ap (λ (these : List ModelObservation). these ++ option_to_list (slice_get (seen_observations ys) place)) (sym from_skipped) ∙ ap (λ (these : List ModelObservation). it.skipped ++ option_to_list (slice_get these place)) (sym from_targets))
     ∙ ap (λ b. gathered_at place b it) (sym is)
     ∙ ap (gathered_at place active) view
-
--- one more observation of a list is reported
-pub reported-more : (number : ℕ) (last : Size) (first now : List Observation) (place : ℕ) (y d : Observation) → length now ≡ length first → place < length first → seen_observations now ≡ map (with_last number (seen_size last)) (take place (seen_observations first)) ++ drop place (seen_observations first) → seen_observation y ≡ with_last number (seen_size last) (seen_observation (get_or now place d)) → seen_observations (set now place y) ≡ map (with_last number (seen_size last)) (take (place + 1) (seen_observations first)) ++ drop (place + 1) (seen_observations first)
-reported-more number last first now place y d long there so_far is =
-    let inside : place < length (seen_observations first) = subst (λ n. place < n) (sym (length-map first seen_observation)) there in
-    let x : ModelObservation = seen_observation (get_or now place d) in
-    map-set seen_observation now place y
-    ∙ ap (λ it. set (seen_observations now) place it) is
-    ∙ map_over_more (with_last number (seen_size last)) (seen_observations first) (seen_observations now) place x inside so_far (sym (get_or-map seen_observation now place d x (subst (λ n. place < n) (sym long) there)))

@@ -3,8 +3,7 @@ use Rattle.std.specs.Prelude.{ℕ, Bool, true, false, ◌||◌, nat_lt, Option, 
 use Rattle.page_model.specs.World.{Extent, Observation, ResizeObserver, ResizeObservers}
 use Rattle.page_model.specs.Lookups.{resize_observer_at, change_resize_observer}
 use Rattle.page_model.specs.ResizeObserving.{is_observed, resize_observations}
-use Rattle.page_model.specs.Gathering.{is_of}
-use Rattle.page_model.specs.Intersections.{places_from}
+use Rattle.resize_observer.specs.Documents.{numbers_of}
 use Rattle.resize_observer.specs.Reports.{with_last}
 
 -- the observers with the serial numbers given, and how many observers and observations there may be
@@ -18,7 +17,7 @@ observer_at it observer = resize_observer_at it.part observer
 
 -- the numbers of a document's observers, in order of making
 abbrev pub observers_of : ResizeObservers → ℕ → List ℕ
-observers_of it document = places_from 0 (is_of document) it.made
+observers_of it document = numbers_of document it.made
 
 -- the observer of a document that stands at this place among those of this document, none past the last
 abbrev pub nth_of : HeldObservers → ℕ → ℕ → Option ℕ

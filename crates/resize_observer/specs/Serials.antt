@@ -1,6 +1,7 @@
 -- A serial number names one observation for good: whatever list an observation of this number stands in, it observes
 -- the same box of the same target.
 use Rattle.std.specs.Prelude.{◌≡◌, ℕ, ◌<◌, List, All}
+use Rattle.std.specs.List.{AllPairs}
 use Rattle.px_units.specs.declared.BoxKind.{BoxKind}
 use Rattle.page_model.specs.World.{Observation, ResizeObserver}
 
@@ -25,3 +26,11 @@ pub record AreNumbered (subjects : ℕ → Subject) (given : ℕ) (it : ResizeOb
 pub record HasSerials (given : ℕ) (made : List ResizeObserver) : Type 0 where
   pub subjects : ℕ → Subject
   pub each : All (AreNumbered subjects given) made
+
+-- the numbers rise along a list
+abbrev pub IsRising : List Observation → Type 0
+IsRising xs = AllPairs (λ (earlier later : Observation). earlier.serial < later.serial) xs
+
+-- a number that is above all of a list
+abbrev pub IsAbove : ℕ → List Observation → Type 0
+IsAbove serial xs = All (λ (each : Observation). each.serial < serial) xs

@@ -1,6 +1,7 @@
 //! The resize observers of documents with their lists of observations (Resize Observer, 2 and 3).
 #![tactic(auto)]
 
+mod documents;
 mod observation;
 mod observer;
 mod observers;

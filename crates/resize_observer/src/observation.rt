@@ -1,10 +1,10 @@
 //! An observation, and the name of an observer.
 
-ghost use Rattle.std.specs.Prelude.{◌≡◌, ◌≤◌, ◌==◌, length, map, vec_len, vec_capacity};
-ghost use Rattle.std.specs.List.{list_any};
-ghost use Rattle.page_model.specs.ResizeObserving.{without_observed};
+ghost use Rattle.std.specs.Prelude.{◌≡◌, ◌<◌, ◌≤◌, ◌+◌, [], ◌∷◌, ◌++◌, not, map, vec_len, vec_capacity};
+ghost use Rattle.page_model.specs.ResizeObserving.{is_observed, without_observed};
 ghost use Rattle.resize_observer.specs.Observations.{seen_size, seen_observation, seen_observations};
 ghost use Rattle.resize_observer.specs.Reports.{with_last};
+ghost use Rattle.resize_observer.specs.Serials.{IsRising};
 
 use element_tree::NodeId;
 use px_units::{BoxKind, Size};
@@ -25,13 +25,6 @@ pub struct Observation {
     pub last: Size,
 }
 
-/// Whether a target is among these observations.
-pub(crate) fn is_observed(observations: &[Observation], target: NodeId) -> bool
-    ensures { result ≡ list_any (λ each. each.target.0 == target.0) observations.now }
-{
-    observations.iter().any(|each| each.target.0 == target.0)
-}
-
 /// Takes the observation of a target out.
 pub(crate) fn remove_target(observations: &mut Vec<Observation>, target: NodeId)
     ensures items { seen_observations observations.new.items ≡ without_observed target.0 (seen_observations observations.old.items) }
@@ -41,25 +34,25 @@ pub(crate) fn remove_target(observations: &mut Vec<Observation>, target: NodeId)
     observations.retain(|each| each.target.0 != target.0);
 }
 
-/// The observation with this last reported size, if it is the one of this serial number.
-fn reported(observation: Observation, number: u64, last: Size) -> Observation
-    ensures { seen_observation result ≡ with_last number (seen_size last) (seen_observation observation) }
+/// Puts an observation last, where there is room for it. If it isn't the first one of its target, that one leaves.
+pub(crate) fn put_last(observations: &mut Vec<Observation>, observation: Observation, is_new: bool)
+    requires room { vec_len observations.old < vec_capacity observations.old }
+    requires new { is_new ≡ not (is_observed observation.target.0 (seen_observations observations.old.items)) }
+    ensures items { seen_observations observations.new.items ≡ without_observed observation.target.0 (seen_observations observations.old.items) ++ seen_observation observation ∷ [] }
+    ensures bound { vec_len observations.new ≤ vec_len observations.old + 1 }
 {
-    if number == observation.number {
-        Observation {
-            last,
-            ..observation
-        }
-    } else {
-        observation
+    if !is_new {
+        remove_target(observations, observation.target);
     }
+    observations.push_reserved(observation);
 }
 
-/// Gives the observation of a serial number this last reported size.
+/// Gives the observation of a serial number this last reported size. Serial numbers rise, so that it is found by halves.
 pub(crate) fn set_last(observations: &mut [Observation], number: u64, last: Size)
+    requires { IsRising (seen_observations observations.old) }
     ensures { seen_observations observations.new ≡ map (with_last number (seen_size last)) (seen_observations observations.old) }
 {
-    for each in observations.iter_mut() {
-        *each = reported(*each, number, last);
+    if let Ok(place) = observations.binary_search_by_key(&number, |each| each.number) {
+        observations[place].last = last;
     }
 }

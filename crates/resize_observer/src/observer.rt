@@ -3,36 +3,42 @@
 ghost use Rattle.std.specs.Prelude.{◌≡◌, ◌<◌, [], ◌∷◌, ◌++◌, length, OnOk, OnErr};
 ghost use Rattle.page_model.specs.ResizeObserving.{is_observed, without_observed};
 ghost use Rattle.resize_observer.specs.Observations.{seen_size, seen_observation, seen_observations};
+ghost use Rattle.resize_observer.specs.Serials.{IsAbove};
 ghost use Rattle.resize_observer.specs.Observers.{ungathered, gathered_at, list_for, reported_at, inactive};
 
 use crate::Observation;
-use crate::observation::{is_observed, remove_target, set_last};
+use crate::observation::{put_last, remove_target, set_last};
 use element_tree::NodeId;
 use px_units::Size;
 use std::alloc::{AllocError, Global};
+use std::collections::HashSet;
 use std::marker::Model;
 
-// `active` and `skipped` have room for as many observations as there are targets, so that gathering takes no memory.
 #[derive(Drop)]
 pub(crate) struct Observer {
     document: u32,
     handler: Option<u32>,
+    // In order of their serial numbers, and beside them the elements that they observe: an observation is searched for by
+    // halves, and an element isn't looked for in the list.
     targets: Vec<Observation>,
+    observed: HashSet<u32>,
+    // Each has room for as many observations as there are targets, so that gathering takes no memory.
     active: Vec<Observation>,
     skipped: Vec<Observation>,
 }
 
 impl Model for Observer {
-    ghost use Rattle.std.specs.Prelude.{◌≤◌, vec_len, vec_capacity};
+    ghost use Rattle.std.specs.Prelude.{vec_capacity};
     ghost use Rattle.page_model.specs.World.{ResizeObserver};
 
     ghost Value = { ResizeObserver };
 
     ghost use Rattle.resize_observer.specs.Observations.{seen_observations};
+    ghost use Rattle.resize_observer.specs.Held.{IsKept};
 
     ghost view = { λ o. record { document = o.document; handler = o.handler; targets = seen_observations o.targets.items; active = seen_observations o.active.items; skipped = seen_observations o.skipped.items } };
 
-    ghost invariant = { λ o. (vec_len o.targets ≤ vec_capacity o.active) × (vec_len o.targets ≤ vec_capacity o.skipped) };
+    ghost invariant = { λ o. IsKept o.targets.items o.observed (vec_capacity o.active) (vec_capacity o.skipped) };
 }
 
 impl Observer {
@@ -43,6 +49,7 @@ impl Observer {
             document,
             handler,
             targets: Vec::new(alloc),
+            observed: HashSet::new(alloc),
             active: Vec::new(alloc),
             skipped: Vec::new(alloc),
         }
@@ -90,11 +97,12 @@ impl Observer {
     pub(crate) fn observes(&self, target: NodeId) -> bool
         ensures { result ≡ is_observed target.0 self.now.targets }
     {
-        is_observed(self.targets.as_slice(), target)
+        self.observed.contains(&target.0)
     }
 
     // A new observation, last; an older one of its target leaves the targets.
     pub(crate) fn observe(&mut self, observation: Observation) -> Result<(), AllocError>
+        requires { IsAbove observation.number self.old.targets }
         ensures ok { OnOk result (self.new ≡ record self.old { targets = without_observed observation.target.0 self.old.targets ++ seen_observation observation ∷ [] }) }
         ensures err { OnErr result (self.new ≡ self.old) }
     {
@@ -103,21 +111,24 @@ impl Observer {
         self.active.reserve(most.saturating_sub(self.active.len()))?;
         self.skipped
             .reserve(most.saturating_sub(self.skipped.len()))?;
-        remove_target(&mut self.targets, observation.target);
-        self.targets.push_reserved(observation);
+        let is_new = self.observed.insert(observation.target.0)?;
+        put_last(&mut self.targets, observation, is_new);
         Ok(())
     }
 
     pub(crate) fn unobserve(&mut self, target: NodeId)
         ensures { self.new ≡ record self.old { targets = without_observed target.0 self.old.targets } }
     {
-        remove_target(&mut self.targets, target);
+        if self.observed.remove(&target.0) {
+            remove_target(&mut self.targets, target);
+        }
     }
 
     pub(crate) fn disconnect(&mut self)
         ensures { self.new ≡ record self.old { targets = []; active = [] } }
     {
         self.targets.clear();
+        self.observed = HashSet::new(*self.targets.allocator());
         self.active.clear();
     }
 

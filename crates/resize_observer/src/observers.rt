@@ -1,14 +1,13 @@
 //! The observers of a page.
 
-ghost use Rattle.std.specs.Prelude.{◌≡◌, ◌<◌, ◌-◌, ◌^◌, false, [], length, not, option_map, IfOk, OnOk, OnErr, IfSome, slice_get, ◌==◌};
-ghost use Rattle.page_model.specs.Gathering.{is_of};
-ghost use Rattle.page_model.specs.Intersections.{places_from};
+ghost use Rattle.std.specs.Prelude.{◌≡◌, ◌<◌, ◌-◌, ◌^◌, false, [], length, not, option_map, IfOk, OnOk, OnErr, IfSome};
 ghost use Rattle.page_model.specs.ResizeObserving.{with_resize_observer, with_resize_target, without_resize_target, without_resize_targets};
 ghost use Rattle.resize_observer.specs.Answers.{Enters};
 ghost use Rattle.resize_observer.specs.Observations.{seen_size, seen_observations};
 ghost use Rattle.resize_observer.specs.Serials.{HasSerials};
 ghost use Rattle.resize_observer.specs.Observers.{observer_at, nth_of, has_room, may_observe, changing, ungathered, gathered_at, list_for, reported_at, inactive};
 
+use crate::documents::Documents;
 use crate::observer::Observer;
 use crate::{Observation, ObserverId};
 use element_tree::NodeId;
@@ -36,6 +35,7 @@ pub enum ObserveFault {
 #[derive(Drop)]
 pub struct Observers {
     made: Vec<Observer>,
+    documents: Documents,
     observed: u64,
     held: usize,
     most_observers: u32,
@@ -52,7 +52,7 @@ impl Model for Observers {
 
     ghost view = { λ o. record { part = record { given = o.observed; made = o.made.items }; most_observers = o.most_observers; most_observations = o.most_observations } };
 
-    ghost invariant = { λ o. IsHeld o.made.items o.observed o.held o.most_observers o.most_observations };
+    ghost invariant = { λ o. IsHeld o.made.items o.documents o.observed o.held o.most_observers o.most_observations };
 }
 
 impl Observers {
@@ -63,6 +63,7 @@ impl Observers {
     {
         Observers {
             made: Vec::new(alloc),
+            documents: Documents::new(alloc),
             observed: 0,
             held: 0,
             most_observers,
@@ -99,9 +100,13 @@ impl Observers {
             return Err(ObserveFault::Limit);
         }
         let observer = Observer::new(*self.made.allocator(), document, handler);
-        let Ok(()) = self.made.push(observer) else {
+        let Ok(()) = self.made.reserve(1) else {
             return Err(ObserveFault::Memory);
         };
+        let Ok(()) = self.documents.note(document, number as u32) else {
+            return Err(ObserveFault::Memory);
+        };
+        self.made.push_reserved(observer);
         Ok(ObserverId(number as u32))
     }
 
@@ -275,25 +280,7 @@ impl Observers {
         ensures value { option_map (λ observer. observer.0) result ≡ nth_of self.now document place }
         ensures made { IfSome result (λ observer. observer.0 < length self.now.part.made) }
     {
-        let number = nth_of_document(self.made.as_slice(), document, place)?;
-        Some(ObserverId(number as u32))
+        let number = self.documents.at(document, place)?;
+        Some(ObserverId(number))
     }
-}
-
-// Where the observer of a document that stands at this place among those of this document is found.
-fn nth_of_document(made: &[Observer], document: u32, place: usize) -> Option<usize>
-    ensures value { result ≡ slice_get (places_from 0 (is_of document) made.now) place }
-    ensures made { IfSome result (λ number. number < length made.now) }
-{
-    let mut left = place;
-    for (number, it) in made.iter().enumerate() {
-        if it.document() != document {
-            continue;
-        }
-        if left == 0 {
-            return Some(number);
-        }
-        left -= 1;
-    }
-    None
 }

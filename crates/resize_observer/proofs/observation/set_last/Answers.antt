@@ -1,7 +1,22 @@
-use Rattle.resize_observer.proofs.Seen.{reported-more}
+use Rattle.std.proofs.Common.{rules}
+use Rattle.resize_observer.specs.Observations.{seen_size}
+use Rattle.resize_observer.proofs.Rising.{missed-reported, found-reported}
+use Rattle.px_units.specs.declared.BoxKind.TheVariants.{Content}
+use Rattle.std.proofs.lemmas.List.Sorted.{answers_always}
+use Rattle.resize_observer.specs.declared.observation.Observation.{Observation}
+use Rattle.std.proofs.Common.{get_or, ◌∙◌, pos}
+use Rattle.std.proofs.lemmas.List.{map-set}
+use Rattle.resize_observer.specs.Observations.{seen_observation}
 use Rattle.resize_observer.proofs.observation.set_last.Goals as goal
 
-pub loop-each-preserved : goal.loop-each-preserved
-loop-each-preserved c =
-    reported-more c.args.number c.args.last (c.args.observations.now) (c.loop-each.observations) c.loop-each.each-index c.reported.result _
-    c.loop-each.auto.observations c.loop-each-test.true c.loop-each.invariant c.reported.ensures
+pub returns-in-Ok : goal.returns-in-Ok
+returns-in-Ok c =
+    let none : Observation = record { number = 0; target = record { 0 = 0 }; observed = Content; last = record { width = pos 0; height = pos 0 } } in
+    let equal = c.in-Ok.ensures.position (λ (each : Observation). each.number) (answers_always _ _ _ (λ f a r g called. search rules)) in
+    map-set seen_observation c.args.observations.now c.in-Ok.place (record (get_or c.args.observations.now c.in-Ok.place none) { last = c.args.last })
+    ∙ found-reported c.args.number (seen_size c.args.last) c.args.observations.now c.in-Ok.place none c.requires c.in-Ok.ensures.bound (equal none)
+
+pub returns-in_default : goal.returns-in_default
+returns-in_default c =
+    missed-reported c.args.number (seen_size c.args.last) c.args.observations.now c.in_default.field-0 (record { number = 0; target = record { 0 = 0 }; observed = Content; last = c.args.last })
+    c.requires (c.in_default.ensures.position (λ (each : Observation). each.number) (answers_always _ _ _ (λ f a r g called. search rules)))

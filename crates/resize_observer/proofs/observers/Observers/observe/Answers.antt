@@ -1,7 +1,12 @@
 use Rattle.std.proofs.Common.{arith, refl, ◌∙◌, sym}
-use Rattle.resize_observer.proofs.Places.{once_observed}
+use Rattle.resize_observer.proofs.Places.{once_observed, within}
 use Rattle.resize_observer.proofs.Counts.{count-observed, held-observed}
+use Rattle.resize_observer.proofs.Numbers.{next-above}
 use Rattle.resize_observer.proofs.observers.Observers.observe.Goals as goal
+
+pub observe-requires : goal.observe-requires
+observe-requires c =
+    next-above c.self.inside.observed c.self.inside.made.items c.args.observer.0 c.index_mut-it.result.now (within c.self.view_is c.requires.observer) c.index_mut-it.ensures.value c.self.invariant.serials
 
 pub overflow_add-self : goal.overflow_add-self
 overflow_add-self c =

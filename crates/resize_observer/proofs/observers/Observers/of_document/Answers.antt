@@ -1,6 +1,15 @@
-use Rattle.std.proofs.Common.{arith, ap, length, List}
-use Rattle.page_model.specs.World.{ResizeObserver}
+use Rattle.std.proofs.Common.{◌≡◌, ◌<◌, ◌∙◌, Some, sym, subst, arith, length}
+use Rattle.std.specs.Prelude.{slice_get}
+use Rattle.page_model.specs.Gathering.{is_of}
+use Rattle.resize_observer.specs.Documents.{numbers_of}
+use Rattle.resize_observer.specs.Observers.{HeldObservers}
+use Rattle.resize_observer.proofs.Telling.{places-within}
 use Rattle.resize_observer.proofs.observers.Observers.of_document.Goals as goal
 
-pub overflow_cast-result : goal.overflow_cast-result
-overflow_cast-result c = omega (arith, c.self.invariant.observers, c.self.invariant.numbers, c.in_ok-number.ensures.made, ap (λ (made : List ResizeObserver). length made) c.as_slice.ensures.value)
+pub returns-clause-made : goal.returns-clause-made
+returns-clause-made c =
+    let is : slice_get (numbers_of c.args.document c.self.inside.made.items) c.args.place ≡ Some c.in_ok-number.number =
+    sym (c.self.invariant.told.found c.args.document c.args.place) ∙ sym c.in_ok-number.ensures in
+    let below : c.in_ok-number.number < length c.self.inside.made.items =
+    omega (arith, places-within (is_of c.args.document) 0 c.self.inside.made.items c.args.place c.in_ok-number.number is) in
+    subst (λ (it : HeldObservers). c.in_ok-number.number < length it.part.made) c.self.view_is below

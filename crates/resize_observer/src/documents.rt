@@ -1,0 +1,48 @@
+//! Where the observers of each document are found.
+
+ghost use Rattle.std.specs.Prelude.{◌≡◌, ◌≤◌, [], ◌∷◌, ◌++◌, List, length, nat_eq, option_map, unwrap_or, IfSome, OnOk, OnErr};
+ghost use Rattle.std.specs.HashMap.{get};
+ghost use Rattle.page_model.specs.World.{ResizeObserver};
+ghost use Rattle.resize_observer.specs.Documents.{Tells, same_key};
+
+use std::alloc::{AllocError, Global};
+use std::collections::HashMap;
+
+/// How many observers each document has, and by a document and a place among its observers the number of the one that
+/// stands there: so that none is looked for in the list of all.
+#[derive(Drop)]
+pub(crate) struct Documents {
+    counts: HashMap<u32, usize>,
+    numbers: HashMap<(u32, usize), u32>,
+}
+
+impl Documents {
+    pub(crate) fn new(alloc: Global) -> Documents
+        ensures { Tells result [] }
+    {
+        Documents {
+            counts: HashMap::new(alloc),
+            numbers: HashMap::new(alloc),
+        }
+    }
+
+    /// The number of the document's observer at this place, none past the last.
+    pub(crate) fn at(&self, document: u32, place: usize) -> Option<u32>
+        ensures { result ≡ get same_key self.now.numbers (document, place) }
+    {
+        self.numbers.get(&(document, place)).copied()
+    }
+
+    /// Notes the observer that is made next, of this document and with this number.
+    pub(crate) fn note(&mut self, document: u32, number: u32) -> Result<(), AllocError>
+        requires { unwrap_or (get nat_eq self.old.counts document) 0 ≤ number }
+        ensures noted { OnOk result ((made : List ResizeObserver) (new : ResizeObserver) → Tells self.old made → length made ≡ number → new.document ≡ document → Tells self.new (made ++ new ∷ [])) }
+        ensures same { OnErr result ((made : List ResizeObserver) → Tells self.old made → Tells self.new made) }
+    {
+        self.counts.reserve(1)?;
+        let place = self.counts.get(&document).copied().unwrap_or(0);
+        self.numbers.insert((document, place), number)?;
+        self.counts.insert(document, place + 1)?;
+        Ok(())
+    }
+}
