@@ -259,7 +259,7 @@ fn perform_on_number<K: Sink, L: Ledger>(
 /// - `--generate-run N`: replays the script of the number, and writes its summary; reads nothing.
 ///
 /// Of a source that is no script, the first three write the line that says where alone. `steps` counts the boxes that are
-/// computed: a `read`, and a tick where there is an observer, computes every box of the page anew.
+/// computed: a `read`, and a tick where there is an observer, compute the boxes that are due.
 ///
 /// - `Done`, `Syntax` and `Limit`: exactly by how what is asked for ends; all that is to be written was. A source that was read
 ///   is at its end then; of more bytes than a script may have one more than that many were taken.
