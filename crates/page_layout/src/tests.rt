@@ -427,6 +427,10 @@ fn renew<L: Ledger>(blank: Blank, laid: &mut LaidTree, viewport: Size, read: Opt
     }
 }
 
+fn lay_out(laid: &mut LaidTree, viewport: Size, read: Option<u32>) {
+    renew::<Brand>(Blank::new(1), laid, viewport, read);
+}
+
 fn check(rt: &impl Abort, laid: &LaidTree, node: u32, sides: (i64, i64)) {
     let (width, height) = sides;
     let found = size_of(laid.page(), laid.boxes(), NodeId(node), BoxKind::Border);
@@ -442,9 +446,9 @@ fn boxes_are_exact_after_each_change(rt: HostRuntime) -> Result<(), Fail> {
             viewport = NARROW;
         }
         apply(&rt, &mut laid, change);
-        renew::<Brand>(Blank::new(1), &mut laid, viewport, Some(4));
+        lay_out(&mut laid, viewport, Some(4));
         check(&rt, &laid, 4, sizes[4]);
-        renew::<Brand>(Blank::new(1), &mut laid, viewport, None);
+        lay_out(&mut laid, viewport, None);
         for node in 0..6 {
             check(&rt, &laid, node, sizes[node as usize]);
         }
