@@ -1,15 +1,17 @@
 //! Updates of a page with a frame: which observers are looked at, and what they are told, as the standard's steps give it.
 
 ghost use Rattle.std.specs.Prelude.{◌≡◌, ◌<◌, ◌≤◌, ◌+◌, ◌^◌, length, IfOk};
-ghost use Rattle.block_layout.specs.Held.{held_in};
+ghost use Rattle.kept_layout.specs.Slots.{held_in};
 ghost use Rattle.page_boxes.specs.Fresh.{IsFresh};
+ghost use Rattle.page_boxes.specs.Kept.{AreKept};
 ghost use Rattle.page_boxes.specs.Pages.{seen_size};
 
 use crate::{update, watchers_of};
-use block_layout::{FreshBoxes, ItemKind};
+use block_layout::ItemKind;
 use element_tree::NodeId;
 use intersection_observer::{Root, WatcherId, Watchers};
-use page_boxes::refresh;
+use kept_layout::Kept;
+use page_boxes::{nothing_kept_fits, refresh};
 use page_tree::{Container, PageTree};
 use px_units::Size;
 use scrolling::Scrolls;
@@ -122,23 +124,24 @@ fn all_watchers(rt: &impl Abort, alloc: Global) -> Result<Watchers, Fail> {
     Ok(watchers)
 }
 
-fn renew<L: Ledger>(blank: Blank, boxes: &mut FreshBoxes, page: &PageTree)
+fn renew<L: Ledger>(blank: Blank, boxes: &mut Kept, page: &PageTree)
     requires name { blank.name ≡ L.name }
     requires parts { blank.parts ≡ L.parts }
     requires one_part { 0 < blank.parts }
-    requires places { length page.now.tree.elements ≤ length boxes.old }
+    requires kept { AreKept page.now.tree boxes.old }
     ensures { IsFresh page.now.tree (seen_size SCREEN) (held_in boxes.new) }
 {
     let mut steps = Steps::<L>::new(blank);
     refresh(boxes, page, SCREEN, &mut steps);
 }
 
-fn all_boxes(rt: &impl Abort, alloc: Global, page: &PageTree) -> Result<FreshBoxes, Fail>
+fn all_boxes(rt: &impl Abort, alloc: Global, page: &PageTree) -> Result<Kept, Fail>
     ensures { IfOk result (λ boxes. IsFresh page.now.tree (seen_size SCREEN) (held_in boxes)) }
 {
-    let mut boxes = FreshBoxes::new(alloc);
+    let mut boxes = Kept::new(alloc);
     boxes.add(NodeId(2))?;
     assert!(rt; !page.holds(NodeId(3)));
+    nothing_kept_fits();
     renew::<Brand>(Blank::new(1), &mut boxes, page);
     Ok(boxes)
 }

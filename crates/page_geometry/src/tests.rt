@@ -1,16 +1,18 @@
 //! Findings on a page with scrollers and a frame, with the numbers that an independent program for the same rules gives.
 
 ghost use Rattle.std.specs.Prelude.{◌≡◌, ◌<◌, ◌≤◌, length, IfOk};
-ghost use Rattle.block_layout.specs.Held.{held_in};
+ghost use Rattle.kept_layout.specs.Slots.{held_in};
 ghost use Rattle.page_boxes.specs.Fresh.{IsFresh};
+ghost use Rattle.page_boxes.specs.Kept.{AreKept};
 ghost use Rattle.page_boxes.specs.Pages.{seen_size};
 
 use crate::{PageGeometry, find};
-use block_layout::{FreshBoxes, ItemKind};
+use block_layout::ItemKind;
 use clip_chain::{Spot, reaches};
 use element_tree::NodeId;
 use intersection_observer::{Finding, Root, WatcherId, Watchers};
-use page_boxes::{range_of, refresh};
+use kept_layout::Kept;
+use page_boxes::{nothing_kept_fits, range_of, refresh};
 use page_tree::{Container, PageTree};
 use px_units::{Point, Rect, Size};
 use scrolling::{ScrollTarget, Scrolls};
@@ -413,11 +415,11 @@ const SCREEN: Size = Size {
     height: 38400,
 };
 
-fn renew<L: Ledger>(blank: Blank, boxes: &mut FreshBoxes, page: &PageTree, viewport: Size)
+fn renew<L: Ledger>(blank: Blank, boxes: &mut Kept, page: &PageTree, viewport: Size)
     requires name { blank.name ≡ L.name }
     requires parts { blank.parts ≡ L.parts }
     requires one_part { 0 < blank.parts }
-    requires places { length page.now.tree.elements ≤ length boxes.old }
+    requires kept { AreKept page.now.tree boxes.old }
     ensures { IsFresh page.now.tree (seen_size viewport) (held_in boxes.new) }
 {
     let mut steps = Steps::<L>::new(blank);
@@ -429,12 +431,13 @@ fn all_boxes(
     alloc: Global,
     page: &PageTree,
     viewport: Size,
-) -> Result<FreshBoxes, Fail>
+) -> Result<Kept, Fail>
     ensures { IfOk result (λ boxes. IsFresh page.now.tree (seen_size viewport) (held_in boxes)) }
 {
-    let mut boxes = FreshBoxes::new(alloc);
+    let mut boxes = Kept::new(alloc);
     boxes.add(NodeId(8))?;
     assert!(rt; !page.holds(NodeId(9)));
+    nothing_kept_fits();
     renew::<Brand>(Blank::new(1), &mut boxes, page, viewport);
     Ok(boxes)
 }
