@@ -426,12 +426,7 @@ fn renew<L: Ledger>(blank: Blank, boxes: &mut Kept, page: &PageTree, viewport: S
     refresh(boxes, page, viewport, &mut steps);
 }
 
-fn all_boxes(
-    rt: &impl Abort,
-    alloc: Global,
-    page: &PageTree,
-    viewport: Size,
-) -> Result<Kept, Fail>
+fn all_boxes(rt: &impl Abort, alloc: Global, page: &PageTree, viewport: Size) -> Result<Kept, Fail>
     ensures { IfOk result (λ boxes. IsFresh page.now.tree (seen_size viewport) (held_in boxes)) }
 {
     let mut boxes = Kept::new(alloc);
