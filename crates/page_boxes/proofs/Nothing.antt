@@ -3,7 +3,6 @@ use Rattle.std.proofs.Common.{◌≡◌, ◌≤◌, ℕ, true, false, List, leng
 use Rattle.page_model.specs.World.{Tree}
 use Rattle.page_model.specs.Documents.{nodes_of}
 use Rattle.kept_layout.specs.declared.slots.Slot.{Slot}
-use Rattle.kept_layout.specs.declared.slots.Found.{Found}
 use Rattle.kept_layout.specs.Slots.{slot_in, no_slot}
 use Rattle.kept_layout.specs.Sound.{IsSound}
 use Rattle.page_boxes.specs.Kept.{AreKept}

@@ -25,7 +25,7 @@ use Rattle.block_layout.proofs.Nodes.{item_is, parent_is, some_ids}
 use Rattle.page_boxes.specs.Fresh.{HoldsAll, IsFreshIn}
 use Rattle.page_boxes.specs.Pages.{seen_pair}
 use Rattle.page_boxes.proofs.Shifts.{pair_is, some_found, same_box, none_held}
-use Rattle.page_boxes.proofs.Renewed.{rootless_here, view_shown}
+use Rattle.page_boxes.proofs.Renewed.{view_shown}
 
 -- a scroll container, by what is asked of its node
 regroup : (block visible clip inner : Bool) → ((block && not visible && inner) && not clip) ≡ (block && (not visible && not clip) && inner)

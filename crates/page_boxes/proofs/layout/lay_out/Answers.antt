@@ -1,4 +1,4 @@
-use Rattle.std.proofs.Common.{None, length, option_map, refl, ap, sym, subst, ◌∙◌, arith}
+use Rattle.std.proofs.Common.{None, option_map, refl, ap, sym, subst, ◌∙◌, arith}
 use Rattle.element_tree.specs.Links.{number}
 use Rattle.layout_model.specs.Nodes.{depth_of}
 use Rattle.page_model.specs.Lookups.{document_at}
