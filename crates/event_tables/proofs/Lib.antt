@@ -1,3 +1,4 @@
 pub mod Seen
+pub mod Indexed
 pub mod Due
 pub mod Handing
