@@ -1,6 +1,6 @@
 -- Lists as they are seen.
 use Rattle.std.proofs.Common.{◌≡◌, ℕ, suc, ◌∙◌, ap, refl, sym, subst}
-use Rattle.std.specs.Prelude.{Bool, true, false, cond, not, ◌||◌, List, [], ◌∷◌, ◌++◌, map, filter, nat_lt, Result}
+use Rattle.std.specs.Prelude.{Bool, true, false, cond, not, ◌||◌, List, [], ◌∷◌, map, filter, nat_lt, Result}
 use Rattle.std.specs.List.{list_any}
 use Rattle.std.proofs.lemmas.List.{map_push, length-map}
 use Rattle.page_model.specs.Lookups.{kept, entered}
@@ -34,36 +34,6 @@ rest_fails false others none = none
 pub all_kept : {A : Type 0} (test : A → Bool) (xs : List A) → list_any test xs ≡ false → filter (λ each. not (test each)) xs ≡ xs
 all_kept test [] none = refl
 all_kept test (x ∷ xs) none = all_kept_by test x xs (test x) none (all_kept test xs (rest_fails (test x) (list_any test xs) none))
-
--- a table as it is kept
-abbrev pub table_of : {A B : Type 0} → (A → B) → (given most : ℕ) → List A → Bounded B
-table_of seen given most held = record { part = record { given = given; held = map seen held }; most = most }
-
--- an entry that passes a test is in a table
-pub any_in : {A B : Type 0} (seen : A → B) (test : B → Bool) (given most : ℕ) (read held : List A) (it : Bounded B) (answer : Bool) → answer ≡ list_any (λ x. test (seen x)) read → read ≡ held → table_of seen given most held ≡ it → answer ≡ list_any test (it.part.held)
-any_in seen test given most read held it answer is same view =
-    is
-    ∙ ap (λ these. list_any (λ x. test (seen x)) these) same
-    ∙ any_seen seen test held
-    ∙ ap (λ (now : Bounded _). list_any test (now.part.held)) view
-
--- the entries of a table that pass a test are copied
-pub copied_from : {A B : Type 0} (seen : A → B) (test : B → Bool) (given most : ℕ) (read held : List A) (it : Bounded B) → read ≡ held → table_of seen given most held ≡ it → map seen (filter (λ x. test (seen x)) read) ≡ filter test (it.part.held)
-copied_from seen test given most read held it same view =
-    ap (λ these. map seen (filter (λ x. test (seen x)) these)) same
-    ∙ kept_seen seen test held
-    ∙ ap (λ (now : Bounded _). filter test (now.part.held)) view
-
--- the entries of a table that pass a test are kept in it
-pub kept_in : {A B : Type 0} (seen : A → B) (test : B → Bool) (given most : ℕ) (held new : List A) (it : Bounded B) → new ≡ filter (λ x. test (seen x)) held → table_of seen given most held ≡ it → table_of seen given most new ≡ record it { part = kept test (it.part) }
-kept_in seen test given most held new it same view =
-    ap (table_of seen given most) same
-    ∙ ap (λ these. record { part = record { given = given; held = these }; most = most }) (kept_seen seen test held)
-    ∙ ap (λ (now : Bounded _). record now { part = kept test (now.part) }) view
-
--- where nothing in a table passes a test, taking out what passes it changes nothing
-pub none_out : {B : Type 0} (test : B → Bool) (it : Bounded B) → list_any test (it.part.held) ≡ false → it ≡ record it { part = kept (λ each. not (test each)) (it.part) }
-none_out test it none = sym (ap (λ held. record it { part = record (it.part) { held = held } }) (all_kept test (it.part.held) none))
 
 -- tables that are seen: an entry that passes a test is held, those that pass it are kept, one more is entered, some are read
 module _ {A B : Type 0} (seen : A → B) where

@@ -4,7 +4,6 @@ use Rattle.std.specs.List.{AllByRecursion, IsDistinct}
 use Rattle.std.specs.List.Sorted.{IsStrictlySortedBy}
 use Rattle.std.specs.Map.{keys_of, lookup}
 use Rattle.std.specs.Ordering.{nat_cmp}
-use Rattle.event_tables.specs.Tables.{Bounded}
 
 -- a serial number, and what is kept under it: a key with its value
 abbrev pub Entry : Type 0 → Type 0 → Type 0

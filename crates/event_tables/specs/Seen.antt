@@ -2,9 +2,12 @@
 use Rattle.page_model.specs.World as model
 use Rattle.event_tables.specs.declared.events.EventTarget.{EventTarget}
 use Rattle.event_tables.specs.declared.events.EventTarget.TheVariants as target
+use Rattle.event_tables.specs.declared.events.TargetKey.{TargetKey}
+use Rattle.event_tables.specs.declared.events.TargetKey.TheVariants as key
 use Rattle.event_tables.specs.declared.events.Task.{Task}
 use Rattle.event_tables.specs.declared.events.Task.TheVariants as task
 use Rattle.event_tables.specs.declared.listeners.Listener.{Listener}
+use Rattle.event_tables.specs.declared.listeners.ListenerKey.{ListenerKey}
 use Rattle.event_tables.specs.declared.events.HandlerId.{HandlerId}
 use Rattle.event_tables.specs.declared.callbacks.Callback.{Callback}
 use Rattle.event_tables.specs.declared.callbacks.DocumentKey.{DocumentKey}
@@ -22,8 +25,16 @@ abbrev pub seen_task : Task → model.Task
 seen_task (task.Notify number) = model.Notify number
 seen_task (task.Posted number handler) = model.Posted number handler.0
 
-abbrev pub seen_listener : Listener → model.Listener
-seen_listener it = record { serial = it.serial; target = seen_target it.target; event = it.kind; handler = it.handler.0 }
+abbrev pub seen_key : TargetKey → model.EventTarget
+seen_key (key.Node element) = model.ElementTarget element
+seen_key (key.Document number) = model.DocumentTarget number
+seen_key (key.Window number) = model.WindowTarget number
+seen_key (key.Query number) = model.QueryTarget number
+
+-- a listener that was copied
+abbrev pub seen_copy : Listener → model.Listener
+seen_copy it =
+    record { serial = it.serial; target = seen_key it.key.target; event = it.key.kind; handler = it.key.handler.0 }
 
 -- a callback that was copied: a frame callback, or what a timer has but for its due time
 abbrev pub seen_callback : Callback → model.FrameCallback
@@ -46,3 +57,7 @@ seen_due_timer it = record {
   due = it.due;
   handler = it.callback.handler.0;
 }
+
+abbrev pub seen_listener : Entry ListenerKey (Unit {0}) → model.Listener
+seen_listener it =
+    record { serial = it.0; target = seen_key it.1.0.target; event = it.1.0.kind; handler = it.1.0.handler.0 }
