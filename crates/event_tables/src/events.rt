@@ -3,7 +3,7 @@
 ghost use Rattle.std.specs.Prelude.{◌≡◌};
 ghost use Rattle.page_model.specs.Listeners.{is_same_target, is_same_event};
 ghost use Rattle.page_model.specs.Tasks.{is_posted};
-ghost use Rattle.event_tables.specs.Seen.{seen_target, seen_task};
+ghost use Rattle.event_tables.specs.Seen.{seen_target, seen_key, seen_task};
 
 use element_tree::NodeId;
 use text_io::EventKind;
@@ -18,7 +18,7 @@ pub enum EventTarget {
 }
 
 /// The name of a handler: its number, from 0 in the script's order.
-#[derive(Clone, Copy, PartialEq, Eq, Debug)]
+#[derive(Clone, Copy, PartialEq, Eq, Hash, Debug)]
 pub struct HandlerId(pub u32);
 
 /// A task that waits: to notify the intersection observers of a document, or to call a handler for a document.
@@ -28,14 +28,36 @@ pub enum Task {
     Posted(u32, HandlerId),
 }
 
-pub(crate) fn is_same_target(one: EventTarget, other: EventTarget) -> bool
-    ensures { result ≡ is_same_target (seen_target one) (seen_target other) }
+/// An event target as a part of a key.
+#[derive(Clone, Copy, PartialEq, Eq, Hash)]
+pub(crate) enum TargetKey {
+    Node(u32),
+    Document(u32),
+    Window(u32),
+    Query(u32),
+}
+
+impl TargetKey {
+    pub(crate) fn of(target: EventTarget) -> TargetKey
+        ensures { seen_key result ≡ seen_target target }
+    {
+        match target {
+            EventTarget::Node(node) => TargetKey::Node(node.0),
+            EventTarget::Document(document) => TargetKey::Document(document),
+            EventTarget::Window(document) => TargetKey::Window(document),
+            EventTarget::Query(query) => TargetKey::Query(query),
+        }
+    }
+}
+
+pub(crate) fn is_same_target(one: EventTarget, other: TargetKey) -> bool
+    ensures { result ≡ is_same_target (seen_target one) (seen_key other) }
 {
     match (one, other) {
-        (EventTarget::Node(one), EventTarget::Node(other)) => one.0 == other.0,
-        (EventTarget::Document(one), EventTarget::Document(other)) => one == other,
-        (EventTarget::Window(one), EventTarget::Window(other)) => one == other,
-        (EventTarget::Query(one), EventTarget::Query(other)) => one == other,
+        (EventTarget::Node(one), TargetKey::Node(other)) => one.0 == other,
+        (EventTarget::Document(one), TargetKey::Document(other)) => one == other,
+        (EventTarget::Window(one), TargetKey::Window(other)) => one == other,
+        (EventTarget::Query(one), TargetKey::Query(other)) => one == other,
         _ => false,
     }
 }

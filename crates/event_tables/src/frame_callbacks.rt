@@ -1,18 +1,20 @@
 //! Animation frame callbacks (HTML, animation frames).
 
-ghost use Rattle.std.specs.Prelude.{◌≡◌, ℕ, List, ◌+◌, ◌<◌, ◌≤◌, ◌-◌, ◌^◌, [], ◌==◌, false, find, not, option_map, IfOk, OnOk, OnErr};
+ghost use Rattle.std.specs.Prelude.{◌≡◌, ℕ, List, ◌+◌, ◌<◌, ◌≤◌, ◌-◌, ◌^◌, [], ◌==◌, false, find, filter, map, not, option_map, IfOk, OnOk, OnErr};
 ghost use Rattle.std.specs.List.{list_any};
 ghost use Rattle.page_model.specs.World.{FrameCallback};
 ghost use Rattle.page_model.specs.FrameCallbacks.{is_frame_requested, with_frame_callback, without_frame_callback, frame_callbacks_of, frame_callback_stands, frame_callback_taken};
 ghost use Rattle.event_tables.specs.Answers.{Enters};
 ghost use Rattle.event_tables.specs.Handed.{behind_first};
-ghost use Rattle.event_tables.specs.Seen.{seen_callback};
+ghost use Rattle.event_tables.specs.Seen.{seen_callback, seen_frame_callback};
 ghost use Rattle.event_tables.specs.Tables.{has_room};
 ghost use Rattle.event_tables.specs.FrameCallbacks.{once_handed, told};
 
-use crate::callbacks::{Callback, contains, copies, is_held, remove, remove_serial};
+use crate::callbacks::{Callback, DocumentKey};
+use crate::entries::Entries;
 use crate::{Batch, HandlerId, TableFault};
 use std::alloc::{AllocError, Global};
+use std::collections::BTreeMap;
 use std::marker::Model;
 use text_io::Name;
 
@@ -20,21 +22,19 @@ use text_io::Name;
 /// as the definitions of a world do, with the number of serial numbers given, and how many there may be.
 #[derive(Drop)]
 pub struct FrameCallbacks {
-    given: u64,
-    held: Vec<Callback>,
-    most: u32,
+    entries: Entries<DocumentKey, HandlerId>,
 }
 
 impl Model for FrameCallbacks {
-    ghost use Rattle.std.specs.Prelude.{map};
     ghost use Rattle.page_model.specs.World.{FrameCallback};
     ghost use Rattle.event_tables.specs.Tables.{Bounded};
 
     ghost Value = { Bounded FrameCallback };
 
-    ghost use Rattle.event_tables.specs.Seen.{seen_callback};
+    ghost use Rattle.event_tables.specs.Seen.{seen_frame_callback};
+    ghost use Rattle.event_tables.specs.Tables.{seen_table};
 
-    ghost view = { λ f. record { part = record { given = f.given; held = map seen_callback f.held.items }; most = f.most } };
+    ghost view = { λ f. seen_table seen_frame_callback f.entries };
 }
 
 impl FrameCallbacks {
@@ -43,9 +43,7 @@ impl FrameCallbacks {
         ensures { result ≡ record { part = record { given = 0; held = [] }; most = most } }
     {
         FrameCallbacks {
-            given: 0,
-            held: Vec::new(alloc),
-            most,
+            entries: Entries::new(alloc, most),
         }
     }
 
@@ -53,14 +51,14 @@ impl FrameCallbacks {
     pub fn is_full(&self) -> bool
         ensures { result ≡ not (has_room self.now) }
     {
-        self.held.len() >= self.most as usize
+        self.entries.is_full()
     }
 
     /// Whether a document has a frame callback under a key.
     pub fn is_there(&self, document: u32, key: Name) -> bool
         ensures { result ≡ is_frame_requested document key self.now.part }
     {
-        contains(self.held.as_slice(), document, key)
+        self.entries.has_key(DocumentKey { document, key })
     }
 
     /// Requests a frame callback of a document under a key, last.
@@ -79,23 +77,7 @@ impl FrameCallbacks {
         ensures same { OnErr result (self.new ≡ self.old) }
         ensures given { self.new.part.given ≤ self.old.part.given + 1 }
     {
-        if self.is_there(document, key) {
-            return Err(TableFault::Taken);
-        }
-        if self.is_full() {
-            return Err(TableFault::Limit);
-        }
-        let callback = Callback {
-            serial: self.given,
-            document,
-            key,
-            handler,
-        };
-        let Ok(()) = self.held.push(callback) else {
-            return Err(TableFault::Memory);
-        };
-        self.given += 1;
-        Ok(())
+        self.entries.enter(DocumentKey { document, key }, handler)
     }
 
     /// Cancels the frame callback of a document under a key. The answer is false, and nothing changes, exactly where there
@@ -105,18 +87,14 @@ impl FrameCallbacks {
         ensures cancelled { self.new ≡ record self.old { part = without_frame_callback document key (self.old.part) } }
         ensures same { result ≡ false → self.new ≡ self.old }
     {
-        let there = self.is_there(document, key);
-        if there {
-            remove(&mut self.held, document, key);
-        }
-        there
+        self.entries.remove(DocumentKey { document, key })
     }
 
     /// Copies the frame callbacks of a document as it begins to run them.
     pub fn begin(&self, document: u32) -> Result<Batch, AllocError>
         ensures { IfOk result (λ batch. batch ≡ frame_callbacks_of document self.now.part) }
     {
-        copies(*self.held.allocator(), self.held.as_slice(), document)
+        copies(self.entries.allocator(), self.entries.held(), document)
     }
 
     /// Takes out the first copied frame callback that still stands, and tells its key and handler; it and those before it
@@ -129,8 +107,8 @@ impl FrameCallbacks {
         ensures given { self.new.part.given ≡ self.old.part.given }
     {
         let callback = self.first_standing(batch)?;
-        self.remove_serial(callback.serial);
-        Some((callback.key, callback.handler))
+        self.take(callback.serial);
+        Some((callback.key.key, callback.handler))
     }
 
     // Takes the first callback that still stands off the batch, with those before it.
@@ -147,16 +125,37 @@ impl FrameCallbacks {
     }
 
     // Takes the one of a serial number out.
-    fn remove_serial(&mut self, serial: u64)
+    fn take(&mut self, serial: u64)
         ensures { self.new ≡ record self.old { part = frame_callback_taken serial (self.old.part) } }
     {
-        remove_serial(&mut self.held, serial);
+        self.entries.take(serial);
     }
 
     // Whether the callback of a serial number is held.
     fn stands(&self, serial: u64) -> bool
         ensures { result ≡ list_any (λ (each : FrameCallback). each.serial == serial) self.now.part.held }
     {
-        is_held(self.held.as_slice(), serial)
+        self.entries.has_serial(serial)
     }
+}
+
+// Copies of those of a document.
+fn copies(
+    alloc: Global,
+    held: &BTreeMap<u64, (DocumentKey, HandlerId)>,
+    document: u32,
+) -> Result<Batch, AllocError>
+    ensures { IfOk result (λ batch. batch ≡ filter (λ (each : FrameCallback). each.document == document) (map seen_frame_callback held.now.entries)) }
+{
+    let mut batch = Batch::new(alloc);
+    for (serial, (key, handler)) in held {
+        if key.document == document {
+            batch.push(Callback {
+                serial: *serial,
+                key: *key,
+                handler: *handler,
+            })?;
+        }
+    }
+    Ok(batch)
 }

@@ -4,6 +4,7 @@
 
 mod answers;
 mod callbacks;
+mod entries;
 mod events;
 mod frame_callbacks;
 mod laws;

@@ -1,64 +1,74 @@
 //! Listeners, and the dispatch of an event to them (DOM, 2.7 and 2.9).
 
-ghost use Rattle.std.specs.Prelude.{◌≡◌, ◌≤◌, ◌+◌, ◌<◌, ◌-◌, ◌^◌, [], ◌∷◌, ◌==◌, false, find, filter, not, option_map, if◌then◌else◌, IfOk, OnErr, MatchOption};
+ghost use Rattle.std.specs.Prelude.{◌≡◌, ◌≤◌, ◌+◌, ◌<◌, ◌-◌, ◌^◌, [], ◌∷◌, ◌==◌, false, find, filter, map, not, option_map, ◌&&◌, if◌then◌else◌, IfOk, OnErr, MatchOption};
 ghost use Rattle.std.specs.List.{list_any};
 ghost use Rattle.page_model.specs.World.{Listener as ModelListener};
-ghost use Rattle.page_model.specs.Listeners.{hears, is_listener, is_listening, with_listener, without_listener, listeners_of, listener_stands};
+ghost use Rattle.page_model.specs.Listeners.{is_same_target, is_same_event, hears, is_listener, is_listening, with_listener, without_listener, listeners_of, listener_stands};
 ghost use Rattle.event_tables.specs.Answers.{Adds};
 ghost use Rattle.event_tables.specs.Handed.{behind_first};
-ghost use Rattle.event_tables.specs.Seen.{seen_target, seen_listener};
+ghost use Rattle.event_tables.specs.Seen.{seen_target, seen_key, seen_listener, seen_copy};
 ghost use Rattle.event_tables.specs.Tables.{has_room};
 
-use crate::events::{is_same_kind, is_same_target};
+use crate::entries::Entries;
+use crate::events::{TargetKey, is_same_kind, is_same_target};
 use crate::{EventTarget, HandlerId, TableFault};
 use std::alloc::{AllocError, Global};
-use std::collections::VecDeque;
+use std::collections::{BTreeMap, VecDeque};
 use std::marker::Model;
 use text_io::EventKind;
 
-/// That a handler listens for an event at a target.
-#[derive(Clone, Copy)]
-pub(crate) struct Listener {
-    pub(crate) serial: u64,
-    pub(crate) target: EventTarget,
+/// That a handler listens for an event at a target: one listener at most.
+#[derive(Clone, Copy, PartialEq, Eq, Hash)]
+pub(crate) struct ListenerKey {
+    pub(crate) target: TargetKey,
     pub(crate) kind: EventKind,
     pub(crate) handler: HandlerId,
 }
 
-impl Listener {
-    // Whether it listens for this event at this target.
-    fn hears(&self, target: EventTarget, kind: EventKind) -> bool
-        ensures { result ≡ hears (seen_target target) kind (seen_listener self.now) }
+impl ListenerKey {
+    fn new(target: EventTarget, kind: EventKind, handler: HandlerId) -> ListenerKey
+        ensures target { seen_key result.target ≡ seen_target target }
+        ensures rest { (result.kind ≡ kind) × (result.handler ≡ handler) }
     {
-        is_same_target(target, self.target) && is_same_kind(kind, self.kind)
+        ListenerKey {
+            target: TargetKey::of(target),
+            kind,
+            handler,
+        }
     }
+}
 
-    fn is(&self, target: EventTarget, kind: EventKind, handler: HandlerId) -> bool
-        ensures { result ≡ is_listener (seen_target target) kind handler.0 (seen_listener self.now) }
-    {
-        self.hears(target, kind) && handler.0 == self.handler.0
-    }
+// Whether the listener of a key listens for this event at this target.
+fn hears(key: ListenerKey, target: EventTarget, kind: EventKind) -> bool
+    ensures { result ≡ (is_same_target (seen_target target) (seen_key key.target) && is_same_event kind key.kind) }
+{
+    is_same_target(target, key.target) && is_same_kind(kind, key.kind)
+}
+
+/// A listener that was copied.
+#[derive(Clone, Copy)]
+pub(crate) struct Listener {
+    pub(crate) serial: u64,
+    pub(crate) key: ListenerKey,
 }
 
 /// The listeners of a page in order of making. A clause sees them as the definitions of a world do, with the number of
 /// serial numbers given, and how many there may be.
 #[derive(Drop)]
 pub struct Listeners {
-    given: u64,
-    held: Vec<Listener>,
-    most: u32,
+    entries: Entries<ListenerKey, ()>,
 }
 
 impl Model for Listeners {
-    ghost use Rattle.std.specs.Prelude.{map};
     ghost use Rattle.page_model.specs.World.{Listener as ModelListener};
     ghost use Rattle.event_tables.specs.Tables.{Bounded};
 
     ghost Value = { Bounded ModelListener };
 
     ghost use Rattle.event_tables.specs.Seen.{seen_listener};
+    ghost use Rattle.event_tables.specs.Tables.{seen_table};
 
-    ghost view = { λ l. record { part = record { given = l.given; held = map seen_listener l.held.items }; most = l.most } };
+    ghost view = { λ l. seen_table seen_listener l.entries };
 }
 
 impl Listeners {
@@ -67,9 +77,7 @@ impl Listeners {
         ensures { result ≡ record { part = record { given = 0; held = [] }; most = most } }
     {
         Listeners {
-            given: 0,
-            held: Vec::new(alloc),
-            most,
+            entries: Entries::new(alloc, most),
         }
     }
 
@@ -77,14 +85,14 @@ impl Listeners {
     pub fn is_full(&self) -> bool
         ensures { result ≡ not (has_room self.now) }
     {
-        self.held.len() >= self.most as usize
+        self.entries.is_full()
     }
 
     /// Whether a handler listens for an event at a target.
     pub fn is_there(&self, target: EventTarget, kind: EventKind, handler: HandlerId) -> bool
         ensures { result ≡ is_listening (seen_target target) kind handler.0 self.now.part }
     {
-        contains(self.held.as_slice(), target, kind, handler)
+        self.entries.has_key(ListenerKey::new(target, kind, handler))
     }
 
     /// Adds a listener, last (DOM, 2.7: add an event listener). The answer is false, and nothing changes, exactly where
@@ -104,23 +112,13 @@ impl Listeners {
         ensures same { OnErr result (self.new ≡ self.old) }
         ensures given { self.new.part.given ≤ self.old.part.given + 1 }
     {
-        if self.is_there(target, kind, handler) {
-            return Ok(false);
+        let key = ListenerKey::new(target, kind, handler);
+        match self.entries.enter(key, ()) {
+            Ok(()) => Ok(true),
+            Err(TableFault::Taken) => Ok(false),
+            Err(TableFault::Limit) => Err(TableFault::Limit),
+            Err(TableFault::Memory) => Err(TableFault::Memory),
         }
-        if self.is_full() {
-            return Err(TableFault::Limit);
-        }
-        let listener = Listener {
-            serial: self.given,
-            target,
-            kind,
-            handler,
-        };
-        let Ok(()) = self.held.push(listener) else {
-            return Err(TableFault::Memory);
-        };
-        self.given += 1;
-        Ok(true)
     }
 
     /// Removes the listener of a handler for an event at a target (DOM, 2.7: remove an event listener). The answer is
@@ -130,11 +128,7 @@ impl Listeners {
         ensures removed { self.new ≡ record self.old { part = without_listener (seen_target target) kind handler.0 (self.old.part) } }
         ensures same { result ≡ false → self.new ≡ self.old }
     {
-        let there = self.is_there(target, kind, handler);
-        if there {
-            remove(&mut self.held, target, kind, handler);
-        }
-        there
+        self.entries.remove(ListenerKey::new(target, kind, handler))
     }
 
     /// Copies the listeners for an event as it reaches a target (DOM, 2.9: inner invoke).
@@ -145,7 +139,7 @@ impl Listeners {
     ) -> Result<Dispatch, AllocError>
         ensures { IfOk result (λ dispatch. dispatch ≡ listeners_of (seen_target target) kind self.now.part) }
     {
-        let left = copies(*self.held.allocator(), self.held.as_slice(), target, kind)?;
+        let left = copies(self.entries.allocator(), self.entries.held(), target, kind)?;
         Ok(Dispatch { left })
     }
 
@@ -157,7 +151,7 @@ impl Listeners {
     {
         while let Some(listener) = dispatch.pop() {
             if self.stands(listener.serial) {
-                return Some(listener.handler);
+                return Some(listener.key.handler);
             }
         }
         None
@@ -167,47 +161,29 @@ impl Listeners {
     fn stands(&self, serial: u64) -> bool
         ensures { result ≡ list_any (λ (held : ModelListener). held.serial == serial) self.now.part.held }
     {
-        is_held(self.held.as_slice(), serial)
+        self.entries.has_serial(serial)
     }
-}
-
-// Whether the listener of a handler for an event at a target is among these.
-fn contains(held: &[Listener], target: EventTarget, kind: EventKind, handler: HandlerId) -> bool
-    ensures { result ≡ list_any (λ each. is_listener (seen_target target) kind handler.0 (seen_listener each)) held.now }
-{
-    held.iter().any(|each| each.is(target, kind, handler))
-}
-
-// Takes the listener of a handler for an event at a target out.
-fn remove(held: &mut Vec<Listener>, target: EventTarget, kind: EventKind, handler: HandlerId)
-    ensures { held.new.items ≡ filter (λ each. not (is_listener (seen_target target) kind handler.0 (seen_listener each))) held.old.items }
-{
-    held.retain(|each| !each.is(target, kind, handler));
 }
 
 // Copies of those for an event at a target.
 fn copies(
     alloc: Global,
-    held: &[Listener],
+    held: &BTreeMap<u64, (ListenerKey, ())>,
     target: EventTarget,
     kind: EventKind,
 ) -> Result<VecDeque<Listener>, AllocError>
-    ensures { IfOk result (λ left. left.items ≡ filter (λ each. hears (seen_target target) kind (seen_listener each)) held.now) }
+    ensures { IfOk result (λ left. map seen_copy left.items ≡ filter (hears (seen_target target) kind) (map seen_listener held.now.entries)) }
 {
     let mut left = VecDeque::new(alloc);
-    for each in held {
-        if each.hears(target, kind) {
-            left.push_back(*each)?;
+    for (serial, (key, _)) in held {
+        if hears(*key, target, kind) {
+            left.push_back(Listener {
+                serial: *serial,
+                key: *key,
+            })?;
         }
     }
     Ok(left)
-}
-
-// Whether the listener of a serial number is among these.
-fn is_held(held: &[Listener], serial: u64) -> bool
-    ensures { result ≡ list_any (λ each. each.serial == serial) held.now }
-{
-    held.iter().any(|each| each.serial == serial)
 }
 
 /// Listeners that were copied as an event reached its target, and weren't called yet. A clause sees them as a list of
@@ -223,15 +199,15 @@ impl Model for Dispatch {
 
     ghost Value = { List ModelListener };
 
-    ghost use Rattle.event_tables.specs.Seen.{seen_listener};
+    ghost use Rattle.event_tables.specs.Seen.{seen_copy};
 
-    ghost view = { λ d. map seen_listener d.left.items };
+    ghost view = { λ d. map seen_copy d.left.items };
 }
 
 impl Dispatch {
     // Takes the first one off.
     fn pop(&mut self) -> Option<Listener>
-        ensures { MatchOption result ((self.old ≡ []) × (self.new ≡ [])) (λ listener. self.old ≡ seen_listener listener ∷ self.new) }
+        ensures { MatchOption result ((self.old ≡ []) × (self.new ≡ [])) (λ listener. self.old ≡ seen_copy listener ∷ self.new) }
     {
         self.left.pop_front()
     }

@@ -197,6 +197,23 @@ fn timers_run_by_due_time_and_then_by_making(rt: HostRuntime) -> Result<(), Fail
 }
 
 #[test]
+fn timers_that_are_due_at_once_run_in_order_of_setting(rt: HostRuntime) -> Result<(), Fail> {
+    let x = Name::read(b"x").ok_or("x")?;
+    let mut timers = Timers::new(rt.alloc(), 300);
+    for document in 0..300u32 {
+        timers.add(document, x, 7, HandlerId(document))?;
+    }
+    let mut batch = timers.take_due(7)?;
+    for document in 0..300u32 {
+        let called = timers.next(&mut batch);
+        assert_eq!(rt; called, Some((document, x, HandlerId(document))));
+    }
+    assert_eq!(rt; timers.next(&mut batch), None);
+    assert!(rt; !timers.is_there(0, x));
+    Ok(())
+}
+
+#[test]
 fn a_notify_task_needs_no_room(rt: HostRuntime) -> Result<(), Fail> {
     let mut tasks = Tasks::new(rt.alloc(), 1);
     let posted = Task::Posted(0, HandlerId(3));
