@@ -108,7 +108,7 @@ module _ {K V : Type 0} where
     none_under key entry entries is apart =
         none_any (λ (each : Entry K V). each.1.0) (same key) entries
         (subst (AllByRecursion (λ other. same key other ≡ false)) (names entries)
-            (weaker _ _ (λ other differs. laws.congr key (entry.1.0) other is ∙ differs) _ (IsDistinct-head same (entry.1.0) _ apart)))
+        (weaker _ _ (λ other differs. laws.congr key (entry.1.0) other is ∙ differs) _ (IsDistinct-head same (entry.1.0) _ apart)))
       where
         names : (these : List (Entry K V)) → keys_of (numbered these) ≡ map (λ (each : Entry K V). each.1.0) these
         names [] = refl
@@ -164,7 +164,7 @@ module _ {K V : Type 0} where
     others_found key other entries =
         ap (lookup (same other)) (kept_seen (λ (entry : Entry K V). (entry.1.0, entry.0)) (λ (named : K × ℕ). not (same key (named.0))) entries)
         ∙ lookup-filter-keys (same other) (λ named. not (same key named)) (not (same key other))
-          (λ named is. ap not (laws.symm key named ∙ sym (laws.congr other named key is) ∙ laws.symm other key)) (numbered entries)
+        (λ named is. ap not (laws.symm key named ∙ sym (laws.congr other named key is) ∙ laws.symm other key)) (numbered entries)
         ∙ turned (same key other) (lookup (same other) (numbered entries))
       where
         turned : (passes : Bool) (it : Option ℕ) → cond (not passes) it None ≡ cond passes None it
@@ -190,7 +190,7 @@ module _ {K V : Type 0} where
             ordered = ordered;
             below = subst (λ these. AllByRecursion (λ (n : ℕ). n < given) (keys_of these)) (sym one) (kept_below given (λ entry. not (has_serial serial entry)) entries (was.below));
             apart = subst (λ these. IsDistinct same (keys_of (numbered these))) (sym other)
-              (subst (λ these. IsDistinct same (keys_of these)) (sym (kept_seen (λ (entry : Entry K V). (entry.1.0, entry.0)) (λ (named : K × ℕ). not (same key (named.0))) entries))
+                (subst (λ these. IsDistinct same (keys_of these)) (sym (kept_seen (λ (entry : Entry K V). (entry.1.0, entry.0)) (λ (named : K × ℕ). not (same key (named.0))) entries))
                 (IsDistinct-keys_filter same (λ (named : K × ℕ). not (same key (named.0))) (numbered entries) (was.apart)));
             found = λ name. updated name ∙ ap (cond (same key name) None) (was.found name) ∙ sym (others_found key name entries) ∙ ap (λ these. lookup (same name) (numbered these)) (sym other);
           };
@@ -208,18 +208,19 @@ module _ {K V : Type 0} where
         let names : numbered after ≡ numbered entries ++ (key, given) ∷ [] = ap numbered last ∙ map_push (λ (entry : Entry K V). (entry.1.0, entry.0)) entries (given, (key, value)) in
         let none : lookup (same key) (numbered entries) ≡ None = nothing (lookup (same key) (numbered entries)) (any_key key entries ∙ free) in
         record {
-            ordered = ordered;
-            below = subst (λ these. AllByRecursion (λ (n : ℕ). n < given + 1) (keys_of these)) (sym last) (more_below given (key, value) entries (was.below));
-            apart = subst (λ these. IsDistinct same these) (sym (ap keys_of names ∙ map_push (λ (named : K × ℕ). named.0) (numbered entries) (key, given)))
+          ordered = ordered;
+          below = subst (λ these. AllByRecursion (λ (n : ℕ). n < given + 1) (keys_of these)) (sym last) (more_below given (key, value) entries (was.below));
+          apart = subst (λ these. IsDistinct same these) (sym (ap keys_of names ∙ map_push (λ (named : K × ℕ). named.0) (numbered entries) (key, given)))
               (IsDistinct-push laws (keys_of (numbered entries)) key (was.apart) (sym (any_name entries) ∙ free));
-            found = λ name. updated name ∙ ap (cond (same key name) (Some given)) (was.found name)
+          found = λ name. updated name ∙ ap (cond (same key name) (Some given)) (was.found name)
               ∙ sym (ap (lookup (same name)) (names ∙ sym (insert_end (numbered entries) (key, given)))
-                ∙ lookup-insert laws key given name (numbered entries) (length (numbered entries)) (none_passes_from_lookup (same key) (numbered entries) none));
+              ∙ lookup-insert laws key given name (numbered entries) (length (numbered entries)) (none_passes_from_lookup (same key) (numbered entries) none));
         }
       where
         nothing : (it : Option ℕ) → is_some it ≡ false → it ≡ None
         nothing None fails = refl
         nothing (Some n) fails = cc
+
         any_name : (these : List (Entry K V)) → list_any (has_key same key) these ≡ list_any (same key) (keys_of (numbered these))
         any_name [] = refl
         any_name (first ∷ these) = ap (λ others. same key (first.1.0) || others) (any_name these)

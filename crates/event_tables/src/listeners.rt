@@ -92,7 +92,8 @@ impl Listeners {
     pub fn is_there(&self, target: EventTarget, kind: EventKind, handler: HandlerId) -> bool
         ensures { result ≡ is_listening (seen_target target) kind handler.0 self.now.part }
     {
-        self.entries.has_key(ListenerKey::new(target, kind, handler))
+        self.entries
+            .has_key(ListenerKey::new(target, kind, handler))
     }
 
     /// Adds a listener, last (DOM, 2.7: add an event listener). The answer is false, and nothing changes, exactly where

@@ -13,10 +13,10 @@ invariant_of-self-2 g c =
     let put : Updates g.K.PartialEq.eq c.reserve.new.self c.insert-2.new.self c.args.key (Some c.self.inside.given) =
     subst (λ (r : Result _ _). OnOk r (Updates g.K.PartialEq.eq c.reserve.new.self c.insert-2.new.self c.args.key (Some c.self.inside.given))) c.unwrap.ensures c.insert-2.ensures.updates in
     entered g.K.PartialEq.eq g.met.K.Eq.laws c.self.inside.given c.args.key c.args.value c.self.inside.held.entries c.insert.new.self.entries c.self.inside.serials.entries c.insert-2.new.self.entries
-      c.self.invariant
-      (ap (λ (now : Bounded (Entry _ _)). list_any (has_key g.K.PartialEq.eq c.args.key) (now.part.held)) c.self.view_is ∙ sym c.has_key.ensures ∙ c.if-has_key.false)
-      c.in-Ok-insert.ensures.entries c.insert.ensures.ordered
-      (λ other. put.0 other ∙ ap (λ serials. cond (g.K.PartialEq.eq c.args.key other) (Some c.self.inside.given) (lookup (g.K.PartialEq.eq other) serials)) c.reserve.ensures.entries)
+    c.self.invariant
+    (ap (λ (now : Bounded (Entry _ _)). list_any (has_key g.K.PartialEq.eq c.args.key) (now.part.held)) c.self.view_is ∙ sym c.has_key.ensures ∙ c.if-has_key.false)
+    c.in-Ok-insert.ensures.entries c.insert.ensures.ordered
+    (λ other. put.0 other ∙ ap (λ serials. cond (g.K.PartialEq.eq c.args.key other) (Some c.self.inside.given) (lookup (g.K.PartialEq.eq other) serials)) c.reserve.ensures.entries)
 
 pub returns-clause-entered : goal.returns-clause-entered
 returns-clause-entered g c =

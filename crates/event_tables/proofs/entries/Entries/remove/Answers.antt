@@ -21,15 +21,15 @@ returns-clause-answer g c =
 pub invariant_of-self-2 : goal.invariant_of-self-2
 invariant_of-self-2 g c =
     (taken g.K.PartialEq.eq g.met.K.Eq.laws c.self.inside.given c.args.key c.in-Some.serial c.self.inside.held.entries c.remove.new.self.entries c.self.inside.serials.entries c.swap_remove.new.self.entries
-      c.self.invariant (sym (c.self.invariant.found c.args.key) ∙ sym c.swap_remove.ensures.value ∙ c.in-Some.is)
-      c.remove.ensures.entries c.remove.ensures.ordered c.swap_remove.ensures.updates.0).indexed
+    c.self.invariant (sym (c.self.invariant.found c.args.key) ∙ sym c.swap_remove.ensures.value ∙ c.in-Some.is)
+    c.remove.ensures.entries c.remove.ensures.ordered c.swap_remove.ensures.updates.0).indexed
 
 pub returns-clause-removed : goal.returns-clause-removed
 returns-clause-removed g c =
     kept_in _ c.self.inside.given c.self.inside.most c.self.inside.held.entries c.remove.new.self.entries c.args.self.now
     (taken g.K.PartialEq.eq g.met.K.Eq.laws c.self.inside.given c.args.key c.in-Some.serial c.self.inside.held.entries c.remove.new.self.entries c.self.inside.serials.entries c.swap_remove.new.self.entries
-      c.self.invariant (sym (c.self.invariant.found c.args.key) ∙ sym c.swap_remove.ensures.value ∙ c.in-Some.is)
-      c.remove.ensures.entries c.remove.ensures.ordered c.swap_remove.ensures.updates.0).by_key
+    c.self.invariant (sym (c.self.invariant.found c.args.key) ∙ sym c.swap_remove.ensures.value ∙ c.in-Some.is)
+    c.remove.ensures.entries c.remove.ensures.ordered c.swap_remove.ensures.updates.0).by_key
     c.self.view_is
 
 pub returns-in_default-clause-removed : goal.returns-in_default-clause-removed

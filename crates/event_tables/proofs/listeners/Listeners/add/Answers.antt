@@ -19,8 +19,8 @@ returns-clause-answer c =
     let entered : Enters c.enter.result there roomy =
     enters_of seen_listener (is_listener (seen_target c.args.target) c.args.kind c.args.handler.0) c.self.inside.entries c.args.self.now c.enter.result
     (subst (λ (test : Entry ListenerKey (Unit {0}) → Bool). Enters c.enter.result (list_any test c.self.inside.entries.part.held) (has_room c.self.inside.entries))
-      (is_its_listener c.new-key.result _ _ _ c.new-key.ensures.target c.new-key.ensures.rest.0 (ap (λ handler. handler.0) c.new-key.ensures.rest.1))
-      c.enter.ensures.answer)
+    (is_its_listener c.new-key.result _ _ _ c.new-key.ensures.target c.new-key.ensures.rest.0 (ap (λ handler. handler.0) c.new-key.ensures.rest.1))
+    c.enter.ensures.answer)
     c.self.view_is in
     elim c.match-enter.branch [
       | in-Ok w ↦ subst (λ r. Adds r there roomy) (sym w.result-is) (subst (λ r. Enters r there roomy) w.in-Ok.is entered)
