@@ -1,3 +1,5 @@
+use thiserror::Error;
+
 /// A word's place: from its first byte up to the byte behind its last one, in bytes of the text.
 #[derive(Clone, Copy, Debug, PartialEq, Eq)]
 pub struct Span {
@@ -21,10 +23,11 @@ pub struct Line {
 }
 
 /// What ends a text before its end. Lines and columns count from 1, a column being a byte's place in its line.
-#[derive(Clone, Copy, Debug, PartialEq, Eq)]
+#[derive(Clone, Copy, Debug, PartialEq, Eq, Error)]
 pub enum LexFault {
     /// A byte that is none of 32 to 126, a tab, the line feed that ends a line, or a carriage return directly before
     /// it.
+    #[error("BadByte")]
     BadByte {
         /// The byte's line.
         line: u32,
@@ -32,6 +35,7 @@ pub enum LexFault {
         column: u32,
     },
     /// A line has more bytes than it may have. It ends the text at the first byte too many, whatever byte it is.
+    #[error("LineTooLong")]
     LineTooLong {
         /// The line's number.
         line: u32,
