@@ -1,7 +1,8 @@
 -- Lists that are read from their end.
-use Rattle.std.proofs.Common.{◌≡◌, ℕ, ◌+◌, Bool, true, false, List, [], ◌∷◌, ◌++◌, reverse, refl, sym, ap, ◌∙◌, cond, count_by, zero-add, add_comm}
-use Rattle.std.specs.Prelude.{◌||◌}
+use Rattle.std.proofs.Common.{◌≡◌, ℕ, ◌+◌, Bool, true, false, List, [], ◌∷◌, ◌++◌, reverse, refl, sym, ap, ◌∙◌, cond, count_by, if◌then◌else◌, zero-add, add_comm}
+use Rattle.std.specs.Prelude.{◌||◌, bytes_eq}
 use Rattle.std.specs.List.{list_any}
+use Rattle.indexmap.specs.IndexSet.{insert_key}
 use Rattle.std.proofs.lemmas.List.{reverse-append}
 use Rattle.std.proofs.lemmas.List.Sums.{sum_by-append}
 use Rattle.std.proofs.lemmas.List.Folds.{list_any-append}
@@ -20,6 +21,12 @@ any_reversed p [] = refl
 any_reversed p (x ∷ xs) =
     ap (list_any p) (reversed x xs)
     ∙ list_any-append p (reverse xs) (x ∷ []) ∙ or_swapped (list_any p (reverse xs)) (p x) ∙ ap (λ (rest : Bool). p x || rest) (any_reversed p xs)
+
+pub name_added : (names after : List (List ℕ)) (name : List ℕ) → list_any (bytes_eq name) (reverse names) ≡ false
+    → after ≡ insert_key bytes_eq names name → reverse after ≡ name ∷ reverse names
+name_added names after name fresh made =
+    ap reverse (made ∙ ap (λ (taken : Bool). if taken then names else names ++ name ∷ []) (sym (any_reversed (bytes_eq name) names) ∙ fresh))
+    ∙ reverse-append names (name ∷ [])
 
 pub counted_first : {A : Type 0} (p : A → Bool) (x : A) (xs : List A) → count_by p (x ∷ xs) ≡ cond (p x) 1 0 + count_by p xs
 counted_first p x xs = sum_by-append (λ y. cond (p y) 1 0) (x ∷ []) xs ∙ ap (λ (n : ℕ). n + count_by p xs) (zero-add (cond (p x) 1 0))

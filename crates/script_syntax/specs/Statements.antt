@@ -1,4 +1,6 @@
 -- What a line says, as the definition has it, and the ranges of its numbers.
+use Rattle.std.specs.Prelude.{◌≡◌, ℕ, List, false, bytes_eq}
+use Rattle.std.specs.List.{list_any}
 use Rattle.script_model.specs.Statements as model
 use Rattle.script_syntax.specs.declared.statements.Statement.{Statement}
 use Rattle.script_syntax.specs.declared.statements.Statement.TheVariants as statement
@@ -20,3 +22,8 @@ StatementAllowed statement.OpensEach = Unit {0}
 StatementAllowed (statement.OpensWhen condition) = TestAllowed condition.asks
 StatementAllowed (statement.OpensHandler name) = Unit {0}
 StatementAllowed statement.Ends = Unit {0}
+
+-- a handler that the statement opens has none of these names
+abbrev pub IsFreshAmong : List (List ℕ) → Statement → Type 0
+IsFreshAmong names (statement.OpensHandler name) = list_any (bytes_eq name) names ≡ false
+IsFreshAmong names other = Unit {0}

@@ -1,6 +1,7 @@
 //! What was read so far: items, and blocks and handlers that are open.
 
-ghost use Rattle.std.specs.Prelude.{◌≡◌, count_by};
+ghost use Rattle.std.specs.Prelude.{◌≡◌, ◌∷◌, count_by, bytes_eq, false, reverse, IfOk};
+ghost use Rattle.std.specs.List.{list_any};
 ghost use Rattle.script_model.specs.Reading as model;
 ghost use Rattle.script_syntax.specs.Frames.{opening_of};
 
@@ -8,6 +9,7 @@ use crate::commands::{Body, Command, CommandList, Item, What};
 use crate::faults::ParseFault;
 use crate::frames::{Frame, Opening};
 use crate::statements::Statement;
+use indexmap::IndexSet;
 use std::alloc::{AllocError, Global};
 use std::marker::Model;
 use text_io::{LimitKind, Name};
@@ -20,8 +22,8 @@ pub struct Builder {
     // Innermost last.
     frames: Vec<Frame>,
     items: Vec<Item>,
-    // Those of the handlers, at most 4,096, so that looking through them is quick.
-    names: Vec<Name>,
+    // Those of the handlers, in their order. A look-up is by a hash, however many there are.
+    names: IndexSet<Name>,
 }
 
 impl Model for Builder {
@@ -41,21 +43,21 @@ impl Model for Builder {
     ghost view = { λ b. record {
       frames = reverse (map frame_of b.frames.items);
       items = reverse (map item_of b.items.items);
-      names = reverse b.names.items;
+      names = reverse b.names.keys;
     } };
 
     ghost invariant = { λ b. All FrameAllowed b.frames.items × All ItemAllowed b.items.items };
 }
 
 impl Builder {
-    ghost use Rattle.std.specs.Prelude.{reverse, map, IfOk};
+    ghost use Rattle.std.specs.Prelude.{map};
     ghost use Rattle.std.specs.List.{All};
     ghost use Rattle.script_model.specs.Readers.{is_empty};
     ghost use Rattle.script_syntax.specs.Allowed.{InnerAllowed, ItemAllowed};
     ghost use Rattle.script_syntax.specs.Parsing.{Answers};
     ghost use Rattle.script_syntax.specs.Seen.{command_of, item_of};
     ghost use Rattle.script_syntax.specs.Frames.{OpeningAllowed};
-    ghost use Rattle.script_syntax.specs.Statements.{statement_of, StatementAllowed};
+    ghost use Rattle.script_syntax.specs.Statements.{statement_of, StatementAllowed, IsFreshAmong};
 
     /// Before the first line behind `script 1`.
     pub fn new(alloc: Global) -> Builder
@@ -65,7 +67,7 @@ impl Builder {
             alloc,
             frames: Vec::new(alloc),
             items: Vec::new(alloc),
-            names: Vec::new(alloc),
+            names: IndexSet::new(alloc),
         }
     }
 
@@ -78,10 +80,10 @@ impl Builder {
     }
 
     /// The names of the handlers so far.
-    pub fn handlers(&self) -> &[Name]
-        ensures { reverse result.now ≡ self.now.names }
+    pub fn handlers(&self) -> &IndexSet<Name>
+        ensures { reverse result.now.keys ≡ self.now.names }
     {
-        self.names.as_slice()
+        &self.names
     }
 
     /// The items, where nothing is open.
@@ -92,10 +94,11 @@ impl Builder {
         self.items
     }
 
-    /// A line's statement takes effect.
+    /// A line's statement takes effect. A handler has a name that none has so far.
     #[tactic(auto, unfolding(script_model::specs::Reading::placed), using(crate::proofs::Opened::simple_command, crate::proofs::Inner::action_allowed, crate::proofs::Inner::action_inner))]
     pub fn place(&mut self, line: u32, statement: Statement) -> Result<(), ParseFault>
-        requires { StatementAllowed statement }
+        requires allowed { StatementAllowed statement }
+        requires fresh { IsFreshAmong self.old.names statement }
         ensures { Answers (λ placed. self.new) result (model.placed line (statement_of statement) self.old) }
     {
         match statement {
@@ -162,9 +165,10 @@ impl Builder {
         Ok(())
     }
 
-    /// A handler opens.
+    /// A handler opens, of a name that none has so far.
     #[tactic(auto, unfolding(script_model::specs::Reading::open_handler), using(crate::proofs::Opened::frame_opened))]
     fn open_handler(&mut self, line: u32, name: Name) -> Result<(), ParseFault>
+        requires { list_any (bytes_eq name) self.old.names ≡ false }
         ensures { Answers (λ opened. self.new) result (model.open_handler line name self.old) }
     {
         if self.names.len() as u64 >= LimitKind::Handlers.number() {
@@ -173,7 +177,7 @@ impl Builder {
                 line,
             });
         }
-        self.names.push(name)?;
+        add_name(&mut self.names, name)?;
         let commands = Vec::new(self.alloc);
         self.frames.push(Frame {
             line,
@@ -231,6 +235,16 @@ impl Builder {
             }
         }
     }
+}
+
+/// A name that isn't among these goes last.
+#[tactic(auto, using(crate::proofs::Reversed::name_added))]
+fn add_name(names: &mut IndexSet<Name>, name: Name) -> Result<(), AllocError>
+    requires { list_any (bytes_eq name) (reverse names.old.keys) ≡ false }
+    ensures { IfOk result (λ added. reverse names.new.keys ≡ name ∷ reverse names.old.keys) }
+{
+    names.insert(name)?;
+    Ok(())
 }
 
 /// How many of what is open are blocks.

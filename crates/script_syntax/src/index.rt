@@ -1,20 +1,20 @@
 //! Where the handlers of a script are.
 
 ghost use Rattle.std.specs.Prelude.{map, take, IfOk, bytes_eq};
-ghost use Rattle.std.specs.HashMap.{get};
+ghost use Rattle.indexmap.specs.IndexMap.{get};
 ghost use Rattle.script_syntax.specs.Indexes.{Indexed, Noted};
 ghost use Rattle.script_syntax.specs.Seen.{item_of};
 
 use crate::commands::Item;
+use indexmap::IndexMap;
 use std::alloc::{AllocError, Global};
-use std::collections::HashMap;
 use text_io::Name;
 
 /// The places of the handlers among the items, in their order, and the number of each by its name.
 #[derive(Drop)]
 pub struct Index {
     pub places: Vec<usize>,
-    pub numbers: HashMap<Name, u32>,
+    pub numbers: IndexMap<Name, u32>,
 }
 
 /// The handlers of these items.
@@ -24,7 +24,7 @@ pub fn index_of(alloc: Global, items: &[Item]) -> Result<Index, AllocError>
 {
     let mut index = Index {
         places: Vec::new(alloc),
-        numbers: HashMap::new(alloc),
+        numbers: IndexMap::new(alloc),
     };
     for (place, item) in items.iter().enumerate() {
         match item {

@@ -33,7 +33,7 @@ impl Model for Script {
 
     ghost use Rattle.script_syntax.specs.Seen.{item_of};
     ghost use Rattle.std.specs.Prelude.{bytes_eq};
-    ghost use Rattle.std.specs.HashMap.{get};
+    ghost use Rattle.indexmap.specs.IndexMap.{get};
     ghost use Rattle.script_syntax.specs.Allowed.{ItemAllowed};
     ghost use Rattle.script_syntax.specs.Indexes.{Indexed};
     ghost use Rattle.script_syntax.specs.Read.{IsRead};

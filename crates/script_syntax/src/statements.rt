@@ -1,6 +1,6 @@
 //! What one line says.
 
-ghost use Rattle.std.specs.Prelude.{◌≡◌, cond, not, option_map, Some, None, IfOk, bytes_eq, reverse};
+ghost use Rattle.std.specs.Prelude.{◌≡◌, cond, false, not, option_map, Some, None, IfOk, IfSome, bytes_eq, reverse};
 ghost use Rattle.std.specs.List.{list_any};
 ghost use Rattle.script_model.specs.Forms.{word_as};
 ghost use Rattle.script_model.specs.Keywords.{lookup};
@@ -10,7 +10,7 @@ ghost use Rattle.script_syntax.specs.Allowed.{TestAllowed};
 ghost use Rattle.script_syntax.specs.Heads.{head_of, shape_of};
 ghost use Rattle.script_syntax.specs.Lines.{Gives};
 ghost use Rattle.script_syntax.specs.Seen.{test_of, condition_of};
-ghost use Rattle.script_syntax.specs.Statements.{statement_of, StatementAllowed};
+ghost use Rattle.script_syntax.specs.Statements.{statement_of, StatementAllowed, IsFreshAmong};
 
 use crate::actions::action;
 use crate::commands::What;
@@ -19,6 +19,7 @@ use crate::heads::{Head, Shape};
 use crate::operands::{Condition, Test};
 use crate::tables;
 use crate::words::Words;
+use indexmap::IndexSet;
 use std::alloc::Global;
 use text_io::Name;
 
@@ -41,11 +42,12 @@ pub enum Statement {
 pub fn read_statement(
     alloc: Global,
     outside: bool,
-    handlers: &[Name],
+    handlers: &IndexSet<Name>,
     words: &mut Words<'_>,
 ) -> Result<Statement, LineFault>
-    ensures value { Gives statement_of result (model.statement_of (record { outside = outside; names = reverse handlers.now }) words.old) }
+    ensures value { Gives statement_of result (model.statement_of (record { outside = outside; names = reverse handlers.now.keys }) words.old) }
     ensures allowed { IfOk result (λ statement. StatementAllowed statement) }
+    ensures fresh { IfOk result (λ statement. IsFreshAmong (reverse handlers.now.keys) statement) }
 {
     let head = head(outside, words)?;
     operands(alloc, head, handlers, words)
@@ -94,11 +96,12 @@ fn head(outside: bool, words: &mut Words<'_>) -> Result<Head, LineFault>
 fn operands(
     alloc: Global,
     head: Head,
-    handlers: &[Name],
+    handlers: &IndexSet<Name>,
     words: &mut Words<'_>,
 ) -> Result<Statement, LineFault>
-    ensures value { Gives statement_of result (model.operands_of (reverse handlers.now) (head_of head) words.old) }
+    ensures value { Gives statement_of result (model.operands_of (reverse handlers.now.keys) (head_of head) words.old) }
     ensures allowed { IfOk result (λ statement. StatementAllowed statement) }
+    ensures fresh { IfOk result (λ statement. IsFreshAmong (reverse handlers.now.keys) statement) }
 {
     match head {
         Head::Act(verb) => {
@@ -128,9 +131,10 @@ fn operands(
 
 /// `handler NAME`, of a name that no handler has.
 #[tactic(auto, unfolding(script_model::specs::Statements::handler_as))]
-fn handler(handlers: &[Name], words: &mut Words<'_>) -> Result<Statement, LineFault>
-    ensures value { Gives statement_of result (model.handler_as (reverse handlers.now) words.old) }
+fn handler(handlers: &IndexSet<Name>, words: &mut Words<'_>) -> Result<Statement, LineFault>
+    ensures value { Gives statement_of result (model.handler_as (reverse handlers.now.keys) words.old) }
     ensures allowed { IfOk result (λ statement. StatementAllowed statement) }
+    ensures fresh { IfOk result (λ statement. IsFreshAmong (reverse handlers.now.keys) statement) }
 {
     let word = words.next()?;
     let Some(name) = fresh_name(handlers, word.text) else {
@@ -144,20 +148,15 @@ fn handler(handlers: &[Name], words: &mut Words<'_>) -> Result<Statement, LineFa
 
 /// A name that no handler has.
 #[tactic(auto, unfolding(script_model::specs::Statements::fresh_name_of), using(crate::proofs::Reversed::any_reversed))]
-fn fresh_name(handlers: &[Name], word: &[u8]) -> Option<Name>
-    ensures { result ≡ model.fresh_name_of (reverse handlers.now) word.now }
+fn fresh_name(handlers: &IndexSet<Name>, word: &[u8]) -> Option<Name>
+    ensures value { result ≡ model.fresh_name_of (reverse handlers.now.keys) word.now }
+    ensures fresh { IfSome result (λ name. list_any (bytes_eq name) (reverse handlers.now.keys) ≡ false) }
 {
     let name = Name::read(word)?;
-    if is_taken(handlers, word) {
+    if handlers.contains(&name) {
         return None;
     }
     Some(name)
-}
-
-fn is_taken(handlers: &[Name], word: &[u8]) -> bool
-    ensures { result ≡ list_any (bytes_eq word.now) handlers.now }
-{
-    handlers.iter().any(|name| word == name.bytes())
 }
 
 /// `not`, if it stands there, and a test.

@@ -1,7 +1,7 @@
 use Rattle.std.proofs.lemmas.List.{length-map}
 use Rattle.std.proofs.Common.{◌+◌, ◌≤◌, ℕ, List, map, ap, sym, subst}
 use Rattle.std.specs.Prelude.{bytes_eq}
-use Rattle.std.specs.HashMap.{get}
+use Rattle.indexmap.specs.IndexMap.{get}
 use Rattle.std.specs.Map.{lookup}
 use Rattle.script_syntax.specs.Indexes.{IndexedTo}
 use Rattle.script_syntax.specs.Seen.{item_of}

@@ -1,6 +1,6 @@
 use Rattle.std.proofs.Common.{map}
 use Rattle.std.specs.Prelude.{bytes_eq}
-use Rattle.std.specs.HashMap.{get}
+use Rattle.indexmap.specs.IndexMap.{get}
 use Rattle.script_syntax.specs.Indexes.{IndexedTo}
 use Rattle.script_syntax.specs.Seen.{item_of}
 use Rattle.script_syntax.proofs.index.index_of.Given as goal
