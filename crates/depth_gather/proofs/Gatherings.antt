@@ -4,15 +4,18 @@ use Rattle.std.proofs.lemmas.List.{append-nil, take_all, take_more, length-take}
 use Rattle.std.proofs.lemmas.Option.{get_or_from_slice_get, slice_get_within}
 use Rattle.std.proofs.lemmas.List.Elements.{filter-append}
 use Rattle.std.proofs.lemmas.List.Filters.{length-filter_both}
+use Rattle.std.proofs.lemmas.List.Sums.{sum_by-cons}
+use Rattle.std.proofs.lemmas.Bool.{false≢true}
 use Rattle.std.proofs.lemmas.Option.{slice_get-get_or, slice_get-map}
-use Rattle.std.specs.Prelude.{Bool, true, false, cond, not, List, [], ◌∷◌, ◌++◌, filter, slice_get, Some, None, option_map, option_to_list}
-use Rattle.page_model.specs.World.{Observation as ModelObservation, ResizeObserver}
+use Rattle.std.specs.Prelude.{Bool, true, false, cond, not, List, [], ◌∷◌, ◌++◌, filter, map, sum_by, slice_get, Some, None, option_map, option_to_list}
+use Rattle.page_model.specs.World.{Observation as ModelObservation, ResizeObserver, ResizeObservers}
 use Rattle.page_model.specs.Lookups.{no_resize_observer, change_at, change_each}
 use Rattle.page_model.specs.Gathering.{Sight, has_changed, is_deeper, gathered, gathered_if, gathering, is_of}
+use Rattle.page_model.specs.ResizeObserving.{resize_observations}
 use Rattle.resize_observer.specs.declared.observation.Observation.{Observation}
 use Rattle.resize_observer.specs.Observations.{seen_observation, seen_observations}
 use Rattle.resize_observer.specs.Observers.{HeldObservers, observers_of, observer_at, nth_of, changing, gathered_at, list_for}
-use Rattle.depth_gather.specs.Gathering.{gathered_of, gathered_first}
+use Rattle.depth_gather.specs.Gathering.{gathered_of, gathered_first, active_count}
 use Rattle.depth_gather.proofs.Places.{from_place, past_end}
 use Rattle.depth_gather.proofs.Changes.{changed-twice, changed-same, unchanged, at-changed, places-kept, changed-each}
 
@@ -125,6 +128,25 @@ gathered_same sight depth place n it items none before seen there changed =
 
 pub all_gathered : (sight : Sight) (depth place : ℕ) (o : ResizeObserver) → length o.targets ≤ place → gathered_first sight depth place o ≡ gathered sight depth o
 all_gathered sight depth place o all = ap (λ (these : List ModelObservation). gathered_of sight depth these o) (take_all place o.targets all)
+
+-- what is active after gathering is no more than all observers hold
+
+first-within : {A : Type 0} (f g : A → ℕ) (is : Bool) (x : A) (xs ys : List A) → (is ≡ true → f x ≤ g x) → sum_by f xs ≤ sum_by g ys → sum_by f (cond is (x ∷ xs) xs) ≤ sum_by g (x ∷ ys)
+first-within f g true x xs ys one rest = omega (arith, one refl, rest, sum_by-cons f x xs, sum_by-cons g x ys)
+first-within f g false x xs ys one rest = omega (arith, rest, sum_by-cons g x ys)
+
+sum-within : {A B : Type 0} (test : B → Bool) (f g : B → ℕ) (made : A → B) → ((x : A) → test (made x) ≡ true → f (made x) ≤ g (made x)) → (xs : List A) → sum_by f (filter test (map made xs)) ≤ sum_by g (map made xs)
+sum-within test f g made each [] = omega arith
+sum-within test f g made each (x ∷ xs) = first-within f g (test (made x)) (made x) (filter test (map made xs)) (map made xs) (each x) (sum-within test f g made each xs)
+
+one-within : (sight : Sight) (document depth : ℕ) (o : ResizeObserver) (is : Bool) → is_of document o ≡ is → is_of document (gathered_if is sight depth o) ≡ true → length (gathered_if is sight depth o).active ≤ length (gathered_if is sight depth o).targets
+one-within sight document depth o true same its = list-most sight depth o.targets o true
+one-within sight document depth o false same its = absurd (false≢true (sym same ∙ its))
+
+pub active_within : (sight : Sight) (document depth : ℕ) (it : ResizeObservers) → active_count document (gathering sight document depth it) ≤ resize_observations (gathering sight document depth it)
+active_within sight document depth it =
+    sum-within (is_of document) (λ (o : ResizeObserver). length o.active) (λ (o : ResizeObserver). length o.targets) (λ (o : ResizeObserver). gathered_if (is_of document o) sight depth o)
+    (λ o. one-within sight document depth o (is_of document o) refl) it.made
 
 -- observer by observer
 

@@ -1,7 +1,8 @@
 -- A document's observers by place: their numbers, and the observers themselves.
 use Rattle.std.proofs.Common.{◌≡◌, ℕ, zero, suc, ◌+◌, ◌<◌, ◌≤◌, ◌∙◌, ap, refl, sym, length, drop, arith, add-one}
 use Rattle.std.proofs.lemmas.Option.{none-some, same_Some, slice_get-map, slice_get_within}
-use Rattle.std.specs.Prelude.{Bool, true, false, cond, ◌&&◌, ◌||◌, List, [], ◌∷◌, filter, map, slice_get, unwrap_or, Option, Some, None, option_map}
+use Rattle.std.proofs.lemmas.List.Sums.{sum_by-cons}
+use Rattle.std.specs.Prelude.{Bool, true, false, cond, ◌&&◌, ◌||◌, List, [], ◌∷◌, filter, map, sum_by, slice_get, unwrap_or, Option, Some, None, option_map}
 use Rattle.std.specs.List.{list_any}
 use Rattle.page_model.specs.World.{ResizeObserver, ResizeObservers}
 use Rattle.page_model.specs.Lookups.{no_resize_observer, resize_observer_at}
@@ -72,6 +73,18 @@ pub its_next : (document : ℕ) (it : ResizeObservers) (place n : ℕ) → Some 
 its_next document it place n found =
     from_place (its_of document it) place (resize_observer_at it n) (at-place document it place ∙ ap (option_map (resize_observer_at it)) (sym found))
     ∙ ap (λ next. resize_observer_at it n ∷ drop next (its_of document it)) (sym (add-one place))
+
+abbrev pub active_in : List ResizeObserver → ℕ
+active_in observers = sum_by (λ (it : ResizeObserver). length it.active) observers
+
+-- what is active in the next observer is counted, and what is active in those behind it is still to be
+pub counted_next :
+    (document : ℕ) (it : ResizeObservers) (place n number total : ℕ) → Some n ≡ nth_in it document place → number + active_in (drop place (its_of document it)) ≡ total →
+    number + length (resize_observer_at it n).active + active_in (drop (place + 1) (its_of document it)) ≡ total
+counted_next document it place n number total found so_far =
+    let more : active_in (drop place (its_of document it)) ≡ length (resize_observer_at it n).active + active_in (drop (place + 1) (its_of document it)) =
+    ap active_in (its_next document it place n found) ∙ sum_by-cons (λ (each : ResizeObserver). length each.active) (resize_observer_at it n) (drop (place + 1) (its_of document it)) in
+    omega (arith, more, so_far)
 
 pub its_end : (document : ℕ) (it : ResizeObservers) (place : ℕ) → None ≡ nth_in it document place → drop place (its_of document it) ≡ []
 its_end document it place past = past_end (its_of document it) place (at-place document it place ∙ ap (option_map (resize_observer_at it)) (sym past))

@@ -1,8 +1,9 @@
 //! Gathering at a depth.
 
-ghost use Rattle.std.specs.Prelude.{◌≡◌, ◌+◌, ◌<◌, min, length};
+ghost use Rattle.std.specs.Prelude.{◌≡◌, ◌≤◌, ◌+◌, ◌<◌, length};
 ghost use Rattle.resize_observer.specs.Observers.{observer_at, changing};
 ghost use Rattle.page_model.specs.Gathering.{gathered, gathering};
+ghost use Rattle.page_model.specs.ResizeObserving.{resize_observations};
 ghost use Rattle.depth_gather.specs.Gathering.{gathered_first, active_count};
 
 use crate::Sizes;
@@ -12,11 +13,9 @@ use resize_observer::{ObserverId, Observers};
 /// Gathers the active observations of a document (Resize Observer, 3.4: gather active observations at depth), and answers
 /// how many there are: each observer of the document holds as active those of its targets whose size isn't the last
 /// reported one and which stand deeper than `depth`, and as skipped those whose size isn't and which don't. No memory.
-///
-/// The number stands still at the end of its type, which no table of observers reaches: it holds fewer observations.
 pub fn gather<Z: Sizes>(observers: &mut Observers, sizes: &Z, document: u32, depth: u32) -> u32
     ensures gathered { observers.new ≡ record observers.old { part = gathering (Z.sight sizes.now) document depth (observers.old.part) } }
-    ensures number { result ≡ min (active_count document observers.new.part) 4294967295 }
+    ensures number { result ≡ active_count document observers.new.part }
     ensures count { length observers.new.part.made ≡ length observers.old.part.made }
 {
     gather_all(observers, sizes, document, depth);
@@ -35,17 +34,19 @@ fn gather_all<Z: Sizes>(observers: &mut Observers, sizes: &Z, document: u32, dep
     }
 }
 
-// How many observations are active in a document.
+// How many observations are active in a document. They are no more than all observers hold, of which there are fewer than
+// 2^32.
 fn active_number(observers: &Observers, document: u32) -> u32
-    ensures { result ≡ min (active_count document observers.now.part) 4294967295 }
+    requires { active_count document observers.now.part ≤ resize_observations observers.now.part }
+    ensures { result ≡ active_count document observers.now.part }
 {
-    let mut number: usize = 0;
+    let mut number = 0;
     let mut place = 0;
     while let Some(observer) = observers.of_document(document, place) {
-        number = number.saturating_add(observers.active(observer).len());
+        number += observers.active(observer).len() as u32;
         place += 1;
     }
-    number.min(4_294_967_295) as u32
+    number
 }
 
 // One observer gathers.

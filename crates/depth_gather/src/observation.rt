@@ -3,23 +3,25 @@
 ghost use Rattle.std.specs.Prelude.{◌≡◌};
 ghost use Rattle.page_model.specs.Gathering.{has_changed, size_entry};
 ghost use Rattle.page_model.specs.Lookups.{same_extent};
-ghost use Rattle.resize_observer.specs.Observations.{seen_size, seen_observation};
+ghost use Rattle.resize_observer.specs.Observations.{IsSize, HasSize, seen_size, seen_observation};
 ghost use Rattle.depth_gather.specs.Entries.{as_entry, HasLengths};
 
 use crate::{ResizeEntry, Sizes};
 use px_units::{BoxKind, Size};
 use resize_observer::Observation;
 
-// Sizes have no sign (a last reported one isn't known to be above 0).
+// Whether two sizes are one.
 fn is_same(a: Size, b: Size) -> bool
+    requires first { IsSize a }
+    requires second { IsSize b }
     ensures { result ≡ same_extent (seen_size a) (seen_size b) }
 {
-    a.width.unsigned_abs() == b.width.unsigned_abs()
-        && a.height.unsigned_abs() == b.height.unsigned_abs()
+    a == b
 }
 
 // Whether the observed size isn't the last reported one (Resize Observer, 3.1: isActive).
 pub(crate) fn has_changed<Z: Sizes>(sizes: &Z, observation: &Observation) -> bool
+    requires { HasSize observation.now }
     ensures { result ≡ has_changed (Z.sight sizes.now) (seen_observation observation.now) }
 {
     let now = sizes.size_now(observation.target, observation.observed);

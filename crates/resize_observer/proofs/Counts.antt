@@ -10,7 +10,7 @@ use Rattle.resize_observer.specs.declared.documents.Documents.{Documents}
 use Rattle.resize_observer.specs.Documents.{Tells}
 use Rattle.resize_observer.specs.Held.{IsHeld, targets_in}
 use Rattle.resize_observer.specs.Serials.{HasSerials}
-use Rattle.resize_observer.specs.Observers.{HeldObservers, observer_at, may_observe}
+use Rattle.resize_observer.specs.Observers.{HeldObservers, observer_at, may_observe, IsLimited}
 use Rattle.resize_observer.proofs.Places.{within, read}
 use Rattle.resize_observer.proofs.Telling.{tells-changed}
 use Rattle.resize_observer.proofs.Numbers.{Keeps, serials-kept, serials-made, serials-observed, with_new, no_serials}
@@ -42,6 +42,7 @@ held-changed change keeps {inside} {it} {documents} {count} {count'} {place} {ol
     record {
       observers = subst (λ n. n ≤ inside.most_observers) (sym (length-set (inside.part.made) place new)) was.observers;
       numbers = was.numbers;
+      most = was.most;
       counted = omega (arith, sums, counts, moves);
       observations = omega (arith, bound, moves, fewer);
       serials = serials-kept change keeps.serials (inside.part.given) (inside.part.made) place old new there is same was.serials;
@@ -72,14 +73,19 @@ held-made {made} {documents} {observed} {count} {most_observers} {most_observati
     record {
       observers = omega (arith, longer, room);
       numbers = was.numbers;
+      most = was.most;
       counted = omega (arith, sums, counts);
       observations = was.observations;
       serials = serials-made observed made document handler was.serials;
       told = told;
     }
 
-pub held-none : (documents : Documents) (most_observers most_observations : ℕ) → most_observers < 2 ^ 32 → Tells documents [] → IsHeld [] documents 0 0 most_observers most_observations
-held-none documents most_observers most_observations numbers told = record { observers = omega arith; numbers = numbers; counted = refl; observations = omega arith; serials = no_serials; told = told }
+pub held-none : (documents : Documents) (most_observers most_observations : ℕ) → most_observers < 2 ^ 32 → most_observations < 2 ^ 32 → Tells documents [] → IsHeld [] documents 0 0 most_observers most_observations
+held-none documents most_observers most_observations numbers most told = record { observers = omega arith; numbers = numbers; most = most; counted = refl; observations = omega arith; serials = no_serials; told = told }
+
+-- what they keep true of how many are held, told of the observers
+pub limited : {inside it : HeldObservers} {documents : Documents} {count : ℕ} → inside ≡ it → IsHeld inside.part.made documents inside.part.given count inside.most_observers inside.most_observations → IsLimited it
+limited {inside} {it} {documents} {count} seen is = subst IsLimited seen (record { held = omega (arith, is.counted, is.observations); most = is.most })
 
 -- observing
 
@@ -101,6 +107,7 @@ held-observed new {inside} {it} {documents} {count} {count'} {place} {old} {afte
     record {
       observers = subst (λ n. n ≤ inside.most_observers) (sym (length-set (inside.part.made) place after)) was.observers;
       numbers = was.numbers;
+      most = was.most;
       counted = omega (arith, sums, counts, moves);
       observations = bound;
       serials = subst (λ n. HasSerials n (set inside.part.made place after)) following (serials-observed (inside.part.made) place new old after there is same (subst (λ n. HasSerials n (inside.part.made)) (sym next) was.serials));

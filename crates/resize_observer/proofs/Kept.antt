@@ -7,12 +7,12 @@ use Rattle.std.proofs.lemmas.List.Elements.{All-filter}
 use Rattle.std.proofs.lemmas.List.Folds.{list_any-append}
 use Rattle.std.proofs.lemmas.Map.Views.{any-filter_same}
 use Rattle.std.specs.HashSet.{HashSet, contains}
-use Rattle.std.specs.Prelude.{Bool, true, false, not, cond, ◌||◌, ◌&&◌, List, [], ◌∷◌, ◌++◌, map}
+use Rattle.std.specs.Prelude.{Bool, true, false, not, cond, ◌||◌, ◌&&◌, List, [], ◌∷◌, ◌++◌, All, map}
 use Rattle.page_model.specs.World.{Extent, Observation as ModelObservation}
 use Rattle.page_model.specs.ResizeObserving.{is_observed, without_observed}
 use Rattle.resize_observer.specs.declared.observation.Observation.{Observation}
 use Rattle.resize_observer.specs.Held.{IsKept}
-use Rattle.resize_observer.specs.Observations.{seen_observation, seen_observations}
+use Rattle.resize_observer.specs.Observations.{HasSize, seen_observation, seen_observations}
 use Rattle.resize_observer.specs.Reports.{with_last}
 use Rattle.resize_observer.specs.Serials.{IsAbove, IsRising}
 use Rattle.resize_observer.proofs.Rising.{filter-rising, push-rising, reported-rising}
@@ -54,14 +54,15 @@ taken_test false others = refl
 seen-length : (xs : List Observation) (ys : List ModelObservation) → seen_observations xs ≡ ys → length xs ≡ length ys
 seen-length xs ys same = sym (length-map xs seen_observation) ∙ ap (λ (these : List ModelObservation). length these) same
 
-module _ {S : Type 0} {xs : List Observation} {observed : HashSet ℕ S} {active skipped : ℕ} where
+module _ {S : Type 0} {xs on_active on_skipped : List Observation} {observed : HashSet ℕ S} {active skipped : ℕ} where
   pub kept-observed :
-      (new : Observation) (after : List Observation) (observed' : HashSet ℕ S) {active' skipped' : ℕ} →
-      IsKept xs observed active skipped → IsAbove new.number (seen_observations xs) →
+      (new : Observation) (after : List Observation) (observed' : HashSet ℕ S) {on_active' on_skipped' : List Observation} {active' skipped' : ℕ} →
+      IsKept xs on_active on_skipped observed active skipped → IsAbove new.number (seen_observations xs) →
       seen_observations after ≡ without_observed new.target.0 (seen_observations xs) ++ seen_observation new ∷ [] →
       ((q : ℕ) → contains nat_eq observed' q ≡ cond (nat_eq new.target.0 q) true (contains nat_eq observed q)) →
-      length after ≤ active' → length after ≤ skipped' → IsKept after observed' active' skipped'
-  kept-observed new after observed' was above is puts room_active room_skipped = record {
+      length after ≤ active' → length after ≤ skipped' →
+      All HasSize after → on_active' ≡ on_active → on_skipped' ≡ on_skipped → IsKept after on_active' on_skipped' observed' active' skipped'
+  kept-observed new after observed' was above is puts room_active room_skipped sizes same_active same_skipped = record {
     rising = subst (λ (these : List ModelObservation). IsRising these) (sym is) (push-rising (without_observed new.target.0 (seen_observations xs)) (seen_observation new) (filter-rising _ (seen_observations xs) was.rising) (All-filter _ (λ (each : ModelObservation). each.serial < new.number) (seen_observations xs) above));
     elements = λ q.
         puts q ∙ ap (cond (nat_eq new.target.0 q) true) (was.elements q)
@@ -71,14 +72,17 @@ module _ {S : Type 0} {xs : List Observation} {observed : HashSet ℕ S} {active
         ∙ ap (is_observed q) (sym is);
     active = room_active;
     skipped = room_skipped;
+    sizes = sizes;
+    active_sizes = subst (All HasSize) (sym same_active) was.active_sizes;
+    skipped_sizes = subst (All HasSize) (sym same_skipped) was.skipped_sizes;
   }
 
   pub kept-unobserved :
       (n : ℕ) (after : List Observation) (observed' : HashSet ℕ S) →
-      IsKept xs observed active skipped → seen_observations after ≡ without_observed n (seen_observations xs) →
+      IsKept xs on_active on_skipped observed active skipped → seen_observations after ≡ without_observed n (seen_observations xs) →
       ((q : ℕ) → contains nat_eq observed' q ≡ cond (nat_eq n q) false (contains nat_eq observed q)) →
-      length after ≤ length xs → IsKept after observed' active skipped
-  kept-unobserved n after observed' was is takes fewer = record {
+      length after ≤ length xs → All HasSize after → IsKept after on_active on_skipped observed' active skipped
+  kept-unobserved n after observed' was is takes fewer sizes = record {
     rising = subst (λ (these : List ModelObservation). IsRising these) (sym is) (filter-rising _ (seen_observations xs) was.rising);
     elements = λ q.
         takes q ∙ ap (cond (nat_eq n q) false) (was.elements q)
@@ -87,13 +91,16 @@ module _ {S : Type 0} {xs : List Observation} {observed : HashSet ℕ S} {active
         ∙ ap (is_observed q) (sym is);
     active = omega (arith, fewer, was.active);
     skipped = omega (arith, fewer, was.skipped);
+    sizes = sizes;
+    active_sizes = was.active_sizes;
+    skipped_sizes = was.skipped_sizes;
   }
 
   pub kept-reported :
       (serial : ℕ) (last : Extent) (after : List Observation) →
-      IsKept xs observed active skipped → seen_observations after ≡ map (with_last serial last) (seen_observations xs) →
-      IsKept after observed active skipped
-  kept-reported serial last after was is =
+      IsKept xs on_active on_skipped observed active skipped → seen_observations after ≡ map (with_last serial last) (seen_observations xs) → All HasSize after →
+      IsKept after on_active on_skipped observed active skipped
+  kept-reported serial last after was is sizes =
       let long : length after ≡ length xs =
       seen-length after (map (with_last serial last) (seen_observations xs)) is ∙ length-map (seen_observations xs) (with_last serial last) ∙ length-map xs seen_observation in
       record {
@@ -101,4 +108,7 @@ module _ {S : Type 0} {xs : List Observation} {observed : HashSet ℕ S} {active
         elements = λ q. was.elements q ∙ sym (observed-reported serial last q (seen_observations xs)) ∙ ap (is_observed q) (sym is);
         active = omega (arith, long, was.active);
         skipped = omega (arith, long, was.skipped);
+        sizes = sizes;
+        active_sizes = was.active_sizes;
+        skipped_sizes = was.skipped_sizes;
       }

@@ -1,5 +1,5 @@
 -- The resize observers that this crate keeps: the definitions' part, and how many there may be (Resize Observer, 2 and 3).
-use Rattle.std.specs.Prelude.{ℕ, Bool, true, false, ◌||◌, nat_lt, Option, List, [], ◌++◌, length, map, slice_get, option_to_list}
+use Rattle.std.specs.Prelude.{ℕ, ◌≤◌, ◌<◌, ◌^◌, Bool, true, false, ◌||◌, nat_lt, Option, List, [], ◌++◌, length, map, slice_get, option_to_list}
 use Rattle.page_model.specs.World.{Extent, Observation, ResizeObserver, ResizeObservers}
 use Rattle.page_model.specs.Lookups.{resize_observer_at, change_resize_observer}
 use Rattle.page_model.specs.ResizeObserving.{is_observed, resize_observations}
@@ -30,6 +30,11 @@ has_room it = nat_lt (length it.part.made) it.most_observers
 -- whether an observer may observe a target: one that is there already needs no room
 abbrev pub may_observe : ℕ → ℕ → HeldObservers → Bool
 may_observe observer n it = is_observed n (observer_at it observer).targets || nat_lt (resize_observations it.part) it.most_observations
+
+-- no more observations are held than there may be, which is a number of 32 bits
+pub record IsLimited (it : HeldObservers) : Type 0 where
+  pub held : resize_observations it.part ≤ it.most_observations
+  pub most : it.most_observations < 2 ^ 32
 
 -- one observer changed
 abbrev pub changing : (ResizeObserver → ResizeObserver) → ℕ → HeldObservers → HeldObservers

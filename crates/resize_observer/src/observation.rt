@@ -1,8 +1,8 @@
 //! An observation, and the name of an observer.
 
-ghost use Rattle.std.specs.Prelude.{◌≡◌, ◌<◌, ◌≤◌, ◌+◌, [], ◌∷◌, ◌++◌, not, map, vec_len, vec_capacity};
+ghost use Rattle.std.specs.Prelude.{◌≡◌, ◌<◌, ◌≤◌, ◌+◌, [], ◌∷◌, ◌++◌, All, not, map, vec_len, vec_capacity};
 ghost use Rattle.page_model.specs.ResizeObserving.{is_observed, without_observed};
-ghost use Rattle.resize_observer.specs.Observations.{seen_size, seen_observation, seen_observations};
+ghost use Rattle.resize_observer.specs.Observations.{IsSize, HasSize, seen_size, seen_observation, seen_observations};
 ghost use Rattle.resize_observer.specs.Reports.{with_last};
 ghost use Rattle.resize_observer.specs.Serials.{IsRising};
 
@@ -21,7 +21,8 @@ pub struct Observation {
     pub target: NodeId,
     /// Which box of the target is observed.
     pub observed: BoxKind,
-    /// The last reported size, in units of 1/64 pixel; 0 by 0 at first.
+    /// The last reported size, in units of 1/64 pixel; 0 by 0 at first. That of an observation which observers hold is never
+    /// negative.
     pub last: Size,
 }
 
@@ -30,6 +31,7 @@ pub(crate) fn remove_target(observations: &mut Vec<Observation>, target: NodeId)
     ensures items { seen_observations observations.new.items ≡ without_observed target.0 (seen_observations observations.old.items) }
     ensures bound { vec_len observations.new ≤ vec_len observations.old }
     ensures capacity { vec_capacity observations.new ≡ vec_capacity observations.old }
+    ensures sizes { All HasSize observations.old.items → All HasSize observations.new.items }
 {
     observations.retain(|each| each.target.0 != target.0);
 }
@@ -40,6 +42,7 @@ pub(crate) fn put_last(observations: &mut Vec<Observation>, observation: Observa
     requires new { is_new ≡ not (is_observed observation.target.0 (seen_observations observations.old.items)) }
     ensures items { seen_observations observations.new.items ≡ without_observed observation.target.0 (seen_observations observations.old.items) ++ seen_observation observation ∷ [] }
     ensures bound { vec_len observations.new ≤ vec_len observations.old + 1 }
+    ensures sizes { All HasSize observations.old.items → HasSize observation → All HasSize observations.new.items }
 {
     if !is_new {
         remove_target(observations, observation.target);
@@ -49,8 +52,10 @@ pub(crate) fn put_last(observations: &mut Vec<Observation>, observation: Observa
 
 /// Gives the observation of a serial number this last reported size. Serial numbers rise, so that it is found by halves.
 pub(crate) fn set_last(observations: &mut [Observation], number: u64, last: Size)
-    requires { IsRising (seen_observations observations.old) }
-    ensures { seen_observations observations.new ≡ map (with_last number (seen_size last)) (seen_observations observations.old) }
+    requires rising { IsRising (seen_observations observations.old) }
+    requires size { IsSize last }
+    ensures reported { seen_observations observations.new ≡ map (with_last number (seen_size last)) (seen_observations observations.old) }
+    ensures sizes { All HasSize observations.old → All HasSize observations.new }
 {
     if let Ok(place) = observations.binary_search_by_key(&number, |each| each.number) {
         observations[place].last = last;

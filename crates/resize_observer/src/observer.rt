@@ -1,8 +1,8 @@
 //! One observer with its three lists.
 
-ghost use Rattle.std.specs.Prelude.{◌≡◌, ◌<◌, [], ◌∷◌, ◌++◌, length, OnOk, OnErr};
+ghost use Rattle.std.specs.Prelude.{◌≡◌, ◌<◌, [], ◌∷◌, ◌++◌, All, length, OnOk, OnErr};
 ghost use Rattle.page_model.specs.ResizeObserving.{is_observed, without_observed};
-ghost use Rattle.resize_observer.specs.Observations.{seen_size, seen_observation, seen_observations};
+ghost use Rattle.resize_observer.specs.Observations.{IsSize, HasSize, seen_size, seen_observation, seen_observations};
 ghost use Rattle.resize_observer.specs.Serials.{IsAbove};
 ghost use Rattle.resize_observer.specs.Observers.{ungathered, gathered_at, list_for, reported_at, inactive};
 
@@ -38,7 +38,7 @@ impl Model for Observer {
 
     ghost view = { λ o. record { document = o.document; handler = o.handler; targets = seen_observations o.targets.items; active = seen_observations o.active.items; skipped = seen_observations o.skipped.items } };
 
-    ghost invariant = { λ o. IsKept o.targets.items o.observed (vec_capacity o.active) (vec_capacity o.skipped) };
+    ghost invariant = { λ o. IsKept o.targets.items o.active.items o.skipped.items o.observed (vec_capacity o.active) (vec_capacity o.skipped) };
 }
 
 impl Observer {
@@ -70,6 +70,7 @@ impl Observer {
     pub(crate) fn targets(&self) -> &[Observation]
         ensures value { seen_observations result.now ≡ self.now.targets }
         ensures count { length result.now ≡ length self.now.targets }
+        ensures sizes { All HasSize result.now }
     {
         self.targets.as_slice()
     }
@@ -77,6 +78,7 @@ impl Observer {
     pub(crate) fn active(&self) -> &[Observation]
         ensures value { seen_observations result.now ≡ self.now.active }
         ensures count { length result.now ≡ length self.now.active }
+        ensures sizes { All HasSize result.now }
     {
         self.active.as_slice()
     }
@@ -84,6 +86,7 @@ impl Observer {
     pub(crate) fn skipped(&self) -> &[Observation]
         ensures value { seen_observations result.now ≡ self.now.skipped }
         ensures count { length result.now ≡ length self.now.skipped }
+        ensures sizes { All HasSize result.now }
     {
         self.skipped.as_slice()
     }
@@ -102,7 +105,8 @@ impl Observer {
 
     // A new observation, last; an older one of its target leaves the targets.
     pub(crate) fn observe(&mut self, observation: Observation) -> Result<(), AllocError>
-        requires { IsAbove observation.number self.old.targets }
+        requires above { IsAbove observation.number self.old.targets }
+        requires size { HasSize observation }
         ensures ok { OnOk result (self.new ≡ record self.old { targets = without_observed observation.target.0 self.old.targets ++ seen_observation observation ∷ [] }) }
         ensures err { OnErr result (self.new ≡ self.old) }
     {
@@ -153,6 +157,7 @@ impl Observer {
     }
 
     pub(crate) fn report(&mut self, number: u64, last: Size)
+        requires { IsSize last }
         ensures { self.new ≡ reported_at number (seen_size last) self.old }
     {
         set_last(self.targets.as_mut_slice(), number, last);

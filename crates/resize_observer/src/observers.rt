@@ -1,11 +1,11 @@
 //! The observers of a page.
 
-ghost use Rattle.std.specs.Prelude.{◌≡◌, ◌<◌, ◌-◌, ◌^◌, false, [], length, not, option_map, IfOk, OnOk, OnErr, IfSome};
+ghost use Rattle.std.specs.Prelude.{◌≡◌, ◌<◌, ◌-◌, ◌^◌, false, [], All, length, not, option_map, IfOk, OnOk, OnErr, IfSome};
 ghost use Rattle.page_model.specs.ResizeObserving.{with_resize_observer, with_resize_target, without_resize_target, without_resize_targets};
 ghost use Rattle.resize_observer.specs.Answers.{Enters};
-ghost use Rattle.resize_observer.specs.Observations.{seen_size, seen_observations};
+ghost use Rattle.resize_observer.specs.Observations.{IsSize, HasSize, seen_size, seen_observations};
 ghost use Rattle.resize_observer.specs.Serials.{HasSerials};
-ghost use Rattle.resize_observer.specs.Observers.{observer_at, nth_of, has_room, may_observe, changing, ungathered, gathered_at, list_for, reported_at, inactive};
+ghost use Rattle.resize_observer.specs.Observers.{observer_at, nth_of, has_room, may_observe, IsLimited, changing, ungathered, gathered_at, list_for, reported_at, inactive};
 
 use crate::documents::Documents;
 use crate::observer::Observer;
@@ -211,9 +211,11 @@ impl Observers {
     }
 
     /// The observation of this serial number among the targets, if it is there, gets this last reported size (Resize
-    /// Observer, 3.4: broadcast active observations). One that was made anew for the same target is another.
+    /// Observer, 3.4: broadcast active observations). One that was made anew for the same target is another. No size is
+    /// negative.
     pub fn report(&mut self, observer: ObserverId, number: u64, last: Size)
-        requires { observer.0 < length self.old.part.made }
+        requires observer { observer.0 < length self.old.part.made }
+        requires size { IsSize last }
         ensures reported { self.new ≡ changing (reported_at number (seen_size last)) observer.0 self.old }
         ensures count { length self.new.part.made ≡ length self.old.part.made }
     {
@@ -234,6 +236,7 @@ impl Observers {
         requires { observer.0 < length self.now.part.made }
         ensures value { seen_observations result.now ≡ (observer_at self.now observer.0).targets }
         ensures count { length result.now ≡ length (observer_at self.now observer.0).targets }
+        ensures sizes { All HasSize result.now }
         ensures serials { HasSerials self.now.part.given self.now.part.made }
     {
         self.made[observer.0 as usize].targets()
@@ -244,6 +247,7 @@ impl Observers {
         requires { observer.0 < length self.now.part.made }
         ensures value { seen_observations result.now ≡ (observer_at self.now observer.0).active }
         ensures count { length result.now ≡ length (observer_at self.now observer.0).active }
+        ensures sizes { All HasSize result.now }
         ensures serials { HasSerials self.now.part.given self.now.part.made }
     {
         self.made[observer.0 as usize].active()
@@ -254,6 +258,7 @@ impl Observers {
         requires { observer.0 < length self.now.part.made }
         ensures value { seen_observations result.now ≡ (observer_at self.now observer.0).skipped }
         ensures count { length result.now ≡ length (observer_at self.now observer.0).skipped }
+        ensures sizes { All HasSize result.now }
         ensures serials { HasSerials self.now.part.given self.now.part.made }
     {
         self.made[observer.0 as usize].skipped()
@@ -279,6 +284,7 @@ impl Observers {
     pub fn of_document(&self, document: u32, place: usize) -> Option<ObserverId>
         ensures value { option_map (λ observer. observer.0) result ≡ nth_of self.now document place }
         ensures made { IfSome result (λ observer. observer.0 < length self.now.part.made) }
+        ensures limits { IsLimited self.now }
     {
         let number = self.documents.at(document, place)?;
         Some(ObserverId(number))

@@ -15,7 +15,7 @@ enum Step {
     Disconnect,
     BeginGather,
     Gathered(usize, bool),
-    Report(u64, i64, i64),
+    Report(u64, u32, u32),
     ClearActive,
 }
 
@@ -55,7 +55,11 @@ fn apply(
             observers.gathered(observer, at, active);
         }
         Step::Report(number, width, height) => {
-            observers.report(observer, number, Size { width, height });
+            let last = Size {
+                width: width as i64,
+                height: height as i64,
+            };
+            observers.report(observer, number, last);
         }
         Step::ClearActive => observers.clear_active(observer),
     }

@@ -9,6 +9,7 @@ pub invariant_of-self : goal.invariant_of-self
 invariant_of-self c =
     kept-unobserved c.args.target.0 c.remove_target.new.observations.items c.remove.new.self c.self.invariant c.remove_target.ensures.items c.remove.ensures.updates.0
     (omega (arith, c.remove_target.ensures.bound, c.remove_target.new.observations.ok.0, c.self.inside.targets.ok.0))
+    (c.remove_target.ensures.sizes c.self.invariant.sizes)
 
 pub returns-else-remove : goal.returns-else-remove
 returns-else-remove c =

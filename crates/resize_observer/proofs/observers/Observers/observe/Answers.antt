@@ -4,8 +4,8 @@ use Rattle.resize_observer.proofs.Counts.{count-observed, held-observed}
 use Rattle.resize_observer.proofs.Numbers.{next-above}
 use Rattle.resize_observer.proofs.observers.Observers.observe.Goals as goal
 
-pub observe-requires : goal.observe-requires
-observe-requires c =
+pub observe-requires-clause-above : goal.observe-requires-clause-above
+observe-requires-clause-above c =
     next-above c.self.inside.observed c.self.inside.made.items c.args.observer.0 c.index_mut-it.result.now (within c.self.view_is c.requires.observer) c.index_mut-it.ensures.value c.self.invariant.serials
 
 pub overflow_add-self : goal.overflow_add-self

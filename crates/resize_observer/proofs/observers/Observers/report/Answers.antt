@@ -11,7 +11,7 @@ pub invariant_of-self : goal.invariant_of-self
 invariant_of-self c =
     held-kept (reported_at c.args.number (seen_size c.args.last)) (reported-keeps c.args.number (seen_size c.args.last))
     (λ it. length-map (it.targets) (with_last c.args.number (seen_size c.args.last)))
-    c.self.view_is c.requires c.self.invariant c.index_mut.ensures.value c.report.ensures
+    c.self.view_is c.requires.observer c.self.invariant c.index_mut.ensures.value c.report.ensures
 
 pub returns-clause-reported : goal.returns-clause-reported
-returns-clause-reported c = once_changed (reported_at c.args.number (seen_size c.args.last)) c.self.view_is c.requires c.index_mut.ensures.value c.report.ensures
+returns-clause-reported c = once_changed (reported_at c.args.number (seen_size c.args.last)) c.self.view_is c.requires.observer c.index_mut.ensures.value c.report.ensures
