@@ -6,3 +6,4 @@ pub mod Keeping
 pub mod Looking
 pub mod Same
 pub mod Worlds
+pub mod Samples

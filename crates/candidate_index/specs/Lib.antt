@@ -6,3 +6,4 @@ pub mod Asked
 pub mod Held
 pub mod Codes
 pub mod Worlds
+pub mod Sample

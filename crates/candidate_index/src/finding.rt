@@ -12,6 +12,7 @@ ghost use Rattle.clip_chain.specs.Chains.{Leads};
 ghost use Rattle.clip_chain.specs.Worlds.{element_spot, spot_of_root};
 ghost use Rattle.intersection_observer.specs.Places.{IsStanding};
 ghost use Rattle.intersection_observer.specs.Seen.{seen_root, seen_finding};
+ghost use Rattle.kept_clips.specs.Chains.{IsExact};
 ghost use Rattle.candidate_index.specs.Ranges.{LiesIn, HasBoundsIn, HasBounds};
 ghost use Rattle.candidate_index.specs.Findings.{cut_to, seen, found_from, sight_over};
 ghost use Rattle.candidate_index.specs.Registrations.{basis_for, IfChained, HasClip, IsReady, IsBetween};
@@ -39,7 +40,7 @@ const NO_RECT: Rect = Rect {
 };
 
 // The implicit root is the viewport of the top document.
-fn spot_of_root(root: Root) -> Spot
+pub(crate) fn spot_of_root(root: Root) -> Spot
     ensures { result ≡ spot_of_root (seen_root root) }
 {
     match root {
@@ -73,6 +74,7 @@ fn sight_of<S: Scene, L: Ledger>(
     ensures ticks { (between : List SpotOf) → IfChained (S.standings scene.now (seen_root root) target.0) (Leads (S.scene scene.now) (element_spot target.0) between (spot_of_root (seen_root root))) →
         steps.new ≡ steps.old + steps_if (S.standings scene.now (seen_root root) target.0) between serial clips.old }
     ensures ready { (other : ℕ) (its_root : ModelRoot) (its_target : ℕ) → HasClip (S.scene scene.now) clips.old other its_root its_target → HasClip (S.scene scene.now) clips.new other its_root its_target }
+    ensures exact { (other : ℕ) → IsExact (S.scene scene.now) clips.old other → IsExact (S.scene scene.now) clips.new other }
     ensures range { HasBoundsIn result }
 {
     match scene.standing(root, target) {
@@ -102,6 +104,7 @@ pub(crate) fn basis_of<S: Scene, L: Ledger>(
     ensures ticks { (between : ℕ → List SpotOf) → IsBetween (S.scene scene.now) (S.standings scene.now) watchers.now.part between registration.0 →
         steps.new ≡ steps.old + steps_for (S.scene scene.now) (S.standings scene.now) watchers.now.part between registration.0 clips.old }
     ensures ready { (other : ℕ) → IsReady (S.scene scene.now) (S.standings scene.now) watchers.now.part clips.old other → IsReady (S.scene scene.now) (S.standings scene.now) watchers.now.part clips.new other }
+    ensures exact { (other : ℕ) → IsExact (S.scene scene.now) clips.old other → IsExact (S.scene scene.now) clips.new other }
     ensures range { HasBounds result }
 {
     let watcher = watchers.watcher_of(registration);

@@ -6,6 +6,7 @@ ghost use Rattle.std.specs.FinMap as finite;
 ghost use Rattle.clip_chain.specs.declared.spot.Spot.{Spot as SpotOf};
 ghost use Rattle.intersection_observer.specs.Places.{IsStanding};
 ghost use Rattle.intersection_observer.specs.Seen.{seen_finding, serial_numbers};
+ghost use Rattle.kept_clips.specs.Chains.{IsExact};
 ghost use Rattle.candidate_index.specs.Registrations.{serials_at, basis_for, finding_for, IsReady, IsBetween};
 ghost use Rattle.candidate_index.specs.Asked.{asked_for, steps_for, all_asked, all_steps};
 ghost use Rattle.candidate_index.specs.Held.{kept_of, IsAdded, is_stale, is_stale_now};
@@ -106,6 +107,8 @@ impl Index {
     /// were found from differs now, which is how the target stands to the root, the root rectangle moved by the margins, and
     /// where the chain leads to the root the target's box or the common part of the clips strictly between.
     ///
+    /// A registration that wasn't added counts as never computed.
+    ///
     /// It takes the steps of `clip_of` for those whose chain leads to the root, and no other. Refused only where there is no
     /// memory, and then nothing changes.
     pub fn stale_registrations<S: Scene, L: Ledger>(
@@ -117,7 +120,6 @@ impl Index {
         steps: &mut Steps<L>,
     ) -> Result<Vec<RegistrationId>, AllocError>
         requires made { watcher.0 < length watchers.now.part.made }
-        requires added { All (IsAdded self.now) (serials_at watchers.now.part watcher.0) }
         requires ready { All (IsReady (S.scene scene.now) (S.standings scene.now) watchers.now.part clips.old) (serials_at watchers.now.part watcher.0) }
         ensures stale { (between : ℕ → List SpotOf) → All (IsBetween (S.scene scene.now) (S.standings scene.now) watchers.now.part between) (serials_at watchers.now.part watcher.0) →
             IfOk result (λ stale. serial_numbers stale.items
@@ -127,6 +129,7 @@ impl Index {
         ensures ticks { (between : ℕ → List SpotOf) → All (IsBetween (S.scene scene.now) (S.standings scene.now) watchers.now.part between) (serials_at watchers.now.part watcher.0) →
             OnOk result (steps.new ≡ steps.old + all_steps (S.scene scene.now) (S.standings scene.now) watchers.now.part between (serials_at watchers.now.part watcher.0) clips.old) }
         ensures ready { (other : ℕ) → IsReady (S.scene scene.now) (S.standings scene.now) watchers.now.part clips.old other → IsReady (S.scene scene.now) (S.standings scene.now) watchers.now.part clips.new other }
+        ensures exact { (other : ℕ) → IsExact (S.scene scene.now) clips.old other → IsExact (S.scene scene.now) clips.new other }
         ensures same_clips { OnErr result (clips.new ≡ clips.old) }
         ensures same_steps { OnErr result (steps.new ≡ steps.old) }
     {
@@ -158,6 +161,7 @@ impl Index {
         ensures ticks { (between : ℕ → List SpotOf) → IsBetween (S.scene scene.now) (S.standings scene.now) watchers.now.part between registration.0 →
             steps.new ≡ steps.old + steps_for (S.scene scene.now) (S.standings scene.now) watchers.now.part between registration.0 clips.old }
         ensures ready { (other : ℕ) → IsReady (S.scene scene.now) (S.standings scene.now) watchers.now.part clips.old other → IsReady (S.scene scene.now) (S.standings scene.now) watchers.now.part clips.new other }
+        ensures exact { (other : ℕ) → IsExact (S.scene scene.now) clips.old other → IsExact (S.scene scene.now) clips.new other }
         ensures length { vec_len stale.new ≤ vec_len stale.old + 1 }
         ensures capacity { vec_capacity stale.new ≡ vec_capacity stale.old }
     {
@@ -201,6 +205,7 @@ impl Index {
         ensures ticks { (between : ℕ → List SpotOf) → IsBetween (S.scene scene.now) (S.standings scene.now) watchers.now.part between registration.0 →
             steps.new ≡ steps.old + steps_for (S.scene scene.now) (S.standings scene.now) watchers.now.part between registration.0 clips.old + 1 }
         ensures ready { (other : ℕ) → IsReady (S.scene scene.now) (S.standings scene.now) watchers.now.part clips.old other → IsReady (S.scene scene.now) (S.standings scene.now) watchers.now.part clips.new other }
+        ensures exact { (other : ℕ) → IsExact (S.scene scene.now) clips.old other → IsExact (S.scene scene.now) clips.new other }
     {
         let basis = basis_of(scene, clips, watchers, registration, steps);
         let finding = find(

@@ -5,3 +5,4 @@ pub mod Chains
 pub mod Scenes
 pub mod Numbers
 pub mod Codes
+pub mod Sample

@@ -33,6 +33,7 @@ loop-registration-preserved g c =
     let so_far = c.loop-registration.invariant in
     record {
       ready = λ other h. c.look.ensures.ready other (so_far.ready other h);
+      exact = λ other h. c.look.ensures.exact other (so_far.exact other h);
       room = omega (arith, so_far.room, c.look.ensures.length);
       capacity = c.look.ensures.capacity ∙ so_far.capacity;
       stale = λ between h.

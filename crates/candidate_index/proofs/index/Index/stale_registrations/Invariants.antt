@@ -3,6 +3,7 @@ use Rattle.std.specs.Prelude.{vec_capacity}
 use Rattle.std.specs.List.{All}
 use Rattle.clip_chain.specs.declared.spot.Spot.{Spot}
 use Rattle.intersection_observer.specs.Seen.{serial_numbers}
+use Rattle.kept_clips.specs.Chains.{IsExact}
 use Rattle.candidate_index.specs.Registrations.{serials_at, IsReady, IsBetween}
 use Rattle.candidate_index.specs.Asked.{all_asked, all_steps}
 use Rattle.candidate_index.specs.Held.{is_stale_now}
@@ -17,6 +18,7 @@ invariant-loop-registration g l =
     let rest = serial_numbers (drop l.registration-index l.registrations) in
     record {
       ready : (other : ℕ) → IsReady scene standings it l.fn.clips other → IsReady scene standings it l.clips other;
+      exact : (other : ℕ) → IsExact scene l.fn.clips other → IsExact scene l.clips other;
       room : vec_len l.stale ≤ l.registration-index;
       capacity : vec_capacity l.stale ≡ length l.registrations;
       stale : (between : ℕ → List Spot) → All (IsBetween scene standings it between) serials → serial_numbers l.stale.items ++ filter (is_stale_now scene standings it between l.self) rest ≡ filter (is_stale_now scene standings it between l.self) serials;
