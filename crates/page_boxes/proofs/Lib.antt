@@ -8,6 +8,7 @@ pub mod Pages
 pub mod Marks
 pub mod Rooted
 pub mod Renewed
+pub mod Undue
 pub mod Going
 pub mod Nothing
 pub mod Reaching

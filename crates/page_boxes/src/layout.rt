@@ -8,7 +8,7 @@ ghost use Rattle.block_layout.specs.Seen.{seen_inputs};
 ghost use Rattle.kept_layout.specs.Slots.{held_in};
 ghost use Rattle.page_tree.specs.Steps.{seen_container};
 ghost use Rattle.page_boxes.specs.Fresh.{IsFresh, IsFreshIn, IsFreshAbove, IsFreshFor};
-ghost use Rattle.page_boxes.specs.Kept.{AreKept, is_due, due_count};
+ghost use Rattle.page_boxes.specs.Kept.{AreKept, FillsOnly, is_due, due_count};
 ghost use Rattle.page_boxes.specs.LaidOut.{is_marked, IsLaidOut, AreLaidOut, GoesOn};
 ghost use Rattle.page_boxes.specs.Pages.{seen_size};
 
@@ -47,6 +47,7 @@ fn lay_out<L: Ledger>(
         IsLaidOut page.now.tree (seen_size viewport) boxes.new other }
     ensures kept { AreKept page.now.tree boxes.new }
     ensures slots { length boxes.new ≡ length boxes.old }
+    ensures fills { FillsOnly boxes.old boxes.new }
     ensures ticks { steps.new + due_count page.now.tree (seen_size viewport) boxes.new
         ≤ steps.old + due_count page.now.tree (seen_size viewport) boxes.old }
 {
@@ -78,6 +79,7 @@ fn lay_out_once<L: Ledger>(
     ensures marked { is_marked laid_out.new document ≡ true }
     ensures kept { AreKept page.now.tree boxes.new }
     ensures slots { length boxes.new ≡ length boxes.old }
+    ensures fills { FillsOnly boxes.old boxes.new }
     ensures ticks { steps.new + due_count page.now.tree (seen_size viewport) boxes.new
         ≤ steps.old + due_count page.now.tree (seen_size viewport) boxes.old }
 {
@@ -108,6 +110,7 @@ fn lay_out_up<L: Ledger>(
     ensures marked { is_active page.now.tree document ≡ true → is_marked laid_out.new document ≡ true }
     ensures kept { AreKept page.now.tree boxes.new }
     ensures slots { length boxes.new ≡ length boxes.old }
+    ensures fills { FillsOnly boxes.old boxes.new }
     ensures ticks { steps.new + due_count page.now.tree (seen_size viewport) boxes.new
         ≤ steps.old + due_count page.now.tree (seen_size viewport) boxes.old }
 {
@@ -129,13 +132,14 @@ fn lay_out_up<L: Ledger>(
 
 /// Computes what is due of the page's boxes, with this size of the viewport of `top`: each box of the page is then held as it is
 /// now, and none is due. What is kept fits the page before, and afterwards. It takes at most one step for each box that was due,
-/// and no memory.
+/// sets no mark, drops no box, and takes no memory.
 pub fn refresh<L: Ledger>(boxes: &mut Kept, page: &PageTree, viewport: Size, steps: &mut Steps<L>)
     requires { AreKept page.now.tree boxes.old }
     ensures fresh { IsFresh page.now.tree (seen_size viewport) (held_in boxes.new) }
     ensures kept { AreKept page.now.tree boxes.new }
     ensures done { (n : ℕ) → is_due page.now.tree (seen_size viewport) boxes.new n ≡ false }
     ensures slots { length boxes.new ≡ length boxes.old }
+    ensures fills { FillsOnly boxes.old boxes.new }
     ensures ticks { steps.new + due_count page.now.tree (seen_size viewport) boxes.new ≤ steps.old + due_count page.now.tree (seen_size viewport) boxes.old }
 {
     let mut laid_out = LaidOut::new();
@@ -157,6 +161,7 @@ fn refresh_document<L: Ledger>(
     ensures fresh { IsFreshIn page.now.tree (seen_size viewport) (held_in boxes.new) document }
     ensures kept { AreKept page.now.tree boxes.new }
     ensures slots { length boxes.new ≡ length boxes.old }
+    ensures fills { FillsOnly boxes.old boxes.new }
     ensures ticks { steps.new + due_count page.now.tree (seen_size viewport) boxes.new ≤ steps.old + due_count page.now.tree (seen_size viewport) boxes.old }
 {
     let mut laid_out = LaidOut::new();
@@ -178,6 +183,7 @@ pub fn refresh_for<L: Ledger>(
     ensures fresh { IsFreshFor page.now.tree (seen_size viewport) (held_in boxes.new) (seen_container container) }
     ensures kept { AreKept page.now.tree boxes.new }
     ensures slots { length boxes.new ≡ length boxes.old }
+    ensures fills { FillsOnly boxes.old boxes.new }
     ensures ticks { steps.new + due_count page.now.tree (seen_size viewport) boxes.new ≤ steps.old + due_count page.now.tree (seen_size viewport) boxes.old }
 {
     let around = match container {

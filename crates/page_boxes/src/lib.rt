@@ -9,6 +9,7 @@
 
 mod climb;
 mod documents;
+mod exact;
 mod in_force;
 mod laid_out;
 mod laws;
@@ -20,6 +21,7 @@ mod readings;
 mod tests;
 
 pub use documents::{has_box, viewport_of};
+pub use exact::undue_boxes_are_exact;
 pub use in_force::offset_of;
 pub use laws::nothing_kept_fits;
 pub use layout::{refresh, refresh_for};

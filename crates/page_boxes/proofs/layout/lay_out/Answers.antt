@@ -2,9 +2,11 @@ use Rattle.std.proofs.Common.{None, option_map, refl, ap, sym, subst, ◌∙◌,
 use Rattle.element_tree.specs.Links.{number}
 use Rattle.layout_model.specs.Nodes.{depth_of}
 use Rattle.page_model.specs.Lookups.{document_at}
+use Rattle.layout_model.specs.Boxes.{inputs_in}
 use Rattle.page_model.specs.Documents.{nodes_of}
 use Rattle.page_model.specs.PageBoxes.{framed_size, view_of, inputs_of}
 use Rattle.block_layout.specs.Filling.{GoesDown}
+use Rattle.block_layout.specs.Seen.{seen_inputs}
 use Rattle.block_layout.specs.Trees.{layout_tree}
 use Rattle.block_layout.proofs.Nodes.{parent_is}
 use Rattle.kept_layout.specs.Due.{due_count as due_count_with}
@@ -12,6 +14,7 @@ use Rattle.kept_layout.specs.Slots.{slot_in}
 use Rattle.page_tree.specs.Items.{style_in, kind_in}
 use Rattle.page_boxes.specs.Pages.{seen_size, seen_pair}
 use Rattle.page_boxes.proofs.Pages.{count_here}
+use Rattle.page_boxes.proofs.Undue.{fills_none, fills_fresh}
 use Rattle.page_boxes.proofs.Renewed.{no_root, rootless_here, rootless_laid_out, inputs_go_down, laid_out_here, others_here, kept_here, inputs_on_root, ready_before}
 use Rattle.page_boxes.proofs.layout.lay_out.Goals as goal
 
@@ -104,3 +107,21 @@ returns-clause-ticks g c =
     (inputs_on_root tree framed size c.args.document c.requires.active pair shown at c.tree.ensures.nodes c.in-Some.root.0 rooted _ c.root_inputs.ensures) in
     let same = ap (due_count_with (inputs_of tree size) (slot_in c.refresh.new.self)) c.refresh.ensures.slots in
     omega (arith, paid, same)
+
+-- what it leaves of what is kept
+pub returns-in_default-clause-fills : goal.returns-in_default-clause-fills
+returns-in_default-clause-fills g c = fills_none c.args.boxes.now
+
+pub returns-in_default-framed_size-clause-fills : goal.returns-in_default-framed_size-clause-fills
+returns-in_default-framed_size-clause-fills g c = fills_none c.args.boxes.now
+
+pub returns-clause-fills : goal.returns-clause-fills
+returns-clause-fills g c =
+    let tree = c.args.page.now.tree in
+    let pair = seen_pair c.in-Some-framed_size.size in
+    let shown = c.in-Some-framed_size.ensures.value c.requires.around in
+    let at = layout_tree style_in kind_in c.tree.result.now.nodes in
+    let rooted = sym c.root.ensures.value ∙ ap (option_map number) c.in-Some.is in
+    let ready = ready_before tree c.root.ensures.framed (seen_size c.args.viewport) c.args.document c.requires.active pair shown at c.tree.ensures.nodes c.in-Some.root.0 rooted
+    c.args.boxes.now c.requires.kept in
+    fills_fresh at (inputs_in at c.in-Some.root.0 (seen_inputs c.root_inputs.result)) c.args.boxes.now c.refresh.new.self c.refresh.ensures.others (c.refresh.ensures.fresh ready)

@@ -5,6 +5,7 @@ use Rattle.page_documents.specs.Paths.{way_down}
 use Rattle.page_boxes.specs.LaidOut.{is_marked, AreLaidOut}
 use Rattle.page_boxes.specs.Pages.{seen_size}
 use Rattle.page_boxes.proofs.Views.{path_leads}
+use Rattle.page_boxes.proofs.Undue.{fills_none, fills_on}
 use Rattle.page_boxes.proofs.Going.{none_laid_out, fresh_in, none_due, active_known}
 use Rattle.page_boxes.proofs.layout.refresh.Goals as goal
 
@@ -13,6 +14,7 @@ loop-document-init g c =
     record {
       kept = c.requires;
       slots = refl;
+      fills = fills_none c.args.boxes.now;
       count = ap (λ marks. length marks) c.new-laid_out.ensures;
       laid_out = subst (λ marks. AreLaidOut c.args.page.now.tree (seen_size c.args.viewport) marks c.args.boxes.now) (sym c.new-laid_out.ensures)
           (none_laid_out c.args.page.now.tree (seen_size c.args.viewport) c.args.boxes.now);
@@ -29,6 +31,7 @@ pub loop-document-preserved : goal.loop-document-preserved
 loop-document-preserved g c = record {
   kept = c.lay_out_up.ensures.kept;
   slots = c.lay_out_up.ensures.slots ∙ c.loop-document.invariant.slots;
+  fills = fills_on c.args.boxes.now c.loop-document.boxes c.lay_out_up.new.boxes c.loop-document.invariant.fills c.lay_out_up.ensures.fills;
   count = c.lay_out_up.ensures.goes.count;
   laid_out = c.lay_out_up.ensures.goes.laid_out;
   marked =

@@ -1,0 +1,104 @@
+-- That a computation only fills what is kept, and that what is held and isn't due is as it is now.
+use Rattle.std.proofs.Common.{◌≡◌, ◌<◌, ℕ, zero, suc, Bool, true, false, List, Option, Some, None, option_map, nat_eq, refl, ap, sym, subst, ◌∙◌, arith}
+use Rattle.std.proofs.lemmas.Bool.Decides.{nat_tests}
+use Rattle.std.specs.Prelude.{◌||◌, is_some}
+use Rattle.layout_model.specs.Styles.{Style}
+use Rattle.layout_model.specs.Items.{Kind}
+use Rattle.layout_model.specs.Nodes.{Node, path_above, path_up, is_among, is_in_path}
+use Rattle.layout_model.specs.Boxes.{Inputs, box_in}
+use Rattle.layout_model.specs.Reach.{inputs_in_view}
+use Rattle.page_model.specs.World.{Extent, Tree}
+use Rattle.page_model.specs.Lookups.{element_at, document_at}
+use Rattle.page_model.specs.Documents.{nodes_of}
+use Rattle.page_model.specs.PageBoxes.{view_of, inputs_of}
+use Rattle.page_documents.specs.Frames.{AreFramed}
+use Rattle.element_tree.specs.Forest.{Knot, IsForest}
+use Rattle.block_layout.specs.Trees.{layout_tree}
+use Rattle.block_layout.proofs.Forests.{linked, shallow}
+use Rattle.kept_layout.specs.declared.slots.Slot.{Slot}
+use Rattle.kept_layout.specs.declared.slots.Found.{Found}
+use Rattle.kept_layout.specs.Slots.{slot_in, held_in}
+use Rattle.kept_layout.specs.Sound.{IsSound}
+use Rattle.kept_layout.specs.Due.{is_due_at}
+use Rattle.kept_layout.specs.Fresh.{IsFresh as IsFreshAt}
+use Rattle.kept_layout.proofs.Counts.{settled_so}
+use Rattle.kept_layout.proofs.Exact.{exact}
+use Rattle.kept_layout.proofs.Shapes.{shaped}
+use Rattle.page_boxes.specs.Fresh.{IsFresh}
+use Rattle.page_boxes.specs.Kept.{AreKept, FillsOnly, IsExact, is_due}
+use Rattle.page_boxes.proofs.Renewed.{inputs_found}
+use Rattle.page_boxes.proofs.Rooted.{rooted_in}
+use Rattle.page_boxes.proofs.Views.{view_root}
+
+pub fills_none : (kept : List Slot) → FillsOnly kept kept
+fills_none kept = record { marks = λ n is. is; found = λ n is. is }
+
+pub fills_on : (first mid last : List Slot) → FillsOnly first mid → FillsOnly mid last → FillsOnly first last
+fills_on first mid last begun more = record { marks = λ n is. more.marks n (begun.marks n is); found = λ n is. more.found n (begun.found n is) }
+
+-- each slot is as it was, or holds a box without a mark
+pub fills_fresh : (at : ℕ → Node) (wanted : ℕ → Option Inputs) (first last : List Slot)
+    → ((n : ℕ) → wanted n ≡ None → slot_in last n ≡ slot_in first n)
+    → ((n : ℕ) (inputs : Inputs) → wanted n ≡ Some inputs → IsFreshAt at (slot_in last) n inputs)
+    → FillsOnly first last
+fills_fresh at wanted first last others fresh = record { marks = λ n is. unmarked n is (wanted n) refl; found = λ n is. found n is (wanted n) refl }
+  where
+    unmarked : (n : ℕ) → (slot_in first n).marked ≡ false → (o : Option Inputs) → wanted n ≡ o → (slot_in last n).marked ≡ false
+    unmarked n is None none = ap (λ (slot : Slot). slot.marked) (others n none) ∙ is
+    unmarked n is (Some inputs) some = (fresh n inputs some).unmarked
+
+    found : (n : ℕ) → is_some (slot_in first n).found ≡ true → (o : Option Inputs) → wanted n ≡ o → is_some (slot_in last n).found ≡ true
+    found n is None none = ap (λ (slot : Slot). is_some slot.found) (others n none) ∙ is
+    found n is (Some inputs) some = ap is_some (fresh n inputs some).held
+
+-- all that stands in the tree of an element belongs to its document
+module _ (tree : Tree) (framed : AreFramed tree) (root : ℕ) where
+  alone : (n : ℕ) (same : Bool) → nat_eq root n ≡ same → (same || false) ≡ true → (element_at tree n).document ≡ (element_at tree root).document
+  alone n true is e = let it : root ≡ n = grind (arith, nat_tests) in ap (λ m. (element_at tree m).document) (sym it)
+  alone n false is e = cc
+
+  owner_up : (high n : ℕ) → is_among root (path_up high (nodes_of tree) n) ≡ true → (element_at tree n).document ≡ (element_at tree root).document
+  unfolding path_up is_among
+  owner_up zero n among = alone n (nat_eq root n) refl among
+  owner_up (suc high) n among = up (owner_up high) (element_at tree n).parent refl among
+    where
+      up : ((p : ℕ) → is_among root (path_up high (nodes_of tree) p) ≡ true → (element_at tree p).document ≡ (element_at tree root).document)
+          → (found : Option ℕ) → (element_at tree n).parent ≡ found → (nat_eq root n || is_among root (path_above (path_up high (nodes_of tree)) found)) ≡ true
+          → (element_at tree n).document ≡ (element_at tree root).document
+      up so_far None none e = alone n (nat_eq root n) refl e
+      up so_far (Some p) some e = above (nat_eq root n) refl e
+        where
+          above : (same : Bool) → nat_eq root n ≡ same → (same || is_among root (path_up high (nodes_of tree) p)) ≡ true
+              → (element_at tree n).document ≡ (element_at tree root).document
+          above true is e = alone n true is refl
+          above false is e = framed.owners.owned n p some ∙ so_far p e
+
+  owner_inside : (n : ℕ) → is_in_path (nodes_of tree) root n ≡ true → (element_at tree n).document ≡ (element_at tree root).document
+  unfolding is_in_path
+  owner_inside n inside = owner_up 65536 n inside
+
+module _ (tree : Tree) (framed : AreFramed tree) (size : Extent) where
+  -- what has a box in a document's view belongs to that document
+  in_own : (document n : ℕ) (inputs : Inputs) → inputs_in_view (nodes_of tree) (view_of tree size document) n ≡ Some inputs → inputs_of tree size n ≡ Some inputs
+  in_own document n inputs is =
+      let there = rooted_in (nodes_of tree) (view_of tree size document) n inputs is in
+      let rooted = view_root tree size document there.0 there.1.0 in
+      let owner = owner_inside tree framed there.0 n there.1.1 ∙ (framed.owners.roots document there.0 rooted).owner in
+      inputs_found tree size n document owner ∙ is
+
+  pub exact_fresh : (kept : List Slot) → IsExact tree size kept → ((n : ℕ) → is_due tree size kept n ≡ false) → IsFresh tree size (held_in kept)
+  exact_fresh kept exact none = record {
+    documents = λ document. record { boxes = λ n inputs is. exact n inputs (in_own document n inputs is) (none n) };
+  }
+
+pub exact_here : (tree : Tree) (size : Extent) (kept : List Slot) {P : Type 0} (style : P → Style) (kind : P → Kind) {most : ℕ} {nodes : List (Knot P)}
+    → IsForest most nodes → nodes_of tree ≡ layout_tree style kind nodes → AreKept tree kept → IsExact tree size kept
+exact_here tree size kept style kind {most} {nodes} forest same fits n inputs is undue =
+    let settled = settled_so (slot_in kept n) inputs (ap (λ found. is_due_at found (slot_in kept n)) (sym is) ∙ undue) in
+    let sound = subst (λ at. IsSound at (slot_in kept)) same fits.sound in
+    ap (option_map (λ (found : Found). found.own)) settled.held
+    ∙ ap Some
+    (exact (layout_tree style kind nodes) (shaped style kind forest) (linked style kind forest) (shallow style kind forest) (slot_in kept) sound n
+    settled.found settled.unmarked settled.held)
+    ∙ ap (λ given. Some (box_in (layout_tree style kind nodes) given n)) settled.from
+    ∙ ap (λ at. Some (box_in at inputs n)) (sym same)
