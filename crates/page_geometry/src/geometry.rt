@@ -25,10 +25,14 @@ use style_values::{Overflow, Style};
 /// The containers, clips and boxes of a page as they are now (Intersection Observer, 3.2.7), in the coordinates of the viewport
 /// of `top`. All boxes are held as they are with this size of that viewport.
 pub struct PageGeometry<'a, B: Boxes> {
-    pub(crate) page: &'a PageTree,
-    pub(crate) boxes: &'a B,
-    pub(crate) scrolls: &'a Scrolls,
-    pub(crate) viewport: Size,
+    /// The elements and documents.
+    pub page: &'a PageTree,
+    /// Their boxes.
+    pub boxes: &'a B,
+    /// The stored scroll positions.
+    pub scrolls: &'a Scrolls,
+    /// The size of the viewport of `top`, in units of 1/64 pixel.
+    pub viewport: Size,
     // How many documents there are.
     pub(crate) documents: u32,
     ghost natural: { IsNatural viewport },
