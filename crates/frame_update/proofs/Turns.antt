@@ -2,7 +2,7 @@
 use Rattle.std.proofs.Common.{◌≡◌, refl, ap, sym, ◌∙◌, arith}
 use Rattle.std.proofs.Math.Bool.{and-false}
 use Rattle.std.proofs.lemmas.Bool.{lt-ltb, le-ltb}
-use Rattle.std.specs.Prelude.{ℕ, zero, suc, min, nat_lt, Bool, true, false, ◌&&◌, cond, Option, None}
+use Rattle.std.specs.Prelude.{ℕ, zero, suc, nat_lt, Bool, true, false, ◌&&◌, cond, Option, None}
 use Rattle.text_io.specs.declared.kinds.EventKind.TheVariants as events
 use Rattle.script_model.specs.TraceLines.{FiredError}
 use Rattle.page_model.specs.World.{World, WindowTarget}
@@ -14,19 +14,19 @@ use Rattle.page_model.specs.Callbacks.{Script, fire}
 use Rattle.page_model.specs.Loop.{report_skipped}
 use Rattle.trace_runs.proofs.Runs.{only_if_false}
 
--- nothing is active where nothing was counted, up to any number
-count-none : (count : ℕ) → 0 ≡ min count 4294967295 → nat_lt 0 count ≡ false
+-- nothing is active where nothing was counted
+count-none : (count : ℕ) → 0 ≡ count → nat_lt 0 count ≡ false
 count-none zero none = le-ltb 0 0 (omega arith)
 count-none (suc count) none = absurd (omega (arith, none))
 
-count-some : (count : ℕ) → ((0 ≡ min count 4294967295) → ⊥) → nat_lt 0 count ≡ true
+count-some : (count : ℕ) → ((0 ≡ count) → ⊥) → nat_lt 0 count ≡ true
 count-some zero some = absurd (some refl)
 count-some (suc count) some = lt-ltb 0 (suc count) (omega arith)
 
-pub none_active : {A : Type 0} (count : ℕ) (active : Bool) (found : Option A) → active ≡ nat_lt 0 count → 0 ≡ min count 4294967295 → None ≡ cond active found None
+pub none_active : {A : Type 0} (count : ℕ) (active : Bool) (found : Option A) → active ≡ nat_lt 0 count → 0 ≡ count → None ≡ cond active found None
 none_active count active found is none = ap (λ (test : Bool). cond test found None) (sym (is ∙ count-none count none))
 
-pub some_active : {A : Type 0} (count : ℕ) (active : Bool) (found : Option A) → active ≡ nat_lt 0 count → ((0 ≡ min count 4294967295) → ⊥) → found ≡ cond active found None
+pub some_active : {A : Type 0} (count : ℕ) (active : Bool) (found : Option A) → active ≡ nat_lt 0 count → ((0 ≡ count) → ⊥) → found ≡ cond active found None
 some_active count active found is some = ap (λ (test : Bool). cond test found None) (sym (is ∙ count-some count some))
 
 -- nothing is reported where the document isn't Active, or nothing was skipped

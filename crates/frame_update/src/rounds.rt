@@ -113,7 +113,7 @@ fn gather<L: Ledger>(
     depth: u32,
     steps: &mut Steps<L>,
 ) -> Option<u32>
-    ensures gathered { page.new ≡ record page.old { world = gather document depth (page.old.world) } }
+    ensures gathered { page.new ≡ record page.old { world = gather document depth (page.old.world); kept = page.new.kept } }
     ensures active { result ≡ cond (has_active document page.new.world.resize_observers) (Some depth) None }
 {
     something_is_active_where_it_is_counted();

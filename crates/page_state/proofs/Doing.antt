@@ -10,6 +10,7 @@ use Rattle.page_model.specs.Commands.{does, placing, with_tree}
 use Rattle.page_tree.specs.declared.faults.PlaceFault.{PlaceFault}
 use Rattle.page_tree.specs.declared.faults.PlaceFault.TheVariants as place
 use Rattle.page_tree.specs.Faults.{refusal}
+use Rattle.kept_layout.specs.declared.slots.Slot.{Slot}
 use Rattle.page_layout.specs.Views.{LaidElements}
 use Rattle.page_state.specs.declared.answers.Effect.{Effect}
 use Rattle.page_state.specs.declared.answers.Effect.TheVariants.{Nothing, Line, Taken}
@@ -81,6 +82,10 @@ keeps_by {old} {new} {result} keeps same = record {
   handed = keeps.handed;
 }
 
+-- what a page keeps of boxes makes no difference to what a command does
+pub keeps_since : {old new : PageView} {kept : List Slot} {result : Result Effect PageFault} {step : Handlers → Step ModelEffect} → Keeps (record old { kept = kept }) new result step → Keeps old new result step
+keeps_since keeps = record { applied = keeps.applied; begun = keeps.begun; handed = keeps.handed }
+
 -- the tree is asked to be edited
 
 refused_so : (fault : PlaceFault) (old new : World) (step : Step Tree) → step ≡ refusal fault → new ≡ old → Applied (Err (misplaced fault)) old new (with_tree old step)
@@ -92,9 +97,9 @@ done_so : (old : World) (step : Step Tree) (tree : Tree) → step ≡ Did tree �
 unfolding with_tree ◌>>=◌
 done_so old step tree e = ap (with_tree old) e
 
-module _ (inside : Inside) (now : PageView) (view_is : record { world = world_of inside; begun = inside.begun } ≡ now) (after : LaidElements) (step : Tree → Step Tree) where
+module _ (inside : Inside) (now : PageView) (view_is : record { world = world_of inside; begun = inside.begun; kept = inside.laid.kept } ≡ now) (after : LaidElements) (step : Tree → Step Tree) where
   abbrev then_is : PageView
-  then_is = record { world = world_of (record inside { laid = after }); begun = inside.begun }
+  then_is = record { world = world_of (record inside { laid = after }); begun = inside.begun; kept = after.kept }
 
   pub edit_refused : (result : PageFault) (fault : PlaceFault) → result ≡ misplaced fault → step (inside.laid.elements.tree) ≡ refusal fault → after ≡ inside.laid
       → Keeps now then_is (Err result) (λ handlers. with_tree now.world (step now.world.tree))
@@ -119,12 +124,12 @@ takes : (handlers : Handlers) (world : World) (present : Present) (name : List �
 unfolding does
 takes handlers world present name o found = λ i. found i >>= λ (m : ℕ). taking world m (intersection_observer_at (world.intersection_observers) m).queue
 
-module _ (page : Inside) (now : PageView) (view_is : record { world = world_of page; begun = page.begun } ≡ now) (is : IsPage page) (present : Present) (name : List ℕ)
+module _ (page : Inside) (now : PageView) (view_is : record { world = world_of page; begun = page.begun; kept = page.laid.kept } ≡ now) (is : IsPage page) (present : Present) (name : List ℕ)
     (watcher : WatcherId) (entries : List Entry) (after : HeldWatchers) (found : intersection_observer_named now.world.names name ≡ Did watcher.0)
     (there : watcher.0 < length now.world.intersection_observers.made) (taken : entries ≡ (intersection_observer_at page.watchers.part watcher.0).queue)
     (emptied : after ≡ record (page.watchers) { part = without_queue watcher.0 (page.watchers.part) }) (count : length after.part.made ≡ length page.watchers.part.made) where
   abbrev emptied_is : PageView
-  emptied_is = record { world = world_of (record page { watchers = after }); begun = page.begun }
+  emptied_is = record { world = world_of (record page { watchers = after }); begun = page.begun; kept = page.laid.kept }
 
   names_here : intersection_observer_named page.names.list name ≡ Did watcher.0
   names_here = subst (λ (v : PageView). intersection_observer_named v.world.names name ≡ Did watcher.0) (sym view_is) found

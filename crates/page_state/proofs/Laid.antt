@@ -1,10 +1,13 @@
 -- Boxes that were computed, where a page's elements stay as they are.
-use Rattle.std.proofs.Common.{◌≡◌, List, subst, sym, ◌∙◌}
-use Rattle.page_model.specs.World.{Extent, Tree}
+use Rattle.std.proofs.Common.{◌≡◌, ◌≤◌, ◌+◌, ℕ, List, subst, sym, ap, ◌∙◌, arith}
+use Rattle.page_model.specs.World.{Extent, Tree, World}
 use Rattle.kept_layout.specs.declared.slots.Slot.{Slot}
 use Rattle.kept_layout.specs.Slots.{held_in}
 use Rattle.page_boxes.specs.Fresh.{IsFresh}
+use Rattle.page_boxes.specs.Kept.{FillsOnly, due_count}
+use Rattle.page_boxes.specs.Pages.{seen_size}
 use Rattle.page_layout.specs.Views.{LaidElements}
+use Rattle.page_state.specs.Boxes.{Computes}
 use Rattle.page_state.specs.Views.{PageView}
 use Rattle.page_state.specs.Worlds.{world_of}
 use Rattle.page_state.specs.declared.page.Page.TheInside.{Inside}
@@ -15,5 +18,19 @@ fresh_in {handed} {size} {kept} fresh same held =
     subst (λ (slots : List Slot). IsFresh handed size (held_in slots)) (sym held) (subst (λ (tree : Tree). IsFresh tree size (held_in kept)) (sym same) fresh)
 
 module _ (page : Inside) (after : LaidElements) (same : after.elements ≡ page.laid.elements) where
-  pub view_refreshed : (now : PageView) → record { world = world_of page; begun = page.begun } ≡ now → record { world = world_of (record page { laid = after }); begun = page.begun } ≡ now
-  view_refreshed now view_is = (λ i. record { world = record (world_of page) { tree = (same i).tree }; begun = page.begun }) ∙ view_is
+  pub view_refreshed : (now : PageView) → record { world = world_of page; begun = page.begun; kept = page.laid.kept } ≡ now
+      → record { world = world_of (record page { laid = after }); begun = page.begun; kept = after.kept } ≡ record now { kept = after.kept }
+  view_refreshed now view_is =
+      (λ i. record { world = record (world_of page) { tree = (same i).tree }; begun = page.begun; kept = after.kept }) ∙ ap (λ (v : PageView). record v { kept = after.kept }) view_is
+
+  -- what the computation leaves, seen from outside
+  pub computed : (now : PageView) → record { world = world_of page; begun = page.begun; kept = page.laid.kept } ≡ now → FillsOnly page.laid.kept after.kept → (from to : ℕ)
+      → to + due_count page.laid.elements.tree (seen_size page.size) after.kept ≤ from + due_count page.laid.elements.tree (seen_size page.size) page.laid.kept
+      → Computes now.world now.kept after.kept from to
+  computed now view_is fills from to ticks = subst (λ (v : PageView). Computes v.world v.kept after.kept from to) view_is (record { fills = fills; ticks = ticks })
+
+-- what is kept stays as it was
+pub computes_nothing : (world : World) (old new : List Slot) (steps : ℕ) → new ≡ old → Computes world old new steps steps
+computes_nothing world old new steps same =
+    subst (λ (slots : List Slot). Computes world old slots steps steps) (sym same)
+    (record { fills = record { marks = λ n is. is; found = λ n is. is }; ticks = omega arith })

@@ -1,9 +1,11 @@
 mod Steps
 mod Finding
 mod Found
+mod Named
 mod Parts
 mod Inside
 mod Laid
+mod Marked
 mod Doing
 mod Noted
 mod Handlers

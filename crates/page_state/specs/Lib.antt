@@ -5,6 +5,7 @@ pub mod Views
 pub mod Worlds
 pub mod Faults
 pub mod Answers
+pub mod Boxes
 pub mod Whole
 pub mod Labels
 pub mod Rounds

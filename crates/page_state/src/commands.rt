@@ -1,6 +1,6 @@
 //! Commands that change the viewport, the tree and styles.
 
-ghost use Rattle.std.specs.Prelude.{◌≡◌, ◌<◌, length, option_map, unsigned_abs};
+ghost use Rattle.std.specs.Prelude.{◌≡◌, ◌<◌, Some, length, option_map, unsigned_abs};
 ghost use Rattle.std.specs.Option.{ForSome};
 ghost use Rattle.style_values.specs.Ranges.{IsAllowed};
 ghost use Rattle.style_values.specs.Seen.{seen_declaration};
@@ -8,12 +8,14 @@ ghost use Rattle.script_model.specs.Syntax.{Viewport, MakeBlock, MakeImage, Make
 ghost use Rattle.block_layout.specs.Seen.{seen_kind};
 ghost use Rattle.page_model.specs.Commands.{does, making, placing, with_tree};
 ghost use Rattle.page_model.specs.Documents.{removed};
-ghost use Rattle.page_model.specs.Operands.{Present};
+ghost use Rattle.page_model.specs.Operands.{Present, container_meant};
 ghost use Rattle.page_tree.specs.Steps.{seen_axis, seen_container};
 ghost use Rattle.script_syntax.specs.Allowed.{IsSize};
 ghost use Rattle.script_syntax.specs.Seen.{operand_of, dimension_of};
 ghost use Rattle.element_tree.specs.Links.{number};
+ghost use Rattle.page_layout.specs.Marks.{element_of, is_over, MarksOnly, MarksNone};
 ghost use Rattle.page_state.specs.Answers.{Keeps};
+ghost use Rattle.page_state.specs.Boxes.{Marks, found, inside, is_moved, meant, parent};
 ghost use Rattle.page_state.specs.Faults.{misplaced};
 ghost use Rattle.page_state.specs.Labels.{IsIn};
 ghost use Rattle.page_state.specs.Things.{present_of, IsMade, IsSubject};
@@ -33,14 +35,16 @@ use text_io::{LimitKind, Name};
 impl Page {
     pub(crate) fn set_viewport(&mut self, size: Size) -> Result<Effect, PageFault>
         requires { IsSize size }
-        ensures { (present : Present) → Keeps self.old self.new result (λ handlers. does handlers self.old.world present (Viewport (unsigned_abs size.width) (unsigned_abs size.height))) }
+        ensures done { (present : Present) → Keeps self.old self.new result (λ handlers. does handlers self.old.world present (Viewport (unsigned_abs size.width) (unsigned_abs size.height))) }
+        ensures boxes { self.new.kept ≡ self.old.kept }
     {
         self.size = size;
         Ok(Effect::Nothing)
     }
 
     pub(crate) fn make_block(&mut self, name: Name, document: Name) -> Result<Effect, PageFault>
-        ensures { (present : Present) → Keeps self.old self.new result (λ handlers. does handlers self.old.world present (MakeBlock name document)) }
+        ensures done { (present : Present) → Keeps self.old self.new result (λ handlers. does handlers self.old.world present (MakeBlock name document)) }
+        ensures boxes { MarksNone self.old.kept self.new.kept }
     {
         self.make(name, document, ItemKind::Block)
     }
@@ -52,7 +56,8 @@ impl Page {
         size: Size,
     ) -> Result<Effect, PageFault>
         requires { IsSize size }
-        ensures { (present : Present) → Keeps self.old self.new result (λ handlers. does handlers self.old.world present (MakeImage name document (unsigned_abs size.width) (unsigned_abs size.height))) }
+        ensures done { (present : Present) → Keeps self.old self.new result (λ handlers. does handlers self.old.world present (MakeImage name document (unsigned_abs size.width) (unsigned_abs size.height))) }
+        ensures boxes { MarksNone self.old.kept self.new.kept }
     {
         self.make(name, document, ItemKind::Image(size))
     }
@@ -60,7 +65,8 @@ impl Page {
     // The room for the element and its box comes first, then its name, which is the last thing that may be refused.
     fn make(&mut self, name: Name, document: Name, kind: ItemKind) -> Result<Effect, PageFault>
         requires { IsMade kind }
-        ensures { Keeps self.old self.new result (λ handlers. making self.old.world name document (seen_kind kind)) }
+        ensures done { Keeps self.old self.new result (λ handlers. making self.old.world name document (seen_kind kind)) }
+        ensures boxes { MarksNone self.old.kept self.new.kept }
     {
         self.names.check_free(name)?;
         let document = self.document(document)?;
@@ -77,7 +83,8 @@ impl Page {
         document: Name,
         inside: Name,
     ) -> Result<Effect, PageFault>
-        ensures { (present : Present) → Keeps self.old self.new result (λ handlers. does handlers self.old.world present (MakeFrame name document inside)) }
+        ensures done { (present : Present) → Keeps self.old self.new result (λ handlers. does handlers self.old.world present (MakeFrame name document inside)) }
+        ensures boxes { MarksNone self.old.kept self.new.kept }
     {
         self.names.check_free(name)?;
         let document = self.document(document)?;
@@ -105,7 +112,8 @@ impl Page {
         subject: Option<NodeId>,
     ) -> Result<Effect, PageFault>
         requires { IsSubject (length self.old.world.tree.elements) subject }
-        ensures { Keeps self.old self.new result (λ handlers. does handlers self.old.world (present_of subject) (Append (operand_of parent) (operand_of node))) }
+        ensures done { Keeps self.old self.new result (λ handlers. does handlers self.old.world (present_of subject) (Append (operand_of parent) (operand_of node))) }
+        ensures boxes { Marks (is_moved self.old.world.tree self.new.world.tree (meant self.old.world (present_of subject) (operand_of node)) (inside (found (container_meant self.old.world.names (present_of subject) (operand_of parent))))) result self.old.kept self.new.kept }
     {
         let container = self.container(parent, subject)?;
         let node = self.element(node, subject)?;
@@ -120,7 +128,8 @@ impl Page {
         subject: Option<NodeId>,
     ) -> Result<Effect, PageFault>
         requires { IsSubject (length self.old.world.tree.elements) subject }
-        ensures { Keeps self.old self.new result (λ handlers. does handlers self.old.world (present_of subject) (Before (operand_of parent) (operand_of node) (operand_of sibling))) }
+        ensures done { Keeps self.old self.new result (λ handlers. does handlers self.old.world (present_of subject) (Before (operand_of parent) (operand_of node) (operand_of sibling))) }
+        ensures boxes { Marks (is_moved self.old.world.tree self.new.world.tree (meant self.old.world (present_of subject) (operand_of node)) (inside (found (container_meant self.old.world.names (present_of subject) (operand_of parent))))) result self.old.kept self.new.kept }
     {
         let container = self.container(parent, subject)?;
         let node = self.element(node, subject)?;
@@ -138,8 +147,9 @@ impl Page {
         requires container { IsIn self.old.world container }
         requires node { node.0 < length self.old.world.tree.elements }
         requires sibling { ForSome sibling (λ s. s.0 < length self.old.world.tree.elements) }
-        ensures { Keeps self.old self.new result
+        ensures done { Keeps self.old self.new result
             (λ handlers. with_tree self.old.world (placing (seen_container container) node.0 (option_map number sibling) (self.old.world.tree))) }
+        ensures boxes { Marks (is_moved self.old.world.tree self.new.world.tree (Some node.0) (element_of (seen_container container))) result self.old.kept self.new.kept }
     {
         if let Err(fault) = self.laid.place(container, node, sibling) {
             return Err(refused(fault));
@@ -153,7 +163,8 @@ impl Page {
         subject: Option<NodeId>,
     ) -> Result<Effect, PageFault>
         requires { IsSubject (length self.old.world.tree.elements) subject }
-        ensures { Keeps self.old self.new result (λ handlers. does handlers self.old.world (present_of subject) (Remove (operand_of node))) }
+        ensures done { Keeps self.old self.new result (λ handlers. does handlers self.old.world (present_of subject) (Remove (operand_of node))) }
+        ensures boxes { Marks (is_over self.new.world.tree (parent self.old.world.tree (meant self.old.world (present_of subject) (operand_of node)))) result self.old.kept self.new.kept }
     {
         let node = self.element(node, subject)?;
         self.take_out(node);
@@ -163,7 +174,8 @@ impl Page {
     // Takes an element out of where it stands.
     fn take_out(&mut self, node: NodeId)
         requires { node.0 < length self.old.world.tree.elements }
-        ensures { self.new ≡ record self.old { world = record (self.old.world) { tree = removed (self.old.world.tree) node.0 } } }
+        ensures removed { self.new ≡ record self.old { world = record (self.old.world) { tree = removed (self.old.world.tree) node.0 }; kept = self.new.kept } }
+        ensures marks { MarksOnly (is_over self.new.world.tree (parent self.old.world.tree (Some node.0))) self.old.kept self.new.kept }
     {
         self.laid.remove(node);
     }
@@ -176,7 +188,8 @@ impl Page {
     ) -> Result<Effect, PageFault>
         requires allowed { IsAllowed declaration }
         requires subject { IsSubject (length self.old.world.tree.elements) subject }
-        ensures { Keeps self.old self.new result (λ handlers. does handlers self.old.world (present_of subject) (SetStyle (operand_of node) (seen_declaration declaration))) }
+        ensures done { Keeps self.old self.new result (λ handlers. does handlers self.old.world (present_of subject) (SetStyle (operand_of node) (seen_declaration declaration))) }
+        ensures boxes { Marks (is_over self.new.world.tree (meant self.old.world (present_of subject) (operand_of node))) result self.old.kept self.new.kept }
     {
         let node = self.element(node, subject)?;
         self.laid.set(node, declaration);
@@ -191,7 +204,8 @@ impl Page {
         subject: Option<NodeId>,
     ) -> Result<Effect, PageFault>
         requires { IsSubject (length self.old.world.tree.elements) subject }
-        ensures { Keeps self.old self.new result (λ handlers. does handlers self.old.world (present_of subject) (Grow (operand_of node) (dimension_of axis) by.0)) }
+        ensures done { Keeps self.old self.new result (λ handlers. does handlers self.old.world (present_of subject) (Grow (operand_of node) (dimension_of axis) by.0)) }
+        ensures boxes { Marks (is_over self.new.world.tree (meant self.old.world (present_of subject) (operand_of node))) result self.old.kept self.new.kept }
     {
         let node = self.element(node, subject)?;
         self.laid.grow(node, side(axis), by)?;
@@ -206,7 +220,8 @@ impl Page {
     ) -> Result<Effect, PageFault>
         requires size { IsSize size }
         requires subject { IsSubject (length self.old.world.tree.elements) subject }
-        ensures { Keeps self.old self.new result (λ handlers. does handlers self.old.world (present_of subject) (Load (operand_of node) (unsigned_abs size.width) (unsigned_abs size.height))) }
+        ensures done { Keeps self.old self.new result (λ handlers. does handlers self.old.world (present_of subject) (Load (operand_of node) (unsigned_abs size.width) (unsigned_abs size.height))) }
+        ensures boxes { Marks (is_over self.new.world.tree (meant self.old.world (present_of subject) (operand_of node))) result self.old.kept self.new.kept }
     {
         let node = self.element(node, subject)?;
         self.laid.load(node, size)?;

@@ -8,6 +8,7 @@ ghost use Rattle.page_boxes.specs.Pages.{seen_size};
 ghost use Rattle.script_syntax.specs.Allowed.{TestAllowed};
 ghost use Rattle.script_syntax.specs.Seen.{test_of, condition_of};
 ghost use Rattle.page_state.specs.Answers.{Finds};
+ghost use Rattle.page_state.specs.Boxes.{Computes};
 ghost use Rattle.page_state.specs.Things.{present_with, IsSubject};
 
 use crate::page::Page;
@@ -21,7 +22,7 @@ use text_io::ThrowKind;
 
 impl Page {
     /// Whether a condition holds, for the target of the present entry if there is one; `seen` tells whether that entry of
-    /// an intersection observer is intersecting, and is none for another one. The page is as before. No memory.
+    /// an intersection observer is intersecting, and is none for another one. The world and what was begun are as before. No memory.
     ///
     /// # Errors
     /// An exception exactly where the definition says so.
@@ -36,7 +37,8 @@ impl Page {
         requires allowed { TestAllowed condition.now.asks }
         requires subject { IsSubject (length self.old.world.tree.elements) subject }
         ensures answer { Finds (λ (answer : Bool). answer) result (holds self.old.world (present_with subject seen) (condition_of condition.now)) }
-        ensures same { self.new ≡ self.old }
+        ensures same { self.new ≡ record self.old { kept = self.new.kept } }
+        ensures boxes { Computes self.old.world self.old.kept self.new.kept steps.old steps.new }
     {
         match self.ask(condition.asks, subject, seen, steps) {
             Ok(answer) if condition.negated => Ok(!answer),
@@ -56,7 +58,8 @@ impl Page {
         requires allowed { TestAllowed test }
         requires subject { IsSubject (length self.old.world.tree.elements) subject }
         ensures answer { Finds (λ (answer : Bool). answer) result (asked self.old.world (present_with subject seen) (test_of test)) }
-        ensures same { self.new ≡ self.old }
+        ensures same { self.new ≡ record self.old { kept = self.new.kept } }
+        ensures boxes { Computes self.old.world self.old.kept self.new.kept steps.old steps.new }
     {
         match test {
             Test::Wider(node, px) => {
@@ -84,7 +87,8 @@ impl Page {
     // The size of an element's border box as it is now.
     fn border_size<L: Ledger>(&mut self, node: NodeId, steps: &mut Steps<L>) -> Size
         ensures value { seen_size result ≡ size_of self.old.world.tree self.old.world.viewports.size node.0 Border }
-        ensures same { self.new ≡ self.old }
+        ensures same { self.new ≡ record self.old { kept = self.new.kept } }
+        ensures boxes { Computes self.old.world self.old.kept self.new.kept steps.old steps.new }
     {
         self.laid.refresh(self.size, steps);
         size_of(self.laid.page(), self.laid.boxes(), node, BoxKind::Border)

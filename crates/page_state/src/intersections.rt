@@ -33,7 +33,8 @@ impl Page {
         subject: Option<NodeId>,
     ) -> Result<Effect, PageFault>
         requires { IsSubject (length self.old.world.tree.elements) subject }
-        ensures { Kept self.old self.new result (does (handler_names (handlers_in script.now)) self.old.world (present_of subject) (MakeIntersectionObserver (making_of making.now))) }
+        ensures done { Kept self.old self.new result (does (handler_names (handlers_in script.now)) self.old.world (present_of subject) (MakeIntersectionObserver (making_of making.now))) }
+        ensures boxes { self.new.kept ≡ self.old.kept }
     {
         self.names.check_free(making.name)?;
         let document = self.document(making.document)?;
@@ -78,7 +79,8 @@ impl Page {
         requires counted { self.old.world.intersection_observers.given < self.old.world.begun }
         requires flag { self.old.begun ≡ false }
         requires subject { IsSubject (length self.old.world.tree.elements) subject }
-        ensures { Keeps self.old self.new result (λ handlers. does handlers self.old.world (present_of subject) (ObserveIntersection observer (operand_of node))) }
+        ensures done { Keeps self.old self.new result (λ handlers. does handlers self.old.world (present_of subject) (ObserveIntersection observer (operand_of node))) }
+        ensures boxes { self.new.kept ≡ self.old.kept }
     {
         let watcher = self.watcher(observer)?;
         let node = self.element(node, subject)?;
@@ -96,7 +98,8 @@ impl Page {
         subject: Option<NodeId>,
     ) -> Result<Effect, PageFault>
         requires { IsSubject (length self.old.world.tree.elements) subject }
-        ensures { Keeps self.old self.new result (λ handlers. does handlers self.old.world (present_of subject) (UnobserveIntersection observer (operand_of node))) }
+        ensures done { Keeps self.old self.new result (λ handlers. does handlers self.old.world (present_of subject) (UnobserveIntersection observer (operand_of node))) }
+        ensures boxes { self.new.kept ≡ self.old.kept }
     {
         let watcher = self.watcher(observer)?;
         let node = self.element(node, subject)?;
@@ -105,7 +108,8 @@ impl Page {
     }
 
     pub(crate) fn unregister_all(&mut self, observer: Name) -> Result<Effect, PageFault>
-        ensures { (present : Present) → Keeps self.old self.new result (λ handlers. does handlers self.old.world present (DisconnectIntersection observer)) }
+        ensures done { (present : Present) → Keeps self.old self.new result (λ handlers. does handlers self.old.world present (DisconnectIntersection observer)) }
+        ensures boxes { self.new.kept ≡ self.old.kept }
     {
         let watcher = self.watcher(observer)?;
         self.watchers.disconnect(watcher);
@@ -113,7 +117,8 @@ impl Page {
     }
 
     pub(crate) fn take_entries(&mut self, observer: Name) -> Result<Effect, PageFault>
-        ensures { (present : Present) → Keeps self.old self.new result (λ handlers. does handlers self.old.world present (TakeIntersections observer)) }
+        ensures done { (present : Present) → Keeps self.old self.new result (λ handlers. does handlers self.old.world present (TakeIntersections observer)) }
+        ensures boxes { self.new.kept ≡ self.old.kept }
     {
         let watcher = self.watcher(observer)?;
         Ok(Effect::Taken(watcher, self.watchers.take_records(watcher)))

@@ -1,7 +1,8 @@
 //! The names of things, and looking them up. A name that was given stands for its thing for good.
 
-ghost use Rattle.std.specs.Prelude.{◌≡◌, ◌+◌, ◌<◌, ◌≤◌, ◌++◌, bytes_eq, false, ◌∷◌, [], find, option_map, None, IfOk, OnOk, OnErr, IsOk};
+ghost use Rattle.std.specs.Prelude.{List, ◌≡◌, ◌+◌, ◌<◌, ◌≤◌, ◌++◌, bytes_eq, false, ◌∷◌, [], find, option_map, None, IfOk, OnOk, OnErr, IsOk};
 ghost use Rattle.std.specs.List.{AllByRecursion};
+ghost use Rattle.indexmap.specs.IndexMap.{spare};
 ghost use Rattle.element_tree.specs.Links.{number};
 ghost use Rattle.page_model.specs.World.{Name as ModelName};
 ghost use Rattle.page_model.specs.Names.{named_thing, is_same_thing};
@@ -11,6 +12,7 @@ ghost use Rattle.page_tree.specs.Steps.{seen_container};
 ghost use Rattle.event_tables.specs.Seen.{seen_target};
 ghost use Rattle.script_syntax.specs.Seen.{operand_of, aim_of};
 ghost use Rattle.page_state.specs.Answers.{Finds};
+ghost use Rattle.page_state.specs.Known.{seen_key, AreFirst};
 ghost use Rattle.page_state.specs.Things.{seen_thing, present_of, AreIn, IsSubject, IsContainerBelow};
 
 use element_tree::NodeId;
@@ -34,22 +36,51 @@ pub(crate) enum Thing {
     QueryList(u32),
 }
 
-/// The names in the order in which they were given.
+/// A thing as a key.
+#[derive(Clone, Copy, PartialEq, Eq, Hash)]
+pub(crate) enum ThingKey {
+    Document(u32),
+    Element(u32),
+    ResizeObserver(u32),
+    IntersectionObserver(u32),
+    QueryList(u32),
+}
+
+impl ThingKey {
+    fn of(thing: Thing) -> ThingKey
+        ensures { seen_key result ≡ seen_thing thing }
+    {
+        match thing {
+            Thing::Document(document) => ThingKey::Document(document),
+            Thing::Element(node) => ThingKey::Element(node.0),
+            Thing::ResizeObserver(observer) => ThingKey::ResizeObserver(observer.0),
+            Thing::IntersectionObserver(watcher) => ThingKey::IntersectionObserver(watcher.0),
+            Thing::QueryList(query) => ThingKey::QueryList(query),
+        }
+    }
+}
+
+/// The names in the order in which they were given. Both look-ups hash, whatever stands before what is looked up.
 #[derive(Drop)]
 pub(crate) struct Names {
     things: IndexMap<Name, Thing>,
+    // The first name of each thing that has one: trace lines ask for it.
+    firsts: IndexMap<ThingKey, Name>,
 }
 
 impl Model for Names {
-    ghost use Rattle.std.specs.Prelude.{map};
+    ghost use Rattle.std.specs.Prelude.{map, min};
     ghost use Rattle.indexmap.specs.IndexMap.{spare};
     ghost use Rattle.page_state.specs.Known.{KnownNames};
 
     ghost Value = { KnownNames };
 
+    ghost use Rattle.page_state.specs.Known.{AreFirst};
     ghost use Rattle.page_state.specs.Things.{seen_entry};
 
-    ghost view = { λ n. record { list = map seen_entry n.things.entries; room = spare n.things } };
+    ghost view = { λ n. record { list = map seen_entry n.things.entries; room = min (spare n.things) (spare n.firsts) } };
+
+    ghost invariant = { λ n. AreFirst (map seen_entry n.things.entries) n.firsts.entries };
 }
 
 impl Names {
@@ -58,6 +89,7 @@ impl Names {
     {
         Names {
             things: IndexMap::new(alloc),
+            firsts: IndexMap::new(alloc),
         }
     }
 
@@ -77,7 +109,8 @@ impl Names {
         ensures roomy { OnOk result (count ≤ self.new.room) }
         ensures same { self.new.list ≡ self.old.list }
     {
-        self.things.reserve(count)
+        self.things.reserve(count)?;
+        self.firsts.reserve(count)
     }
 
     // Gives a name that is free.
@@ -88,22 +121,19 @@ impl Names {
         ensures roomy { 0 < self.old.room → IsOk result }
         ensures left { self.old.room ≤ self.new.room + 1 }
     {
+        self.firsts.reserve(1)?;
         let Ok(_) = self.things.insert(name, thing) else {
             return Err(AllocError);
         };
+        keep_first(&mut self.firsts, ThingKey::of(thing), name);
         Ok(())
     }
 
-    // The name of a thing: the first that stands for it. It goes over the names.
+    // The name of a thing: the first that stands for it.
     pub(crate) fn name_of(&self, thing: Thing) -> Option<Name>
         ensures { result ≡ option_map (λ (named : ModelName). named.text) (find (λ (named : ModelName). is_same_thing named.thing (seen_thing thing)) self.now.list) }
     {
-        for (name, known) in self.things.iter() {
-            if is_same(*known, thing) {
-                return Some(*name);
-            }
-        }
-        None
+        self.firsts.get(&ThingKey::of(thing)).copied()
     }
 
     // A new name has to be free.
@@ -243,18 +273,14 @@ impl Names {
     }
 }
 
-fn is_same(a: Thing, b: Thing) -> bool
-    ensures { result ≡ is_same_thing (seen_thing a) (seen_thing b) }
+// Keeps a name that is given to a thing, unless the thing has one already. There is room for it.
+fn keep_first(firsts: &mut IndexMap<ThingKey, Name>, key: ThingKey, name: Name)
+    requires { 0 < spare firsts.old }
+    ensures kept { (names : List ModelName) → AreFirst names firsts.old.entries → AreFirst (names ++ record { text = name; thing = seen_key key } ∷ []) firsts.new.entries }
+    ensures left { spare firsts.old ≤ spare firsts.new + 1 }
 {
-    match (a, b) {
-        (Thing::Document(one), Thing::Document(other)) => one == other,
-        (Thing::Element(one), Thing::Element(other)) => one.0 == other.0,
-        (Thing::ResizeObserver(one), Thing::ResizeObserver(other)) => one.0 == other.0,
-        (Thing::IntersectionObserver(one), Thing::IntersectionObserver(other)) => {
-            one.0 == other.0
-        }
-        (Thing::QueryList(one), Thing::QueryList(other)) => one == other,
-        _ => false,
+    if !firsts.contains_key(&key) {
+        firsts.insert(key, name).unwrap();
     }
 }
 

@@ -1,6 +1,6 @@
 //! A page, and how a command is begun and applied.
 
-ghost use Rattle.std.specs.Prelude.{◌≡◌, ◌<◌, ◌≤◌, true, false, length, IfOk, OnOk, OnErr};
+ghost use Rattle.std.specs.Prelude.{◌≡◌, ◌<◌, ◌≤◌, ◌+◌, ℕ, [], true, false, length, IfOk, OnOk, OnErr};
 ghost use Rattle.script_model.specs.Scripts.{handlers_in};
 ghost use Rattle.page_model.specs.Names.{document_text, resize_observer_text, intersection_observer_text, query_list_text};
 ghost use Rattle.page_model.specs.Callbacks.{handler_names};
@@ -8,11 +8,13 @@ ghost use Rattle.page_model.specs.Commands.{begun_in, does};
 ghost use Rattle.page_model.specs.Outcome.{opening_world};
 ghost use Rattle.page_model.specs.PageBoxes.{viewport_of};
 ghost use Rattle.page_model.specs.Ticks.{time_set};
+ghost use Rattle.page_boxes.specs.Kept.{AreKept, FillsOnly, IsExact, is_due, due_count};
 ghost use Rattle.page_boxes.specs.Pages.{seen_size};
 ghost use Rattle.page_tree.specs.Items.{IsNatural};
 ghost use Rattle.script_syntax.specs.Allowed.{ActionAllowed, IsTime};
 ghost use Rattle.script_syntax.specs.Seen.{action_of};
 ghost use Rattle.page_state.specs.Answers.{Applied, Moved, Kept, IsHanded};
+ghost use Rattle.page_state.specs.Boxes.{Computes, BoxesAfter};
 ghost use Rattle.page_state.specs.Things.{present_of, IsSubject};
 
 use crate::answers::{Effect, PageFault};
@@ -23,6 +25,7 @@ use element_tree::NodeId;
 use event_tables::{FrameCallbacks, Listeners, Tasks, Timers};
 use intersection_observer::{WatcherId, Watchers};
 use page_boxes::viewport_of;
+use page_geometry::PageGeometry;
 use page_layout::LaidTree;
 use page_tree::Container;
 use px_units::Size;
@@ -95,7 +98,7 @@ impl Model for Page {
 
     ghost Value = { PageView };
 
-    ghost view = { λ p. record { world = world_of p; begun = p.begun } };
+    ghost view = { λ p. record { world = world_of p; begun = p.begun; kept = p.laid.kept } };
 
     ghost invariant = { IsPage };
 }
@@ -103,7 +106,7 @@ impl Model for Page {
 impl Page {
     /// A page with the document `top` alone, which has no element, and with a viewport of 800 by 600 pixels.
     pub fn new(alloc: Global) -> Result<Page, AllocError>
-        ensures { IfOk result (λ page. page ≡ record { world = opening_world; begun = false }) }
+        ensures { IfOk result (λ page. page ≡ record { world = opening_world; begun = false; kept = [] }) }
     {
         let Some(top) = Name::read(b"top") else {
             return Err(AllocError);
@@ -139,6 +142,7 @@ impl Page {
     #[tactic(auto, unfolding(page_model::specs::Commands::begun_in))]
     pub fn begin_command(&mut self) -> Result<(), PageFault>
         ensures counted { Moved result self.old.world self.new.world (begun_in self.old.world) }
+        ensures boxes { self.new.kept ≡ self.old.kept }
         ensures begun { OnOk result (self.new.begun ≡ true) }
         ensures same { OnErr result (self.new ≡ self.old) }
     {
@@ -157,6 +161,7 @@ impl Page {
     pub fn set_time(&mut self, time: u64) -> Result<(), PageFault>
         requires { IsTime time }
         ensures set { Moved result self.old.world self.new.world (time_set time self.old.world) }
+        ensures boxes { self.new.kept ≡ self.old.kept }
         ensures begun { self.new.begun ≡ self.old.begun }
         ensures same { OnErr result (self.new ≡ self.old) }
     {
@@ -186,6 +191,7 @@ impl Page {
             (does (handler_names (handlers_in script.now)) self.old.world (present_of subject) (action_of command.now.what)) }
         ensures begun { self.new.begun ≡ false }
         ensures handed { IfOk result (IsHanded self.new.world) }
+        ensures boxes { BoxesAfter (present_of subject) (action_of command.now.what) result self.old.world self.new.world.tree self.old.kept self.new.kept steps.old steps.new }
     {
         self.begun = false;
         self.act(script, &command.what, subject, steps)
@@ -208,7 +214,8 @@ impl Page {
         requires timers { self.old.world.timers.given < self.old.world.begun }
         requires allowed { ActionAllowed what.now }
         requires subject { IsSubject (length self.old.world.tree.elements) subject }
-        ensures { Kept self.old self.new result (does (handler_names (handlers_in script.now)) self.old.world (present_of subject) (action_of what.now)) }
+        ensures done { Kept self.old self.new result (does (handler_names (handlers_in script.now)) self.old.world (present_of subject) (action_of what.now)) }
+        ensures boxes { BoxesAfter (present_of subject) (action_of what.now) result self.old.world self.new.world.tree self.old.kept self.new.kept steps.old steps.new }
     {
         match what {
             What::Viewport(size) => self.set_viewport(*size),
@@ -260,12 +267,41 @@ impl Page {
         }
     }
 
-    /// Computes the boxes that are due: each box of the page is then held as it is now, and none is due. The world and what
-    /// was begun are as before. No memory.
+    /// Computes the boxes that are due: each box of the page is then held as it is now, and none is due. It takes at most one step
+    /// for each box that was due. The world and what was begun are as before. No memory.
     pub fn refresh_boxes<L: Ledger>(&mut self, steps: &mut Steps<L>)
-        ensures { self.new ≡ self.old }
+        ensures same { self.new ≡ record self.old { kept = self.new.kept } }
+        ensures done { (n : ℕ) → is_due self.new.world.tree self.new.world.viewports.size self.new.kept n ≡ false }
+        ensures boxes { Computes self.old.world self.old.kept self.new.kept steps.old steps.new }
     {
         self.laid.refresh(self.size, steps);
+    }
+
+    /// What is kept of the boxes. What is held for an element that has a box and isn't due is that box as it is now, and a mark on an
+    /// element that counts in its parent stands on the parent too.
+    pub fn boxes(&self) -> &kept_layout::Kept
+        ensures value { result.now ≡ self.now.kept }
+        ensures kept { AreKept self.now.world.tree self.now.kept }
+        ensures exact { IsExact self.now.world.tree self.now.world.viewports.size self.now.kept }
+    {
+        self.laid.boxes()
+    }
+
+    /// The containers, clips and boxes of the page as they are now (Intersection Observer, 3.2.7), in units of 1/64 pixel and in the
+    /// coordinates of the viewport of `top`. No box may be due; `refresh_boxes` sees to that. No memory.
+    pub fn geometry(&self) -> PageGeometry<'_, kept_layout::Kept>
+        requires { (n : ℕ) → is_due self.now.world.tree self.now.world.viewports.size self.now.kept n ≡ false }
+        ensures tree { result.page.now.tree ≡ self.now.world.tree }
+        ensures boxes { result.boxes.now ≡ self.now.kept }
+        ensures scrolls { result.scrolls.now ≡ self.now.world.scrolls }
+        ensures viewport { seen_size result.viewport ≡ self.now.world.viewports.size }
+    {
+        PageGeometry::new(
+            self.laid.page(),
+            self.laid.boxes(),
+            &self.scrolls,
+            self.size,
+        )
     }
 
     pub(crate) fn document_name(&self, document: u32) -> Name
@@ -310,6 +346,8 @@ pub(crate) fn viewport_now<L: Ledger>(
     ensures value { seen_size result ≡ viewport_of laid.new.elements.tree (seen_size size) document }
     ensures natural { IsNatural result }
     ensures same { laid.new.elements ≡ laid.old.elements }
+    ensures fills { FillsOnly laid.old.kept laid.new.kept }
+    ensures ticks { steps.new + due_count laid.old.elements.tree (seen_size size) laid.new.kept ≤ steps.old + due_count laid.old.elements.tree (seen_size size) laid.old.kept }
 {
     laid.refresh_for(size, Container::Document(document), steps);
     viewport_of(laid.page(), laid.boxes(), size, document)

@@ -7,6 +7,7 @@ ghost use Rattle.page_model.specs.Lookups.{query_list_at};
 ghost use Rattle.page_model.specs.Operands.{Present};
 ghost use Rattle.page_boxes.specs.Pages.{seen_size};
 ghost use Rattle.page_state.specs.Answers.{Keeps};
+ghost use Rattle.page_state.specs.Boxes.{Computes};
 ghost use Rattle.page_state.specs.Queries.{seen_query_list, is_changed, changed_from, next_changed, once_evaluated};
 
 use crate::answers::{Effect, PageFault};
@@ -72,7 +73,8 @@ impl Page {
         query: &Query,
         steps: &mut Steps<L>,
     ) -> Result<Effect, PageFault>
-        ensures { (present : Present) → Keeps self.old self.new result (λ handlers. does handlers self.old.world present (MakeQueryList name document query.now)) }
+        ensures done { (present : Present) → Keeps self.old self.new result (λ handlers. does handlers self.old.world present (MakeQueryList name document query.now)) }
+        ensures boxes { Computes self.old.world self.old.kept self.new.kept steps.old steps.new }
     {
         self.names.check_free(name)?;
         let document = self.document(document)?;
@@ -101,7 +103,8 @@ impl Page {
         requires { query < length self.old.world.queries }
         ensures value { let list = query_list_at self.old.world.queries query in
             result ≡ matches_now self.old.world list.document list.query }
-        ensures same { self.new ≡ self.old }
+        ensures same { self.new ≡ record self.old { kept = self.new.kept } }
+        ensures boxes { Computes self.old.world self.old.kept self.new.kept steps.old steps.new }
     {
         let list = &self.queries[query as usize];
         let viewport = viewport_now(&mut self.laid, self.size, list.document, steps);
@@ -121,7 +124,8 @@ impl Page {
         ensures query { option_map (λ change. change.query) result ≡ next_changed document place self.old.world }
         ensures matches { IfSome result (λ change. change.matches ≡ matches_now self.old.world document (query_list_at self.old.world.queries change.query).query) }
         ensures place { IfSome result (λ change. (change.place ≡ ℕ.suc change.query) × change.query < length self.old.world.queries) }
-        ensures evaluated { self.new ≡ record self.old { world = once_evaluated document (next_changed document place self.old.world) (self.old.world) } }
+        ensures evaluated { self.new ≡ record self.old { world = once_evaluated document (next_changed document place self.old.world) (self.old.world); kept = self.new.kept } }
+        ensures boxes { Computes self.old.world self.old.kept self.new.kept steps.old steps.new }
     {
         let size = viewport_now(&mut self.laid, self.size, document, steps);
         let query = changed_from(self.queries.as_slice(), document, size, place)?;

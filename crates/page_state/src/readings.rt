@@ -8,6 +8,7 @@ ghost use Rattle.trace_text.specs.Seen.{seen_line};
 ghost use Rattle.trace_text.specs.Ranges.{HasReach};
 ghost use Rattle.script_syntax.specs.Seen.{operand_of};
 ghost use Rattle.page_state.specs.Answers.{Keeps};
+ghost use Rattle.page_state.specs.Boxes.{Computes};
 ghost use Rattle.page_tree.specs.Steps.{seen_container};
 ghost use Rattle.page_boxes.specs.Pages.{text_in};
 ghost use Rattle.page_state.specs.Things.{present_of, IsSubject};
@@ -33,7 +34,8 @@ impl Page {
         steps: &mut Steps<L>,
     ) -> Result<Effect, PageFault>
         requires { IsSubject (length self.old.world.tree.elements) subject }
-        ensures { Keeps self.old self.new result (λ handlers. does handlers self.old.world (present_of subject) (Read (operand_of target))) }
+        ensures done { Keeps self.old self.new result (λ handlers. does handlers self.old.world (present_of subject) (Read (operand_of target))) }
+        ensures boxes { Computes self.old.world self.old.kept self.new.kept steps.old steps.new }
     {
         let container = self.container(target, subject)?;
         Ok(Effect::Line(self.reading(container, steps)))
@@ -44,7 +46,8 @@ impl Page {
         requires { IsIn self.old.world container }
         ensures line { seen_line result
             ≡ reading_of self.old.world.names self.old.world.tree self.old.world.viewports.size self.old.world.scrolls (seen_container container) }
-        ensures same { self.new ≡ self.old }
+        ensures same { self.new ≡ record self.old { kept = self.new.kept } }
+        ensures boxes { Computes self.old.world self.old.kept self.new.kept steps.old steps.new }
         ensures reach { HasReach (seen_line result) }
     {
         let target = self.container_name(container);

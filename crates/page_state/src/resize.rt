@@ -29,7 +29,8 @@ impl Page {
         document: Name,
         handler: Option<Name>,
     ) -> Result<Effect, PageFault>
-        ensures { (present : Present) → Kept self.old self.new result (does (handler_names (handlers_in script.now)) self.old.world present (MakeResizeObserver name document handler)) }
+        ensures done { (present : Present) → Kept self.old self.new result (does (handler_names (handlers_in script.now)) self.old.world present (MakeResizeObserver name document handler)) }
+        ensures boxes { self.new.kept ≡ self.old.kept }
     {
         self.names.check_free(name)?;
         let document = self.document(document)?;
@@ -57,7 +58,8 @@ impl Page {
         requires counted { self.old.world.resize_observers.given < self.old.world.begun }
         requires flag { self.old.begun ≡ false }
         requires subject { IsSubject (length self.old.world.tree.elements) subject }
-        ensures { Keeps self.old self.new result (λ handlers. does handlers self.old.world (present_of subject) (ObserveResize observer (operand_of node) observed)) }
+        ensures done { Keeps self.old self.new result (λ handlers. does handlers self.old.world (present_of subject) (ObserveResize observer (operand_of node) observed)) }
+        ensures boxes { self.new.kept ≡ self.old.kept }
     {
         let observer = self.observer(observer)?;
         let node = self.element(node, subject)?;
@@ -78,7 +80,8 @@ impl Page {
         subject: Option<NodeId>,
     ) -> Result<Effect, PageFault>
         requires { IsSubject (length self.old.world.tree.elements) subject }
-        ensures { Keeps self.old self.new result (λ handlers. does handlers self.old.world (present_of subject) (UnobserveResize observer (operand_of node))) }
+        ensures done { Keeps self.old self.new result (λ handlers. does handlers self.old.world (present_of subject) (UnobserveResize observer (operand_of node))) }
+        ensures boxes { self.new.kept ≡ self.old.kept }
     {
         let observer = self.observer(observer)?;
         let node = self.element(node, subject)?;
@@ -87,7 +90,8 @@ impl Page {
     }
 
     pub(crate) fn disconnect(&mut self, observer: Name) -> Result<Effect, PageFault>
-        ensures { (present : Present) → Keeps self.old self.new result (λ handlers. does handlers self.old.world present (DisconnectResize observer)) }
+        ensures done { (present : Present) → Keeps self.old self.new result (λ handlers. does handlers self.old.world present (DisconnectResize observer)) }
+        ensures boxes { self.new.kept ≡ self.old.kept }
     {
         let observer = self.observer(observer)?;
         self.observers.disconnect(observer);

@@ -1,6 +1,6 @@
 //! What the resize loop asks of a page (Resize Observer, 3.4). Sizes are those of boxes as they are now.
 
-ghost use Rattle.std.specs.Prelude.{◌≡◌, ◌<◌, min, length, option_map, IfOk, IfSome, OnErr};
+ghost use Rattle.std.specs.Prelude.{◌≡◌, ◌<◌, length, option_map, IfOk, IfSome, OnErr};
 ghost use Rattle.page_model.specs.World.{Extent};
 ghost use Rattle.page_model.specs.Gathering.{has_skipped, sight_in, sight_of, without_active, size_entry};
 ghost use Rattle.page_model.specs.Loop.{gather};
@@ -11,6 +11,7 @@ ghost use Rattle.std.specs.List.{AllByRecursion};
 ghost use Rattle.kept_layout.specs.Slots.{held_in};
 ghost use Rattle.page_boxes.specs.Fresh.{IsFresh};
 ghost use Rattle.page_boxes.specs.Pages.{seen_size};
+ghost use Rattle.page_state.specs.Boxes.{Computes};
 ghost use Rattle.page_state.specs.Rounds.{next_turn, once_reported};
 
 use crate::page::Page;
@@ -56,8 +57,9 @@ impl Page {
     /// Gathers the active observations of a document at a depth (Resize Observer, 3.4: gather active observations at
     /// depth), and answers how many there are. No memory.
     pub fn gather<L: Ledger>(&mut self, document: u32, depth: u32, steps: &mut Steps<L>) -> u32
-        ensures gathered { self.new ≡ record self.old { world = gather document depth (self.old.world) } }
-        ensures number { result ≡ min (active_count document self.new.world.resize_observers) 4294967295 }
+        ensures gathered { self.new ≡ record self.old { world = gather document depth (self.old.world); kept = self.new.kept } }
+        ensures boxes { Computes self.old.world self.old.kept self.new.kept steps.old steps.new }
+        ensures number { result ≡ active_count document self.new.world.resize_observers }
     {
         self.laid.refresh(self.size, steps);
         let sizes = Shown {
@@ -81,11 +83,12 @@ impl Page {
     ) -> Result<Option<Delivery>, AllocError>
         ensures turn { IfOk result (λ next. option_map turn_of next ≡ next_turn document place self.old.world) }
         ensures entries { IfOk result (λ next. IfSome next (λ it. it.entries ≡ entries_in (sight_of self.old.world) (active_at self.old.world.resize_observers it.observer.0))) }
-        ensures reported { IfOk result (λ next. self.new ≡ record self.old { world = once_reported (next_turn document place self.old.world) (self.old.world) }) }
+        ensures reported { IfOk result (λ next. self.new ≡ record self.old { world = once_reported (next_turn document place self.old.world) (self.old.world); kept = self.new.kept }) }
+        ensures boxes { Computes self.old.world self.old.kept self.new.kept steps.old steps.new }
         ensures made { IfOk result (λ next. IfSome next (λ it. it.observer.0 < length self.old.world.resize_observers.made)) }
         ensures some { IfOk result (λ next. IfSome next (λ it. 0 < length it.entries)) }
         ensures lengths { IfOk result (λ next. IfSome next (λ it. AllByRecursion HasLengths it.entries)) }
-        ensures same { OnErr result (self.new ≡ self.old) }
+        ensures same { OnErr result (self.new ≡ record self.old { kept = self.new.kept }) }
     {
         self.laid.refresh(self.size, steps);
         let sizes = Shown {

@@ -15,6 +15,7 @@ ghost use Rattle.scrolling.specs.Seen.{seen_target, point_of};
 ghost use Rattle.script_syntax.specs.Allowed.{IsOffset};
 ghost use Rattle.script_syntax.specs.Seen.{operand_of};
 ghost use Rattle.page_state.specs.Answers.{Keeps};
+ghost use Rattle.page_state.specs.Boxes.{Computes};
 ghost use Rattle.page_state.specs.Labels.{IsIn};
 ghost use Rattle.page_state.specs.Things.{present_of, IsSubject};
 
@@ -46,7 +47,8 @@ impl Page {
         steps: &mut Steps<L>,
     ) -> Result<Effect, PageFault>
         requires { IsSubject (length self.old.world.tree.elements) subject }
-        ensures { Keeps self.old self.new result (λ handlers. does handlers self.old.world (present_of subject) (ScrollTo (operand_of of) to.left to.top)) }
+        ensures done { Keeps self.old self.new result (λ handlers. does handlers self.old.world (present_of subject) (ScrollTo (operand_of of) to.left to.top)) }
+        ensures boxes { Computes self.old.world self.old.kept self.new.kept steps.old steps.new }
     {
         let container = self.container(of, subject)?;
         let Some(target) = self.scrolled_thing(container) else {
@@ -65,7 +67,8 @@ impl Page {
     ) -> Result<Effect, PageFault>
         requires by { IsOffset by }
         requires subject { IsSubject (length self.old.world.tree.elements) subject }
-        ensures { Keeps self.old self.new result (λ handlers. does handlers self.old.world (present_of subject) (ScrollBy (operand_of of) by.left by.top)) }
+        ensures done { Keeps self.old self.new result (λ handlers. does handlers self.old.world (present_of subject) (ScrollBy (operand_of of) by.left by.top)) }
+        ensures boxes { Computes self.old.world self.old.kept self.new.kept steps.old steps.new }
     {
         let container = self.container(of, subject)?;
         let Some(target) = self.scrolled_thing(container) else {
@@ -116,7 +119,8 @@ impl Page {
         ensures range { seen_size result.range ≡ scroll_range self.old.world.tree self.old.world.viewports.size (seen_target target) }
         ensures in_force { IsInForce result.offset }
         ensures bound { IsRange result.range }
-        ensures same { self.new ≡ self.old }
+        ensures same { self.new ≡ record self.old { kept = self.new.kept } }
+        ensures boxes { Computes self.old.world self.old.kept self.new.kept steps.old steps.new }
     {
         self.laid.refresh(self.size, steps);
         let page = self.laid.page();
@@ -131,7 +135,8 @@ impl Page {
     fn move_to(&mut self, target: ScrollTarget, to: Point, range: Size) -> Result<Effect, PageFault>
         requires value { seen_size range ≡ scroll_range self.old.world.tree self.old.world.viewports.size (seen_target target) }
         requires bound { IsRange range }
-        ensures { Keeps self.old self.new result (λ handlers. becomes (scrolled_to to.left to.top (Some (seen_target target)) self.old.world)) }
+        ensures done { Keeps self.old self.new result (λ handlers. becomes (scrolled_to to.left to.top (Some (seen_target target)) self.old.world)) }
+        ensures boxes { self.new.kept ≡ self.old.kept }
     {
         let document = match target {
             ScrollTarget::Node(node) => self.laid.page().document_of(node),

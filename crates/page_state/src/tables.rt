@@ -33,7 +33,8 @@ impl Page {
         requires counted { self.old.world.listeners.given < self.old.world.begun }
         requires flag { self.old.begun ≡ false }
         requires subject { IsSubject (length self.old.world.tree.elements) subject }
-        ensures { Kept self.old self.new result (does (handler_names (handlers_in script.now)) self.old.world (present_of subject) (Listen (aim_of aim) event handler)) }
+        ensures done { Kept self.old self.new result (does (handler_names (handlers_in script.now)) self.old.world (present_of subject) (Listen (aim_of aim) event handler)) }
+        ensures boxes { self.new.kept ≡ self.old.kept }
     {
         let target = self.event_target(aim, subject)?;
         let handler = handler_named(script, handler)?;
@@ -52,7 +53,8 @@ impl Page {
         subject: Option<NodeId>,
     ) -> Result<Effect, PageFault>
         requires { IsSubject (length self.old.world.tree.elements) subject }
-        ensures { Kept self.old self.new result (does (handler_names (handlers_in script.now)) self.old.world (present_of subject) (Unlisten (aim_of aim) event handler)) }
+        ensures done { Kept self.old self.new result (does (handler_names (handlers_in script.now)) self.old.world (present_of subject) (Unlisten (aim_of aim) event handler)) }
+        ensures boxes { self.new.kept ≡ self.old.kept }
     {
         let target = self.event_target(aim, subject)?;
         let handler = handler_named(script, handler)?;
@@ -69,7 +71,8 @@ impl Page {
     ) -> Result<Effect, PageFault>
         requires counted { self.old.world.frame_callbacks.given < self.old.world.begun }
         requires flag { self.old.begun ≡ false }
-        ensures { (present : Present) → Kept self.old self.new result (does (handler_names (handlers_in script.now)) self.old.world present (RequestFrame document key handler)) }
+        ensures done { (present : Present) → Kept self.old self.new result (does (handler_names (handlers_in script.now)) self.old.world present (RequestFrame document key handler)) }
+        ensures boxes { self.new.kept ≡ self.old.kept }
     {
         let document = self.document(document)?;
         let handler = handler_named(script, handler)?;
@@ -80,7 +83,8 @@ impl Page {
     }
 
     pub(crate) fn cancel_frame(&mut self, document: Name, key: Name) -> Result<Effect, PageFault>
-        ensures { (present : Present) → Keeps self.old self.new result (λ handlers. does handlers self.old.world present (CancelFrame document key)) }
+        ensures done { (present : Present) → Keeps self.old self.new result (λ handlers. does handlers self.old.world present (CancelFrame document key)) }
+        ensures boxes { self.new.kept ≡ self.old.kept }
     {
         let document = self.document(document)?;
         self.frame_callbacks.cancel(document, key);
@@ -99,7 +103,8 @@ impl Page {
         requires counted { self.old.world.timers.given < self.old.world.begun }
         requires flag { self.old.begun ≡ false }
         requires delay { IsTime delay }
-        ensures { (present : Present) → Kept self.old self.new result (does (handler_names (handlers_in script.now)) self.old.world present (SetTimer document key delay handler)) }
+        ensures done { (present : Present) → Kept self.old self.new result (does (handler_names (handlers_in script.now)) self.old.world present (SetTimer document key delay handler)) }
+        ensures boxes { self.new.kept ≡ self.old.kept }
     {
         let document = self.document(document)?;
         let handler = handler_named(script, handler)?;
@@ -110,7 +115,8 @@ impl Page {
     }
 
     pub(crate) fn clear_timer(&mut self, document: Name, key: Name) -> Result<Effect, PageFault>
-        ensures { (present : Present) → Keeps self.old self.new result (λ handlers. does handlers self.old.world present (ClearTimer document key)) }
+        ensures done { (present : Present) → Keeps self.old self.new result (λ handlers. does handlers self.old.world present (ClearTimer document key)) }
+        ensures boxes { self.new.kept ≡ self.old.kept }
     {
         let document = self.document(document)?;
         self.timers.clear(document, key);
@@ -123,7 +129,8 @@ impl Page {
         document: Name,
         handler: Name,
     ) -> Result<Effect, PageFault>
-        ensures { (present : Present) → Kept self.old self.new result (does (handler_names (handlers_in script.now)) self.old.world present (Post document handler)) }
+        ensures done { (present : Present) → Kept self.old self.new result (does (handler_names (handlers_in script.now)) self.old.world present (Post document handler)) }
+        ensures boxes { self.new.kept ≡ self.old.kept }
     {
         let document = self.document(document)?;
         let handler = handler_named(script, handler)?;

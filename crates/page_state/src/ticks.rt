@@ -9,6 +9,7 @@ ghost use Rattle.page_model.specs.PageBoxes.{viewport_of};
 ghost use Rattle.page_model.specs.Tasks.{without_notifying};
 ghost use Rattle.page_model.specs.Viewports.{noted_size, with_noted, differs_from};
 ghost use Rattle.intersection_update.specs.Watching.{AreWritten, watcher_numbers};
+ghost use Rattle.page_state.specs.Boxes.{Computes};
 
 use crate::page::{Page, viewport_now};
 use event_tables::Task;
@@ -42,6 +43,7 @@ impl Page {
           viewports = with_noted document (viewport_of (self.old.world.tree) (self.old.world.viewports.size) document) (self.old.world.viewports);
         } }
         ensures begun { self.new.begun ≡ self.old.begun }
+        ensures boxes { Computes self.old.world self.old.kept self.new.kept steps.old steps.new }
     {
         let size = viewport_now(&mut self.laid, self.size, document, steps);
         // There are at most 64 documents.
@@ -67,8 +69,9 @@ impl Page {
         steps: &mut Steps<L>,
     ) -> Result<(), AllocError>
         requires { document < length self.old.world.tree.documents }
-        ensures updated { IfOk result (λ _. self.new ≡ record self.old { world = update_intersections document (self.old.world) }) }
-        ensures rest { OnErr result (self.new ≡ record self.old { world = record (self.old.world) { intersection_observers = self.new.world.intersection_observers } }) }
+        ensures updated { IfOk result (λ _. self.new ≡ record self.old { world = update_intersections document (self.old.world); kept = self.new.kept }) }
+        ensures rest { OnErr result (self.new ≡ record self.old { world = record (self.old.world) { intersection_observers = self.new.world.intersection_observers }; kept = self.new.kept }) }
+        ensures boxes { Computes self.old.world self.old.kept self.new.kept steps.old steps.new }
     {
         self.laid.refresh(self.size, steps);
         let queued = update(

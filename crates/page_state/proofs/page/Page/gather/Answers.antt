@@ -6,13 +6,17 @@ use Rattle.resize_observer.specs.Observers.{HeldObservers}
 use Rattle.page_state.specs.Views.{PageView}
 use Rattle.page_state.specs.Worlds.{world_of}
 use Rattle.page_state.proofs.Doing.{gathers}
-use Rattle.page_state.proofs.Laid.{view_refreshed}
+use Rattle.page_state.proofs.Laid.{view_refreshed, computed}
 use Rattle.page_state.proofs.page.Page.gather.Goals as goal
 
 pub returns-clause-gathered : goal.returns-clause-gathered
 returns-clause-gathered g c =
     let p = record (c.self.inside) { laid = c.refresh.new.self } in
-    ap (λ (it : HeldObservers). record { world = record (world_of p) { resize_observers = it.part }; begun = p.begun }) c.gather.ensures.gathered
-    ∙ ap (λ (world : World). record { world = world; begun = p.begun }) (gathers c.args.document c.args.depth (world_of p))
-    ∙ ap (λ (v : PageView). record { world = gather c.args.document c.args.depth (v.world); begun = v.begun })
+    ap (λ (it : HeldObservers). record { world = record (world_of p) { resize_observers = it.part }; begun = p.begun; kept = p.laid.kept }) c.gather.ensures.gathered
+    ∙ ap (λ (world : World). record { world = world; begun = p.begun; kept = p.laid.kept }) (gathers c.args.document c.args.depth (world_of p))
+    ∙ ap (λ (v : PageView). record { world = gather c.args.document c.args.depth (v.world); begun = v.begun; kept = v.kept })
     (view_refreshed c.self.inside c.refresh.new.self c.refresh.ensures.same c.args.self.now c.self.view_is)
+
+pub returns-clause-boxes : goal.returns-clause-boxes
+returns-clause-boxes g c =
+    computed c.self.inside c.refresh.new.self c.refresh.ensures.same c.args.self.now c.self.view_is c.refresh.ensures.fills _ _ c.refresh.ensures.ticks

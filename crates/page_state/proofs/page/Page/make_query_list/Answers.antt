@@ -7,6 +7,7 @@ use Rattle.page_state.specs.declared.queries.QueryList.{QueryList}
 use Rattle.page_state.proofs.Laid.{view_refreshed}
 use Rattle.page_state.proofs.Inside.{query_known, query_elements, query_asked}
 use Rattle.page_state.proofs.QueryLists.{asks_page}
+use Rattle.page_state.proofs.Doing.{keeps_since}
 use Rattle.page_state.proofs.page.Page.make_query_list.Goals as goal
 
 pub invariant_of-self-2 : goal.invariant_of-self-2
@@ -25,14 +26,14 @@ invariant_of-self-2 g c =
     let asked = query_asked p names queries c.args.name last c.len-number.result c.self.invariant given number made there (omega (arith, number, c.if-number-ge-MOST_QUERIES.false)) in
     search rules
 
-pub returns : goal.returns
-returns g c present =
+pub returns-clause-done : goal.returns-clause-done
+returns-clause-done g c present =
     let p = record (c.self.inside) { laid = c.viewport_now-viewport.new.laid } in
     let view_is = view_refreshed c.self.inside c.viewport_now-viewport.new.laid c.viewport_now-viewport.ensures.same c.args.self.now c.self.view_is in
     let number : c.len-number.result ≡ length p.queries.items = c.len-number.ensures ∙ c.self.inside.queries.ok.0 in
-    asks_page p c.args.name c.args.query.now c.in_ok-document.document c.insert.new.self.list c.push.new.self.items c.in_ok-query.query c.matches-matched.result (seen_size c.viewport_now-viewport.result)
+    keeps_since (asks_page p c.args.name c.args.query.now c.in_ok-document.document c.insert.new.self.list c.push.new.self.items c.in_ok-query.query c.matches-matched.result (seen_size c.viewport_now-viewport.result)
     (c.in_ok-insert.ensures.given
     ∙ ap (λ (list : List Name). list ++ record { text = c.args.name; thing = QueryListThing c.len-number.result } ∷ []) c.in_ok-reserve.ensures.same
     ∙ ap (λ (n : ℕ). p.names.list ++ record { text = c.args.name; thing = QueryListThing n } ∷ []) number)
     c.in-Ok.ensures.items c.in_ok-query.ensures c.matches-matched.ensures c.viewport_now-viewport.ensures.value
-    c.args.self.now view_is present c.args.document c.in_ok-check_free.ensures.answer c.in_ok-document.ensures.answer (omega (arith, number, c.if-number-ge-MOST_QUERIES.false))
+    (record (c.args.self.now) { kept = c.viewport_now-viewport.new.laid.kept }) view_is present c.args.document c.in_ok-check_free.ensures.answer c.in_ok-document.ensures.answer (omega (arith, number, c.if-number-ge-MOST_QUERIES.false)))

@@ -6,7 +6,7 @@ use Rattle.page_model.specs.PageBoxes.{viewport_of}
 use Rattle.page_boxes.specs.Pages.{seen_size}
 use Rattle.page_state.specs.Queries.{seen_query_list}
 use Rattle.page_state.specs.Views.{PageView}
-use Rattle.page_state.proofs.Laid.{view_refreshed}
+use Rattle.page_state.proofs.Laid.{view_refreshed, computed}
 use Rattle.page_state.proofs.QueryLists.{list_here, matches_here}
 use Rattle.page_state.proofs.page.Page.matches_now.Goals as goal
 
@@ -20,3 +20,8 @@ returns-clause-value g c =
     subst (λ (v : PageView). query_list_at v.world.queries c.args.query ≡ seen_query_list list) c.self.view_is (list_here c.self.inside c.args.query list below c.index-list.ensures) in
     matches_here c.args.self.now.world c.args.query (seen_query_list list) (seen_size c.viewport_now-viewport.result) at c.matches.result c.matches.ensures (c.viewport_now-viewport.ensures.value ∙ ap (λ (v : PageView). viewport_of v.world.tree v.world.viewports.size list.document)
     (view_refreshed c.self.inside c.viewport_now-viewport.new.laid c.viewport_now-viewport.ensures.same c.args.self.now c.self.view_is))
+
+pub returns-clause-boxes : goal.returns-clause-boxes
+returns-clause-boxes g c =
+    computed c.self.inside c.viewport_now-viewport.new.laid c.viewport_now-viewport.ensures.same c.args.self.now c.self.view_is c.viewport_now-viewport.ensures.fills
+    _ _ c.viewport_now-viewport.ensures.ticks

@@ -5,8 +5,8 @@ use Rattle.page_state.specs.Known.{KnownNames}
 use Rattle.page_state.proofs.Opening.{known_first, no_elements}
 use Rattle.page_state.proofs.page.Page.new.Goals as goal
 
-pub invariant_of-result : goal.invariant_of-result
-invariant_of-result c =
+pub invariant_of-result-2 : goal.invariant_of-result-2
+invariant_of-result-2 c =
     let listed = c.in_default-insert.ensures.given ∙ ap (λ (list : List Name). list ++ record { text = c.in-Some.top; thing = DocumentThing 0 } ∷ []) c.new-names.ensures in
     let held = ap (λ (names : KnownNames). names.list) c.names.view_is ∙ listed in
     record {

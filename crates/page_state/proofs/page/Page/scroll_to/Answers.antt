@@ -1,5 +1,5 @@
 -- Something is scrolled to a position.
-use Rattle.std.proofs.Common.{◌≡◌, Some, option_map, sym, ap, subst, ◌∙◌}
+use Rattle.std.proofs.Common.{◌≡◌, Some, option_map, sym, ap, subst, ◌∙◌, List}
 use Rattle.page_model.specs.Scrolling.{scrolled_thing, scrolled_to}
 use Rattle.page_model.specs.Steps.{becomes}
 use Rattle.page_tree.specs.Steps.{seen_container}
@@ -8,14 +8,20 @@ use Rattle.script_syntax.specs.Seen.{operand_of}
 use Rattle.page_state.specs.Answers.{Keeps}
 use Rattle.page_state.specs.Things.{present_of}
 use Rattle.page_state.specs.Views.{PageView}
-use Rattle.page_state.proofs.Doing.{keeps_by, scrolls_to}
+use Rattle.kept_layout.specs.declared.slots.Slot.{Slot}
+use Rattle.page_state.specs.Boxes.{Computes}
+use Rattle.page_state.proofs.Doing.{keeps_by, keeps_since, scrolls_to}
 use Rattle.page_state.proofs.page.Page.scroll_to.Goals as goal
 
-pub returns : goal.returns
-returns g c =
+pub returns-clause-done : goal.returns-clause-done
+returns-clause-done g c =
     let world = c.args.self.now.world in
     let target = Some (seen_target c.in-Some.target) in
     let thing : scrolled_thing world.tree world.viewports.size (seen_container c.in_ok-container.container) ≡ target = sym c.scrolled_thing.ensures ∙ ap (option_map seen_target) c.in-Some.is in
     keeps_by
-    (subst (λ (v : PageView). Keeps v c.move_to.new.self c.move_to.result (λ handlers. becomes (scrolled_to c.args.to.left c.args.to.top target v.world))) c.reach-reach.ensures.same c.move_to.ensures)
+    (keeps_since (subst (λ (v : PageView). Keeps v c.move_to.new.self c.move_to.result (λ handlers. becomes (scrolled_to c.args.to.left c.args.to.top target v.world))) c.reach-reach.ensures.same c.move_to.ensures.done))
     (λ handlers. scrolls_to handlers world (present_of c.args.subject) (operand_of c.args.of) (seen_container c.in_ok-container.container) c.in_ok-container.ensures.answer target thing c.args.to.left c.args.to.top)
+
+pub returns-clause-boxes : goal.returns-clause-boxes
+returns-clause-boxes g c =
+    subst (λ (slots : List Slot). Computes c.args.self.now.world c.args.self.now.kept slots c.args.steps.now c.reach-reach.new.steps) (sym c.move_to.ensures.boxes) c.reach-reach.ensures.boxes

@@ -14,7 +14,7 @@ invariant_of-self c =
     (kept_taken elements c.in_ok-watcher.watcher.0 c.self.inside.watchers.part c.self.invariant.watched) in
     search rules
 
-pub returns : goal.returns
-returns c present =
+pub returns-clause-done : goal.returns-clause-done
+returns-clause-done c present =
     taken_so c.self.inside c.args.self.now c.self.view_is c.self.invariant present c.args.observer c.in_ok-watcher.watcher c.take_records.result c.take_records.new.self
     c.in_ok-watcher.ensures.answer c.in_ok-watcher.ensures.there c.take_records.ensures.taken c.take_records.ensures.emptied c.take_records.ensures.count

@@ -23,7 +23,7 @@ returns-then-not-queued-clause-updated g c =
       | then-not-queued-via-then-not-queued w ↦ not_told p c.args.document c.update.new.watchers c.in_ok-queued.queued is news (grind (arith, tests, w.if-not-queued.true))
       | then-not-queued-via-else-not-queued+then-get w ↦ still_told p c.args.document c.update.new.watchers c.in_ok-queued.queued is news (sym w.get.ensures ∙ w.if-get.true)
     ] in
-    ap (λ (world : World). record { world = world; begun = p.begun }) same
+    ap (λ (world : World). record { world = world; begun = p.begun; kept = p.laid.kept }) same
     ∙ ap (λ (v : PageView). record v { world = update_intersections c.args.document (v.world) }) view_is
 
 pub set-requires : goal.set-requires
@@ -41,7 +41,7 @@ returns-clause-updated g c =
     ∙ ap (λ (tree : Tree). record (p.watchers) { part = updated (world_of p) tree c.args.document (p.clock) (p.watchers.part) }) c.page.ensures.tree in
     let news = c.in_ok-queued.ensures.queued (world_of p) (sym c.page.ensures.tree) refl refl
     ∙ ap (λ (tree : Tree). has_news tree c.args.document p.watchers.part (updated (world_of p) tree c.args.document (p.clock) (p.watchers.part))) c.page.ensures.tree in
-    ap (λ (world : World). record { world = world; begun = p.begun })
+    ap (λ (world : World). record { world = world; begun = p.begun; kept = p.laid.kept })
     (now_told p c.args.document c.update.new.watchers c.in_ok-queued.queued is news (grind (arith, tests, c.if-not-queued.false)) (sym c.get.ensures ∙ c.if-get.false) c.push.new.self c.set.new.self
     (ap (λ (it : WaitingTasks). it.part) c.in-Ok.ensures.queued) c.set.ensures)
     ∙ ap (λ (v : PageView). record v { world = update_intersections c.args.document (v.world) }) view_is

@@ -11,7 +11,7 @@ use Rattle.page_tree.specs.Items.{IsNatural}
 use Rattle.scrolling.proofs.Puts.{map-put}
 use Rattle.page_state.specs.Views.{PageView}
 use Rattle.page_state.specs.Worlds.{world_of}
-use Rattle.page_state.proofs.Laid.{view_refreshed}
+use Rattle.page_state.proofs.Laid.{view_refreshed, computed}
 use Rattle.page_state.proofs.Noted.{noted_seen, natural_at, natural_put, natural_some, sizes_differ}
 use Rattle.page_state.proofs.page.Page.viewport_changed.Goals.{in-None, in-Some}
 use Rattle.page_state.proofs.page.Page.viewport_changed.Goals as goal
@@ -57,3 +57,8 @@ returns-clause-noted g c =
     (map-put (option_map seen_size) None (Some c.viewport_now-size.result) c.args.document p.noted)
     ∙ ap (λ (now : Extent). record (world_of p) { viewports = with_noted c.args.document now ((world_of p).viewports) }) c.viewport_now-size.ensures.value
     ∙ ap (λ (v : PageView). record (v.world) { viewports = with_noted c.args.document (viewport_of (v.world.tree) (v.world.viewports.size) c.args.document) (v.world.viewports) }) view_is
+
+pub returns-clause-boxes : goal.returns-clause-boxes
+returns-clause-boxes g c =
+    computed c.self.inside c.viewport_now-size.new.laid c.viewport_now-size.ensures.same c.args.self.now c.self.view_is c.viewport_now-size.ensures.fills
+    _ _ c.viewport_now-size.ensures.ticks

@@ -1,0 +1,92 @@
+-- What becomes of the boxes that a page keeps. That boxes are kept, and when they are computed, is this project's own.
+use Rattle.std.specs.Prelude.{◌≡◌, ◌≤◌, ℕ, ◌+◌, Bool, ◌||◌, List, Option, Some, None, Result, OnOk, OnErr}
+use Rattle.script_model.specs.Syntax.{Operand, Action, Viewport, MakeBlock, MakeImage, MakeFrame, Append, Before, Remove, SetStyle, Grow, Load, MakeResizeObserver, ObserveResize, UnobserveResize, DisconnectResize, MakeIntersectionObserver, ObserveIntersection, UnobserveIntersection, DisconnectIntersection, TakeIntersections, Listen, Unlisten, MakeQueryList, ScrollTo, ScrollBy, RequestFrame, CancelFrame, SetTimer, ClearTimer, Post, Say, Read}
+use Rattle.page_model.specs.World.{Tree, World}
+use Rattle.page_model.specs.Documents.{Container, nodes_of}
+use Rattle.page_model.specs.Operands.{Present, element_meant, container_meant}
+use Rattle.page_model.specs.Steps.{Step, Did, Threw, Met}
+use Rattle.kept_layout.specs.declared.slots.Slot.{Slot}
+use Rattle.page_boxes.specs.Kept.{FillsOnly, due_count as due_count_in}
+use Rattle.page_layout.specs.Marks.{element_of, is_over, MarksOnly, MarksNone}
+use Rattle.page_state.specs.declared.answers.Effect.{Effect}
+use Rattle.page_state.specs.declared.answers.PageFault.{PageFault}
+
+-- how many boxes are due in a world
+abbrev pub due_count : World → List Slot → ℕ
+due_count world kept = due_count_in world.tree world.viewports.size kept
+
+-- boxes are computed: the steps are at most the boxes that were due and aren't afterwards. No mark is set, and no box dropped
+pub record Computes (world : World) (old new : List Slot) (from to : ℕ) : Type 0 where
+  pub fills : FillsOnly old new
+  pub ticks : to + due_count world new ≤ from + due_count world old
+
+-- these elements are marked where a command was done, and nothing else is; nothing is where it wasn't
+pub record Marks (marked : ℕ → Bool) (result : Result Effect PageFault) (old new : List Slot) : Type 0 where
+  pub done : OnOk result (MarksOnly marked old new)
+  pub refused : OnErr result (new ≡ old)
+
+abbrev pub found : {A : Type 0} → Step A → Option A
+found (Did value) = Some value
+found (Threw kind) = None
+found (Met kind) = None
+
+-- the element that an operand stands for, and the one that a parent is
+abbrev pub meant : World → Present → Operand → Option ℕ
+meant world present operand = found (element_meant world.names present operand)
+
+abbrev pub inside : Option Container → Option ℕ
+inside None = None
+inside (Some container) = element_of container
+
+abbrev pub parent : Tree → Option ℕ → Option ℕ
+parent tree None = None
+parent tree (Some n) = (nodes_of tree n).parent
+
+-- where an element moves, the parent that it leaves and the one that it comes to are marked, with their ancestors
+abbrev pub is_moved : Tree → Tree → Option ℕ → Option ℕ → ℕ → Bool
+is_moved before after node to m = is_over after (parent before node) m || is_over after to m
+
+abbrev pub Still : List Slot → List Slot → ℕ → ℕ → Type 0
+Still old new from to = (new ≡ old) × (to ≡ from)
+
+-- what each command may do to the boxes, and with how many steps, in a world with this tree afterwards
+abbrev pub BoxesAfter : Present → Action → Result Effect PageFault → World → Tree → List Slot → List Slot → ℕ → ℕ → Type 0
+BoxesAfter _ (Viewport _ _) _ _ _ old new from to = Still old new from to
+BoxesAfter _ (MakeBlock _ _) _ _ _ old new from to = MarksNone old new × (to ≡ from)
+BoxesAfter _ (MakeImage _ _ _ _) _ _ _ old new from to = MarksNone old new × (to ≡ from)
+BoxesAfter _ (MakeFrame _ _ _) _ _ _ old new from to = MarksNone old new × (to ≡ from)
+BoxesAfter present (Append to_parent node) result world after old new from to =
+    Marks (is_moved world.tree after (meant world present node) (inside (found (container_meant world.names present to_parent)))) result old new
+    × (to ≡ from)
+BoxesAfter present (Before to_parent node _) result world after old new from to =
+    Marks (is_moved world.tree after (meant world present node) (inside (found (container_meant world.names present to_parent)))) result old new
+    × (to ≡ from)
+BoxesAfter present (Remove node) result world after old new from to =
+    Marks (is_over after (parent world.tree (meant world present node))) result old new × (to ≡ from)
+BoxesAfter present (SetStyle node _) result world after old new from to =
+    Marks (is_over after (meant world present node)) result old new × (to ≡ from)
+BoxesAfter present (Grow node _ _) result world after old new from to =
+    Marks (is_over after (meant world present node)) result old new × (to ≡ from)
+BoxesAfter present (Load node _ _) result world after old new from to =
+    Marks (is_over after (meant world present node)) result old new × (to ≡ from)
+BoxesAfter _ (MakeQueryList _ _ _) _ world _ old new from to = Computes world old new from to
+BoxesAfter _ (ScrollTo _ _ _) _ world _ old new from to = Computes world old new from to
+BoxesAfter _ (ScrollBy _ _ _) _ world _ old new from to = Computes world old new from to
+BoxesAfter _ (Read _) _ world _ old new from to = Computes world old new from to
+BoxesAfter _ (MakeResizeObserver _ _ _) _ _ _ old new from to = Still old new from to
+BoxesAfter _ (ObserveResize _ _ _) _ _ _ old new from to = Still old new from to
+BoxesAfter _ (UnobserveResize _ _) _ _ _ old new from to = Still old new from to
+BoxesAfter _ (DisconnectResize _) _ _ _ old new from to = Still old new from to
+BoxesAfter _ (MakeIntersectionObserver _) _ _ _ old new from to = Still old new from to
+BoxesAfter _ (ObserveIntersection _ _) _ _ _ old new from to = Still old new from to
+BoxesAfter _ (UnobserveIntersection _ _) _ _ _ old new from to = Still old new from to
+BoxesAfter _ (DisconnectIntersection _) _ _ _ old new from to = Still old new from to
+BoxesAfter _ (TakeIntersections _) _ _ _ old new from to = Still old new from to
+BoxesAfter _ (Listen _ _ _) _ _ _ old new from to = Still old new from to
+BoxesAfter _ (Unlisten _ _ _) _ _ _ old new from to = Still old new from to
+BoxesAfter _ (RequestFrame _ _ _) _ _ _ old new from to = Still old new from to
+BoxesAfter _ (CancelFrame _ _) _ _ _ old new from to = Still old new from to
+BoxesAfter _ (SetTimer _ _ _ _) _ _ _ old new from to = Still old new from to
+BoxesAfter _ (ClearTimer _ _) _ _ _ old new from to = Still old new from to
+BoxesAfter _ (Post _ _) _ _ _ old new from to = Still old new from to
+BoxesAfter _ (Say _) _ _ _ old new from to = Still old new from to
