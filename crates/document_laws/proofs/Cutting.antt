@@ -1,0 +1,206 @@
+-- As many levels suffice as a tree has.
+use Rattle.std.proofs.Common.{◌≡◌, ◌<◌, ◌≤◌, ◌+◌, ℕ, zero, suc, Bool, true, false, List, [], ◌∷◌, Option, Some, None, inl, inr, refl, ap, sym, ◌∙◌, arith}
+use Rattle.std.specs.Prelude.{fold, max, ⊤}
+use Rattle.px_units.specs.Lengths.{cap}
+use Rattle.layout_model.specs.Nodes.{Node, levels, path_above, path_up, path_of}
+use Rattle.layout_model.specs.Items.{Kind, BlockKind, ImageKind, FrameKind}
+use Rattle.layout_model.specs.Boxes.{Inputs, Box, border_size, computed, child_inputs, inner_children, kids_of, shown_height, counted, total, box_at, box_down, box_in}
+use Rattle.layout_model.specs.Clips.{clips}
+use Rattle.layout_model.specs.Points.{plus, larger}
+use Rattle.layout_model.specs.Reach.{far_kids, far_if_shown, offset_at, open_kids, far_down}
+use Rattle.layout_model.proofs.Paths.{depth_least}
+use Rattle.page_model.specs.World.{Tree}
+use Rattle.page_model.specs.Lookups.{element_at}
+use Rattle.page_model.specs.Documents.{nodes_of, element_depth, order_down, inclusive_descendants, levels_down, levels_of}
+use Rattle.page_documents.proofs.Lists.{Among, listed, number_is}
+use Rattle.page_documents.proofs.Shape.{depth, deeper}
+use Rattle.document_laws.specs.Levels.{MakeLowTrees, IsWithinLevels}
+use Rattle.document_laws.proofs.Lists.{flat_same, map_same, sum_same}
+
+pub low_trees : (tree : Tree) → IsWithinLevels tree → MakeLowTrees tree
+low_trees tree levels = record { trees = levels.framed.trees; low = levels.low }
+
+-- numbers of levels: what is left below an element, and above it
+
+no_levels : (deep : ℕ) → deep ≤ 256 → 256 < deep + zero → ⊥
+no_levels deep low enough = omega arith
+
+next_level : (deep child few : ℕ) → child ≡ deep + 1 → 256 < deep + suc few → 256 < child + few
+next_level deep child few is enough = omega arith
+
+first_level : (deep most : ℕ) → 1 ≤ deep → 256 ≤ most → 256 < deep + most
+first_level deep most least enough = omega arith
+
+whole_levels : (deep : ℕ) → 1 ≤ deep → 256 < deep + 65536
+whole_levels deep least = omega arith
+
+top_only : (deep above : ℕ) → deep ≡ above + 1 → 1 ≤ above → deep ≤ suc zero → ⊥
+top_only deep above is least few = omega arith
+
+level_above : (deep above few : ℕ) → deep ≡ above + 1 → deep ≤ suc (suc few) → above ≤ suc few
+level_above deep above few is enough = omega arith
+
+far_above : (deep most : ℕ) → deep ≤ 256 → 256 ≤ most → deep ≤ suc most
+far_above deep most low enough = omega arith
+
+whole_above : (deep : ℕ) → deep ≤ 256 → deep ≤ suc 65536
+whole_above deep low = omega arith
+
+module _ (tree : Tree) (is : MakeLowTrees tree) where
+  abbrev at : ℕ → Node
+  at = nodes_of tree
+
+  low : (n : ℕ) → depth tree n ≤ 256
+  unfolding element_depth
+  low n = is.low n
+
+  least : (n : ℕ) → 1 ≤ depth tree n
+  least n = depth_least at n
+
+  child_deep : (n c : ℕ) → Among c (element_at tree n).children → depth tree c ≡ depth tree n + 1
+  child_deep n c among =
+      deeper tree is.trees c n (number_is ((element_at tree c).parent) n (sym (is.trees.children n c) ∙ listed c ((element_at tree n).children) among))
+
+  -- paths ---------------------------------------------------------------------------------------------------------------------------------
+
+  path_alone : (high n : ℕ) → (at n).parent ≡ None → path_up high at n ≡ n ∷ []
+  unfolding path_up
+  path_alone zero n up = refl
+  path_alone (suc high) n up = ap (λ found. n ∷ path_above (path_up high at) found) up
+
+  path_more : (high n p : ℕ) → (at n).parent ≡ Some p → path_up (suc high) at n ≡ n ∷ path_up high at p
+  unfolding path_up
+  path_more high n p up = ap (λ found. n ∷ path_above (path_up high at) found) up
+
+  -- an element on the first level has no parent
+  alone : (n : ℕ) → depth tree n ≤ suc zero → (found : Option ℕ) → (at n).parent ≡ found → (at n).parent ≡ None
+  alone n few None up = up
+  alone n few (Some p) up = absurd (top_only (depth tree n) (depth tree p) (deeper tree is.trees n p up) (least p) few)
+
+  path_step : (few more n : ℕ) →
+      ((p : ℕ) → depth tree p ≤ suc few → depth tree p ≤ suc more → path_up few at p ≡ path_up more at p) → (found : Option ℕ) → (at n).parent ≡ found →
+      depth tree n ≤ suc (suc few) → depth tree n ≤ suc (suc more) → path_up (suc few) at n ≡ path_up (suc more) at n
+  path_step few more n each None up enough enough' = path_alone (suc few) n up ∙ sym (path_alone (suc more) n up)
+  path_step few more n each (Some p) up enough enough' =
+      path_more few n p up
+      ∙ ap (λ path. n ∷ path) (each p (level_above (depth tree n) (depth tree p) few (deeper tree is.trees n p up) enough)
+      (level_above (depth tree n) (depth tree p) more (deeper tree is.trees n p up) enough'))
+      ∙ sym (path_more more n p up)
+
+  same_paths : (few more n : ℕ) → depth tree n ≤ suc few → depth tree n ≤ suc more → path_up few at n ≡ path_up more at n
+  same_paths zero more n enough enough' =
+      let top = alone n enough ((at n).parent) refl in path_alone zero n top ∙ sym (path_alone more n top)
+  same_paths (suc few) zero n enough enough' =
+      let top = alone n enough' ((at n).parent) refl in path_alone (suc few) n top ∙ sym (path_alone zero n top)
+  same_paths (suc few) (suc more) n enough enough' =
+      path_step few more n (λ p less less'. same_paths few more p less less') ((at n).parent) refl enough enough'
+
+  pub paths_whole : (most n : ℕ) → 256 ≤ most → path_up most at n ≡ path_of at n
+  unfolding path_of
+  paths_whole most n enough = same_paths most 65536 n (far_above (depth tree n) most (low n) enough) (whole_above (depth tree n) (low n))
+
+  -- descendants -----------------------------------------------------------------------------------------------------------------------------
+
+  same_orders : (few more n : ℕ) → 256 < depth tree n + few → 256 < depth tree n + more → order_down few tree n ≡ order_down more tree n
+  unfolding order_down
+  same_orders zero more n enough enough' = absurd (no_levels (depth tree n) (low n) enough)
+  same_orders (suc few) zero n enough enough' = absurd (no_levels (depth tree n) (low n) enough')
+  same_orders (suc few) (suc more) n enough enough' =
+      ap (λ order. n ∷ order) (flat_same (order_down few tree) (order_down more tree) ((element_at tree n).children) (λ c among.
+      same_orders few more c (next_level (depth tree n) (depth tree c) few (child_deep n c among) enough)
+      (next_level (depth tree n) (depth tree c) more (child_deep n c among) enough')))
+
+  pub orders_whole : (most n : ℕ) → 256 ≤ most → order_down most tree n ≡ inclusive_descendants tree n
+  unfolding inclusive_descendants
+  orders_whole most n enough = same_orders most 65536 n (first_level (depth tree n) most (least n) enough) (whole_levels (depth tree n) (least n))
+
+  same_heights : (few more n : ℕ) → 256 < depth tree n + few → 256 < depth tree n + more → levels_down few tree n ≡ levels_down more tree n
+  unfolding levels_down
+  same_heights zero more n enough enough' = absurd (no_levels (depth tree n) (low n) enough)
+  same_heights (suc few) zero n enough enough' = absurd (no_levels (depth tree n) (low n) enough')
+  same_heights (suc few) (suc more) n enough enough' =
+      ap (λ (heights : List ℕ). suc (fold max 0 heights)) (map_same (levels_down few tree) (levels_down more tree) ((element_at tree n).children) (λ c among.
+      same_heights few more c (next_level (depth tree n) (depth tree c) few (child_deep n c among) enough)
+      (next_level (depth tree n) (depth tree c) more (child_deep n c among) enough')))
+
+  pub heights_whole : (most n : ℕ) → 256 ≤ most → levels_down most tree n ≡ levels_of tree n
+  unfolding levels_of
+  heights_whole most n enough = same_heights most 65536 n (first_level (depth tree n) most (least n) enough) (whole_levels (depth tree n) (least n))
+
+  -- boxes -----------------------------------------------------------------------------------------------------------------------------------
+
+  among_kids : (kind : Kind) (c : ℕ) (children : List ℕ) → Among c (inner_children kind children) → Among c children
+  among_kids BlockKind c children among = among
+  among_kids (ImageKind width height) c children among = absurd among
+  among_kids FrameKind c children among = absurd among
+
+  shown_same : (box other : ℕ → Box) (c : ℕ) (hidden : Bool) → box c ≡ other c → shown_height box c hidden ≡ shown_height other c hidden
+  shown_same box other c true same = refl
+  shown_same box other c false same = ap (λ (it : Box). shown_height (λ (n : ℕ). it) c false) same
+
+  counted_same : (box other : ℕ → Box) (c : ℕ) → box c ≡ other c → counted at box c ≡ counted at other c
+  unfolding counted
+  counted_same box other c same = shown_same box other c ((at c).item.style.hidden) same
+
+  total_same : (box other : ℕ → Box) (xs : List ℕ) → ((c : ℕ) → Among c xs → box c ≡ other c) → total at box xs ≡ total at other xs
+  unfolding total
+  total_same box other xs each = ap cap (sum_same (counted at box) (counted at other) xs (λ c among. counted_same box other c (each c among)))
+
+  same_boxes : (few more : ℕ) (inputs : Inputs) (n : ℕ) → 256 < depth tree n + few → 256 < depth tree n + more →
+      box_down few at inputs n ≡ box_down more at inputs n
+  unfolding box_down box_at
+  same_boxes zero more inputs n enough enough' = absurd (no_levels (depth tree n) (low n) enough)
+  same_boxes (suc few) zero inputs n enough enough' = absurd (no_levels (depth tree n) (low n) enough')
+  same_boxes (suc few) (suc more) inputs n enough enough' =
+      let within : Inputs = child_inputs ((at n).item) inputs in
+      ap (λ height. computed ((at n).item) inputs height) (total_same (box_down few at within) (box_down more at within) (kids_of (at n)) (λ c among.
+      let deep = child_deep n c (among_kids ((at n).item.kind) c ((at n).children) among) in
+      same_boxes few more within c (next_level (depth tree n) (depth tree c) few deep enough) (next_level (depth tree n) (depth tree c) more deep enough')))
+
+  pub boxes_whole : (most : ℕ) (inputs : Inputs) (n : ℕ) → 256 ≤ most → box_down most at inputs n ≡ box_in at inputs n
+  unfolding box_in
+  boxes_whole most inputs n enough = same_boxes most 65536 inputs n (first_level (depth tree n) most (least n) enough) (whole_levels (depth tree n) (least n))
+
+  -- how far they reach ----------------------------------------------------------------------------------------------------------------------
+
+  kids_same : (height : ℕ → ℕ) (far other : ℕ → ℕ → ℕ × ℕ) (above : ℕ) (xs : List ℕ) → ((above c : ℕ) → Among c xs → far above c ≡ other above c) →
+      far_kids height far above xs ≡ far_kids height other above xs
+  unfolding far_kids
+  kids_same height far other above [] each = refl
+  kids_same height far other above (c ∷ cs) each =
+      ap (λ point. larger point (far_kids height far (above + height c) cs)) (each above c (inl refl))
+      ∙ ap (λ point. larger (other above c) point) (kids_same height far other (above + height c) cs (λ higher k among. each higher k (inr among)))
+
+  far_shown : (far other : Inputs → ℕ × ℕ → ℕ → ℕ × ℕ) (inputs : Inputs) (corner : ⊤ → ℕ × ℕ) (c : ℕ) (hidden : Bool) →
+      far inputs (corner tt) c ≡ other inputs (corner tt) c → far_if_shown far inputs corner c hidden ≡ far_if_shown other inputs corner c hidden
+  far_shown far other inputs corner c true same = refl
+  far_shown far other inputs corner c false same = same
+
+  among_open : (closed : Bool) (c : ℕ) (kids : List ℕ) → Among c (open_kids closed kids) → Among c kids
+  among_open true c kids among = absurd among
+  among_open false c kids among = among
+
+  same_reaches : (few more : ℕ) (inputs : Inputs) (corner : ℕ × ℕ) (n : ℕ) → 256 < depth tree n + few → 256 < depth tree n + more →
+      far_down few at inputs corner n ≡ far_down more at inputs corner n
+  unfolding far_down
+  same_reaches zero more inputs corner n enough enough' = absurd (no_levels (depth tree n) (low n) enough)
+  same_reaches (suc few) zero inputs corner n enough enough' = absurd (no_levels (depth tree n) (low n) enough')
+  same_reaches (suc few) (suc more) inputs corner n enough enough' =
+      let within : Inputs = child_inputs ((at n).item) inputs in
+      let kids : List ℕ = open_kids (clips (at n)) (kids_of (at n)) in
+      ap (λ point. larger (plus corner (border_size (box_in at inputs n))) point)
+      (kids_same (counted at (box_in at within))
+      (λ above c. far_if_shown (far_down few at) within (λ u. plus corner (offset_at ((at n).item) inputs above ((at c).item))) c ((at c).item.style.hidden))
+      (λ above c. far_if_shown (far_down more at) within (λ u. plus corner (offset_at ((at n).item) inputs above ((at c).item))) c ((at c).item.style.hidden))
+      0 kids
+      (λ above c among.
+      let deep = child_deep n c (among_kids ((at n).item.kind) c ((at n).children) (among_open (clips (at n)) c (kids_of (at n)) among)) in
+      far_shown (far_down few at) (far_down more at) within (λ u. plus corner (offset_at ((at n).item) inputs above ((at c).item))) c
+      ((at c).item.style.hidden)
+      (same_reaches few more within (plus corner (offset_at ((at n).item) inputs above ((at c).item))) c
+      (next_level (depth tree n) (depth tree c) few deep enough) (next_level (depth tree n) (depth tree c) more deep enough'))))
+
+  pub reaches_whole : (most : ℕ) (inputs : Inputs) (corner : ℕ × ℕ) (n : ℕ) → 256 ≤ most →
+      far_down most at inputs corner n ≡ far_down levels at inputs corner n
+  reaches_whole most inputs corner n enough =
+      same_reaches most 65536 inputs corner n (first_level (depth tree n) most (least n) enough) (whole_levels (depth tree n) (least n))

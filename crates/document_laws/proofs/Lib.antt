@@ -1,0 +1,10 @@
+pub mod Lists
+pub mod Depths
+pub mod Steps
+pub mod Keeping
+pub mod WholeRuns
+pub mod Cutting
+pub mod Between
+pub mod Showing
+pub mod Leading
+pub mod Chains

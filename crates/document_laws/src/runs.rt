@@ -1,0 +1,38 @@
+//! Laws of commands, callbacks, ticks and whole runs.
+
+ghost use Rattle.std.specs.Prelude.{ℕ, List, Option, length};
+ghost use Rattle.std.specs.List.{AllByRecursion};
+ghost use Rattle.script_model.specs.Syntax.{Action, Command, Item};
+ghost use Rattle.page_model.specs.World.{World};
+ghost use Rattle.page_model.specs.Steps.{Effect};
+ghost use Rattle.page_model.specs.Operands.{Handlers, Present};
+ghost use Rattle.page_model.specs.Commands.{does};
+ghost use Rattle.page_model.specs.Ranges.{IsInRange, IsPresentIn};
+ghost use Rattle.page_model.specs.Callbacks.{Script, Entries, presents, run_command, call};
+ghost use Rattle.page_model.specs.Ticks.{tick};
+ghost use Rattle.page_model.specs.Outcome.{opening_world, outcome, run_item, run_items};
+ghost use Rattle.page_laws.specs.Successors.{OnDid};
+ghost use Rattle.document_laws.specs.Levels.{IsWithinLevels};
+
+/// Over whole runs elements make trees of at most 256 levels, frames and documents belong together, from each Active document the way
+/// from frame to frame leads up to `top`, and there are at most 64 documents. A script opens in such a world, and ends in one. From any
+/// such world in range each command, a command with its block, a callback, a tick and an item leave one, where the entries that are
+/// handed in are of elements that there are and the handlers are those of the script.
+pub fn trees_are_kept()
+    ensures opening { IsWithinLevels opening_world.tree }
+    ensures steps { (handlers : Handlers) (world : World) → IsInRange (length handlers) world → IsWithinLevels world.tree →
+        (present : Present) (action : Action) → IsPresentIn world present →
+        OnDid (does handlers world present action) (λ (effect : Effect). IsWithinLevels effect.world.tree) }
+    ensures commands { (script : Script) (world : World) → IsInRange (length script) world → IsWithinLevels world.tree →
+        (entries : List Present) (command : Command) (present : Present) → AllByRecursion (IsPresentIn world) entries → IsPresentIn world present →
+        IsWithinLevels (run_command script entries command present world).state.tree }
+    ensures callbacks { (script : Script) (world : World) → IsInRange (length script) world → IsWithinLevels world.tree →
+        (document : ℕ) (handler : Option ℕ) (handed : Entries) → AllByRecursion (IsPresentIn world) (presents handed) →
+        IsWithinLevels (call script document handler handed world).state.tree }
+    ensures ticks { (script : Script) (world : World) → IsInRange (length script) world → IsWithinLevels world.tree →
+        IsWithinLevels (tick script world).state.tree }
+    ensures items { (script : Script) (item : Item) (world : World) → IsInRange (length script) world → IsWithinLevels world.tree →
+        IsWithinLevels (run_item script item world).state.tree }
+    ensures scripts { (items : List Item) → IsWithinLevels (run_items items opening_world).state.tree }
+    ensures outcomes { (text : List ℕ) → IsWithinLevels (outcome text).world.tree }
+{}
