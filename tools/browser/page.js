@@ -346,8 +346,9 @@
       const o = named(name, 'io'), element = node(child, entry).element;
       o.real.unobserve(element);
       o.targets.delete(element);
+      o.held = o.held.filter(e => e.target !== element);  // as the browser does with what it still holds
     },
-    'io-disconnect'([name]) { const o = named(name, 'io'); o.real.disconnect(); o.targets.clear(); },
+    'io-disconnect'([name]) { const o = named(name, 'io'); o.real.disconnect(); o.targets.clear(); o.held = []; },
     'io-take'([name]) {
       const o = named(name, 'io'), records = taken(o);
       write(`take ${name} ${records.length}`);
