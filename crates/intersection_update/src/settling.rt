@@ -13,8 +13,8 @@ ghost use Rattle.intersection_update.specs.Watching.{AreWatchers};
 ghost use Rattle.intersection_update.specs.Updating.{updated, has_news, HasParts, AreKept, IsBegun, IsStopped, settled_place, settled_if_rooted};
 
 use crate::rooted::is_rooted_in;
-use block_layout::Boxes;
 use intersection_observer::{Settled, WatcherId, Watchers};
+use kept_layout::Kept;
 use page_geometry::find;
 use page_tree::PageTree;
 use px_units::Size;
@@ -22,9 +22,9 @@ use scrolling::Scrolls;
 use std::alloc::AllocError;
 
 // Settles the registration at a place of an observer's by what is found of its target, and tells whether an entry was queued.
-fn settle_at<B: Boxes>(
+fn settle_at(
     page: &PageTree,
-    boxes: &B,
+    boxes: &Kept,
     scrolls: &Scrolls,
     viewport: Size,
     watchers: &mut Watchers,
@@ -33,7 +33,7 @@ fn settle_at<B: Boxes>(
     time: u64,
 ) -> Result<bool, AllocError>
     requires natural { IsNatural viewport }
-    requires fresh { IsFresh page.now.tree (seen_size viewport) (B.held boxes.now) }
+    requires fresh { IsFresh page.now.tree (seen_size viewport) boxes.now }
     requires watcher { watcher.0 < length watchers.old.part.made }
     requires place { place < length (watcher_at watchers.old watcher.0).registrations }
     ensures settled { (world : World) → HasParts page.now.tree (seen_size viewport) scrolls.now world →
@@ -54,9 +54,9 @@ fn settle_at<B: Boxes>(
 }
 
 // Settles the registrations of an observer, and tells whether an entry was queued.
-fn settle_watcher<B: Boxes>(
+fn settle_watcher(
     page: &PageTree,
-    boxes: &B,
+    boxes: &Kept,
     scrolls: &Scrolls,
     viewport: Size,
     watchers: &mut Watchers,
@@ -64,7 +64,7 @@ fn settle_watcher<B: Boxes>(
     time: u64,
 ) -> Result<bool, AllocError>
     requires natural { IsNatural viewport }
-    requires fresh { IsFresh page.now.tree (seen_size viewport) (B.held boxes.now) }
+    requires fresh { IsFresh page.now.tree (seen_size viewport) boxes.now }
     requires watcher { watcher.0 < length watchers.old.part.made }
     ensures settled { (world : World) → HasParts page.now.tree (seen_size viewport) scrolls.now world →
         OnOk result (watchers.new ≡ record watchers.old { part = change_intersection_observer (settled_observer time (finding world)) watcher.0 (watchers.old.part) }) }
@@ -84,9 +84,9 @@ fn settle_watcher<B: Boxes>(
 }
 
 // Settles an observer if its root is the document or stands in its tree, and tells whether an entry was queued.
-fn settle_if_rooted<B: Boxes>(
+fn settle_if_rooted(
     page: &PageTree,
-    boxes: &B,
+    boxes: &Kept,
     scrolls: &Scrolls,
     viewport: Size,
     watchers: &mut Watchers,
@@ -95,7 +95,7 @@ fn settle_if_rooted<B: Boxes>(
     time: u64,
 ) -> Result<bool, AllocError>
     requires natural { IsNatural viewport }
-    requires fresh { IsFresh page.now.tree (seen_size viewport) (B.held boxes.now) }
+    requires fresh { IsFresh page.now.tree (seen_size viewport) boxes.now }
     requires watcher { watcher.0 < length watchers.old.part.made }
     ensures settled { (world : World) → HasParts page.now.tree (seen_size viewport) scrolls.now world →
         OnOk result (watchers.new ≡ record watchers.old { part = change_intersection_observer (settled_if_rooted world page.now.tree document time) watcher.0 (watchers.old.part) }) }
@@ -120,9 +120,9 @@ fn settle_if_rooted<B: Boxes>(
 /// # Errors
 ///
 /// Where there is no memory for an entry: the registrations before it are settled then, and nothing else is changed.
-pub fn update<B: Boxes>(
+pub fn update(
     page: &PageTree,
-    boxes: &B,
+    boxes: &Kept,
     scrolls: &Scrolls,
     viewport: Size,
     watchers: &mut Watchers,
@@ -130,7 +130,7 @@ pub fn update<B: Boxes>(
     time: u64,
 ) -> Result<bool, AllocError>
     requires natural { IsNatural viewport }
-    requires fresh { IsFresh page.now.tree (seen_size viewport) (B.held boxes.now) }
+    requires fresh { IsFresh page.now.tree (seen_size viewport) boxes.now }
     ensures updated { (world : World) → world.tree ≡ page.now.tree → world.viewports.size ≡ seen_size viewport → world.scrolls ≡ scrolls.now →
         OnOk result (watchers.new ≡ record watchers.old { part = updated world page.now.tree document time (watchers.old.part) }) }
     ensures stopped { (world : World) → world.tree ≡ page.now.tree → world.viewports.size ≡ seen_size viewport → world.scrolls ≡ scrolls.now →

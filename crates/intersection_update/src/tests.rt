@@ -1,7 +1,6 @@
 //! Updates of a page with a frame: which observers are looked at, and what they are told, as the standard's steps give it.
 
 ghost use Rattle.std.specs.Prelude.{◌≡◌, ◌<◌, ◌≤◌, ◌+◌, ◌^◌, length, IfOk};
-ghost use Rattle.kept_layout.specs.Slots.{held_in};
 ghost use Rattle.page_boxes.specs.Fresh.{IsFresh};
 ghost use Rattle.page_boxes.specs.Kept.{AreKept};
 ghost use Rattle.page_boxes.specs.Pages.{seen_size};
@@ -129,14 +128,14 @@ fn renew<L: Ledger>(blank: Blank, boxes: &mut Kept, page: &PageTree)
     requires parts { blank.parts ≡ L.parts }
     requires one_part { 0 < blank.parts }
     requires kept { AreKept page.now.tree boxes.old }
-    ensures { IsFresh page.now.tree (seen_size SCREEN) (held_in boxes.new) }
+    ensures { IsFresh page.now.tree (seen_size SCREEN) boxes.new }
 {
     let mut steps = Steps::<L>::new(blank);
     refresh(boxes, page, SCREEN, &mut steps);
 }
 
 fn all_boxes(rt: &impl Abort, alloc: Global, page: &PageTree) -> Result<Kept, Fail>
-    ensures { IfOk result (λ boxes. IsFresh page.now.tree (seen_size SCREEN) (held_in boxes)) }
+    ensures { IfOk result (λ boxes. IsFresh page.now.tree (seen_size SCREEN) boxes) }
 {
     let mut boxes = Kept::new(alloc);
     boxes.add(NodeId(2))?;

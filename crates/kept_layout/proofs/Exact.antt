@@ -43,6 +43,13 @@ handed false BlockKind item (Some above) inputs e = (refl, refl, (above, refl, s
 handed false (ImageKind width height) item o inputs e = cc
 handed false FrameKind item o inputs e = cc
 
+-- the box of a node's parent, which hands these inputs down to it
+pub record Around (at : ℕ → Node) (slot : ℕ → Slot) (p n : ℕ) (inputs : Inputs) : Type 0 where
+  pub above : Inputs
+  pub settled : IsSettled (slot p) above
+  pub counted : IsCounted at p n
+  pub handed : child_inputs (at p).item above ≡ inputs
+
 top_is : (hidden : Bool) (b : Bool) (viewport inputs : Inputs) → if_shown hidden (cond b (Some viewport) None) ≡ Some inputs → b ≡ true
 top_is true b viewport inputs e = cc
 top_is false true viewport inputs e = refl
@@ -96,6 +103,21 @@ module _ (at : ℕ → Node) (shaped : IsShaped at) (linked : IsLinked at) (shal
         (heights_like at (box_held slot) (box_in at (child_inputs (at p).item inputs)) (before c (kids_of (at p)))
         (λ m ahead shown. kid_box m (record { listed = before_has c m (kids_of (at p)) ahead; shown = shown })))
 
+  pub fresh_under : (n : ℕ) (inputs : Inputs) → IsSettled (slot n) inputs → ((p : ℕ) → (at n).parent ≡ Some p → Around at slot p n inputs) → IsFresh at slot n inputs
+  fresh_under n inputs settled around = record {
+    unmarked = settled.unmarked;
+    found = settled.found;
+    held = settled.held;
+    box = exact n settled.found settled.unmarked settled.held ∙ ap (λ i. box_in at i n) settled.from;
+    from = settled.from;
+    above = λ p up.
+        let over = around p up in
+        let held = kid_held p over.above over.settled n over.counted in
+        ap (λ (f : Found). f.above) (some_is (slot n).found settled.found held.found settled.held held.held)
+        ∙ held.above ∙ kid_above p over.above over.settled n
+        ∙ ap (λ i. cap (height_above at i (at p) n)) over.handed;
+  }
+
   module _ (root : ℕ) (viewport : Inputs) (first : (inputs : Inputs) → inputs_in at root viewport root ≡ Some inputs → IsSettled (slot root) inputs) where
     -- a child with a box counts in its parent, which has a box too
     record Above (p n : ℕ) (inputs : Inputs) : Type 0 where
@@ -135,21 +157,10 @@ module _ (at : ℕ → Node) (shaped : IsShaped at) (linked : IsLinked at) (shal
 
     pub fresh_all : (n : ℕ) (inputs : Inputs) → inputs_in at root viewport n ≡ Some inputs → IsFresh at slot n inputs
     fresh_all n inputs boxed =
-        let settled = settled_all n inputs boxed in
-        record {
-          unmarked = settled.unmarked;
-          found = settled.found;
-          held = settled.held;
-          box = exact n settled.found settled.unmarked settled.held ∙ ap (λ i. box_in at i n) settled.from;
-          from = settled.from;
-          above = λ p up.
-              let over = above_of p n inputs up boxed in
-              let around = settled_all p over.above over.boxed in
-              let held = kid_held p over.above around n over.counted in
-              ap (λ (f : Found). f.above) (some_is (slot n).found settled.found held.found settled.held held.held)
-              ∙ held.above ∙ kid_above p over.above around n
-              ∙ ap (λ i. cap (height_above at i (at p) n)) over.handed;
-        }
+        fresh_under n inputs (settled_all n inputs boxed)
+        (λ p up.
+        let over = above_of p n inputs up boxed in
+        record { above = over.above; settled = settled_all p over.above over.boxed; counted = over.counted; handed = over.handed })
 
     pub none_due : (n : ℕ) → is_due (inputs_in at root viewport) slot n ≡ false
     none_due n = by (inputs_in at root viewport n) refl

@@ -16,5 +16,5 @@ pub use laws::{
     changes_leave_the_rest_right, exceptions_may_be_more, marked_nodes_are_no_exception,
     new_nodes_need_no_mark, trees_change_at_few_nodes,
 };
-pub use positions::Offsets;
+pub use positions::{Offsets, Shift};
 pub use slots::{Found, Slot};

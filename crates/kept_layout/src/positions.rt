@@ -34,15 +34,15 @@ pub trait Offsets {
         ensures range { IsOffset result };
 }
 
-// To the right and downwards.
-#[derive(Clone, Copy)]
-struct Shift {
-    across: u64,
-    down: u64,
+/// How far to the right and downwards, in units of 1/64 pixel.
+#[derive(Clone, Copy, Debug, PartialEq, Eq)]
+pub struct Shift {
+    pub across: u64,
+    pub down: u64,
 }
 
 impl Shift {
-    const NONE: Shift = Shift { across: 0, down: 0 };
+    pub const NONE: Shift = Shift { across: 0, down: 0 };
 }
 
 fn unsigned(offset: Point) -> Shift
@@ -153,13 +153,16 @@ impl Kept {
         }
     }
 
-    // The shifts of a node and its ancestors, which is the place of its border box where nothing is scrolled.
-    fn shifts<P: Styled>(&self, tree: &Tree<P>, node: NodeId) -> Shift
+    /// The place of a node's border box in its document's viewport where nothing is scrolled (CSS 2.2, 8.1 and 9.4.1): what the
+    /// node and its ancestors are shifted by, each from the corner of its parent's border box. It is so where the node has a box,
+    /// and its own and those of its ancestors are held as they are now. It reads these boxes alone, and no siblings'.
+    pub fn unscrolled_place_of<P: Styled>(&self, tree: &Tree<P>, node: NodeId) -> Shift
         ensures value { let at = layout_tree P.style P.kind tree.now.nodes in (view : View) →
             IsFreshPath at view (slot_in self.now) node.0 →
             (result.across, result.down) ≡ sum_points (offset_of at view) (path_of at node.0) }
-        ensures across { result.across ≤ 2147483647 * 65536 }
-        ensures down { result.down ≤ 2147483647 * 65536 }
+        ensures across { result.across ≤ 2147483647 * tree.now.most_depth }
+        ensures down { result.down ≤ 2147483647 * tree.now.most_depth }
+        ensures levels { tree.now.most_depth ≤ 65536 }
     {
         let mut place = self.shift(tree, node);
         let mut at = node;
@@ -189,7 +192,7 @@ impl Kept {
             IsFreshPath at document (slot_in self.now) node.0 →
             result ≡ point_of (place_at at document (O.offset offsets.now) (seen_offset view) node.0) }
     {
-        let place = self.shifts(tree, node);
+        let place = self.unscrolled_place_of(tree, node);
         moved_back(place, scrolled(tree, offsets, node), unsigned(view))
     }
 }

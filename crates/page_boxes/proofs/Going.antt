@@ -5,7 +5,6 @@ use Rattle.page_model.specs.World.{Document, Extent, Tree}
 use Rattle.page_model.specs.Lookups.{element_at, no_document}
 use Rattle.page_model.specs.Documents.{is_active, is_active_state}
 use Rattle.kept_layout.specs.declared.slots.Slot.{Slot}
-use Rattle.kept_layout.specs.Slots.{held_in}
 use Rattle.page_boxes.specs.Fresh.{IsFreshIn}
 use Rattle.page_boxes.specs.Kept.{is_due}
 use Rattle.page_boxes.specs.LaidOut.{IsLaidOut, is_marked, AreLaidOut, GoesOn}
@@ -34,12 +33,12 @@ module _ (tree : Tree) (size : Extent) where
 
   -- where each Active document is laid out
   module _ (marks : List Bool) (kept : List Slot) (laid_out : AreLaidOut tree size marks kept) where
-    pub fresh_in : (document : ℕ) → (is_active tree document ≡ true → is_marked marks document ≡ true) → IsFreshIn tree size (held_in kept) document
+    pub fresh_in : (document : ℕ) → (is_active tree document ≡ true → is_marked marks document ≡ true) → IsFreshIn tree size kept document
     fresh_in document marked = by_state (is_active tree document) refl
       where
-        by_state : (active : Bool) → is_active tree document ≡ active → IsFreshIn tree size (held_in kept) document
+        by_state : (active : Bool) → is_active tree document ≡ active → IsFreshIn tree size kept document
         by_state true active = (laid_out document (marked active)).fresh
-        by_state false none = idle_fresh tree size (held_in kept) document none
+        by_state false none = idle_fresh tree size kept document none
 
     pub none_due : ((document : ℕ) → is_active tree document ≡ true → is_marked marks document ≡ true) → (n : ℕ) → is_due tree size kept n ≡ false
     none_due marked n = by_state (is_active tree (element_at tree n).document) refl

@@ -15,7 +15,7 @@ use Rattle.page_model.specs.Scrolls.{position_of, lesser_extent}
 use Rattle.page_model.specs.PageBoxes.{pair_of, extent_of, stored_in, scrolled_view, view_of, view_at, has_box, is_scroller, range_if, scroll_range, scroll_offset}
 use Rattle.block_layout.specs.Seen.{as_size, as_point}
 use Rattle.scrolling.specs.Seen.{seen_size, point_of}
-use Rattle.page_boxes.proofs.Shifts.{pair_is}
+use Rattle.kept_layout.proofs.Climbed.{pair_is}
 use Rattle.page_boxes.proofs.Shown.{offset_still, offset_force, offset_none, view_force}
 use Rattle.page_boxes.proofs.Reaching.{element_range, no_scroller}
 

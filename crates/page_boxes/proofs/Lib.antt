@@ -1,7 +1,5 @@
 pub mod Boxed
-pub mod Heights
-pub mod Shifts
-pub mod Sums
+pub mod Parents
 pub mod Shown
 pub mod Views
 pub mod Pages

@@ -16,10 +16,14 @@ use Rattle.element_tree.specs.Forest.{Forest}
 use Rattle.page_documents.specs.Seen.{element_of}
 use Rattle.page_tree.specs.Items.{Described, IsNatural, carried_in}
 use Rattle.page_tree.specs.Views.{PageElements, seen_with}
+use Rattle.kept_layout.specs.declared.slots.Slot.{Slot}
+use Rattle.kept_layout.specs.Slots.{held_in}
+use Rattle.kept_layout.proofs.Climbed.{pair_is}
+use Rattle.kept_layout.proofs.Exact.{held_fresh}
 use Rattle.page_boxes.specs.Fresh.{IsFreshIn}
 use Rattle.page_boxes.specs.Pages.{seen_pair}
 use Rattle.page_boxes.proofs.Boxed.{boxed_top}
-use Rattle.page_boxes.proofs.Shifts.{some_found, pair_is}
+use Rattle.page_boxes.proofs.Parents.{some_found}
 use Rattle.page_boxes.proofs.Shown.{same_length}
 
 past_end : (elements : List Element) (n : ℕ) → length elements ≤ n → slice_get elements n ≡ None
@@ -59,10 +63,10 @@ module _ (tree : Tree) (size : Extent) (n : ℕ) where
   unfolding box_of inputs_of
   box_here inputs is = ap (option_map (λ i. box_in (nodes_of tree) i n)) is
 
-  pub own_held : (held : ℕ → Option Box) → IsFreshIn tree size held (element_at tree n).document → has_box tree size n ≡ true → held n ≡ box_of tree size n
-  own_held held fresh boxed =
+  pub own_held : (kept : List Slot) → IsFreshIn tree size kept (element_at tree n).document → has_box tree size n ≡ true → held_in kept n ≡ box_of tree size n
+  own_held kept fresh boxed =
       let found = some_found (inputs_in_view (nodes_of tree) (view_at tree size n) n) (sym boxed_is ∙ boxed) in
-      fresh.boxes n found.0 found.1 ∙ sym (box_here found.0 found.1)
+      held_fresh (nodes_of tree) kept n found.0 (fresh.boxes n found.0 found.1) ∙ sym (box_here found.0 found.1)
 
 pub made_if_boxed : (tree : Tree) (n : ℕ) (boxed : Bool) → ((size : Extent) → boxed ≡ has_box tree size n) → boxed ≡ true → n < length tree.elements
 made_if_boxed tree n boxed says is = by_test (nat_lt n (length tree.elements)) refl

@@ -22,9 +22,13 @@ use Rattle.block_layout.specs.Held.{HoldsBoxes}
 use Rattle.block_layout.specs.Seen.{as_size}
 use Rattle.block_layout.specs.Trees.{layout_tree}
 use Rattle.block_layout.proofs.Nodes.{item_is, parent_is, some_ids}
+use Rattle.kept_layout.specs.declared.slots.Slot.{Slot}
+use Rattle.kept_layout.specs.Slots.{held_in}
+use Rattle.kept_layout.proofs.Climbed.{pair_is}
+use Rattle.kept_layout.proofs.Exact.{held_fresh}
 use Rattle.page_boxes.specs.Fresh.{HoldsAll, IsFreshIn}
 use Rattle.page_boxes.specs.Pages.{seen_pair}
-use Rattle.page_boxes.proofs.Shifts.{pair_is, some_found, same_box, none_held}
+use Rattle.page_boxes.proofs.Parents.{some_found, same_box, none_held}
 use Rattle.page_boxes.proofs.Renewed.{view_shown}
 
 -- a scroll container, by what is asked of its node
@@ -94,27 +98,27 @@ module _ (at : ℕ → Node) (view : View) (n : ℕ) where
   unfolding range_of
   range_found inputs is = ap (range_at at view n) is
 
-  pub holds_boxes : (held : ℕ → Option Box) → HoldsAll at view held → HoldsBoxes at view n held
-  holds_boxes held holds d inputs inside is = holds.boxes d inputs is
+  pub holds_boxes : (kept : List Slot) → HoldsAll at view kept → HoldsBoxes at view n (held_in kept)
+  holds_boxes kept holds d inputs inside is = held_fresh at kept d inputs (holds.boxes d inputs is)
 
   -- a node that is no scroll container, and one that is
   pub range_none : is_scroll_container (at n) ≡ false → as_size (0, 0) ≡ as_size (cond (is_scroll_container (at n)) (range_of at view n) (0, 0))
   range_none none = sym (ap (λ b. as_size (cond b (range_of at view n) (0, 0))) none)
 
-  module _ (held : ℕ → Option Box) (holds : HoldsAll at view held) (boxed : is_some (inputs_in_view at view n) ≡ true) where
-    pub box_missing : None ≡ held n → ⊥
+  module _ (kept : List Slot) (holds : HoldsAll at view kept) (boxed : is_some (inputs_in_view at view n) ≡ true) where
+    pub box_missing : None ≡ held_in kept n → ⊥
     box_missing none =
         let found = some_found (inputs_in_view at view n) boxed in
-        none_held (held n) (box_in at found.0 n) none (holds.boxes n found.0 found.1)
+        none_held (held_in kept n) (box_in at found.0 n) none (held_fresh at kept n found.0 (holds.boxes n found.0 found.1))
 
-    pub range_boxed : is_scroll_container (at n) ≡ true → (own : Box) → Some own ≡ held n → (reach shown found : Size)
-        → ((inputs : Inputs) → inputs_in_view at view n ≡ Some inputs → HoldsBoxes at view n held → reach ≡ as_size (reach_of at view n))
+    pub range_boxed : is_scroll_container (at n) ≡ true → (own : Box) → Some own ≡ held_in kept n → (reach shown found : Size)
+        → ((inputs : Inputs) → inputs_in_view at view n ≡ Some inputs → HoldsBoxes at view n (held_in kept) → reach ≡ as_size (reach_of at view n))
         → shown ≡ as_size (padding_size own) → found ≡ as_size (capped (minus (seen_pair reach) (seen_pair shown)))
         → found ≡ as_size (cond (is_scroll_container (at n)) (range_of at view n) (0, 0))
     range_boxed scrolls own its reach shown found reached shows is =
         let there = some_found (inputs_in_view at view n) boxed in
-        let same : own ≡ box_in at there.0 n = same_box (held n) own (box_in at there.0 n) its (holds.boxes n there.0 there.1) in
-        left_of reach shown found (reach_of at view n) (padding_size (box_in at there.0 n)) (reached there.0 there.1 (holds_boxes held holds)) low_reach.0 low_reach.1
+        let same : own ≡ box_in at there.0 n = same_box (held_in kept n) own (box_in at there.0 n) its (held_fresh at kept n there.0 (holds.boxes n there.0 there.1)) in
+        left_of reach shown found (reach_of at view n) (padding_size (box_in at there.0 n)) (reached there.0 there.1 (holds_boxes kept holds)) low_reach.0 low_reach.1
         (ap seen_pair shows ∙ ap padding_size same) is
         ∙ ap as_size (sym (range_found there.0 there.1))
         ∙ sym (ap (λ b. as_size (cond b (range_of at view n) (0, 0))) scrolls)
@@ -176,15 +180,15 @@ module _ (tree : Tree) (size : Extent) where
     top_here : (at root).parent ≡ None
     top_here = sym (ap (λ at. (at root).parent) nodes) ∙ (framed.owners.roots document root rooted).top
 
-    pub view_ranged : (held : ℕ → Option Box) → IsFreshIn tree size held document → (reach inside found : Size)
-        → ((at root).parent ≡ None → (view : View) → view.root ≡ Some root → view.width ≡ pair.0 → view.height ≡ pair.1 → HoldsBoxes at view root held → reach ≡ as_size (reach_of_view at view))
+    pub view_ranged : (kept : List Slot) → IsFreshIn tree size kept document → (reach inside found : Size)
+        → ((at root).parent ≡ None → (view : View) → view.root ≡ Some root → view.width ≡ pair.0 → view.height ≡ pair.1 → HoldsBoxes at view root (held_in kept) → reach ≡ as_size (reach_of_view at view))
         → seen_pair inside ≡ pair → found ≡ as_size (capped (minus (seen_pair reach) (seen_pair inside)))
         → found ≡ as_size (pair_of (scroll_range tree size (ScrolledDocument document)))
-    view_ranged held fresh reach inside found reached shows is =
+    view_ranged kept fresh reach inside found reached shows is =
         let view = view_of tree size document in
-        let holds : HoldsAll at view held = subst (λ at. HoldsAll at view held) nodes fresh in
+        let holds : HoldsAll at view kept = subst (λ at. HoldsAll at view kept) nodes fresh in
         let far : reach ≡ as_size (reach_of_view at view)
-        = reached top_here view (ap (λ (v : View). v.root) view_here) (ap (λ (v : View). v.width) view_here) (ap (λ (v : View). v.height) view_here) (holds_boxes at view root held holds) in
+        = reached top_here view (ap (λ (v : View). v.root) view_here) (ap (λ (v : View). v.width) view_here) (ap (λ (v : View). v.height) view_here) (holds_boxes at view root kept holds) in
         range_viewed at view reach inside found far (shows ∙ sym (ap view_size view_here)) is
         ∙ ap (λ at. as_size (range_of_view at view)) (sym nodes)
         ∙ ap as_size (view_range document)

@@ -13,7 +13,8 @@ use Rattle.page_model.specs.PageBoxes.{view_with, framed_size, view_of, inputs_o
 use Rattle.page_documents.specs.Frames.{AreFramed}
 use Rattle.block_layout.specs.Filling.{GoesDown}
 use Rattle.kept_layout.specs.declared.slots.Slot.{Slot}
-use Rattle.kept_layout.specs.Slots.{slot_in, held_in}
+use Rattle.kept_layout.specs.Fresh.{IsFresh as IsFreshAt}
+use Rattle.kept_layout.specs.Slots.{slot_in}
 use Rattle.kept_layout.specs.Sound.{IsSound, IsReady}
 use Rattle.kept_layout.specs.Due.{is_due_at, is_due as is_due_with}
 use Rattle.page_boxes.specs.Fresh.{IsFreshIn}
@@ -33,6 +34,17 @@ none_is : (found : Option Inputs) → is_some found ≡ false → found ≡ None
 none_is None none = refl
 none_is (Some inputs) none = cc
 
+-- what is held for a node is as it is now where its slot is the same
+same_fresh : (at : ℕ → Node) (before after : ℕ → Slot) (n : ℕ) (own : Inputs) → after n ≡ before n → IsFreshAt at before n own → IsFreshAt at after n own
+same_fresh at before after n own same was = record {
+  unmarked = ap (λ (slot : Slot). slot.marked) same ∙ was.unmarked;
+  found = was.found;
+  held = ap (λ (slot : Slot). slot.found) same ∙ was.held;
+  box = was.box;
+  from = was.from;
+  above = was.above;
+}
+
 module _ (tree : Tree) (size : Extent) where
   -- without inputs no element is due
   not_due : (kept : List Slot) (n : ℕ) → inputs_of tree size n ≡ None → is_due tree size kept n ≡ false
@@ -40,8 +52,8 @@ module _ (tree : Tree) (size : Extent) where
 
   -- a document whose view has no root element
   module _ (document : ℕ) (none : (view_of tree size document).root ≡ None) where
-    rootless_fresh : (held : ℕ → Option Box) → IsFreshIn tree size held document
-    rootless_fresh held = record {
+    rootless_fresh : (kept : List Slot) → IsFreshIn tree size kept document
+    rootless_fresh kept = record {
       boxes = λ n inputs is. let nothing : None ≡ Some inputs = sym (rootless (nodes_of tree) (view_of tree size document) none n) ∙ is in cc;
     }
 
@@ -49,14 +61,14 @@ module _ (tree : Tree) (size : Extent) where
     rootless_due kept n owner = not_due kept n (inputs_found tree size n document owner ∙ rootless (nodes_of tree) (view_of tree size document) none n)
 
     pub rootless_laid_out : (kept : List Slot) → IsLaidOut tree size kept document
-    rootless_laid_out kept = record { fresh = rootless_fresh (held_in kept); done = rootless_due kept }
+    rootless_laid_out kept = record { fresh = rootless_fresh kept; done = rootless_due kept }
 
   -- a document that isn't Active has no box
   pub idle_rootless : (document : ℕ) → is_active tree document ≡ false → (view_of tree size document).root ≡ None
   idle_rootless document none = ap (λ (view : View). view.root) (sym (view_whole tree size document) ∙ view_idle tree size 65536 document none)
 
-  pub idle_fresh : (held : ℕ → Option Box) (document : ℕ) → is_active tree document ≡ false → IsFreshIn tree size held document
-  idle_fresh held document none = rootless_fresh document (idle_rootless document none) held
+  pub idle_fresh : (kept : List Slot) (document : ℕ) → is_active tree document ≡ false → IsFreshIn tree size kept document
+  idle_fresh kept document none = rootless_fresh document (idle_rootless document none) kept
 
   pub idle_due : (kept : List Slot) (n : ℕ) → is_active tree (element_at tree n).document ≡ false → is_due tree size kept n ≡ false
   idle_due kept n none = rootless_due (element_at tree n).document (idle_rootless (element_at tree n).document none) kept n refl
@@ -104,11 +116,11 @@ module _ (tree : Tree) (framed : AreFramed tree) (size : Extent) (document : ℕ
 
     -- the document itself
     pub laid_out_here : (kept : List Slot)
-        → ((n : ℕ) (own : Inputs) → inputs_in at root inputs n ≡ Some own → held_in kept n ≡ Some (box_in at own n))
+        → ((n : ℕ) (own : Inputs) → inputs_in at root inputs n ≡ Some own → IsFreshAt at (slot_in kept) n own)
         → ((n : ℕ) → is_due_with (inputs_in at root inputs) (slot_in kept) n ≡ false)
         → IsLaidOut tree size kept document
-    laid_out_here kept boxes done = record {
-      fresh = record { boxes = λ n own is. boxes n own (inputs_shown n ∙ is) ∙ ap (λ at. Some (box_in at own n)) (sym nodes) };
+    laid_out_here kept fresh done = record {
+      fresh = record { boxes = λ n own is. subst (λ at. IsFreshAt at (slot_in kept) n own) (sym nodes) (fresh n own (inputs_shown n ∙ is)) };
       done = λ n owner.
           ap (λ found. is_due_at found (slot_in kept n)) (inputs_found tree size n document owner ∙ sym (inputs_shown n)) ∙ done n;
     }
@@ -137,7 +149,7 @@ module _ (tree : Tree) (framed : AreFramed tree) (size : Extent) (document : ℕ
       pub others_here : (other : ℕ) → other ≢ document → IsLaidOut tree size before other → IsLaidOut tree size after other
       others_here other differs was = record {
         fresh = record {
-          boxes = λ n own is. ap (λ (slot : Slot). option_map (λ found. found.own) slot.found) (same n (elsewhere other n own differs is)) ∙ was.fresh.boxes n own is;
+          boxes = λ n own is. same_fresh (nodes_of tree) (slot_in before) (slot_in after) n own (same n (elsewhere other n own differs is)) (was.fresh.boxes n own is);
         };
         done = λ n owner. by_inputs n owner (inputs_of tree size n) refl;
       }

@@ -6,7 +6,7 @@ use Rattle.layout_model.specs.Nodes.{Node, path_above, path_up, path_of, is_amon
 use Rattle.layout_model.specs.Boxes.{Inputs, inputs_in, inputs_along}
 use Rattle.layout_model.specs.Reach.{View, view_inputs, inputs_in_view}
 use Rattle.page_boxes.proofs.Boxed.{found_in, found_is, some_handed, some_top}
-use Rattle.page_boxes.proofs.Shifts.{all_three}
+use Rattle.page_boxes.proofs.Parents.{all_three}
 
 -- a node with a box is in the tree of the root
 both_true : (hidden top : Bool) → (not hidden && top) ≡ true → top ≡ true

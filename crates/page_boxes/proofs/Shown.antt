@@ -17,7 +17,7 @@ use Rattle.page_model.specs.Documents.{nodes_of}
 use Rattle.page_model.specs.PageBoxes.{pair_of, stored_in, scrolled_view, has_box, box_of, size_by, size_of, corner_of, point_of, place_if, place_of}
 use Rattle.page_model.specs.Readings.{point_at}
 use Rattle.block_layout.specs.Seen.{as_size, as_point}
-use Rattle.page_boxes.proofs.Shifts.{pair_is}
+use Rattle.kept_layout.proofs.Climbed.{pair_is}
 
 -- sizes of a box
 module _ (own : Box) (found : Size) where

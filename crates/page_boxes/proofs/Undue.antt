@@ -4,28 +4,30 @@ use Rattle.std.proofs.lemmas.Bool.Decides.{nat_tests}
 use Rattle.std.specs.Prelude.{◌||◌, is_some}
 use Rattle.layout_model.specs.Styles.{Style}
 use Rattle.layout_model.specs.Items.{Kind}
-use Rattle.layout_model.specs.Nodes.{Node, path_above, path_up, is_among, is_in_path}
-use Rattle.layout_model.specs.Boxes.{Inputs, box_in}
+use Rattle.layout_model.specs.Nodes.{Node, IsLinked, IsShallow, path_above, path_up, is_among, is_in_path}
+use Rattle.layout_model.specs.Boxes.{Inputs, box_in, inner_children}
 use Rattle.layout_model.specs.Reach.{inputs_in_view}
 use Rattle.page_model.specs.World.{Extent, Tree}
 use Rattle.page_model.specs.Lookups.{element_at, document_at}
 use Rattle.page_model.specs.Documents.{nodes_of}
 use Rattle.page_model.specs.PageBoxes.{view_of, inputs_of}
 use Rattle.page_documents.specs.Frames.{AreFramed}
-use Rattle.element_tree.specs.Forest.{Knot, IsForest}
+use Rattle.element_tree.specs.Forest.{Knot, IsForest, has}
 use Rattle.block_layout.specs.Trees.{layout_tree}
-use Rattle.block_layout.proofs.Forests.{linked, shallow}
+use Rattle.block_layout.proofs.Forests.{linked as linked_tree, shallow as shallow_tree}
 use Rattle.kept_layout.specs.declared.slots.Slot.{Slot}
 use Rattle.kept_layout.specs.declared.slots.Found.{Found}
 use Rattle.kept_layout.specs.Slots.{slot_in, held_in}
 use Rattle.kept_layout.specs.Sound.{IsSound}
+use Rattle.kept_layout.specs.Walks.{IsSettled}
 use Rattle.kept_layout.specs.Due.{is_due_at}
 use Rattle.kept_layout.specs.Fresh.{IsFresh as IsFreshAt}
 use Rattle.kept_layout.proofs.Counts.{settled_so}
-use Rattle.kept_layout.proofs.Exact.{exact}
-use Rattle.kept_layout.proofs.Shapes.{shaped}
+use Rattle.kept_layout.proofs.Exact.{Around, handed, exact, fresh_under}
+use Rattle.kept_layout.proofs.Shapes.{IsShaped, shaped as shaped_tree}
 use Rattle.page_boxes.specs.Fresh.{IsFresh}
 use Rattle.page_boxes.specs.Kept.{AreKept, FillsOnly, IsExact, is_due}
+use Rattle.page_boxes.proofs.Boxed.{inputs_below}
 use Rattle.page_boxes.proofs.Renewed.{inputs_found}
 use Rattle.page_boxes.proofs.Rooted.{rooted_in}
 use Rattle.page_boxes.proofs.Views.{view_root}
@@ -86,11 +88,6 @@ module _ (tree : Tree) (framed : AreFramed tree) (size : Extent) where
       let owner = owner_inside tree framed there.0 n there.1.1 ∙ (framed.owners.roots document there.0 rooted).owner in
       inputs_found tree size n document owner ∙ is
 
-  pub exact_fresh : (kept : List Slot) → IsExact tree size kept → ((n : ℕ) → is_due tree size kept n ≡ false) → IsFresh tree size (held_in kept)
-  exact_fresh kept exact none = record {
-    documents = λ document. record { boxes = λ n inputs is. exact n inputs (in_own document n inputs is) (none n) };
-  }
-
 pub exact_here : (tree : Tree) (size : Extent) (kept : List Slot) {P : Type 0} (style : P → Style) (kind : P → Kind) {most : ℕ} {nodes : List (Knot P)}
     → IsForest most nodes → nodes_of tree ≡ layout_tree style kind nodes → AreKept tree kept → IsExact tree size kept
 exact_here tree size kept style kind {most} {nodes} forest same fits n inputs is undue =
@@ -98,7 +95,42 @@ exact_here tree size kept style kind {most} {nodes} forest same fits n inputs is
     let sound = subst (λ at. IsSound at (slot_in kept)) same fits.sound in
     ap (option_map (λ (found : Found). found.own)) settled.held
     ∙ ap Some
-    (exact (layout_tree style kind nodes) (shaped style kind forest) (linked style kind forest) (shallow style kind forest) (slot_in kept) sound n
+    (exact (layout_tree style kind nodes) (shaped_tree style kind forest) (linked_tree style kind forest) (shallow_tree style kind forest) (slot_in kept) sound n
     settled.found settled.unmarked settled.held)
     ∙ ap (λ given. Some (box_in (layout_tree style kind nodes) given n)) settled.from
     ∙ ap (λ at. Some (box_in at inputs n)) (sym same)
+
+-- where none is due, all boxes are held as they are now
+module _ (tree : Tree) (framed : AreFramed tree) (size : Extent) (kept : List Slot) (none : (n : ℕ) → is_due tree size kept n ≡ false)
+    (at : ℕ → Node) (same : nodes_of tree ≡ at) (shaped : IsShaped at) (linked : IsLinked at) (shallow : IsShallow at) (fits : AreKept tree kept) where
+  sound : IsSound at (slot_in kept)
+  sound = subst (λ at. IsSound at (slot_in kept)) same fits.sound
+
+  settled_in : (document n : ℕ) (inputs : Inputs) → inputs_in_view at (view_of tree size document) n ≡ Some inputs → IsSettled (slot_in kept n) inputs
+  settled_in document n inputs is =
+      settled_so (slot_in kept n) inputs
+      (ap (λ found. is_due_at found (slot_in kept n)) (sym (in_own tree framed size document n inputs (ap (λ at. inputs_in_view at (view_of tree size document) n) same ∙ is)))
+      ∙ none n)
+
+  around : (document n : ℕ) (inputs : Inputs) → inputs_in_view at (view_of tree size document) n ≡ Some inputs → (p : ℕ) → (at n).parent ≡ Some p → Around at (slot_in kept) p n inputs
+  around document n inputs is p up =
+      let parts = handed (at n).item.style.hidden (at p).item.kind (at p).item (inputs_in_view at (view_of tree size document) p) inputs
+      (sym (inputs_below at (view_of tree size document) n p up (shallow p)) ∙ is) in
+      record {
+        above = parts.2.0;
+        settled = settled_in document p parts.2.0 parts.2.1;
+        counted = record { listed = ap (λ k. has (inner_children k (at p).children) n) parts.1 ∙ shaped.listed n p up; shown = parts.0 };
+        handed = parts.2.2;
+      }
+
+  boxes_in : (document n : ℕ) (inputs : Inputs) → inputs_in_view at (view_of tree size document) n ≡ Some inputs → IsFreshAt at (slot_in kept) n inputs
+  boxes_in document n inputs is = fresh_under at shaped linked shallow (slot_in kept) sound n inputs (settled_in document n inputs is) (around document n inputs is)
+
+  pub fresh_here : IsFresh tree size kept
+  fresh_here = record {
+    documents = λ document. record {
+      boxes = λ n inputs is.
+          subst (λ at. IsFreshAt at (slot_in kept) n inputs) (sym same)
+          (boxes_in document n inputs (sym (ap (λ at. inputs_in_view at (view_of tree size document) n) same) ∙ is));
+    };
+  }

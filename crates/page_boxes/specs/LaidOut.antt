@@ -3,13 +3,12 @@ use Rattle.std.specs.Prelude.{◌≡◌, ℕ, Bool, true, false, List, length}
 use Rattle.page_model.specs.World.{Extent, Tree}
 use Rattle.page_model.specs.Lookups.{element_at, entry_or}
 use Rattle.kept_layout.specs.declared.slots.Slot.{Slot}
-use Rattle.kept_layout.specs.Slots.{held_in}
 use Rattle.page_boxes.specs.Fresh.{IsFreshIn}
 use Rattle.page_boxes.specs.Kept.{is_due}
 
 -- each box of a document is held as it is now, and none of its elements is due
 pub record IsLaidOut (tree : Tree) (size : Extent) (kept : List Slot) (document : ℕ) : Type 0 where
-  pub fresh : IsFreshIn tree size (held_in kept) document
+  pub fresh : IsFreshIn tree size kept document
   pub done : (n : ℕ) → (element_at tree n).document ≡ document → is_due tree size kept n ≡ false
 
 abbrev pub is_marked : List Bool → ℕ → Bool

@@ -13,6 +13,7 @@ ghost use Rattle.page_boxes.specs.Pages.{seen_size, seen_pair};
 use crate::climb::is_boxed;
 use block_layout::{BoxOf, Boxes};
 use element_tree::NodeId;
+use kept_layout::Kept;
 use page_tree::PageTree;
 use px_units::{BoxKind, Size};
 
@@ -61,8 +62,8 @@ pub fn has_box(page: &PageTree, node: NodeId) -> bool
 }
 
 // The box of an element, none where it has none.
-pub(crate) fn own_box<B: Boxes>(page: &PageTree, boxes: &B, node: NodeId) -> Option<BoxOf>
-    ensures { (size : Extent) → IsFreshIn page.now.tree size (B.held boxes.now) (element_at page.now.tree node.0).document →
+pub(crate) fn own_box(page: &PageTree, boxes: &Kept, node: NodeId) -> Option<BoxOf>
+    ensures { (size : Extent) → IsFreshIn page.now.tree size boxes.now (element_at page.now.tree node.0).document →
         result ≡ box_of page.now.tree size node.0 }
 {
     if has_box(page, node) {
@@ -73,13 +74,13 @@ pub(crate) fn own_box<B: Boxes>(page: &PageTree, boxes: &B, node: NodeId) -> Opt
 }
 
 // The size of a document's viewport, none where its frame has no box.
-pub(crate) fn framed_size<B: Boxes>(
+pub(crate) fn framed_size(
     page: &PageTree,
-    boxes: &B,
+    boxes: &Kept,
     viewport: Size,
     document: u32,
 ) -> Option<Size>
-    ensures value { IsFreshAbove page.now.tree (seen_size viewport) (B.held boxes.now) document → option_map seen_pair result
+    ensures value { IsFreshAbove page.now.tree (seen_size viewport) boxes.now document → option_map seen_pair result
         ≡ framed_size page.now.tree (seen_size viewport) (view_of page.now.tree (seen_size viewport)) (document_at page.now.tree document).frame }
     ensures range { IsNatural viewport → IfSome result IsNatural }
 {
@@ -95,9 +96,9 @@ pub(crate) fn framed_size<B: Boxes>(
 /// The size of a document's viewport (CSSOM View, 4: `innerWidth`, `innerHeight`): for `top` the one that is handed in, and for
 /// another document the content box of its frame, 0 by 0 where that has no box. It is so where the boxes of the document around it
 /// are held as they are now with this size. No memory.
-pub fn viewport_of<B: Boxes>(page: &PageTree, boxes: &B, viewport: Size, document: u32) -> Size
+pub fn viewport_of(page: &PageTree, boxes: &Kept, viewport: Size, document: u32) -> Size
     requires { IsNatural viewport }
-    ensures value { IsFreshAbove page.now.tree (seen_size viewport) (B.held boxes.now) document →
+    ensures value { IsFreshAbove page.now.tree (seen_size viewport) boxes.now document →
         result ≡ as_size (pair_of (viewport_of page.now.tree (seen_size viewport) document)) }
     ensures range { IsNatural result }
 {

@@ -2,7 +2,6 @@
 
 ghost use Rattle.std.specs.Prelude.{◌≡◌, ℕ, false};
 ghost use Rattle.page_model.specs.World.{Extent};
-ghost use Rattle.kept_layout.specs.Slots.{held_in};
 ghost use Rattle.page_boxes.specs.Fresh.{IsFresh};
 ghost use Rattle.page_boxes.specs.Kept.{AreKept, IsExact, is_due};
 
@@ -15,7 +14,7 @@ use page_tree::PageTree;
 pub fn undue_boxes_are_exact(boxes: &Kept, page: &PageTree)
     requires { AreKept page.now.tree boxes.now }
     ensures exact { (size : Extent) → IsExact page.now.tree size boxes.now }
-    ensures fresh { (size : Extent) → ((n : ℕ) → is_due page.now.tree size boxes.now n ≡ false) → IsFresh page.now.tree size (held_in boxes.now) }
+    ensures fresh { (size : Extent) → ((n : ℕ) → is_due page.now.tree size boxes.now n ≡ false) → IsFresh page.now.tree size boxes.now }
 {
     // It tells that the elements make trees.
     page.tree().holds(NodeId(0));

@@ -17,8 +17,9 @@ ghost use Rattle.page_boxes.specs.Ranges.{IsOffset};
 
 use crate::documents::has_box;
 use crate::ranges::{boxed_range, view_range};
-use block_layout::{Boxes, Styled};
+use block_layout::Styled;
 use element_tree::{NodeId, Tree};
+use kept_layout::Kept;
 use page_tree::PageTree;
 use px_units::{Point, Size};
 use scrolling::{ScrollTarget, Scrolls};
@@ -40,15 +41,15 @@ fn is_at_start(scrolls: &Scrolls, target: ScrollTarget) -> bool
 }
 
 // The scroll offset in force of a node that has a box.
-pub(crate) fn boxed_offset<P: Styled, B: Boxes>(
+pub(crate) fn boxed_offset<P: Styled>(
     tree: &Tree<P>,
-    boxes: &B,
+    boxes: &Kept,
     scrolls: &Scrolls,
     node: NodeId,
 ) -> Point
     requires { node.0 < length tree.now.nodes }
     ensures value { let at = layout_tree P.style P.kind tree.now.nodes in (view : View) →
-        HoldsAll at view (B.held boxes.now) → is_some (inputs_in_view at view node.0) ≡ true →
+        HoldsAll at view boxes.now → is_some (inputs_in_view at view node.0) ≡ true →
         result ≡ as_point (offset_in_force at (stored_in scrolls.now) view node.0) }
     ensures range { IsOffset result }
 {
@@ -61,8 +62,8 @@ pub(crate) fn boxed_offset<P: Styled, B: Boxes>(
 }
 
 // The scroll offset in force of an element.
-fn element_offset<B: Boxes>(page: &PageTree, boxes: &B, scrolls: &Scrolls, node: NodeId) -> Point
-    ensures value { (size : Extent) → IsFreshIn page.now.tree size (B.held boxes.now) (element_at page.now.tree node.0).document →
+fn element_offset(page: &PageTree, boxes: &Kept, scrolls: &Scrolls, node: NodeId) -> Point
+    ensures value { (size : Extent) → IsFreshIn page.now.tree size boxes.now (element_at page.now.tree node.0).document →
         result ≡ as_point (pair_of (scroll_offset page.now.tree size scrolls.now (ScrolledElement node.0))) }
     ensures range { IsOffset result }
 {
@@ -74,15 +75,15 @@ fn element_offset<B: Boxes>(page: &PageTree, boxes: &B, scrolls: &Scrolls, node:
 }
 
 // The scroll offset in force of a document's viewport.
-pub(crate) fn view_offset<B: Boxes>(
+pub(crate) fn view_offset(
     page: &PageTree,
-    boxes: &B,
+    boxes: &Kept,
     scrolls: &Scrolls,
     viewport: Size,
     document: u32,
 ) -> Point
-    ensures value { IsFreshAbove page.now.tree (seen_size viewport) (B.held boxes.now) document →
-        IsFreshIn page.now.tree (seen_size viewport) (B.held boxes.now) document →
+    ensures value { IsFreshAbove page.now.tree (seen_size viewport) boxes.now document →
+        IsFreshIn page.now.tree (seen_size viewport) boxes.now document →
         result ≡ as_point (pair_of (scroll_offset page.now.tree (seen_size viewport) scrolls.now (ScrolledDocument document))) }
     ensures range { IsOffset result }
 {
@@ -96,15 +97,15 @@ pub(crate) fn view_offset<B: Boxes>(
 /// The scroll offset in force of an element or of a document's viewport (CSSOM View, 4 to 6: `scrollTop`, `scrollY`): on each
 /// axis the lesser of the stored position and of how far it can be scrolled. It is so where the boxes of the page are held as
 /// they are now with this size of the viewport of `top`. No memory.
-pub fn offset_of<B: Boxes>(
+pub fn offset_of(
     page: &PageTree,
-    boxes: &B,
+    boxes: &Kept,
     scrolls: &Scrolls,
     viewport: Size,
     target: ScrollTarget,
 ) -> Point
     requires { IsNatural viewport }
-    ensures value { IsFresh page.now.tree (seen_size viewport) (B.held boxes.now) →
+    ensures value { IsFresh page.now.tree (seen_size viewport) boxes.now →
         result ≡ as_point (pair_of (scroll_offset page.now.tree (seen_size viewport) scrolls.now (seen_target target))) }
     ensures range { IsOffset result }
 {

@@ -5,7 +5,6 @@ ghost use Rattle.page_model.specs.Documents.{first_of_list, is_active};
 ghost use Rattle.page_documents.specs.Frames.{AreFramed};
 ghost use Rattle.page_documents.specs.Paths.{way_down};
 ghost use Rattle.block_layout.specs.Seen.{seen_inputs};
-ghost use Rattle.kept_layout.specs.Slots.{held_in};
 ghost use Rattle.page_tree.specs.Steps.{seen_container};
 ghost use Rattle.page_boxes.specs.Fresh.{IsFresh, IsFreshIn, IsFreshAbove, IsFreshFor};
 ghost use Rattle.page_boxes.specs.Kept.{AreKept, FillsOnly, is_due, due_count};
@@ -41,7 +40,7 @@ fn lay_out<L: Ledger>(
 )
     requires kept { AreKept page.now.tree boxes.old }
     requires active { is_active page.now.tree document ≡ true }
-    requires around { IsFreshAbove page.now.tree (seen_size viewport) (held_in boxes.old) document }
+    requires around { IsFreshAbove page.now.tree (seen_size viewport) boxes.old document }
     ensures laid_out { IsLaidOut page.now.tree (seen_size viewport) boxes.new document }
     ensures others { (other : ℕ) → other ≢ document → IsLaidOut page.now.tree (seen_size viewport) boxes.old other →
         IsLaidOut page.now.tree (seen_size viewport) boxes.new other }
@@ -73,7 +72,7 @@ fn lay_out_once<L: Ledger>(
     requires known { document < 64 }
     requires active { is_active page.now.tree document ≡ true }
     requires marks { length laid_out.old ≡ 64 }
-    requires around { IsFreshAbove page.now.tree (seen_size viewport) (held_in boxes.old) document }
+    requires around { IsFreshAbove page.now.tree (seen_size viewport) boxes.old document }
     requires laid_out { AreLaidOut page.now.tree (seen_size viewport) laid_out.old boxes.old }
     ensures goes { GoesOn page.now.tree (seen_size viewport) laid_out.old laid_out.new boxes.new }
     ensures marked { is_marked laid_out.new document ≡ true }
@@ -135,7 +134,7 @@ fn lay_out_up<L: Ledger>(
 /// sets no mark, drops no box, and takes no memory.
 pub fn refresh<L: Ledger>(boxes: &mut Kept, page: &PageTree, viewport: Size, steps: &mut Steps<L>)
     requires { AreKept page.now.tree boxes.old }
-    ensures fresh { IsFresh page.now.tree (seen_size viewport) (held_in boxes.new) }
+    ensures fresh { IsFresh page.now.tree (seen_size viewport) boxes.new }
     ensures kept { AreKept page.now.tree boxes.new }
     ensures done { (n : ℕ) → is_due page.now.tree (seen_size viewport) boxes.new n ≡ false }
     ensures slots { length boxes.new ≡ length boxes.old }
@@ -158,7 +157,7 @@ fn refresh_document<L: Ledger>(
     steps: &mut Steps<L>,
 )
     requires { AreKept page.now.tree boxes.old }
-    ensures fresh { IsFreshIn page.now.tree (seen_size viewport) (held_in boxes.new) document }
+    ensures fresh { IsFreshIn page.now.tree (seen_size viewport) boxes.new document }
     ensures kept { AreKept page.now.tree boxes.new }
     ensures slots { length boxes.new ≡ length boxes.old }
     ensures fills { FillsOnly boxes.old boxes.new }
@@ -180,7 +179,7 @@ pub fn refresh_for<L: Ledger>(
     steps: &mut Steps<L>,
 )
     requires { AreKept page.now.tree boxes.old }
-    ensures fresh { IsFreshFor page.now.tree (seen_size viewport) (held_in boxes.new) (seen_container container) }
+    ensures fresh { IsFreshFor page.now.tree (seen_size viewport) boxes.new (seen_container container) }
     ensures kept { AreKept page.now.tree boxes.new }
     ensures slots { length boxes.new ≡ length boxes.old }
     ensures fills { FillsOnly boxes.old boxes.new }

@@ -21,6 +21,7 @@ use crate::climb::has_kids;
 use crate::documents::{framed_size, has_box};
 use block_layout::{Boxes, Styled, overflow_reach};
 use element_tree::{NodeId, Tree};
+use kept_layout::Kept;
 use layout_model::capped;
 use page_tree::PageTree;
 use px_units::Size;
@@ -83,10 +84,10 @@ fn range_between(reach: Size, shown: Size) -> Size
 }
 
 // The scrolling range of a node that has a box.
-pub(crate) fn boxed_range<P: Styled, B: Boxes>(tree: &Tree<P>, boxes: &B, node: NodeId) -> Size
+pub(crate) fn boxed_range<P: Styled>(tree: &Tree<P>, boxes: &Kept, node: NodeId) -> Size
     requires { node.0 < length tree.now.nodes }
     ensures value { let at = layout_tree P.style P.kind tree.now.nodes in (view : View) →
-        HoldsAll at view (B.held boxes.now) → is_some (inputs_in_view at view node.0) ≡ true →
+        HoldsAll at view boxes.now → is_some (inputs_in_view at view node.0) ≡ true →
         result ≡ as_size (cond (is_scroll_container (at node.0)) (range_in at view node.0) (0, 0)) }
     ensures range { IsRange result }
 {
@@ -100,8 +101,8 @@ pub(crate) fn boxed_range<P: Styled, B: Boxes>(tree: &Tree<P>, boxes: &B, node: 
 }
 
 // The scrolling range of an element.
-fn element_range<B: Boxes>(page: &PageTree, boxes: &B, node: NodeId) -> Size
-    ensures value { (size : Extent) → IsFreshIn page.now.tree size (B.held boxes.now) (element_at page.now.tree node.0).document →
+fn element_range(page: &PageTree, boxes: &Kept, node: NodeId) -> Size
+    ensures value { (size : Extent) → IsFreshIn page.now.tree size boxes.now (element_at page.now.tree node.0).document →
         result ≡ as_size (pair_of (scroll_range page.now.tree size (ScrolledElement node.0))) }
     ensures range { IsRange result }
 {
@@ -113,14 +114,9 @@ fn element_range<B: Boxes>(page: &PageTree, boxes: &B, node: NodeId) -> Size
 }
 
 // The scrolling range of a document's viewport.
-pub(crate) fn view_range<B: Boxes>(
-    page: &PageTree,
-    boxes: &B,
-    viewport: Size,
-    document: u32,
-) -> Size
-    ensures value { IsFreshAbove page.now.tree (seen_size viewport) (B.held boxes.now) document →
-        IsFreshIn page.now.tree (seen_size viewport) (B.held boxes.now) document →
+pub(crate) fn view_range(page: &PageTree, boxes: &Kept, viewport: Size, document: u32) -> Size
+    ensures value { IsFreshAbove page.now.tree (seen_size viewport) boxes.now document →
+        IsFreshIn page.now.tree (seen_size viewport) boxes.now document →
         result ≡ as_size (pair_of (scroll_range page.now.tree (seen_size viewport) (ScrolledDocument document))) }
     ensures range { IsRange result }
 {
@@ -142,9 +138,9 @@ pub(crate) fn view_range<B: Boxes>(
 /// size of the viewport of `top`. No memory.
 ///
 /// It calls itself once a level of the tree below.
-pub fn range_of<B: Boxes>(page: &PageTree, boxes: &B, viewport: Size, target: ScrollTarget) -> Size
+pub fn range_of(page: &PageTree, boxes: &Kept, viewport: Size, target: ScrollTarget) -> Size
     requires { IsNatural viewport }
-    ensures value { IsFresh page.now.tree (seen_size viewport) (B.held boxes.now) →
+    ensures value { IsFresh page.now.tree (seen_size viewport) boxes.now →
         result ≡ as_size (pair_of (scroll_range page.now.tree (seen_size viewport) (seen_target target))) }
     ensures range { IsRange result }
 {

@@ -18,9 +18,9 @@ ghost use Rattle.page_boxes.specs.Ranges.{IsOffset, IsSpan, IsPlace, IsEdge, Are
 
 use crate::documents::{has_box, own_box, viewport_of};
 use crate::in_force::{offset_of, view_offset};
-use crate::offsets::{moved_back, place, scrolled, unsigned};
-use block_layout::Boxes;
+use crate::offsets::{moved_back, scrolled, unsigned};
 use element_tree::NodeId;
+use kept_layout::Kept;
 use page_tree::{Container, PageTree};
 use px_units::{BoxKind, Point, Rect, Size};
 use scrolling::{ScrollTarget, Scrolls};
@@ -50,8 +50,8 @@ const NO_SIZE: Size = Size {
 
 /// The size of an element's content box or border box (CSS 2.2, 8.1), 0 by 0 without a box. It is so where the boxes of
 /// its document are held as they are now. No memory.
-pub fn size_of<B: Boxes>(page: &PageTree, boxes: &B, node: NodeId, kind: BoxKind) -> Size
-    ensures value { (size : Extent) → IsFreshIn page.now.tree size (B.held boxes.now) (element_at page.now.tree node.0).document →
+pub fn size_of(page: &PageTree, boxes: &Kept, node: NodeId, kind: BoxKind) -> Size
+    ensures value { (size : Extent) → IsFreshIn page.now.tree size boxes.now (element_at page.now.tree node.0).document →
         result ≡ as_size (pair_of (size_of page.now.tree size node.0 kind)) }
     ensures width { IsSpan result.width }
     ensures height { IsSpan result.height }
@@ -64,8 +64,8 @@ pub fn size_of<B: Boxes>(page: &PageTree, boxes: &B, node: NodeId, kind: BoxKind
 
 /// The corner of an element's content in its padding box, which is its left and top paddings (Resize Observer, 3.2:
 /// `contentRect`), zeros without a box. It is so where the boxes of its document are held as they are now. No memory.
-pub fn corner_of<B: Boxes>(page: &PageTree, boxes: &B, node: NodeId) -> Point
-    ensures value { (size : Extent) → IsFreshIn page.now.tree size (B.held boxes.now) (element_at page.now.tree node.0).document →
+pub fn corner_of(page: &PageTree, boxes: &Kept, node: NodeId) -> Point
+    ensures value { (size : Extent) → IsFreshIn page.now.tree size boxes.now (element_at page.now.tree node.0).document →
         result ≡ point_at (corner_of page.now.tree size node.0) }
     ensures left { IsSpan result.left }
     ensures top { IsSpan result.top }
@@ -80,16 +80,17 @@ pub fn corner_of<B: Boxes>(page: &PageTree, boxes: &B, node: NodeId) -> Point
 /// without a box. It is so where the boxes of the page are held as they are now with this size of the viewport of `top`. No
 /// memory.
 ///
-/// It goes up to the root, and at each level over the earlier siblings; what is scrolled on the way is measured.
-pub fn place_of<B: Boxes>(
+/// It goes up to the root by the boxes of the element and its ancestors alone, with the heights that are kept above each; what is
+/// scrolled on the way is measured.
+pub fn place_of(
     page: &PageTree,
-    boxes: &B,
+    boxes: &Kept,
     scrolls: &Scrolls,
     viewport: Size,
     node: NodeId,
 ) -> Point
     requires { IsNatural viewport }
-    ensures value { IsFresh page.now.tree (seen_size viewport) (B.held boxes.now) →
+    ensures value { IsFresh page.now.tree (seen_size viewport) boxes.now →
         result ≡ place_of page.now.tree (seen_size viewport) scrolls.now node.0 }
     ensures left { IsPlace result.left }
     ensures top { IsPlace result.top }
@@ -100,7 +101,7 @@ pub fn place_of<B: Boxes>(
     let tree = page.tree();
     let view = view_offset(page, boxes, scrolls, viewport, page.document_of(node));
     moved_back(
-        place(tree, boxes, node),
+        boxes.unscrolled_place_of(tree, node),
         scrolled(tree, boxes, scrolls, node),
         unsigned(view),
     )
@@ -151,15 +152,15 @@ fn rect_at(corner: Point, size: Size) -> Rect
 
 /// The border box of an element in the viewport of its document (CSSOM View, 6: `getBoundingClientRect`), all zeros without a
 /// box. It is so where the boxes of the page are held as they are now with this size of the viewport of `top`. No memory.
-pub fn border_rect<B: Boxes>(
+pub fn border_rect(
     page: &PageTree,
-    boxes: &B,
+    boxes: &Kept,
     scrolls: &Scrolls,
     viewport: Size,
     node: NodeId,
 ) -> Rect
     requires { IsNatural viewport }
-    ensures value { IsFresh page.now.tree (seen_size viewport) (B.held boxes.now) →
+    ensures value { IsFresh page.now.tree (seen_size viewport) boxes.now →
         result ≡ rect_of (place_of page.now.tree (seen_size viewport) scrolls.now node.0) (size_of page.now.tree (seen_size viewport) node.0 Border) }
     ensures edges { AreEdges result }
     ensures width { IsSpan (result.right -ℤ result.left) }
@@ -173,15 +174,15 @@ pub fn border_rect<B: Boxes>(
 
 /// The padding box of an element in the viewport of its document (CSS 2.2, 8.1), all zeros without a box. It is so where the
 /// boxes of the page are held as they are now with this size of the viewport of `top`. No memory.
-pub fn padding_rect<B: Boxes>(
+pub fn padding_rect(
     page: &PageTree,
-    boxes: &B,
+    boxes: &Kept,
     scrolls: &Scrolls,
     viewport: Size,
     node: NodeId,
 ) -> Rect
     requires { IsNatural viewport }
-    ensures value { IsFresh page.now.tree (seen_size viewport) (B.held boxes.now) →
+    ensures value { IsFresh page.now.tree (seen_size viewport) boxes.now →
         result ≡ padding_box_at (place_of page.now.tree (seen_size viewport) scrolls.now node.0) (box_of page.now.tree (seen_size viewport) node.0) }
     ensures edges { AreEdges result }
     ensures width { IsSpan (result.right -ℤ result.left) }
@@ -197,15 +198,15 @@ pub fn padding_rect<B: Boxes>(
 /// The corner of the content box of an element in the viewport of its document (CSS 2.2, 8.1), which for a frame is where the
 /// viewport of the document in it begins; zeros without a box. It is so where the boxes of the page are held as they are now
 /// with this size of the viewport of `top`. No memory.
-pub fn content_origin<B: Boxes>(
+pub fn content_origin(
     page: &PageTree,
-    boxes: &B,
+    boxes: &Kept,
     scrolls: &Scrolls,
     viewport: Size,
     node: NodeId,
 ) -> Point
     requires { IsNatural viewport }
-    ensures value { IsFresh page.now.tree (seen_size viewport) (B.held boxes.now) →
+    ensures value { IsFresh page.now.tree (seen_size viewport) boxes.now →
         result ≡ content_corner_at (place_of page.now.tree (seen_size viewport) scrolls.now node.0) (box_of page.now.tree (seen_size viewport) node.0) }
     ensures left { IsEdge result.left }
     ensures top { IsEdge result.top }
@@ -220,15 +221,15 @@ pub fn content_origin<B: Boxes>(
 /// What the command `read` shows: an element's border box in the viewport of its document, all zeros without a box, or the
 /// viewport of the document; and the scroll offset in force. It is so where the boxes of the page are held as they are now
 /// with this size of the viewport of `top`. No memory.
-pub fn read<B: Boxes>(
+pub fn read(
     page: &PageTree,
-    boxes: &B,
+    boxes: &Kept,
     scrolls: &Scrolls,
     viewport: Size,
     container: Container,
 ) -> Reading
     requires { IsNatural viewport }
-    ensures value { (names : List Name) → IsFresh page.now.tree (seen_size viewport) (B.held boxes.now) →
+    ensures value { (names : List Name) → IsFresh page.now.tree (seen_size viewport) boxes.now →
         reading_of names page.now.tree (seen_size viewport) scrolls.now (seen_container container)
         ≡ ReadLine (text_in names (seen_container container)) result.rect result.scroll }
     ensures edges { RectInReach result.rect }

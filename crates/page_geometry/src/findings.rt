@@ -19,10 +19,10 @@ use crate::origins::{NOWHERE, origin};
 use crate::ratios::{NOTHING, seen_at, unseen};
 use crate::rects::{NO_RECT, border_rect, moved_back, padding_rect, viewport_rect};
 use crate::relations::{is_apart, spot_of_root};
-use block_layout::Boxes;
 use clip_chain::{Spot, visible_rect};
 use element_tree::NodeId;
 use intersection_observer::{Finding, Root, WatcherId, Watchers};
+use kept_layout::Kept;
 use page_boxes::has_box;
 use page_tree::PageTree;
 use px_units::{Point, Rect, Size};
@@ -30,7 +30,7 @@ use scrolling::Scrolls;
 use thresholds::Margins;
 
 // Where the viewport of the root's document begins.
-fn root_origin<B: Boxes>(geometry: &PageGeometry<'_, B>, root: Root) -> Point
+fn root_origin(geometry: &PageGeometry<'_>, root: Root) -> Point
     ensures value { result ≡ root_origin (world_with geometry.now.page.now.tree (seen_size geometry.now.viewport) geometry.now.scrolls.now) (seen_root root) }
     ensures range { IsOrigin 64 result }
 {
@@ -49,7 +49,7 @@ fn root_origin<B: Boxes>(geometry: &PageGeometry<'_, B>, root: Root) -> Point
 
 // The root rectangle before a margin moves it: the viewport of a document, the padding box of an element that clips, the border
 // box of another, zeros without a box.
-fn root_bounds<B: Boxes>(geometry: &PageGeometry<'_, B>, root: Root) -> Rect
+fn root_bounds(geometry: &PageGeometry<'_>, root: Root) -> Rect
     ensures value { result ≡ root_bounds (world_with geometry.now.page.now.tree (seen_size geometry.now.viewport) geometry.now.scrolls.now) (seen_root root) }
     ensures range { IsBounds result }
 {
@@ -69,7 +69,7 @@ fn root_bounds<B: Boxes>(geometry: &PageGeometry<'_, B>, root: Root) -> Rect
 }
 
 // The root intersection rectangle (Intersection Observer, 2.2).
-fn root_rect<B: Boxes>(geometry: &PageGeometry<'_, B>, root: Root, margins: &Margins) -> Rect
+fn root_rect(geometry: &PageGeometry<'_>, root: Root, margins: &Margins) -> Rect
     ensures value { result ≡ root_rect (world_with geometry.now.page.now.tree (seen_size geometry.now.viewport) geometry.now.scrolls.now) (seen_root root) margins.now }
     ensures range { IsMoved result }
 {
@@ -77,8 +77,8 @@ fn root_rect<B: Boxes>(geometry: &PageGeometry<'_, B>, root: Root, margins: &Mar
 }
 
 // What is seen of a target that has a box and isn't apart from the root, within limits.
-fn cut_of<B: Boxes>(
-    geometry: &PageGeometry<'_, B>,
+fn cut_of(
+    geometry: &PageGeometry<'_>,
     root: Root,
     target: NodeId,
     limits: Rect,
@@ -100,9 +100,9 @@ fn cut_of<B: Boxes>(
 /// A target that is apart from the root, as one of another document than a root that isn't implicit, isn't seen, and its index
 /// is 0. All boxes are held as they are with this size of the viewport of `top`. All edges, widths and heights lie between -2^50
 /// and 2^50. No memory.
-pub fn find<B: Boxes>(
+pub fn find(
     page: &PageTree,
-    boxes: &B,
+    boxes: &Kept,
     scrolls: &Scrolls,
     viewport: Size,
     watchers: &Watchers,
@@ -111,7 +111,7 @@ pub fn find<B: Boxes>(
 ) -> Finding
     requires natural { IsNatural viewport }
     requires watcher { watcher.0 < length watchers.now.part.made }
-    requires fresh { IsFresh page.now.tree (seen_size viewport) (B.held boxes.now) }
+    requires fresh { IsFresh page.now.tree (seen_size viewport) boxes.now }
     ensures value { (world : World) → world.tree ≡ page.now.tree → world.viewports.size ≡ seen_size viewport → world.scrolls ≡ scrolls.now →
         seen_finding result ≡ finding world (intersection_observer_at watchers.now.part watcher.0) target.0 }
     ensures reach { IsReached (seen_finding result) }

@@ -12,9 +12,10 @@ ghost use Rattle.page_tree.specs.Steps.{seen_container};
 ghost use Rattle.clip_chain.specs.Worlds.{spot_of};
 
 use crate::rects::{NO_RECT, border_rect, padding_rect, viewport_rect};
-use block_layout::{Boxes, ItemKind};
+use block_layout::ItemKind;
 use clip_chain::{Geometry, Spot};
 use element_tree::NodeId;
+use kept_layout::Kept;
 use page_boxes::has_box;
 use page_tree::{Container, PageTree};
 use px_units::{Rect, Size};
@@ -24,11 +25,11 @@ use style_values::{Overflow, Style};
 
 /// The containers, clips and boxes of a page as they are now (Intersection Observer, 3.2.7), in the coordinates of the viewport
 /// of `top`. All boxes are held as they are with this size of that viewport.
-pub struct PageGeometry<'a, B: Boxes> {
+pub struct PageGeometry<'a> {
     /// The elements and documents.
     pub page: &'a PageTree,
     /// Their boxes.
-    pub boxes: &'a B,
+    pub boxes: &'a Kept,
     /// The stored scroll positions.
     pub scrolls: &'a Scrolls,
     /// The size of the viewport of `top`, in units of 1/64 pixel.
@@ -36,37 +37,37 @@ pub struct PageGeometry<'a, B: Boxes> {
     // How many documents there are.
     pub(crate) documents: u32,
     ghost natural: { IsNatural viewport },
-    ghost fresh: { IsFresh page.now.tree (seen_size viewport) (B.held boxes.now) },
+    ghost fresh: { IsFresh page.now.tree (seen_size viewport) boxes.now },
     ghost framed: { AreFramed page.now.tree },
     ghost counted: { documents ≡ length page.now.tree.documents },
     ghost few: { documents ≤ 64 },
     ghost deep: { (n : ℕ) → element_depth (page.now.tree) n ≤ 256 },
 }
 
-impl<'a, B: Boxes> Clone for PageGeometry<'a, B> {
+impl<'a> Clone for PageGeometry<'a> {
     ghost use Rattle.std.specs.Prelude.{⊤};
 
     ghost is_clone = { λ it copied. copied ≡ it };
 
     ghost is_infallible = { λ _. ⊤ };
 
-    fn clone(&self) -> Result<PageGeometry<'a, B>, AllocError> {
+    fn clone(&self) -> Result<PageGeometry<'a>, AllocError> {
         Ok(*self)
     }
 }
 
-impl<'a, B: Boxes> Copy for PageGeometry<'a, B> {}
+impl<'a> Copy for PageGeometry<'a> {}
 
-impl<'a, B: Boxes> PageGeometry<'a, B> {
+impl<'a> PageGeometry<'a> {
     /// A page with its boxes, which are held as they are with this size of the viewport of `top`.
     pub fn new(
         page: &'a PageTree,
-        boxes: &'a B,
+        boxes: &'a Kept,
         scrolls: &'a Scrolls,
         viewport: Size,
-    ) -> PageGeometry<'a, B>
+    ) -> PageGeometry<'a>
         requires natural { IsNatural viewport }
-        requires fresh { IsFresh page.now.tree (seen_size viewport) (B.held boxes.now) }
+        requires fresh { IsFresh page.now.tree (seen_size viewport) boxes.now }
         ensures page { result.page.now ≡ page.now }
         ensures boxes { result.boxes.now ≡ boxes.now }
         ensures scrolls { result.scrolls.now ≡ scrolls.now }
@@ -116,7 +117,7 @@ fn spot_of(container: Container) -> Spot
     }
 }
 
-impl<B: Boxes> Geometry for PageGeometry<'_, B> {
+impl Geometry for PageGeometry<'_> {
     ghost use Rattle.page_boxes.specs.Pages.{seen_size};
     ghost use Rattle.clip_chain.specs.Worlds.{scene_of};
     ghost use Rattle.page_geometry.specs.Worlds.{world_with};

@@ -8,7 +8,6 @@ ghost use Rattle.page_geometry.specs.Worlds.{world_with};
 ghost use Rattle.page_geometry.specs.Ranges.{IsOrigin};
 
 use crate::geometry::PageGeometry;
-use block_layout::Boxes;
 use page_boxes::{content_origin, has_box};
 use px_units::Point;
 
@@ -29,7 +28,7 @@ fn added(corner: Point, around: Point, frames: u32) -> Point
 }
 
 // Where the viewport of a document begins, so many frames looked at.
-fn origin_up<B: Boxes>(geometry: &PageGeometry<'_, B>, document: u32, high: u32) -> Point
+fn origin_up(geometry: &PageGeometry<'_>, document: u32, high: u32) -> Point
     requires { high ≤ 64 }
     ensures value { result ≡ origin_up high (world_with geometry.now.page.now.tree (seen_size geometry.now.viewport) geometry.now.scrolls.now) document }
     ensures range { IsOrigin high result }
@@ -58,7 +57,7 @@ fn origin_up<B: Boxes>(geometry: &PageGeometry<'_, B>, document: u32, high: u32)
 // Where the viewport of a document begins: at the zero point for `top`, and for a document whose frame has no box.
 //
 // It calls itself once for each frame around the document.
-pub(crate) fn origin<B: Boxes>(geometry: &PageGeometry<'_, B>, document: u32) -> Point
+pub(crate) fn origin(geometry: &PageGeometry<'_>, document: u32) -> Point
     ensures value { result ≡ origin (world_with geometry.now.page.now.tree (seen_size geometry.now.viewport) geometry.now.scrolls.now) document }
     ensures range { IsOrigin 64 result }
 {

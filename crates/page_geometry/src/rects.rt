@@ -10,7 +10,6 @@ ghost use Rattle.page_geometry.specs.Ranges.{IsOrigin, IsMoved, IsRectReached};
 
 use crate::geometry::PageGeometry;
 use crate::origins::origin;
-use block_layout::Boxes;
 use element_tree::NodeId;
 use page_boxes::viewport_of;
 use px_units::{Point, Rect, shift};
@@ -45,7 +44,7 @@ pub(crate) fn moved_back(from: Point, rect: Rect) -> Rect
 }
 
 // The viewport of a document.
-pub(crate) fn viewport_rect<B: Boxes>(geometry: &PageGeometry<'_, B>, document: u32) -> Rect
+pub(crate) fn viewport_rect(geometry: &PageGeometry<'_>, document: u32) -> Rect
     ensures value { result ≡ viewport_rect (world_with geometry.now.page.now.tree (seen_size geometry.now.viewport) geometry.now.scrolls.now) document }
     ensures range { IsBounds result }
 {
@@ -60,7 +59,7 @@ pub(crate) fn viewport_rect<B: Boxes>(geometry: &PageGeometry<'_, B>, document: 
 }
 
 // The border box of an element.
-pub(crate) fn border_rect<B: Boxes>(geometry: &PageGeometry<'_, B>, node: NodeId) -> Rect
+pub(crate) fn border_rect(geometry: &PageGeometry<'_>, node: NodeId) -> Rect
     ensures value { result ≡ border_rect (world_with geometry.now.page.now.tree (seen_size geometry.now.viewport) geometry.now.scrolls.now) node.0 }
     ensures range { IsBounds result }
 {
@@ -75,7 +74,7 @@ pub(crate) fn border_rect<B: Boxes>(geometry: &PageGeometry<'_, B>, node: NodeId
 }
 
 // The padding box of an element.
-pub(crate) fn padding_rect<B: Boxes>(geometry: &PageGeometry<'_, B>, node: NodeId) -> Rect
+pub(crate) fn padding_rect(geometry: &PageGeometry<'_>, node: NodeId) -> Rect
     ensures value { result ≡ padding_rect (world_with geometry.now.page.now.tree (seen_size geometry.now.viewport) geometry.now.scrolls.now) node.0 }
     ensures range { IsBounds result }
 {

@@ -1,7 +1,6 @@
 //! Findings on a page with scrollers and a frame, with the numbers that an independent program for the same rules gives.
 
 ghost use Rattle.std.specs.Prelude.{◌≡◌, ◌<◌, ◌≤◌, length, IfOk};
-ghost use Rattle.kept_layout.specs.Slots.{held_in};
 ghost use Rattle.page_boxes.specs.Fresh.{IsFresh};
 ghost use Rattle.page_boxes.specs.Kept.{AreKept};
 ghost use Rattle.page_boxes.specs.Pages.{seen_size};
@@ -420,14 +419,14 @@ fn renew<L: Ledger>(blank: Blank, boxes: &mut Kept, page: &PageTree, viewport: S
     requires parts { blank.parts ≡ L.parts }
     requires one_part { 0 < blank.parts }
     requires kept { AreKept page.now.tree boxes.old }
-    ensures { IsFresh page.now.tree (seen_size viewport) (held_in boxes.new) }
+    ensures { IsFresh page.now.tree (seen_size viewport) boxes.new }
 {
     let mut steps = Steps::<L>::new(blank);
     refresh(boxes, page, viewport, &mut steps);
 }
 
 fn all_boxes(rt: &impl Abort, alloc: Global, page: &PageTree, viewport: Size) -> Result<Kept, Fail>
-    ensures { IfOk result (λ boxes. IsFresh page.now.tree (seen_size viewport) (held_in boxes)) }
+    ensures { IfOk result (λ boxes. IsFresh page.now.tree (seen_size viewport) boxes) }
 {
     let mut boxes = Kept::new(alloc);
     boxes.add(NodeId(8))?;

@@ -12,7 +12,6 @@ ghost use Rattle.page_model.specs.Steps.{Did, Threw};
 ghost use Rattle.page_model.specs.Edits.{with_element, with_frame, with_declaration};
 ghost use Rattle.page_model.specs.Commands.{placing, growing, loading};
 ghost use Rattle.block_layout.specs.Seen.{seen_kind};
-ghost use Rattle.kept_layout.specs.Slots.{held_in};
 ghost use Rattle.page_tree.specs.Items.{IsKind, IsNatural};
 ghost use Rattle.page_tree.specs.Faults.{refusal, element_room, frame_room, IsMakeFault, IsFrameFault};
 ghost use Rattle.page_tree.specs.Steps.{seen_container, seen_axis, IsContainerIn};
@@ -91,7 +90,7 @@ impl LaidTree {
         ensures kept { AreKept self.now.elements.tree self.now.kept }
         ensures exact { (size : Extent) → IsExact self.now.elements.tree size self.now.kept }
         ensures fresh { (size : Extent) → ((n : ℕ) → is_due self.now.elements.tree size self.now.kept n ≡ false) →
-            IsFresh self.now.elements.tree size (held_in self.now.kept) }
+            IsFresh self.now.elements.tree size self.now.kept }
     {
         undue_boxes_are_exact(&self.boxes, &self.page);
         &self.boxes
@@ -280,7 +279,7 @@ impl LaidTree {
     /// Computes what is due of the boxes, with this size of the viewport of `top`: each box of the page is then held as it is now,
     /// and none is due. It takes at most one step for each box that was due, sets no mark, drops no box, and takes no memory.
     pub fn refresh<L: Ledger>(&mut self, viewport: Size, steps: &mut Steps<L>)
-        ensures fresh { IsFresh self.new.elements.tree (seen_size viewport) (held_in self.new.kept) }
+        ensures fresh { IsFresh self.new.elements.tree (seen_size viewport) self.new.kept }
         ensures done { (n : ℕ) → is_due self.new.elements.tree (seen_size viewport) self.new.kept n ≡ false }
         ensures same { self.new.elements ≡ self.old.elements }
         ensures fills { FillsOnly self.old.kept self.new.kept }
@@ -298,7 +297,7 @@ impl LaidTree {
         container: Container,
         steps: &mut Steps<L>,
     )
-        ensures fresh { IsFreshFor self.new.elements.tree (seen_size viewport) (held_in self.new.kept) (seen_container container) }
+        ensures fresh { IsFreshFor self.new.elements.tree (seen_size viewport) self.new.kept (seen_container container) }
         ensures same { self.new.elements ≡ self.old.elements }
         ensures fills { FillsOnly self.old.kept self.new.kept }
         ensures ticks { steps.new + due_count self.old.elements.tree (seen_size viewport) self.new.kept ≤ steps.old + due_count self.old.elements.tree (seen_size viewport) self.old.kept }

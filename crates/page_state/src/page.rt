@@ -289,7 +289,7 @@ impl Page {
 
     /// The containers, clips and boxes of the page as they are now (Intersection Observer, 3.2.7), in units of 1/64 pixel and in the
     /// coordinates of the viewport of `top`. No box may be due; `refresh_boxes` sees to that. No memory.
-    pub fn geometry(&self) -> PageGeometry<'_, kept_layout::Kept>
+    pub fn geometry(&self) -> PageGeometry<'_>
         requires { (n : ℕ) → is_due self.now.world.tree self.now.world.viewports.size self.now.kept n ≡ false }
         ensures tree { result.page.now.tree ≡ self.now.world.tree }
         ensures boxes { result.boxes.now ≡ self.now.kept }

@@ -8,7 +8,6 @@ ghost use Rattle.depth_gather.specs.Deliveries.{turn_of, active_at, entries_in};
 ghost use Rattle.depth_gather.specs.Gathering.{active_count};
 ghost use Rattle.depth_gather.specs.Entries.{as_size, as_point, HasLengths};
 ghost use Rattle.std.specs.List.{AllByRecursion};
-ghost use Rattle.kept_layout.specs.Slots.{held_in};
 ghost use Rattle.page_boxes.specs.Fresh.{IsFresh};
 ghost use Rattle.page_boxes.specs.Pages.{seen_size};
 ghost use Rattle.page_state.specs.Boxes.{Computes};
@@ -30,7 +29,7 @@ use step_count::Steps;
 struct Shown<'a> {
     laid: &'a LaidTree,
     size: Size,
-    ghost fresh: { IsFresh laid.now.elements.tree (seen_size size) (held_in laid.now.kept) },
+    ghost fresh: { IsFresh laid.now.elements.tree (seen_size size) laid.now.kept },
 }
 
 impl Sizes for Shown<'_> {

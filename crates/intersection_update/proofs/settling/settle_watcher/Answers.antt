@@ -8,7 +8,7 @@ use Rattle.intersection_update.proofs.settling.settle_watcher.Goals as goal
 use Rattle.intersection_update.proofs.settling.settle_watcher.Goals.{then-queued, else-queued}
 
 pub loop-place-preserved : goal.loop-place-preserved
-loop-place-preserved g c =
+loop-place-preserved c =
     let was = c.args.watchers.now in
     let now = c.loop-place.watchers in
     let next = c.settle_at.new.watchers in
@@ -33,6 +33,6 @@ loop-place-preserved g c =
     }
 
 pub returns-clause-settled : goal.returns-clause-settled
-returns-clause-settled g c world parts =
+returns-clause-settled c world parts =
     all_of_them world c.args.time c.args.watcher.0 c.args.watchers.now c.loop-place.place c.loop-place.watchers c.loop-place.invariant.serials c.loop-place.invariant.kept.rest
     (omega (arith, c.loop-place.invariant.end, c.loop-place-test.false)) (c.loop-place.invariant.settled world parts)

@@ -8,7 +8,7 @@ use Rattle.intersection_update.specs.Updating.{HasParts, AreKept, first_settled}
 use Rattle.intersection_update.proofs.settling.settle_watcher.Given as goal
 
 abbrev pub invariant-loop-place : goal.invariant-loop-place
-invariant-loop-place g l = record {
+invariant-loop-place l = record {
   settled : (world : World) → HasParts l.page.tree (seen_size l.viewport) l.scrolls world → l.watchers.part ≡ first_settled world l.time (l.watcher.0) l.place (l.fn.watchers.part);
   queued : l.queued ≡ has_queued l.fn.watchers.part l.watchers.part (l.watcher.0);
   longer : length (watcher_at l.fn.watchers (l.watcher.0)).queue ≤ length (watcher_at l.watchers (l.watcher.0)).queue;

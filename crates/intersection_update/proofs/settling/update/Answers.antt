@@ -8,7 +8,7 @@ use Rattle.intersection_update.proofs.settling.update.Goals as goal
 use Rattle.intersection_update.proofs.settling.update.Goals.{then-queued, else-queued}
 
 pub loop-number-preserved : goal.loop-number-preserved
-loop-number-preserved g c =
+loop-number-preserved c =
     let tree = c.args.page.now.tree in
     let was = c.args.watchers.now in
     let now = c.loop-number.watchers in
@@ -29,19 +29,19 @@ loop-number-preserved g c =
     }
 
 pub returns-clause-updated : goal.returns-clause-updated
-returns-clause-updated g c world tree size scrolls =
+returns-clause-updated c world tree size scrolls =
     let parts : HasParts c.args.page.now.tree (seen_size c.args.viewport) c.args.scrolls.now world = record { tree = tree; viewport = size; scrolls = scrolls } in
     all_observers world c.args.page.now.tree c.args.document c.args.time c.args.watchers.now c.loop-number.number c.loop-number.watchers c.loop-number.invariant.kept.rest c.loop-number.invariant.kept.given
     (omega (arith, c.loop-number.invariant.end, c.loop-number-test.false, c.loop-number.auto.number-end)) (c.loop-number.invariant.settled world parts)
 
 pub returns-clause-queued : goal.returns-clause-queued
-returns-clause-queued g c world tree size scrolls =
+returns-clause-queued c world tree size scrolls =
     let parts : HasParts c.args.page.now.tree (seen_size c.args.viewport) c.args.scrolls.now world = record { tree = tree; viewport = size; scrolls = scrolls } in
     all_told world c.args.page.now.tree c.args.document c.args.time c.args.watchers.now c.loop-number.number c.loop-number.queued
     (omega (arith, c.loop-number.invariant.end, c.loop-number-test.false, c.loop-number.auto.number-end)) (c.loop-number.invariant.queued world parts)
 
 pub returns-in_err-is_queued-clause-stopped : goal.returns-in_err-is_queued-clause-stopped
-returns-in_err-is_queued-clause-stopped g c world tree size scrolls =
+returns-in_err-is_queued-clause-stopped c world tree size scrolls =
     let parts : HasParts c.args.page.now.tree (seen_size c.args.viewport) c.args.scrolls.now world = record { tree = tree; viewport = size; scrolls = scrolls } in
     on_err c.from_residual.result
     (stopped_at world c.args.page.now.tree c.args.document c.args.time c.args.watchers.now c.loop-number.number c.loop-number.watchers c.settle_if_rooted.new.watchers

@@ -7,7 +7,7 @@ use Rattle.page_boxes.proofs.Pages.{framed_by_box}
 use Rattle.page_boxes.proofs.documents.framed_size.Goals as goal
 
 pub returns-in-Some-own_box-clause-value : goal.returns-in-Some-own_box-clause-value
-returns-in-Some-own_box-clause-value g c fresh =
+returns-in-Some-own_box-clause-value c fresh =
     let tree = c.args.page.now.tree in
     let size = seen_size c.args.viewport in
     let held : _ = sym c.frame_of.ensures.value ∙ ap (option_map number) c.in-Some.is in
@@ -17,7 +17,7 @@ returns-in-Some-own_box-clause-value g c fresh =
     ∙ ap (framed_size tree size (view_of tree size)) (sym held)
 
 pub returns-in-None-clause-value : goal.returns-in-None-clause-value
-returns-in-None-clause-value g c fresh =
+returns-in-None-clause-value c fresh =
     let tree = c.args.page.now.tree in
     let size = seen_size c.args.viewport in
     let held : _ = sym c.frame_of.ensures.value ∙ ap (option_map number) c.in-Some.is in

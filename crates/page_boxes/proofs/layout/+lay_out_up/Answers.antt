@@ -3,7 +3,6 @@ use Rattle.element_tree.specs.Links.{number}
 use Rattle.page_model.specs.Lookups.{element_at}
 use Rattle.page_model.specs.Documents.{first_of_list}
 use Rattle.page_documents.specs.Paths.{way_down}
-use Rattle.kept_layout.specs.Slots.{held_in}
 use Rattle.page_boxes.specs.Fresh.{IsFreshIn}
 use Rattle.page_boxes.specs.Pages.{seen_size}
 use Rattle.page_boxes.proofs.Views.{no_way, way_less}
@@ -44,7 +43,7 @@ lay_out_once-requires-clause-around g t c frame is =
     let tree = c.args.page.now.tree in
     let there = sym c.frame_of.ensures.value ∙ ap (option_map number) c.in-Some.is in
     let same : c.in-Some.frame.0 ≡ frame = cc (sym there ∙ is) in
-    subst (IsFreshIn tree (seen_size c.args.viewport) (held_in c.lay_out_up.new.boxes))
+    subst (IsFreshIn tree (seen_size c.args.viewport) c.lay_out_up.new.boxes)
     (c.document_of-holder.ensures ∙ ap (λ n. (element_at tree n).document) same)
     (fresh_in tree (seen_size c.args.viewport) c.lay_out_up.new.laid_out c.lay_out_up.new.boxes c.lay_out_up.ensures.goes.laid_out c.document_of-holder.result
     c.lay_out_up.ensures.marked)

@@ -62,7 +62,7 @@ returns-clause-laid_out g c =
     let ready = ready_before tree framed size c.args.document c.requires.active pair shown at c.tree.ensures.nodes c.in-Some.root.0 rooted
     c.args.boxes.now c.requires.kept in
     laid_out_here tree framed size c.args.document c.requires.active pair shown at c.tree.ensures.nodes c.in-Some.root.0 rooted
-    _ c.root_inputs.ensures c.refresh.new.self (c.refresh.ensures.boxes ready) (c.refresh.ensures.done ready)
+    _ c.root_inputs.ensures c.refresh.new.self (c.refresh.ensures.fresh ready) (c.refresh.ensures.done ready)
 
 pub returns-clause-others : goal.returns-clause-others
 returns-clause-others g c =

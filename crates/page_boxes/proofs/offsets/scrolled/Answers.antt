@@ -9,8 +9,8 @@ use Rattle.element_tree.proofs.Facts.{parent_in_range}
 use Rattle.block_layout.specs.Trees.{layout_tree}
 use Rattle.block_layout.proofs.Nodes.{parent_is}
 use Rattle.block_layout.proofs.Forests.{shallow}
-use Rattle.page_boxes.proofs.Shifts.{child_boxed}
-use Rattle.page_boxes.proofs.Sums.{sum_goes, sum_ends}
+use Rattle.kept_layout.proofs.Climbed.{sum_goes, sum_ends}
+use Rattle.page_boxes.proofs.Parents.{child_boxed}
 use Rattle.page_boxes.proofs.offsets.scrolled.Goals as goal
 
 pub own_scroll-more-requires : goal.own_scroll-more-requires

@@ -13,7 +13,7 @@ abbrev pub invariant-loop-parent : goal.invariant-loop-parent
 invariant-loop-parent g l = record {
   across : l.scrolled.across + 2147483647 * depth l.tree.nodes (l.at.0) ≤ 2147483647 * depth l.tree.nodes (l.fn.node.0);
   down : l.scrolled.down + 2147483647 * depth l.tree.nodes (l.at.0) ≤ 2147483647 * depth l.tree.nodes (l.fn.node.0);
-  sums : (view : View) → HoldsAll (layout_tree g.P.Styled.style g.P.Styled.kind l.tree.nodes) view (g.B.Boxes.held l.boxes)
+  sums : (view : View) → HoldsAll (layout_tree g.P.Styled.style g.P.Styled.kind l.tree.nodes) view l.boxes
       → is_some (inputs_in_view (layout_tree g.P.Styled.style g.P.Styled.kind l.tree.nodes) view (l.fn.node.0)) ≡ true
       → (is_some (inputs_in_view (layout_tree g.P.Styled.style g.P.Styled.kind l.tree.nodes) view (l.at.0)) ≡ true)
       × (plus (l.scrolled.across, l.scrolled.down) (sum_points (offset_in_force (layout_tree g.P.Styled.style g.P.Styled.kind l.tree.nodes) (stored_in l.scrolls) view) (ancestors_of (layout_tree g.P.Styled.style g.P.Styled.kind l.tree.nodes) (l.at.0)))

@@ -10,11 +10,11 @@ returns-then-not-is_scroll_container-clause-value g c view holds boxed =
 pub returns-in_default-clause-value : goal.returns-in_default-clause-value
 returns-in_default-clause-value g c view holds boxed =
     absurd
-    (box_missing (layout_tree g.P.Styled.style g.P.Styled.kind c.args.tree.now.nodes) view (c.args.node.0) (g.B.Boxes.held c.args.boxes.now) holds boxed
+    (box_missing (layout_tree g.P.Styled.style g.P.Styled.kind c.args.tree.now.nodes) view (c.args.node.0) c.args.boxes.now holds boxed
     (sym c.in_default.is ∙ c.box_of.ensures))
 
 pub returns-clause-value : goal.returns-clause-value
 returns-clause-value g c view holds boxed =
-    range_boxed (layout_tree g.P.Styled.style g.P.Styled.kind c.args.tree.now.nodes) view (c.args.node.0) (g.B.Boxes.held c.args.boxes.now) holds boxed
+    range_boxed (layout_tree g.P.Styled.style g.P.Styled.kind c.args.tree.now.nodes) view (c.args.node.0) c.args.boxes.now holds boxed
     (sym c.is_scroll_container.ensures ∙ c.if-not-is_scroll_container.false) c.in-Some.own c.in-Some.ensures
     c.overflow_reach.result c.padding_size.result c.range_between.result (c.overflow_reach.ensures.container refl view) c.padding_size.ensures.value c.range_between.ensures.value

@@ -11,22 +11,22 @@ use Rattle.page_boxes.proofs.Reaching.{element_range, element_rangeless}
 use Rattle.page_boxes.proofs.ranges.element_range.Goals as goal
 
 pub boxed_range-requires : goal.boxed_range-requires
-boxed_range-requires g c =
+boxed_range-requires c =
     let made = made_if_boxed c.args.page.now.tree (c.args.node.0) c.has_box.result c.has_box.ensures c.if-has_box.true in
     omega (arith, made, count_here c.args.page.now c.tree.result.now c.tree.ensures.value)
 
 pub returns-then-has_box-clause-value : goal.returns-then-has_box-clause-value
-returns-then-has_box-clause-value g c size fresh =
+returns-then-has_box-clause-value c size fresh =
     let tree = c.args.page.now.tree in
     let n = c.args.node.0 in
     let view = view_of tree size (element_at tree n).document in
     let nodes = c.tree.ensures.nodes in
     let there = sym (c.has_box.ensures size) ∙ c.if-has_box.true in
     let boxed = sym (ap (λ at. is_some (inputs_in_view at view n)) nodes) ∙ sym (boxed_is tree size n) ∙ there in
-    c.boxed_range.ensures.value view (subst (λ at. HoldsAll at view (g.B.Boxes.held c.args.boxes.now)) nodes fresh) boxed
+    c.boxed_range.ensures.value view (subst (λ at. HoldsAll at view c.args.boxes.now) nodes fresh) boxed
     ∙ ap (λ at. as_size (cond (is_scroll_container (at n)) (range_of at view n) (0, 0))) (sym nodes)
     ∙ ap as_size (element_range tree size n there)
 
 pub returns-else-has_box-clause-value : goal.returns-else-has_box-clause-value
-returns-else-has_box-clause-value g c size fresh =
+returns-else-has_box-clause-value c size fresh =
     ap as_size (element_rangeless c.args.page.now.tree size (c.args.node.0) (sym (c.has_box.ensures size) ∙ c.if-has_box.false))

@@ -6,7 +6,7 @@ use Rattle.page_boxes.proofs.Rects.{rect_same}
 use Rattle.page_boxes.proofs.readings.border_rect.Goals as goal
 
 pub returns-clause-value : goal.returns-clause-value
-returns-clause-value g c fresh =
+returns-clause-value c fresh =
     let tree = c.args.page.now.tree in
     let size = seen_size c.args.viewport in
     let n = c.args.node.0 in

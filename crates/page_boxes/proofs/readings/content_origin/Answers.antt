@@ -8,7 +8,7 @@ use Rattle.page_boxes.proofs.Rects.{beside_is, content_found}
 use Rattle.page_boxes.proofs.readings.content_origin.Goals as goal
 
 pub returns-in-Some-clause-value : goal.returns-in-Some-clause-value
-returns-in-Some-clause-value g c fresh =
+returns-in-Some-clause-value c fresh =
     let tree = c.args.page.now.tree in
     let size = seen_size c.args.viewport in
     let n = c.args.node.0 in
@@ -18,7 +18,7 @@ returns-in-Some-clause-value g c fresh =
     c.beside.ensures.left c.beside.ensures.top)
 
 pub returns-in-None-clause-value : goal.returns-in-None-clause-value
-returns-in-None-clause-value g c fresh =
+returns-in-None-clause-value c fresh =
     let tree = c.args.page.now.tree in
     let size = seen_size c.args.viewport in
     let n = c.args.node.0 in

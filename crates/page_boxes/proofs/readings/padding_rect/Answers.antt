@@ -8,23 +8,23 @@ use Rattle.page_boxes.proofs.Rects.{beside_is, padding_found, padding_right, pad
 use Rattle.page_boxes.proofs.readings.padding_rect.Goals as goal
 
 pub returns-in_default-clause-value : goal.returns-in_default-clause-value
-returns-in_default-clause-value g c fresh =
+returns-in_default-clause-value c fresh =
     let tree = c.args.page.now.tree in
     let size = seen_size c.args.viewport in
     ap (padding_box_at (place_of tree size c.args.scrolls.now (c.args.node.0))) (c.in_default.ensures size (fresh.documents (element_at tree (c.args.node.0)).document))
 
 pub rect_at-requires-clause-right : goal.rect_at-requires-clause-right
-rect_at-requires-clause-right g c =
+rect_at-requires-clause-right c =
     padding_right c.in-Some.own c.padding_corner.ensures.range c.place_of-place.result c.padding_corner.result c.beside.result c.padding_size.result
     c.padding_corner.ensures.value c.padding_size.ensures.value c.place_of-place.ensures.left c.beside.ensures.left
 
 pub rect_at-requires-clause-bottom : goal.rect_at-requires-clause-bottom
-rect_at-requires-clause-bottom g c =
+rect_at-requires-clause-bottom c =
     padding_bottom c.in-Some.own c.padding_corner.ensures.range c.place_of-place.result c.padding_corner.result c.beside.result c.padding_size.result
     c.padding_corner.ensures.value c.padding_size.ensures.value c.place_of-place.ensures.top c.beside.ensures.top
 
 pub returns-clause-value : goal.returns-clause-value
-returns-clause-value g c fresh =
+returns-clause-value c fresh =
     let tree = c.args.page.now.tree in
     let size = seen_size c.args.viewport in
     let n = c.args.node.0 in

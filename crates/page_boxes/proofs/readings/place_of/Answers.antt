@@ -18,11 +18,11 @@ use Rattle.page_boxes.proofs.Shown.{place_none, place_there, place_found}
 use Rattle.page_boxes.proofs.readings.place_of.Goals as goal
 
 pub returns-then-not-has_box-clause-value : goal.returns-then-not-has_box-clause-value
-returns-then-not-has_box-clause-value g c fresh =
+returns-then-not-has_box-clause-value c fresh =
     place_none c.args.page.now.tree (seen_size c.args.viewport) c.args.scrolls.now (c.args.node.0) (sym (c.has_box.ensures (seen_size c.args.viewport)) ∙ c.if-not-has_box.true)
 
 pub returns-clause-value : goal.returns-clause-value
-returns-clause-value g c fresh =
+returns-clause-value c fresh =
     let tree = c.args.page.now.tree in
     let size = seen_size c.args.viewport in
     let scrolls = c.args.scrolls.now in
@@ -32,12 +32,12 @@ returns-clause-value g c fresh =
     let nodes = c.tree-tree.ensures.nodes in
     let there = sym (c.has_box.ensures size) ∙ c.if-not-has_box.false in
     let boxed = sym (ap (λ at. is_some (inputs_in_view at view n)) nodes) ∙ sym (boxed_is tree size n) ∙ there in
-    let holds = subst (λ at. HoldsAll at view (g.B.Boxes.held c.args.boxes.now)) nodes (fresh.documents own) in
+    let holds = subst (λ at. HoldsAll at view c.args.boxes.now) nodes (fresh.documents own) in
     c.moved_back.ensures.value
     ∙ ap point_of
     (place_found (nodes_of tree) (stored_in scrolls) view (pair_of (position_of (ScrolledDocument own) scrolls)) n
-    c.place.result.across c.place.result.down c.scrolled.result.across c.scrolled.result.down c.unsigned.result.across c.unsigned.result.down
-    (c.place.ensures.value view holds boxed ∙ ap (λ at. sum_points (offset_of at view) (path_of at n)) (sym nodes))
+    c.unscrolled_place_of.result.across c.unscrolled_place_of.result.down c.scrolled.result.across c.scrolled.result.down c.unsigned.result.across c.unsigned.result.down
+    (c.unscrolled_place_of.ensures.value view (record { boxed = boxed; path = λ m inputs inside is. holds.boxes m inputs is }) ∙ ap (λ at. sum_points (offset_of at view) (path_of at n)) (sym nodes))
     (c.scrolled.ensures.value view holds boxed ∙ ap (λ at. sum_points (offset_in_force at (stored_in scrolls) view) (ancestors_of at n)) (sym nodes))
     (as_pair c.view_offset-view.result _ (c.view_offset-view.ensures.value (λ frame is. fresh.documents (element_at tree frame).document) (fresh.documents c.document_of.result))
     c.unsigned.result.across c.unsigned.result.down c.unsigned.ensures.across c.unsigned.ensures.down

@@ -9,7 +9,7 @@ use Rattle.page_boxes.proofs.Rects.{element_reading, document_reading, rect_same
 use Rattle.page_boxes.proofs.readings.read.Goals as goal
 
 pub returns-in-Element-clause-value : goal.returns-in-Element-clause-value
-returns-in-Element-clause-value g c names fresh =
+returns-in-Element-clause-value c names fresh =
     let tree = c.args.page.now.tree in
     let size = seen_size c.args.viewport in
     let scrolls = c.args.scrolls.now in
@@ -18,7 +18,7 @@ returns-in-Element-clause-value g c names fresh =
     ∙ sym (ap (λ k. ReadLine (text_in names (seen_container k)) c.border_rect.result c.offset_of.result) c.in-Element.is)
 
 pub returns-in-Document-clause-value : goal.returns-in-Document-clause-value
-returns-in-Document-clause-value g c names fresh =
+returns-in-Document-clause-value c names fresh =
     let tree = c.args.page.now.tree in
     let size = seen_size c.args.viewport in
     let scrolls = c.args.scrolls.now in
@@ -31,19 +31,19 @@ returns-in-Document-clause-value g c names fresh =
     ∙ sym (ap (λ k. ReadLine (text_in names (seen_container k)) c.rect_at.result c.offset_of-in-Document.result) c.in-Document.is)
 
 pub returns-in-Element-clause-edges : goal.returns-in-Element-clause-edges
-returns-in-Element-clause-edges g c = edges_reach c.border_rect.result c.border_rect.ensures.edges
+returns-in-Element-clause-edges c = edges_reach c.border_rect.result c.border_rect.ensures.edges
 
 pub returns-in-Element-clause-width : goal.returns-in-Element-clause-width
-returns-in-Element-clause-width g c = span_reach _ c.border_rect.ensures.width
+returns-in-Element-clause-width c = span_reach _ c.border_rect.ensures.width
 
 pub returns-in-Element-clause-height : goal.returns-in-Element-clause-height
-returns-in-Element-clause-height g c = span_reach _ c.border_rect.ensures.height
+returns-in-Element-clause-height c = span_reach _ c.border_rect.ensures.height
 
 pub returns-in-Document-clause-edges : goal.returns-in-Document-clause-edges
-returns-in-Document-clause-edges g c = edges_reach c.rect_at.result c.rect_at.ensures.edges
+returns-in-Document-clause-edges c = edges_reach c.rect_at.result c.rect_at.ensures.edges
 
 pub returns-in-Document-clause-width : goal.returns-in-Document-clause-width
-returns-in-Document-clause-width g c = span_reach _ c.rect_at.ensures.width
+returns-in-Document-clause-width c = span_reach _ c.rect_at.ensures.width
 
 pub returns-in-Document-clause-height : goal.returns-in-Document-clause-height
-returns-in-Document-clause-height g c = span_reach _ c.rect_at.ensures.height
+returns-in-Document-clause-height c = span_reach _ c.rect_at.ensures.height

@@ -12,14 +12,14 @@ use Rattle.page_geometry.proofs.Cuts.{cut_inside}
 use Rattle.page_geometry.proofs.findings.cut_of.Goals as goal
 
 pub visible_rect-requires : goal.visible_rect-requires
-visible_rect-requires g c =
+visible_rect-requires c =
     let it = c.args.geometry.now in
     let world = world_with (c.args.geometry.now.page.now.tree) (seen_size c.args.geometry.now.viewport) (c.args.geometry.now.scrolls.now) in
     subst (λ root. IsAbove (scene_of world) root (element_spot (c.args.target.0))) (sym c.spot_of_root.ensures)
     (above (it.page.now.tree) (seen_size it.viewport) (it.scrolls.now) it.framed (seen_root c.args.root) (c.args.target.0) c.requires.boxed c.requires.near)
 
 pub returns-clause-value : goal.returns-clause-value
-returns-clause-value g c =
+returns-clause-value c =
     let it = c.args.geometry.now in
     let world = world_with (c.args.geometry.now.page.now.tree) (seen_size c.args.geometry.now.viewport) (c.args.geometry.now.scrolls.now) in
     let root = seen_root c.args.root in
@@ -30,7 +30,7 @@ returns-clause-value g c =
     ∙ part_is world root n chain.0 c.args.limits chain.1 few
 
 pub returns-clause-inside : goal.returns-clause-inside
-returns-clause-inside g c =
+returns-clause-inside c =
     let world = world_with (c.args.geometry.now.page.now.tree) (seen_size c.args.geometry.now.viewport) (c.args.geometry.now.scrolls.now) in
     cut_inside (border_rect world (c.args.target.0)) (c.args.limits ∷ clips_between world (seen_root c.args.root) (c.args.target.0)) c.visible_rect.result
-    (returns-clause-value g c) c.visible_rect.ensures.range
+    (returns-clause-value c) c.visible_rect.ensures.range

@@ -10,7 +10,7 @@ use Rattle.page_geometry.proofs.Results.{found_apart, found_boxless, found_chain
 use Rattle.page_geometry.proofs.findings.find.Goals as goal
 
 pub returns-then-is_apart-clause-value : goal.returns-then-is_apart-clause-value
-returns-then-is_apart-clause-value g c world trees sizes stored =
+returns-then-is_apart-clause-value c world trees sizes stored =
     let it = c.new-geometry.result in
     let tree = it.page.now.tree in
     let size = seen_size it.viewport in
@@ -30,7 +30,7 @@ returns-then-is_apart-clause-value g c world trees sizes stored =
     (stored ∙ sym c.new-geometry.ensures.scrolls)
 
 pub returns-then-not-has_box-clause-value : goal.returns-then-not-has_box-clause-value
-returns-then-not-has_box-clause-value g c world trees sizes stored =
+returns-then-not-has_box-clause-value c world trees sizes stored =
     let it = c.new-geometry.result in
     let tree = it.page.now.tree in
     let size = seen_size it.viewport in
@@ -53,7 +53,7 @@ returns-then-not-has_box-clause-value g c world trees sizes stored =
     (stored ∙ sym c.new-geometry.ensures.scrolls)
 
 pub returns-clause-value : goal.returns-clause-value
-returns-clause-value g c world trees sizes stored =
+returns-clause-value c world trees sizes stored =
     let it = c.new-geometry.result in
     let tree = it.page.now.tree in
     let size = seen_size it.viewport in

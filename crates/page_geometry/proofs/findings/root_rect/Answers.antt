@@ -6,9 +6,9 @@ use Rattle.page_geometry.proofs.Moves.{moved_near}
 use Rattle.page_geometry.proofs.findings.root_rect.Goals as goal
 
 pub returns-clause-value : goal.returns-clause-value
-returns-clause-value g c =
+returns-clause-value c =
     let world = world_with (c.args.geometry.now.page.now.tree) (seen_size c.args.geometry.now.viewport) (c.args.geometry.now.scrolls.now) in
     root_found world (seen_root c.args.root) c.args.margins.now c.root_bounds.result c.dilate.result c.dilate.ensures.moved c.root_bounds.ensures.value
 
 pub returns-clause-range : goal.returns-clause-range
-returns-clause-range g c = moved_near c.root_bounds.result c.dilate.result c.root_bounds.ensures.range c.dilate.ensures.near
+returns-clause-range c = moved_near c.root_bounds.result c.dilate.result c.root_bounds.ensures.range c.dilate.ensures.near

@@ -5,7 +5,7 @@ use Rattle.page_geometry.proofs.Found.{viewport_found, length_fits}
 use Rattle.page_geometry.proofs.rects.viewport_rect.Goals as goal
 
 pub returns-clause-value : goal.returns-clause-value
-returns-clause-value g c =
+returns-clause-value c =
     let world = world_with (c.args.geometry.now.page.now.tree) (seen_size c.args.geometry.now.viewport) (c.args.geometry.now.scrolls.now) in
     viewport_found world c.args.document c.origin.result c.viewport_of-size.result _ _ c.moved_by.result
     c.moved_by.ensures.value c.origin.ensures.value

@@ -10,7 +10,7 @@ pub returns : goal.returns
 returns g c document fresh =
     let at = layout_tree g.P.Styled.style g.P.Styled.kind c.args.tree.now.nodes in
     c.moved_back.ensures
-    ∙ ap (λ p. point_of (moved_back (moved (pos 0, pos 0) p) (plus (c.scrolled.result.across, c.scrolled.result.down) (c.unsigned.result.across, c.unsigned.result.down)))) (c.shifts-place.ensures.value document fresh)
+    ∙ ap (λ p. point_of (moved_back (moved (pos 0, pos 0) p) (plus (c.scrolled.result.across, c.scrolled.result.down) (c.unsigned.result.across, c.unsigned.result.down)))) (c.unscrolled_place_of-place.ensures.value document fresh)
     ∙ ap (λ p. point_of (moved_back (moved (pos 0, pos 0) (sum_points (offset_of at document) (path_of at (c.args.node.0)))) (plus p (c.unsigned.result.across, c.unsigned.result.down)))) c.scrolled.ensures.value
     ∙ ap
     (λ p. point_of (moved_back (moved (pos 0, pos 0) (sum_points (offset_of at document) (path_of at (c.args.node.0)))) (plus (sum_points (scrolled_in at (g.O.Offsets.offset c.args.offsets.now)) (ancestors_of at (c.args.node.0))) p)))

@@ -9,7 +9,7 @@ use Rattle.page_geometry.proofs.Containers.{container_is, view_container, ends}
 use Rattle.page_geometry.proofs.geometry.PageGeometryGeometry.container.Goals as goal
 
 pub returns-in-Some-clause-end : goal.returns-in-Some-clause-end
-returns-in-Some-clause-end g c =
+returns-in-Some-clause-end c =
     let it = c.args.self.now in
     let tree = it.page.now.tree in
     let size = seen_size it.viewport in
@@ -20,7 +20,7 @@ returns-in-Some-clause-end g c =
     (ap Some c.spot_of.ensures ∙ ap (option_map spot_of) (sym (ap (option_map seen_container) c.in-Some.is) ∙ c.container_of.ensures))))
 
 pub returns-in-Some-frame_of-clause-end : goal.returns-in-Some-frame_of-clause-end
-returns-in-Some-frame_of-clause-end g c =
+returns-in-Some-frame_of-clause-end c =
     let it = c.args.self.now in
     let tree = it.page.now.tree in
     let size = seen_size it.viewport in

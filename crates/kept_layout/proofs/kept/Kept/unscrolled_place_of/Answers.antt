@@ -10,7 +10,7 @@ use Rattle.block_layout.proofs.Forests.{shallow}
 use Rattle.kept_layout.specs.Slots.{slot_in}
 use Rattle.kept_layout.proofs.Climbed.{sum_begins, sum_goes, sum_ends}
 use Rattle.kept_layout.proofs.Shifted.{fresh_up}
-use Rattle.kept_layout.proofs.kept.Kept.shifts.Goals as goal
+use Rattle.kept_layout.proofs.kept.Kept.unscrolled_place_of.Goals as goal
 
 pub loop-parent-init : goal.loop-parent-init
 loop-parent-init g c =
@@ -57,8 +57,11 @@ returns-clause-value g c view fresh =
 
 pub returns-clause-across : goal.returns-clause-across
 returns-clause-across g c =
-    omega (arith, c.loop-parent.invariant.across, c.parent.ensures.forest.within (c.args.node.0), c.parent.ensures.forest.levels, depth_positive c.args.tree.now.nodes (c.loop-parent.at.0))
+    omega (arith, c.loop-parent.invariant.across, c.parent.ensures.forest.within (c.args.node.0), depth_positive c.args.tree.now.nodes (c.loop-parent.at.0))
 
 pub returns-clause-down : goal.returns-clause-down
 returns-clause-down g c =
-    omega (arith, c.loop-parent.invariant.down, c.parent.ensures.forest.within (c.args.node.0), c.parent.ensures.forest.levels, depth_positive c.args.tree.now.nodes (c.loop-parent.at.0))
+    omega (arith, c.loop-parent.invariant.down, c.parent.ensures.forest.within (c.args.node.0), depth_positive c.args.tree.now.nodes (c.loop-parent.at.0))
+
+pub returns-clause-levels : goal.returns-clause-levels
+returns-clause-levels g c = c.parent.ensures.forest.levels

@@ -7,7 +7,7 @@ use Rattle.element_tree.specs.Forest.{depth}
 use Rattle.block_layout.specs.Trees.{layout_tree}
 use Rattle.kept_layout.specs.Fresh.{IsFreshPath}
 use Rattle.kept_layout.specs.Slots.{slot_in}
-use Rattle.kept_layout.proofs.kept.Kept.shifts.Given as goal
+use Rattle.kept_layout.proofs.kept.Kept.unscrolled_place_of.Given as goal
 
 abbrev pub invariant-loop-parent : goal.invariant-loop-parent
 invariant-loop-parent g l = record {
