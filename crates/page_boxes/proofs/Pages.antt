@@ -5,7 +5,7 @@ use Rattle.std.proofs.lemmas.List.{length-map}
 use Rattle.std.specs.Prelude.{is_some, not, ◌&&◌, pos, unsigned_abs}
 use Rattle.px_units.specs.declared.Size.{Size}
 use Rattle.px_units.specs.declared.Point.{Point}
-use Rattle.layout_model.specs.Boxes.{Inputs, Box, box_in, content_size}
+use Rattle.layout_model.specs.Boxes.{Inputs, box_in, content_size}
 use Rattle.layout_model.specs.Reach.{View, inputs_in_view}
 use Rattle.page_model.specs.World.{Extent, Element, Tree}
 use Rattle.page_model.specs.Lookups.{element_at, no_element, document_at, no_extent}

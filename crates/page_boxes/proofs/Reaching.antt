@@ -16,7 +16,7 @@ use Rattle.element_tree.specs.Forest.{Knot, parent_of}
 use Rattle.page_model.specs.World.{Extent, ScrolledElement, ScrolledDocument, Tree}
 use Rattle.page_model.specs.Documents.{nodes_of, is_active}
 use Rattle.page_model.specs.Lookups.{document_at}
-use Rattle.page_model.specs.PageBoxes.{pair_of, extent_of, framed_size, view_with, view_of, view_at, has_box, is_scroller, range_if, scroll_range}
+use Rattle.page_model.specs.PageBoxes.{pair_of, framed_size, view_with, view_of, view_at, has_box, is_scroller, range_if, scroll_range}
 use Rattle.page_documents.specs.Frames.{AreFramed}
 use Rattle.block_layout.specs.Held.{HoldsBoxes}
 use Rattle.block_layout.specs.Seen.{as_size}

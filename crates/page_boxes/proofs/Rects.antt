@@ -1,5 +1,5 @@
 -- Rectangles and points of a page, and what is read of it.
-use Rattle.std.proofs.Common.{◌≡◌, ℕ, List, Option, Some, None, ap, sym, ◌∙◌, arith}
+use Rattle.std.proofs.Common.{◌≡◌, ℕ, List, Option, Some, ap, sym, ◌∙◌, arith}
 use Rattle.std.proofs.lemmas.Int.{ints}
 use Rattle.std.specs.Prelude.{ℤ, pos, ◌+◌, ◌+ℤ◌}
 use Rattle.px_units.specs.declared.BoxKind.TheVariants.{Border}

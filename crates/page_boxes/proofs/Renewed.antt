@@ -1,9 +1,9 @@
 -- What laying out the tree of a document's root element does: to the document, to the others and to what is kept.
-use Rattle.std.proofs.Common.{◌≡◌, ◌≢◌, ◌<◌, ◌≤◌, ℕ, Bool, true, false, cond, List, length, Option, Some, None, option_map, nat_eq, nat_lt, eqb-true, refl, ap, sym, subst, ◌∙◌, arith}
+use Rattle.std.proofs.Common.{◌≡◌, ◌≢◌, ◌<◌, ◌≤◌, ℕ, Bool, true, false, cond, List, length, Option, Some, None, nat_eq, nat_lt, eqb-true, refl, ap, sym, subst, ◌∙◌, arith}
 use Rattle.std.proofs.lemmas.Bool.Decides.{nat_tests}
 use Rattle.std.specs.Prelude.{◌||◌, is_some}
 use Rattle.layout_model.specs.Nodes.{Node, is_among, is_in_path}
-use Rattle.layout_model.specs.Boxes.{Inputs, Box, box_in, inputs_in, if_shown, inputs_if_block}
+use Rattle.layout_model.specs.Boxes.{Inputs, inputs_in, if_shown, inputs_if_block}
 use Rattle.layout_model.specs.Reach.{View, view_inputs, inputs_in_view}
 use Rattle.layout_model.proofs.Paths.{path_top}
 use Rattle.page_model.specs.World.{Element, Extent, Tree}

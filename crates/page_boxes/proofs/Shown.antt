@@ -1,5 +1,5 @@
 -- Sizes, corners and places that are read of a world.
-use Rattle.std.proofs.Common.{◌≡◌, ℕ, zero, suc, ℤ, Bool, true, false, List, [], ◌∷◌, Some, None, option_map, unwrap_or, refl, ap, sym, ◌∙◌, arith, min}
+use Rattle.std.proofs.Common.{◌≡◌, ℕ, zero, suc, ℤ, Bool, true, false, Some, None, option_map, unwrap_or, refl, ap, sym, ◌∙◌, arith, min}
 use Rattle.std.proofs.lemmas.Int.{ints}
 use Rattle.std.specs.Prelude.{pos, negsuc, ◌≤ℤ◌, unsigned_abs, ⊤}
 use Rattle.px_units.specs.declared.Size.{Size}

@@ -1,5 +1,5 @@
 -- That a computation only fills what is kept, and that what is held and isn't due is as it is now.
-use Rattle.std.proofs.Common.{◌≡◌, ◌<◌, ℕ, zero, suc, Bool, true, false, List, Option, Some, None, option_map, nat_eq, refl, ap, sym, subst, ◌∙◌, arith}
+use Rattle.std.proofs.Common.{◌≡◌, ℕ, zero, suc, Bool, true, false, List, Option, Some, None, option_map, nat_eq, refl, ap, sym, subst, ◌∙◌, arith}
 use Rattle.std.proofs.lemmas.Bool.Decides.{nat_tests}
 use Rattle.std.specs.Prelude.{◌||◌, is_some}
 use Rattle.layout_model.specs.Styles.{Style}
@@ -8,7 +8,7 @@ use Rattle.layout_model.specs.Nodes.{Node, IsLinked, IsShallow, path_above, path
 use Rattle.layout_model.specs.Boxes.{Inputs, box_in, inner_children}
 use Rattle.layout_model.specs.Reach.{inputs_in_view}
 use Rattle.page_model.specs.World.{Extent, Tree}
-use Rattle.page_model.specs.Lookups.{element_at, document_at}
+use Rattle.page_model.specs.Lookups.{element_at}
 use Rattle.page_model.specs.Documents.{nodes_of}
 use Rattle.page_model.specs.PageBoxes.{view_of, inputs_of}
 use Rattle.page_documents.specs.Frames.{AreFramed}
@@ -17,7 +17,7 @@ use Rattle.block_layout.specs.Trees.{layout_tree}
 use Rattle.block_layout.proofs.Forests.{linked as linked_tree, shallow as shallow_tree}
 use Rattle.kept_layout.specs.declared.slots.Slot.{Slot}
 use Rattle.kept_layout.specs.declared.slots.Found.{Found}
-use Rattle.kept_layout.specs.Slots.{slot_in, held_in}
+use Rattle.kept_layout.specs.Slots.{slot_in}
 use Rattle.kept_layout.specs.Sound.{IsSound}
 use Rattle.kept_layout.specs.Walks.{IsSettled}
 use Rattle.kept_layout.specs.Due.{is_due_at}

@@ -1,4 +1,4 @@
-use Rattle.std.proofs.Common.{◌≡◌, ◌≤◌, ◌<◌, ◌+◌, ◌*◌, true, length}
+use Rattle.std.proofs.Common.{◌≡◌, ◌≤◌, ◌+◌, ◌*◌, true}
 use Rattle.std.specs.Prelude.{is_some}
 use Rattle.layout_model.specs.Nodes.{ancestors_of}
 use Rattle.layout_model.specs.Points.{plus, sum_points}

@@ -1,4 +1,4 @@
-use Rattle.std.proofs.Common.{ap, sym, subst, ◌∙◌, arith}
+use Rattle.std.proofs.Common.{ap, sym, subst, ◌∙◌}
 use Rattle.std.specs.Prelude.{is_some}
 use Rattle.layout_model.specs.Nodes.{path_of, ancestors_of}
 use Rattle.layout_model.specs.Points.{sum_points}
@@ -9,7 +9,6 @@ use Rattle.page_model.specs.Lookups.{element_at}
 use Rattle.page_model.specs.Documents.{nodes_of}
 use Rattle.page_model.specs.Scrolls.{position_of}
 use Rattle.page_model.specs.PageBoxes.{pair_of, stored_in, view_of, point_of, scroll_offset}
-use Rattle.page_tree.specs.Items.{style_in, kind_in}
 use Rattle.page_boxes.specs.Fresh.{HoldsAll}
 use Rattle.page_boxes.specs.Pages.{seen_size}
 use Rattle.page_boxes.proofs.InForce.{document_offset}
