@@ -1,5 +1,5 @@
 -- A climb from a node to the top of its tree that marks what it comes to.
-use Rattle.std.proofs.Common.{◌≡◌, ◌≢◌, ◌<◌, ◌≤◌, ℕ, List, length, nat_lt, unwrap_or, option_map, Option, Some, None, Bool, true, false, nat_eq, ◌||◌, refl, ap, sym, subst, ◌∙◌, inl, inr, arith}
+use Rattle.std.proofs.Common.{◌≡◌, ◌≢◌, ◌<◌, ◌≤◌, ℕ, List, length, nat_lt, unwrap_or, option_map, Option, Some, None, Bool, true, false, nat_eq, ◌||◌, refl, ap, sym, ◌∙◌, inl, inr, arith}
 use Rattle.std.proofs.lemmas.Bool.Decides.{nat_tests}
 use Rattle.std.proofs.lemmas.Option.{slice_get_past}
 use Rattle.layout_model.specs.Styles.{Style}

@@ -5,7 +5,7 @@ use Rattle.std.specs.Prelude.{sum_by, option_map}
 use Rattle.px_units.specs.Lengths.{cap}
 use Rattle.layout_model.specs.Items.{Item, Kind, BlockKind, ImageKind, FrameKind}
 use Rattle.layout_model.specs.Nodes.{Node, levels, depth_of, IsLinked, IsShallow}
-use Rattle.layout_model.specs.Boxes.{Inputs, Box, kids_of, inner_children, counted, total, computed, child_inputs, box_at, box_in, inputs_in, if_shown, inputs_if_block}
+use Rattle.layout_model.specs.Boxes.{Inputs, kids_of, inner_children, counted, total, computed, child_inputs, box_at, box_in, inputs_in, if_shown, inputs_if_block}
 use Rattle.layout_model.specs.Places.{before, height_above}
 use Rattle.layout_model.proofs.Inputs.{inputs_child, inputs_top}
 use Rattle.layout_model.proofs.Paths.{depth_least}
@@ -19,7 +19,7 @@ use Rattle.kept_layout.specs.declared.slots.Found.{Found}
 use Rattle.kept_layout.specs.Due.{is_due_at, is_due}
 use Rattle.kept_layout.specs.Fresh.{IsFresh}
 use Rattle.kept_layout.specs.Slots.{slot_in, held_in}
-use Rattle.kept_layout.specs.Sound.{IsCounted, box_held, box_found, above_held, IsHeldIn, IsRight, IsSound}
+use Rattle.kept_layout.specs.Sound.{IsCounted, box_held, box_found, above_held, IsHeldIn, IsSound}
 use Rattle.kept_layout.specs.Walks.{IsSettled}
 use Rattle.kept_layout.proofs.Counts.{settled_due}
 use Rattle.kept_layout.proofs.Heights.{heights_like}
@@ -106,16 +106,13 @@ module _ (at : ℕ → Node) (shaped : IsShaped at) (linked : IsLinked at) (shal
   pub fresh_under : (n : ℕ) (inputs : Inputs) → IsSettled (slot n) inputs → ((p : ℕ) → (at n).parent ≡ Some p → Around at slot p n inputs) → IsFresh at slot n inputs
   fresh_under n inputs settled around = record {
     unmarked = settled.unmarked;
-    found = settled.found;
-    held = settled.held;
-    box = exact n settled.found settled.unmarked settled.held ∙ ap (λ i. box_in at i n) settled.from;
-    from = settled.from;
+    box = ap (option_map (λ (f : Found). f.own)) settled.held ∙ ap Some (exact n settled.found settled.unmarked settled.held ∙ ap (λ i. box_in at i n) settled.from);
+    from = ap (option_map (λ (f : Found). seen_inputs f.inputs)) settled.held ∙ ap Some settled.from;
     above = λ p up.
         let over = around p up in
         let held = kid_held p over.above over.settled n over.counted in
-        ap (λ (f : Found). f.above) (some_is (slot n).found settled.found held.found settled.held held.held)
-        ∙ held.above ∙ kid_above p over.above over.settled n
-        ∙ ap (λ i. cap (height_above at i (at p) n)) over.handed;
+        ap (option_map (λ (f : Found). f.above)) held.held
+        ∙ ap Some (held.above ∙ kid_above p over.above over.settled n ∙ ap (λ i. cap (height_above at i (at p) n)) over.handed);
   }
 
   module _ (root : ℕ) (viewport : Inputs) (first : (inputs : Inputs) → inputs_in at root viewport root ≡ Some inputs → IsSettled (slot root) inputs) where
@@ -198,4 +195,4 @@ module _ (at : ℕ → Node) (root : ℕ) (viewport : Inputs) (top : (at root).p
       none_some o inputs first second = cc
 
 pub held_fresh : (at : ℕ → Node) (slots : List Slot) (n : ℕ) (inputs : Inputs) → IsFresh at (slot_in slots) n inputs → held_in slots n ≡ Some (box_in at inputs n)
-held_fresh at slots n inputs fresh = ap (λ o. option_map (λ (f : Found). f.own) o) fresh.held ∙ ap Some fresh.box
+held_fresh at slots n inputs fresh = fresh.box

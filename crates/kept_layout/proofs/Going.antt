@@ -13,11 +13,11 @@ use Rattle.kept_layout.specs.Due.{is_due_at, due_count}
 use Rattle.kept_layout.specs.Slots.{marked_if}
 use Rattle.kept_layout.specs.Writes.{with_above, holding}
 use Rattle.kept_layout.specs.Sound.{IsCounted, box_held, IsSound, HasSlots}
-use Rattle.kept_layout.specs.Walks.{IsSettled, IsFramed, IsRefreshed}
+use Rattle.kept_layout.specs.Walks.{IsFramed, IsRefreshed}
 use Rattle.kept_layout.proofs.Counts.{settled_so}
 use Rattle.kept_layout.proofs.Paid.{unboxed_same, paid_begins, paid_above, paid_ends}
 use Rattle.kept_layout.proofs.Shapes.{IsShaped, kid_falls, kid_differs, wanted_kid}
-use Rattle.kept_layout.proofs.Walked.{Walked, walked_begins, walked_hidden, walked_on, framed, sound_on, only_parent_marked, sound_begins, settled_ends, sound_ends}
+use Rattle.kept_layout.proofs.Walked.{Walked, walked_begins, walked_hidden, walked_on, sound_on, only_parent_marked, sound_begins, settled_ends, sound_ends}
 
 pub record Going (at : ℕ → Node) (n : ℕ) (inputs : Inputs) (count : ℕ) (first now : ℕ → Slot) (xs : List ℕ) (above begun steps : ℕ) : Type 0 where
   pub low : above ≤ 2147483647

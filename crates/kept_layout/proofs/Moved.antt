@@ -1,5 +1,5 @@
 -- At which nodes the calls of a tree change what layout sees.
-use Rattle.std.proofs.Common.{◌≡◌, ◌≢◌, ◌<◌, ℕ, zero, suc, List, [], ◌∷◌, ◌++◌, length, Option, Some, None, option_map, Bool, true, false, nat_eq, ◌||◌, slice_get, refl, ap, sym, ◌∙◌, inl, inr, arith}
+use Rattle.std.proofs.Common.{◌≡◌, ℕ, zero, suc, List, [], ◌∷◌, ◌++◌, length, Option, Some, None, option_map, Bool, true, false, nat_eq, ◌||◌, slice_get, refl, ap, sym, ◌∙◌, inl, inr, arith}
 use Rattle.std.proofs.lemmas.Bool.{false≢true}
 use Rattle.std.proofs.lemmas.Bool.Decides.{nat_tests}
 use Rattle.layout_model.specs.Styles.{Style}
@@ -7,9 +7,9 @@ use Rattle.layout_model.specs.Items.{Item, Kind}
 use Rattle.layout_model.specs.Nodes.{Node}
 use Rattle.layout_model.specs.Boxes.{kids_of, inner_children}
 use Rattle.element_tree.specs.Edits.{change_at, with_parent, with_children, with_payload, without, put_before, lone, removed, removed_from, attached, inserted}
-use Rattle.element_tree.specs.Forest.{Knot, IsForest, has, names, parent_of, children_of, parent_in, children_in}
+use Rattle.element_tree.specs.Forest.{Knot, IsForest, has, names, parent_of, children_of, children_in}
 use Rattle.element_tree.proofs.Facts.{child_in_range}
-use Rattle.element_tree.proofs.Levels.{option_cases, some_names, kid_parent}
+use Rattle.element_tree.proofs.Levels.{some_names, kid_parent}
 use Rattle.element_tree.proofs.Nodes.{payload-changed, children-reparented}
 use Rattle.block_layout.specs.Trees.{layout_tree, node_in}
 use Rattle.block_layout.proofs.Nodes.{children_is}

@@ -1,8 +1,6 @@
 -- A walk takes one step for each node that was due, and writes no slot of a node without a box.
-use Rattle.std.proofs.Common.{◌≡◌, ◌≢◌, ◌≤◌, ◌<◌, ◌+◌, ℕ, Option, Some, None, option_map, Bool, true, false, not, ◌||◌, refl, ap, sym, ◌∙◌, arith}
-use Rattle.layout_model.specs.Nodes.{Node, depth_of}
+use Rattle.std.proofs.Common.{◌≡◌, ◌≢◌, ◌<◌, ◌+◌, ℕ, Option, Some, None, option_map, Bool, true, false, not, ◌||◌, refl, ap, sym, ◌∙◌}
 use Rattle.layout_model.specs.Boxes.{Inputs}
-use Rattle.block_layout.specs.Filling.{GoesDown}
 use Rattle.kept_layout.specs.declared.slots.Slot.{Slot}
 use Rattle.kept_layout.specs.declared.slots.Found.{Found}
 use Rattle.kept_layout.specs.Due.{is_held_at, is_due_at, is_due, due_count}

@@ -1,8 +1,8 @@
 -- What the walks use of a tree.
-use Rattle.std.proofs.Common.{◌≡◌, ◌≢◌, ◌≤◌, ◌<◌, ◌+◌, ℕ, List, [], Option, Some, None, true, refl, ap, sym, subst, ◌∙◌, arith}
+use Rattle.std.proofs.Common.{◌≡◌, ◌≢◌, ◌≤◌, ◌+◌, ℕ, List, Option, Some, true, refl, ap, sym, subst, ◌∙◌, arith}
 use Rattle.layout_model.specs.Styles.{Style}
 use Rattle.layout_model.specs.Items.{Item, Kind, BlockKind, ImageKind, FrameKind}
-use Rattle.layout_model.specs.Nodes.{Node, levels, depth_of}
+use Rattle.layout_model.specs.Nodes.{Node, depth_of}
 use Rattle.layout_model.specs.Boxes.{Inputs, child_inputs, kids_of, inner_children, inputs_if_block, if_shown}
 use Rattle.layout_model.proofs.Paths.{depth_child}
 use Rattle.element_tree.specs.declared.node.NodeId.{NodeId}

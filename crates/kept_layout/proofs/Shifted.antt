@@ -1,10 +1,10 @@
 -- From the corner of the parent's border box to that of a node's own, by what is held.
 use Rattle.std.proofs.Common.{◌≡◌, ◌≤◌, ◌+◌, ℕ, List, Bool, true, Option, Some, None, refl, ap, sym, ◌∙◌, arith}
-use Rattle.std.specs.Prelude.{is_some, option_and_then}
+use Rattle.std.specs.Prelude.{is_some, option_and_then, option_map}
 use Rattle.px_units.specs.Lengths.{cap}
 use Rattle.layout_model.specs.Styles.{Style}
 use Rattle.layout_model.specs.Items.{Item, Kind}
-use Rattle.layout_model.specs.Nodes.{Node, levels, depth_of, is_in_path}
+use Rattle.layout_model.specs.Nodes.{Node, levels, depth_of}
 use Rattle.layout_model.specs.Boxes.{Inputs, Box, child_inputs, box_in, inputs_in, if_shown, inputs_if_block}
 use Rattle.layout_model.specs.Points.{capped}
 use Rattle.layout_model.specs.Reach.{View, view_inputs, inputs_in_view}
@@ -47,11 +47,15 @@ some_found : (found : Option Inputs) → is_some found ≡ true → (inputs : In
 some_found None e = cc
 some_found (Some inputs) e = (inputs, refl)
 
-same_found : (o : Option Found) (a b : Found) → o ≡ Some a → o ≡ Some b → a ≡ b
-same_found o a b first second = cc
+-- what is read of a slot that holds something
+read_of : {A : Type 0} (read : Found → A) (o : Option Found) (a : Found) (found : A) → o ≡ Some a → option_map read o ≡ Some found → read a ≡ found
+read_of read o a found first second = let same : Some (read a) ≡ Some found = sym (ap (option_map read) first) ∙ second in cc
 
-none_held : (o : Option Found) (a : Found) → o ≡ None → o ≡ Some a → ⊥
-none_held o a first second = cc
+none_held : {A : Type 0} (read : Found → A) (o : Option Found) (found : A) → o ≡ None → option_map read o ≡ Some found → ⊥
+none_held read o found first second = let clash : None ≡ Some found = sym (ap (option_map read) first) ∙ second in cc
+
+abbrev own_of : Found → Box
+own_of found = found.own
 
 -- the offset of a child, whose parent's box and own box are these
 module _ (at : ℕ → Node) (view : View) (c p : ℕ) (is : (at c).parent ≡ Some p) (inputs : Inputs) (found : inputs_in_view at view p ≡ Some inputs) where
@@ -123,7 +127,7 @@ module _ {P : Type 0} (style : P → Style) (kind : P → Kind) {most : ℕ} {no
   own_fresh = fresh.path n own_found.0 (in_self tree n) own_found.1
 
   pub own_missing : (slot n).found ≡ None → ⊥
-  own_missing none = none_held (slot n).found own_fresh.found none own_fresh.held
+  own_missing none = none_held own_of (slot n).found (box_in tree own_found.0 n) none own_fresh.box
 
   module _ (p : ℕ) (up : parent_of nodes n ≡ Some p) where
     parent_same : (tree n).parent ≡ Some p
@@ -144,23 +148,21 @@ module _ {P : Type 0} (style : P → Style) (kind : P → Kind) {most : ℕ} {no
     outer_fresh = fresh_up.path p around.0 (in_self tree p) around.1
 
     pub outer_missing : (slot p).found ≡ None → ⊥
-    outer_missing none = none_held (slot p).found outer_fresh.found none outer_fresh.held
+    outer_missing none = none_held own_of (slot p).found (box_in tree around.0 p) none outer_fresh.box
 
     pub child_shift : (own outer : Found) → (slot n).found ≡ Some own → (slot p).found ≡ Some outer
         → (across down : ℕ) → across ≡ cap (outer.own.border.left + outer.own.padding.left + own.own.margin.left) → down ≡ cap (outer.own.border.top + outer.own.padding.top + cap own.above + own.own.margin.top)
         → ◌≡◌ {A = ℕ × ℕ} (across, down) (offset_of tree view n)
     child_shift own outer first second across down wide tall =
-        let mine : own ≡ own_fresh.found = same_found (slot n).found own own_fresh.found first own_fresh.held in
-        let theirs : outer ≡ outer_fresh.found = same_found (slot p).found outer outer_fresh.found second outer_fresh.held in
         offset_of_child tree view n p parent_same around.0 around.1 outer.own own.own
-        (ap (λ (f : Found). f.own) theirs ∙ outer_fresh.box)
-        (ap (λ (f : Found). f.own) mine ∙ own_fresh.box ∙ ap (λ i. box_in tree i n) (sym around.2))
+        (read_of own_of (slot p).found outer (box_in tree around.0 p) second outer_fresh.box)
+        (read_of own_of (slot n).found own (box_in tree own_found.0 n) first own_fresh.box ∙ ap (λ i. box_in tree i n) (sym around.2))
         own.above
-        (ap (λ (f : Found). f.above) mine ∙ own_fresh.above p parent_same ∙ ap (λ i. cap (height_above tree i (tree p) n)) (sym around.2))
+        (read_of (λ f. f.above) (slot n).found own (cap (height_above tree own_found.0 (tree p) n)) first (own_fresh.above p parent_same) ∙ ap (λ i. cap (height_above tree i (tree p) n)) (sym around.2))
         across down wide tall
 
   pub root_shift : parent_of nodes n ≡ None → (own : Found) → (slot n).found ≡ Some own → (across down : ℕ) → across ≡ cap own.own.margin.left → down ≡ cap own.own.margin.top
       → ◌≡◌ {A = ℕ × ℕ} (across, down) (offset_of tree view n)
   root_shift top own found across down wide tall =
       offset_of_root tree view n (parent_is style kind nodes n ∙ top) own_found.0 own_found.1 own.own
-      (ap (λ (f : Found). f.own) (same_found (slot n).found own own_fresh.found found own_fresh.held) ∙ own_fresh.box) across down wide tall
+      (read_of own_of (slot n).found own (box_in tree own_found.0 n) found own_fresh.box) across down wide tall

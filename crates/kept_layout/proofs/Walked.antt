@@ -1,9 +1,9 @@
 -- What a walk over the children of a node has come to, whose own slot is marked meanwhile.
-use Rattle.std.proofs.Common.{◌≡◌, ◌≢◌, ◌≤◌, ◌<◌, ◌+◌, ℕ, List, [], ◌∷◌, ◌++◌, Option, Some, None, Bool, true, false, refl, ap, sym, subst, ◌∙◌, inl, inr, arith}
+use Rattle.std.proofs.Common.{◌≡◌, ◌≢◌, ◌+◌, ℕ, List, [], ◌∷◌, ◌++◌, Option, Some, true, false, refl, ap, sym, subst, ◌∙◌, inl, inr, arith}
 use Rattle.std.proofs.lemmas.Bool.{false≢true}
 use Rattle.std.specs.Prelude.{sum_by}
 use Rattle.px_units.specs.Lengths.{cap}
-use Rattle.layout_model.specs.Nodes.{Node, depth_of}
+use Rattle.layout_model.specs.Nodes.{Node}
 use Rattle.layout_model.specs.Boxes.{Inputs, Box, kids_of, counted, total, computed, child_inputs, margin_height}
 use Rattle.layout_model.specs.Places.{before}
 use Rattle.element_tree.specs.Forest.{has}
@@ -13,10 +13,10 @@ use Rattle.kept_layout.specs.declared.slots.Slot.{Slot}
 use Rattle.kept_layout.specs.declared.slots.Found.{Found}
 use Rattle.kept_layout.specs.Slots.{marked_if}
 use Rattle.kept_layout.specs.Writes.{with_above, holding, found_above}
-use Rattle.kept_layout.specs.Sound.{IsCounted, box_held, above_held, IsHeldIn, IsRight, IsSound}
+use Rattle.kept_layout.specs.Sound.{IsCounted, box_held, IsHeldIn, IsRight, IsSound}
 use Rattle.kept_layout.specs.Walks.{IsSettled, IsFramed}
 use Rattle.kept_layout.proofs.Heights.{sum_end, heights_same, counted_hidden, counted_shown}
-use Rattle.kept_layout.proofs.Lists.{decide, before_has, before_self, before_chain, has_end}
+use Rattle.kept_layout.proofs.Lists.{before_has, before_self, before_chain, has_end}
 use Rattle.kept_layout.proofs.Shapes.{IsShaped, kid_falls, kid_differs, one_parent}
 use Rattle.kept_layout.proofs.Steady.{held_same, right_same, sound_set}
 

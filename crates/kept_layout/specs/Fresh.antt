@@ -1,5 +1,5 @@
 -- What is held as it is now.
-use Rattle.std.specs.Prelude.{◌≡◌, ℕ, true, false, Option, Some, is_some}
+use Rattle.std.specs.Prelude.{◌≡◌, ℕ, true, false, Some, option_map, is_some}
 use Rattle.px_units.specs.Lengths.{cap}
 use Rattle.layout_model.specs.Nodes.{Node, is_in_path}
 use Rattle.layout_model.specs.Boxes.{Inputs, box_in}
@@ -7,16 +7,13 @@ use Rattle.layout_model.specs.Reach.{View, inputs_in_view}
 use Rattle.layout_model.specs.Places.{height_above}
 use Rattle.block_layout.specs.Seen.{seen_inputs}
 use Rattle.kept_layout.specs.declared.slots.Slot.{Slot}
-use Rattle.kept_layout.specs.declared.slots.Found.{Found}
 
 -- the box that a node has at these inputs is held without a mark, with the heights that are stacked above it
 pub record IsFresh (at : ℕ → Node) (slot : ℕ → Slot) (n : ℕ) (inputs : Inputs) : Type 0 where
   pub unmarked : (slot n).marked ≡ false
-  pub found : Found
-  pub held : (slot n).found ≡ Some found
-  pub box : found.own ≡ box_in at inputs n
-  pub from : seen_inputs found.inputs ≡ inputs
-  pub above : (p : ℕ) → (at n).parent ≡ Some p → found.above ≡ cap (height_above at inputs (at p) n)
+  pub box : option_map (λ found. found.own) (slot n).found ≡ Some (box_in at inputs n)
+  pub from : option_map (λ found. seen_inputs found.inputs) (slot n).found ≡ Some inputs
+  pub above : (p : ℕ) → (at n).parent ≡ Some p → option_map (λ found. found.above) (slot n).found ≡ Some (cap (height_above at inputs (at p) n))
 
 -- the boxes that the place of a node rests on, its own and those of its ancestors, are held as they are now in a viewport
 pub record IsFreshPath (at : ℕ → Node) (view : View) (slot : ℕ → Slot) (n : ℕ) : Type 0 where

@@ -1,8 +1,7 @@
 -- What is kept for the nodes of a tree, by their numbers.
-use Rattle.std.specs.Prelude.{ℕ, suc, ◌-◌, ◌++◌, Bool, true, false, List, length, Option, Some, None, option_map, unwrap_or, slice_get, replicate}
+use Rattle.std.specs.Prelude.{ℕ, suc, ◌-◌, ◌++◌, Bool, true, false, List, length, Option, None, option_map, unwrap_or, slice_get, replicate}
 use Rattle.layout_model.specs.Boxes.{Box}
 use Rattle.kept_layout.specs.declared.slots.Slot.{Slot}
-use Rattle.kept_layout.specs.declared.slots.Found.{Found}
 
 abbrev pub no_slot : Slot
 no_slot = record { marked = false; found = None }

@@ -1,5 +1,5 @@
 -- What laying out the tree of a document's root element does: to the document, to the others and to what is kept.
-use Rattle.std.proofs.Common.{◌≡◌, ◌≢◌, ◌<◌, ◌≤◌, ℕ, Bool, true, false, cond, List, length, Option, Some, None, nat_eq, nat_lt, eqb-true, refl, ap, sym, subst, ◌∙◌, arith}
+use Rattle.std.proofs.Common.{◌≡◌, ◌≢◌, ◌<◌, ◌≤◌, ℕ, Bool, true, false, cond, List, length, Option, Some, None, option_map, nat_eq, nat_lt, eqb-true, refl, ap, sym, subst, ◌∙◌, arith}
 use Rattle.std.proofs.lemmas.Bool.Decides.{nat_tests}
 use Rattle.std.specs.Prelude.{◌||◌, is_some}
 use Rattle.layout_model.specs.Nodes.{Node, is_among, is_in_path}
@@ -12,6 +12,7 @@ use Rattle.page_model.specs.Documents.{nodes_of, is_active}
 use Rattle.page_model.specs.PageBoxes.{view_with, framed_size, view_of, inputs_of}
 use Rattle.page_documents.specs.Frames.{AreFramed}
 use Rattle.block_layout.specs.Filling.{GoesDown}
+use Rattle.block_layout.specs.Seen.{seen_inputs}
 use Rattle.kept_layout.specs.declared.slots.Slot.{Slot}
 use Rattle.kept_layout.specs.Fresh.{IsFresh as IsFreshAt}
 use Rattle.kept_layout.specs.Slots.{slot_in}
@@ -38,11 +39,9 @@ none_is (Some inputs) none = cc
 same_fresh : (at : ℕ → Node) (before after : ℕ → Slot) (n : ℕ) (own : Inputs) → after n ≡ before n → IsFreshAt at before n own → IsFreshAt at after n own
 same_fresh at before after n own same was = record {
   unmarked = ap (λ (slot : Slot). slot.marked) same ∙ was.unmarked;
-  found = was.found;
-  held = ap (λ (slot : Slot). slot.found) same ∙ was.held;
-  box = was.box;
-  from = was.from;
-  above = was.above;
+  box = ap (λ (slot : Slot). option_map (λ found. found.own) slot.found) same ∙ was.box;
+  from = ap (λ (slot : Slot). option_map (λ found. seen_inputs found.inputs) slot.found) same ∙ was.from;
+  above = λ p up. ap (λ (slot : Slot). option_map (λ found. found.above) slot.found) same ∙ was.above p up;
 }
 
 module _ (tree : Tree) (size : Extent) where

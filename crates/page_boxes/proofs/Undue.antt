@@ -5,7 +5,7 @@ use Rattle.std.specs.Prelude.{◌||◌, is_some}
 use Rattle.layout_model.specs.Styles.{Style}
 use Rattle.layout_model.specs.Items.{Kind}
 use Rattle.layout_model.specs.Nodes.{Node, IsLinked, IsShallow, path_above, path_up, is_among, is_in_path}
-use Rattle.layout_model.specs.Boxes.{Inputs, box_in, inner_children}
+use Rattle.layout_model.specs.Boxes.{Inputs, Box, box_in, inner_children}
 use Rattle.layout_model.specs.Reach.{inputs_in_view}
 use Rattle.page_model.specs.World.{Extent, Tree}
 use Rattle.page_model.specs.Lookups.{element_at}
@@ -38,6 +38,10 @@ fills_none kept = record { marks = λ n is. is; found = λ n is. is }
 pub fills_on : (first mid last : List Slot) → FillsOnly first mid → FillsOnly mid last → FillsOnly first last
 fills_on first mid last begun more = record { marks = λ n is. more.marks n (begun.marks n is); found = λ n is. more.found n (begun.found n is) }
 
+holds_some : (o : Option Found) {own : Box} → option_map (λ found. found.own) o ≡ Some own → is_some o ≡ true
+holds_some None e = cc
+holds_some (Some found) e = refl
+
 -- each slot is as it was, or holds a box without a mark
 pub fills_fresh : (at : ℕ → Node) (wanted : ℕ → Option Inputs) (first last : List Slot)
     → ((n : ℕ) → wanted n ≡ None → slot_in last n ≡ slot_in first n)
@@ -51,7 +55,7 @@ fills_fresh at wanted first last others fresh = record { marks = λ n is. unmark
 
     found : (n : ℕ) → is_some (slot_in first n).found ≡ true → (o : Option Inputs) → wanted n ≡ o → is_some (slot_in last n).found ≡ true
     found n is None none = ap (λ (slot : Slot). is_some slot.found) (others n none) ∙ is
-    found n is (Some inputs) some = ap is_some (fresh n inputs some).held
+    found n is (Some inputs) some = holds_some (slot_in last n).found (fresh n inputs some).box
 
 -- all that stands in the tree of an element belongs to its document
 module _ (tree : Tree) (framed : AreFramed tree) (root : ℕ) where

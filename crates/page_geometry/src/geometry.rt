@@ -20,11 +20,11 @@ use page_boxes::has_box;
 use page_tree::{Container, PageTree};
 use px_units::{Rect, Size};
 use scrolling::Scrolls;
-use std::alloc::AllocError;
 use style_values::{Overflow, Style};
 
 /// The containers, clips and boxes of a page as they are now (Intersection Observer, 3.2.7), in the coordinates of the viewport
 /// of `top`. All boxes are held as they are with this size of that viewport.
+#[derive(Clone, Copy)]
 pub struct PageGeometry<'a> {
     /// The elements and documents.
     pub page: &'a PageTree,
@@ -43,20 +43,6 @@ pub struct PageGeometry<'a> {
     ghost few: { documents ≤ 64 },
     ghost deep: { (n : ℕ) → element_depth (page.now.tree) n ≤ 256 },
 }
-
-impl<'a> Clone for PageGeometry<'a> {
-    ghost use Rattle.std.specs.Prelude.{⊤};
-
-    ghost is_clone = { λ it copied. copied ≡ it };
-
-    ghost is_infallible = { λ _. ⊤ };
-
-    fn clone(&self) -> Result<PageGeometry<'a>, AllocError> {
-        Ok(*self)
-    }
-}
-
-impl<'a> Copy for PageGeometry<'a> {}
 
 impl<'a> PageGeometry<'a> {
     /// A page with its boxes, which are held as they are with this size of the viewport of `top`.

@@ -1,5 +1,5 @@
 use Rattle.std.proofs.Common.{sym, ◌∙◌, arith}
-use Rattle.layout_model.specs.Boxes.{Inputs, inputs_in}
+use Rattle.layout_model.specs.Boxes.{inputs_in}
 use Rattle.layout_model.specs.Nodes.{depth_of}
 use Rattle.block_layout.specs.Seen.{seen_inputs}
 use Rattle.block_layout.specs.Trees.{layout_tree}
