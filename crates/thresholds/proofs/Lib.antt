@@ -7,3 +7,4 @@ pub mod Sums
 pub mod Moves
 pub mod Order
 pub mod Crossing
+pub mod Areas

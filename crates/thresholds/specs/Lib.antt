@@ -1,4 +1,5 @@
 pub mod Parts
 pub mod Sides
 pub mod Roots
+pub mod Areas
 pub mod Faults

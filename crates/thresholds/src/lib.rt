@@ -11,7 +11,7 @@ mod thresholds;
 
 pub use laws::{crossed_root_meets_nothing, thresholds_are_the_values_in_order};
 pub use margins::Margins;
-pub use ratios::Ratio;
+pub use ratios::{NOTHING, Ratio, ratio_of};
 use thiserror::Error;
 pub use thresholds::Thresholds;
 

@@ -1,4 +1,9 @@
-ghost use Rattle.std.specs.Prelude.{◌≤◌, ◌^◌};
+ghost use Rattle.std.specs.Prelude.{◌≡◌, ◌≤◌, ◌^◌, ◌≤ℤ◌, ◌-ℤ◌, pos, IfSome, unwrap_or, option_map};
+ghost use Rattle.px_units.specs.Rects.{area};
+ghost use Rattle.page_model.specs.Findings.{all_or_nothing, ratio_of};
+ghost use Rattle.thresholds.specs.Areas.{LiesIn};
+
+use px_units::{Rect, area};
 
 /// An intersection ratio: the part of a target's area that is seen, and the whole area, both in square units of
 /// 1/64 CSS pixel (Intersection Observer, 2.2.2: `intersectionRatio`). The part is at most the whole, and the whole
@@ -10,4 +15,45 @@ pub struct Ratio {
     pub ghost within: { part ≤ whole },
     pub ghost some: { 1 ≤ whole },
     pub ghost bound: { whole ≤ 2 ^ 80 },
+}
+
+/// The ratio of a target without area of which nothing is seen, and of one without a box.
+pub const NOTHING: Ratio = Ratio { part: 0, whole: 1 };
+
+const ALL: Ratio = Ratio { part: 1, whole: 1 };
+
+/// The area of what is seen, 0 where nothing is.
+fn area_seen(cut: Option<Rect>) -> u128
+    ensures { result ≡ unwrap_or (option_map area cut) 0 }
+{
+    match cut {
+        Some(part) => area(part),
+        None => 0,
+    }
+}
+
+fn all_or_nothing(is_seen: bool) -> Ratio
+    ensures { record { part = result.part; whole = result.whole } ≡ all_or_nothing is_seen }
+{
+    if is_seen { ALL } else { NOTHING }
+}
+
+/// The part of a target's box that is seen (Intersection Observer, 3.2.10: the ratio of the area of the intersection to that of
+/// the target), where `cut` is what is seen, in units of 1/64 CSS pixel. A box without area is seen whole or not at all.
+///
+/// No side of the box is longer than 2^40, and what is seen doesn't reach beyond it.
+pub fn ratio_of(bounds: Rect, cut: Option<Rect>) -> Ratio
+    requires width { (bounds.right -ℤ bounds.left) ≤ℤ pos (2 ^ 40) }
+    requires height { (bounds.bottom -ℤ bounds.top) ≤ℤ pos (2 ^ 40) }
+    requires inside { IfSome cut (LiesIn bounds) }
+    ensures { record { part = result.part; whole = result.whole } ≡ ratio_of bounds cut }
+{
+    let whole = area(bounds);
+    if whole == 0 {
+        return all_or_nothing(cut.is_some());
+    }
+    Ratio {
+        part: area_seen(cut),
+        whole,
+    }
 }

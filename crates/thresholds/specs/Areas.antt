@@ -1,0 +1,10 @@
+-- What is seen of a box.
+use Rattle.std.specs.Prelude.{◌≤ℤ◌}
+use Rattle.px_units.specs.declared.Rect.{Rect}
+
+-- a rectangle that doesn't reach beyond another one
+pub record LiesIn (outer inner : Rect) : Type 0 where
+  pub left : outer.left ≤ℤ inner.left
+  pub top : outer.top ≤ℤ inner.top
+  pub right : inner.right ≤ℤ outer.right
+  pub bottom : inner.bottom ≤ℤ outer.bottom
