@@ -4,16 +4,17 @@ use Rattle.std.specs.Prelude.{Option, option_map, bytes_eq, codes}
 use Rattle.std.proofs.lemmas.Bool.{ne_eqb}
 use Rattle.word_model.specs.Numbers.{length_of, percent_of}
 use Rattle.px_units.specs.Lengths.{LengthValue, Automatic, Pixels, Percentage}
-use Rattle.layout_model.specs.Styles.{Declaration, SetDisplay, SetWidth, SetHeight, SetMinWidth, SetMinHeight, SetMaxWidth, SetMaxHeight, SetMargin, SetPadding, SetBorder, SetBoxSizing, SetOverflow, Side, TopSide, RightSide, BottomSide, LeftSide, AllSides, ContentBox, BorderBox, OverflowVisible, OverflowHidden, OverflowClip, OverflowScroll, OverflowAuto}
+use Rattle.layout_model.specs.Styles.{Declaration, SetDisplay, SetWidth, SetHeight, SetMinWidth, SetMinHeight, SetMaxWidth, SetMaxHeight, SetMargin, SetPadding, SetBorder, SetBoxSizing, SetOverflow, Side, TopSide, BoxSizing, ContentBox, Overflow, OverflowVisible}
 use Rattle.script_model.specs.Keywords.{lookup}
-use Rattle.script_model.specs.Properties.{either_of, size_of, auto_or_size_of, none_or_size_of, displays, box_sizings, overflows, ValueReader, sets, property_of}
+use Rattle.script_model.specs.Properties.{either_of, size_of, auto_or_size_of, none_or_size_of, displays, box_sizings, overflows, ValueReader, sets, properties, property_of}
 use Rattle.media_queries.specs.LengthText.{length_text}
 use Rattle.script_text.specs.NumberText.{percent_text}
-use Rattle.script_text.specs.DeclarationText.{side_text, size_text, none_or_text, property_text, value_text}
+use Rattle.script_text.specs.DeclarationText.{side_text, display_text, size_text, none_or_text, box_sizing_text, overflow_text, property_text, value_text}
 use Rattle.script_text.specs.WellFormed.{IfSome, IsSize, IsAutoOrSize, IsDeclaration}
-use Rattle.script_text.proofs.WordBytes.{IsWord, IsNumeral}
+use Rattle.script_text.proofs.WordBytes.{IsWord, as_word, IsNumeral}
 use Rattle.script_text.proofs.NumbersAgain.{Reads, percent_again, percent_no_length, length_again}
-use Rattle.script_text.proofs.WordsAgain.{IsReadAs, fixed, word_differs}
+use Rattle.script_text.proofs.WordsAgain.{IsReadAs, word_differs, keyword_again}
+use Rattle.script_text.proofs.Tables.{table_word}
 
 size_again : (value : LengthValue) → IsSize value → Reads size_of value (size_text value)
 unfolding size_of size_text either_of
@@ -43,13 +44,13 @@ auto_sized value h =
 
 auto_again : (value : LengthValue) → IsAutoOrSize value → IsReadAs auto_or_size_of value (size_text value)
 unfolding auto_or_size_of size_text
-auto_again Automatic h = record { read = refl; word = fixed 97 (codes "uto") refl refl }
+auto_again Automatic h = record { read = refl; word = as_word (codes "auto") refl }
 auto_again (Pixels units) h = auto_sized (Pixels units) h
 auto_again (Percentage hundredths) h = auto_sized (Percentage hundredths) h
 
 none_again : (value : Option LengthValue) → IfSome IsSize value → IsReadAs none_or_size_of value (none_or_text value)
 unfolding none_or_size_of
-none_again None h = record { read = refl; word = fixed 110 (codes "one") refl refl }
+none_again None h = record { read = refl; word = as_word (codes "none") refl }
 none_again (Some value) h =
     let again = size_again value h in
     record {
@@ -58,48 +59,35 @@ none_again (Some value) h =
       word = again.numeral.word;
     }
 
--- a property's word names what reads its values
-pub record Names (reader : ValueReader) (property : List ℕ) : Type 0 where
-  pub named : property_of property ≡ Some reader
-  pub word : IsWord property
-
-margin_named : (side : Side) → Names (sets (SetMargin side) size_of) (codes "margin" ++ side_text side)
+margin_named : (side : Side) → property_of (codes "margin" ++ side_text side) ≡ Some (sets (SetMargin side) size_of)
 unfolding property_of lookup
-margin_named TopSide = record { named = refl; word = fixed 109 (codes "argin-top") refl refl }
-margin_named RightSide = record { named = refl; word = fixed 109 (codes "argin-right") refl refl }
-margin_named BottomSide = record { named = refl; word = fixed 109 (codes "argin-bottom") refl refl }
-margin_named LeftSide = record { named = refl; word = fixed 109 (codes "argin-left") refl refl }
-margin_named AllSides = record { named = refl; word = fixed 109 (codes "argin") refl refl }
+margin_named TopSide = refl
+margin_named side = refl
 
-padding_named : (side : Side) → Names (sets (SetPadding side) size_of) (codes "padding" ++ side_text side)
+padding_named : (side : Side) → property_of (codes "padding" ++ side_text side) ≡ Some (sets (SetPadding side) size_of)
 unfolding property_of lookup
-padding_named TopSide = record { named = refl; word = fixed 112 (codes "adding-top") refl refl }
-padding_named RightSide = record { named = refl; word = fixed 112 (codes "adding-right") refl refl }
-padding_named BottomSide = record { named = refl; word = fixed 112 (codes "adding-bottom") refl refl }
-padding_named LeftSide = record { named = refl; word = fixed 112 (codes "adding-left") refl refl }
-padding_named AllSides = record { named = refl; word = fixed 112 (codes "adding") refl refl }
+padding_named TopSide = refl
+padding_named side = refl
 
-border_named : (side : Side) → Names (sets (SetBorder side) length_of) (codes "border" ++ side_text side)
+border_named : (side : Side) → property_of (codes "border" ++ side_text side) ≡ Some (sets (SetBorder side) length_of)
 unfolding property_of lookup
-border_named TopSide = record { named = refl; word = fixed 98 (codes "order-top") refl refl }
-border_named RightSide = record { named = refl; word = fixed 98 (codes "order-right") refl refl }
-border_named BottomSide = record { named = refl; word = fixed 98 (codes "order-bottom") refl refl }
-border_named LeftSide = record { named = refl; word = fixed 98 (codes "order-left") refl refl }
-border_named AllSides = record { named = refl; word = fixed 98 (codes "order") refl refl }
+border_named TopSide = refl
+border_named side = refl
 
-display_again : (hidden : Bool) → IsReadAs (lookup displays) hidden (value_text (SetDisplay hidden))
+display_found : (hidden : Bool) → lookup displays (display_text hidden) ≡ Some hidden
 unfolding lookup
-display_again false = record { read = refl; word = fixed 98 (codes "lock") refl refl }
-display_again true = record { read = refl; word = fixed 110 (codes "one") refl refl }
+display_found true = refl
+display_found hidden = refl
 
--- both words of a declaration
-pub record DeclarationReads (declaration : Declaration) : Type 0 where
-  pub reader : ValueReader
-  pub names : Names reader (property_text declaration)
-  pub again : IsReadAs reader declaration (value_text declaration)
+box_sizing_found : (value : BoxSizing) → lookup box_sizings (box_sizing_text value) ≡ Some value
+unfolding lookup
+box_sizing_found ContentBox = refl
+box_sizing_found value = refl
 
-reads_by : {A : Type 0} (declare : A → Declaration) (of : List ℕ → Option A) (value : A) (text : List ℕ) → IsReadAs of value text → IsReadAs (sets declare of) (declare value) text
-reads_by declare of value text again = record { read = ap (option_map declare) again.read; word = again.word }
+overflow_found : (value : Overflow) → lookup overflows (overflow_text value) ≡ Some value
+unfolding lookup
+overflow_found OverflowVisible = refl
+overflow_found value = refl
 
 sized : (value : LengthValue) → IsSize value → IsReadAs size_of value (size_text value)
 sized value h = let again = size_again value h in record { read = again.read; word = again.numeral.word }
@@ -107,90 +95,32 @@ sized value h = let again = size_again value h in record { read = again.read; wo
 bordered : (units : ℕ) → units ≤ 64000000 → IsReadAs length_of units (length_text units)
 bordered units h = let again = length_again units h in record { read = again.read; word = again.numeral.word }
 
-pub declaration_again : (declaration : Declaration) → IsDeclaration declaration → DeclarationReads declaration
+-- a property's word is in the table of properties, and what stands there reads the value
+pub record Declared (declaration : Declaration) (property value : List ℕ) : Type 0 where
+  pub reader : ValueReader
+  pub named : property_of property ≡ Some reader
+  pub again : IsReadAs reader declaration value
+
+pub property_word : (property : List ℕ) (reader : ValueReader) → property_of property ≡ Some reader → IsWord property
+unfolding property_of
+property_word property reader named = table_word properties refl property reader named
+
+declared : {A : Type 0} (declare : A → Declaration) (of : List ℕ → Option A) (value : A) (property text : List ℕ) → property_of property ≡ Some (sets declare of) → IsReadAs of value text
+    → Declared (declare value) property text
+declared declare of value property text named again =
+    record { reader = sets declare of; named = named; again = record { read = ap (option_map declare) again.read; word = again.word } }
+
+pub declaration_again : (declaration : Declaration) → IsDeclaration declaration → Declared declaration (property_text declaration) (value_text declaration)
 unfolding property_of lookup
-declaration_again (SetDisplay hidden) h = record {
-  reader = sets SetDisplay (lookup displays);
-  names = record { named = refl; word = fixed 100 (codes "isplay") refl refl };
-  again = reads_by SetDisplay (lookup displays) hidden _ (display_again hidden);
-}
-declaration_again (SetWidth value) h = record {
-  reader = sets SetWidth auto_or_size_of;
-  names = record { named = refl; word = fixed 119 (codes "idth") refl refl };
-  again = reads_by SetWidth auto_or_size_of value (size_text value) (auto_again value h);
-}
-declaration_again (SetHeight value) h = record {
-  reader = sets SetHeight auto_or_size_of;
-  names = record { named = refl; word = fixed 104 (codes "eight") refl refl };
-  again = reads_by SetHeight auto_or_size_of value (size_text value) (auto_again value h);
-}
-declaration_again (SetMinWidth value) h = record {
-  reader = sets SetMinWidth size_of;
-  names = record { named = refl; word = fixed 109 (codes "in-width") refl refl };
-  again = reads_by SetMinWidth size_of value (size_text value) (sized value h);
-}
-declaration_again (SetMinHeight value) h = record {
-  reader = sets SetMinHeight size_of;
-  names = record { named = refl; word = fixed 109 (codes "in-height") refl refl };
-  again = reads_by SetMinHeight size_of value (size_text value) (sized value h);
-}
-declaration_again (SetMaxWidth value) h = record {
-  reader = sets SetMaxWidth none_or_size_of;
-  names = record { named = refl; word = fixed 109 (codes "ax-width") refl refl };
-  again = reads_by SetMaxWidth none_or_size_of value (none_or_text value) (none_again value h);
-}
-declaration_again (SetMaxHeight value) h = record {
-  reader = sets SetMaxHeight none_or_size_of;
-  names = record { named = refl; word = fixed 109 (codes "ax-height") refl refl };
-  again = reads_by SetMaxHeight none_or_size_of value (none_or_text value) (none_again value h);
-}
-declaration_again (SetMargin side value) h = record {
-  reader = sets (SetMargin side) size_of;
-  names = margin_named side;
-  again = reads_by (SetMargin side) size_of value (size_text value) (sized value h);
-}
-declaration_again (SetPadding side value) h = record {
-  reader = sets (SetPadding side) size_of;
-  names = padding_named side;
-  again = reads_by (SetPadding side) size_of value (size_text value) (sized value h);
-}
-declaration_again (SetBorder side units) h = record {
-  reader = sets (SetBorder side) length_of;
-  names = border_named side;
-  again = reads_by (SetBorder side) length_of units (length_text units) (bordered units h);
-}
-declaration_again (SetBoxSizing ContentBox) h = record {
-  reader = sets SetBoxSizing (lookup box_sizings);
-  names = record { named = refl; word = fixed 98 (codes "ox-sizing") refl refl };
-  again = record { read = refl; word = fixed 99 (codes "ontent-box") refl refl };
-}
-declaration_again (SetBoxSizing BorderBox) h = record {
-  reader = sets SetBoxSizing (lookup box_sizings);
-  names = record { named = refl; word = fixed 98 (codes "ox-sizing") refl refl };
-  again = record { read = refl; word = fixed 98 (codes "order-box") refl refl };
-}
-declaration_again (SetOverflow OverflowVisible) h = record {
-  reader = sets SetOverflow (lookup overflows);
-  names = record { named = refl; word = fixed 111 (codes "verflow") refl refl };
-  again = record { read = refl; word = fixed 118 (codes "isible") refl refl };
-}
-declaration_again (SetOverflow OverflowHidden) h = record {
-  reader = sets SetOverflow (lookup overflows);
-  names = record { named = refl; word = fixed 111 (codes "verflow") refl refl };
-  again = record { read = refl; word = fixed 104 (codes "idden") refl refl };
-}
-declaration_again (SetOverflow OverflowClip) h = record {
-  reader = sets SetOverflow (lookup overflows);
-  names = record { named = refl; word = fixed 111 (codes "verflow") refl refl };
-  again = record { read = refl; word = fixed 99 (codes "lip") refl refl };
-}
-declaration_again (SetOverflow OverflowScroll) h = record {
-  reader = sets SetOverflow (lookup overflows);
-  names = record { named = refl; word = fixed 111 (codes "verflow") refl refl };
-  again = record { read = refl; word = fixed 115 (codes "croll") refl refl };
-}
-declaration_again (SetOverflow OverflowAuto) h = record {
-  reader = sets SetOverflow (lookup overflows);
-  names = record { named = refl; word = fixed 111 (codes "verflow") refl refl };
-  again = record { read = refl; word = fixed 97 (codes "uto") refl refl };
-}
+declaration_again (SetDisplay hidden) h = declared SetDisplay _ hidden _ _ refl (keyword_again displays refl _ hidden (display_found hidden))
+declaration_again (SetWidth value) h = declared SetWidth _ value _ _ refl (auto_again value h)
+declaration_again (SetHeight value) h = declared SetHeight _ value _ _ refl (auto_again value h)
+declaration_again (SetMinWidth value) h = declared SetMinWidth _ value _ _ refl (sized value h)
+declaration_again (SetMinHeight value) h = declared SetMinHeight _ value _ _ refl (sized value h)
+declaration_again (SetMaxWidth value) h = declared SetMaxWidth _ value _ _ refl (none_again value h)
+declaration_again (SetMaxHeight value) h = declared SetMaxHeight _ value _ _ refl (none_again value h)
+declaration_again (SetMargin side value) h = declared (SetMargin side) _ value _ _ (margin_named side) (sized value h)
+declaration_again (SetPadding side value) h = declared (SetPadding side) _ value _ _ (padding_named side) (sized value h)
+declaration_again (SetBorder side units) h = declared (SetBorder side) _ units _ _ (border_named side) (bordered units h)
+declaration_again (SetBoxSizing value) h = declared SetBoxSizing _ value _ _ refl (keyword_again box_sizings refl _ value (box_sizing_found value))
+declaration_again (SetOverflow value) h = declared SetOverflow _ value _ _ refl (keyword_again overflows refl _ value (overflow_found value))

@@ -2,6 +2,7 @@ pub mod Decimals
 pub mod FormParts
 pub mod Places
 pub mod WordBytes
+pub mod Tables
 pub mod NumbersAgain
 pub mod WordsAgain
 pub mod DeclarationsAgain

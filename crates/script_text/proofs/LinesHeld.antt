@@ -10,7 +10,7 @@ use Rattle.script_model.specs.Lines.{words_of, row_of}
 use Rattle.script_text.specs.NumberedLines.{NumberedLine}
 use Rattle.script_text.specs.ScriptText.{line_text, lines_text}
 use Rattle.script_text.specs.WellFormed.{Rise, AreShort}
-use Rattle.script_text.proofs.LinesSay.{not_true}
+use Rattle.script_text.proofs.WordBytes.{not_true}
 use Rattle.script_text.specs.LineOfText.{first_line, behind_feeds, line_numbered}
 
 -- a line's bytes, and of a line with words the bytes before a carriage return

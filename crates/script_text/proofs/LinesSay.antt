@@ -1,6 +1,6 @@
 -- Each printed line is a line for the lexer, and says what it was printed for.
-use Rattle.std.proofs.Common.{◌≡◌, refl, sym, ℕ, ◌≤◌, Bool, true, false, cond, not, ◌==◌, List, [], ◌∷◌, ◌++◌, arith, append-nil}
-use Rattle.std.specs.Prelude.{ℤ, map, bytes_eq, codes}
+use Rattle.std.proofs.Common.{◌≡◌, refl, sym, ℕ, ◌≤◌, Bool, true, false, cond, ◌==◌, List, [], ◌∷◌, ◌++◌, Some, None, arith, append-nil}
+use Rattle.std.specs.Prelude.{ℤ, Option, map, bytes_eq, codes}
 use Rattle.std.specs.List.{list_all, list_any}
 use Rattle.std.proofs.lemmas.Bool.{and_parts}
 use Rattle.word_model.specs.Names.{is_name}
@@ -8,27 +8,25 @@ use Rattle.word_model.specs.Numbers.{begins_with, decimal}
 use Rattle.script_model.specs.Readers.{is_empty}
 use Rattle.script_model.specs.MarginText.{parts_of}
 use Rattle.script_model.specs.Lexing.{Word}
-use Rattle.script_model.specs.Syntax.{Action, Condition}
+use Rattle.script_model.specs.Syntax.{Action, Test, Condition}
 use Rattle.script_model.specs.Forms.{Form, NameForm, NodeForm, AimForm, HandlerForm, RootForm, LengthForm, SignedForm, WholeForm, EventForm, BoxForm, DimensionForm, DeclarationForm, JustForm, MarginForm, NumbersForm, QueryForm, Meant}
 use Rattle.script_model.specs.Statements.{Does, Ticks, OpensEach, OpensWhen, OpensHandler, Ends, Standing}
 use Rattle.script_text.specs.NumberText.{number_text}
-use Rattle.script_text.specs.Parts.{Part, PartOf, part_words, all_words}
-use Rattle.script_text.specs.Phrases.{action_head, action_parts, action_words, test_head, test_parts, condition_words}
+use Rattle.script_text.specs.DeclarationText.{property_text}
+use Rattle.script_text.specs.Parts.{part_words, all_words}
+use Rattle.script_text.specs.Entries.{Entry, Values, ValuesOf, parts, parts_behind}
+use Rattle.script_text.specs.Phrases.{action_at, action_phrase, action_head, action_parts, action_words, test_at, test_phrase, test_head, test_parts, condition_words}
 use Rattle.script_text.specs.NumberedLines.{numbered, end_line}
 use Rattle.script_text.specs.ScriptText.{line_text}
 use Rattle.script_text.specs.WellFormed.{is_margin_word, AreNumbers, IsMeant, AreMeant}
-use Rattle.script_text.proofs.WordBytes.{IsWord, numeral, name_word}
+use Rattle.script_text.proofs.WordBytes.{IsWord, not_true, as_word, numeral, name_word}
 use Rattle.script_text.proofs.NumbersAgain.{length_again, signed_again, number_again}
-use Rattle.script_text.proofs.WordsAgain.{fixed, node_again, aim_again, handler_again, root_again, event_again, box_again, dimension_again}
-use Rattle.script_text.proofs.DeclarationsAgain.{declaration_again}
-use Rattle.script_text.proofs.PartsAgain.{words_at, Follows, Stand}
-use Rattle.script_text.proofs.StatementsAgain.{is_media, action_found, action_says, tick_says, each_says, end_says, handler_says, test_found, when_says}
+use Rattle.script_text.proofs.WordsAgain.{node_again, aim_again, handler_again, root_again, event_again, box_again, dimension_again}
+use Rattle.script_text.proofs.DeclarationsAgain.{property_word, declaration_again}
+use Rattle.script_text.proofs.PartsAgain.{words_at, Follows, follows, stand, stands}
+use Rattle.script_text.proofs.StatementsAgain.{action_word, action_says, tick_says, each_says, end_says, handler_says, test_word, test_stands, when_says}
 use Rattle.script_text.proofs.LineWords.{AreWords, words_append, IsLine, is_line, States, line_states}
 use Rattle.script_text.proofs.QueryLine.{query_line, query_states}
-
-pub not_true : (b : Bool) → not b ≡ true → b ≡ false
-not_true true h = absurd cc
-not_true false h = refl
 
 margin_word : (text : List ℕ) → is_margin_word text ≡ true → IsWord text
 unfolding is_margin_word is_empty begins_with
@@ -61,36 +59,44 @@ part_good WholeForm number h rest follows = (whole_word number h, tt)
 part_good EventForm event h rest follows = ((event_again event).word, tt)
 part_good BoxForm box h rest follows = ((box_again box).word, tt)
 part_good DimensionForm dimension h rest follows = ((dimension_again dimension).word, tt)
-part_good DeclarationForm declaration h rest follows = ((declaration_again declaration h).names.word, ((declaration_again declaration h).again.word, tt))
+part_good DeclarationForm declaration h rest follows =
+    let again = declaration_again declaration h in
+    (property_word (property_text declaration) again.reader again.named, (again.again.word, tt))
 part_good (JustForm word) value h rest follows = (follows, tt)
 part_good MarginForm margin h rest follows = margin_words (parts_of margin) h
 part_good NumbersForm numbers h rest follows = number_words numbers h
 part_good QueryForm queries h rest follows = absurd follows
 
-parts_good : (parts : List Part) → AreMeant parts → Stand parts → AreWords (all_words parts)
-parts_good [] h stand = tt
-parts_good (PartOf form value ∷ parts) h stand =
-    words_append (part_words form value) (all_words parts) (part_good form value h.0 (words_at 1 (all_words parts)) (stand.0 1)) (parts_good parts h.1 stand.1)
+parts_good : (forms : List Form) (values : Values forms) → stand forms ≡ true → AreMeant (parts forms values) → AreWords (all_words (parts forms values))
+parts_good [] values stands h = tt
+parts_good (form ∷ forms) values stands h =
+    let both = and_parts _ _ stands in
+    let behind : List (List ℕ) = all_words (parts forms values.1) in
+    words_append (part_words form values.0) behind (part_good form values.0 h.0 (words_at 1 behind) (follows form forms values.1 both.0 1)) (parts_good forms values.1 both.1 h.1)
+
+phrase_good : {A : Type 0} (entry : Option (Entry A)) (values : ValuesOf entry) → stands entry ≡ true → AreMeant (parts_behind entry values) → AreWords (all_words (parts_behind entry values))
+phrase_good None values stands h = absurd values
+phrase_good (Some entry) values stands h = parts_good entry.forms values stands h
 
 -- Lines.
 
-action_words_good : (action : Action) → is_media action ≡ false → AreMeant (action_parts action) → AreWords (action_words action)
-action_words_good action plain h = let f = action_found action in (f.word, parts_good (action_parts action) h (f.stand plain))
+action_words_good : (action : Action) → stands (action_at (action_head action)) ≡ true → AreMeant (action_parts action) → AreWords (action_words action)
+action_words_good action stands h = (action_word action, phrase_good (action_at (action_head action)) (action_phrase action).values stands h)
 
 pub action_line : (action : Action) → AreMeant (action_parts action) → IsLine (line_text (action_words action))
-action_line action h = by_kind (is_media action) refl where
-  by_kind : (media : Bool) → is_media action ≡ media → IsLine (line_text (action_words action))
-  by_kind true e = query_line action e h
-  by_kind false e = is_line (action_head action) (all_words (action_parts action)) (action_words_good action e h)
+action_line action h = by_forms (stands (action_at (action_head action))) refl where
+  by_forms : (so : Bool) → stands (action_at (action_head action)) ≡ so → IsLine (line_text (action_words action))
+  by_forms true e = is_line (action_head action) (all_words (action_parts action)) (action_words_good action e h)
+  by_forms false e = query_line action e h
 
 pub action_states : (standing : Standing) (number : ℕ) (action : Action) → AreMeant (action_parts action) → States standing (numbered number (action_words action)) (Does action)
-action_states standing number action h = by_kind (is_media action) refl where
-  by_kind : (media : Bool) → is_media action ≡ media → States standing (numbered number (action_words action)) (Does action)
-  by_kind true e = query_states standing number action e h
-  by_kind false e = line_states standing number (action_head action) (all_words (action_parts action)) (Does action) (action_words_good action e h) (action_says standing action e h)
+action_states standing number action h = by_forms (stands (action_at (action_head action))) refl where
+  by_forms : (so : Bool) → stands (action_at (action_head action)) ≡ so → States standing (numbered number (action_words action)) (Does action)
+  by_forms true e = line_states standing number (action_head action) (all_words (action_parts action)) (Does action) (action_words_good action e h) (action_says standing action e h)
+  by_forms false e = query_states standing number action e h
 
 tick_words : (time : ℕ) → time ≤ 1000000000000 → AreWords (codes "tick" ∷ decimal time ∷ [])
-tick_words time h = (fixed _ _ refl refl, (whole_word time h, tt))
+tick_words time h = (as_word _ refl, (whole_word time h, tt))
 
 pub tick_line : (time : ℕ) → time ≤ 1000000000000 → IsLine (line_text (codes "tick" ∷ decimal time ∷ []))
 tick_line time h = is_line (codes "tick") (decimal time ∷ []) (tick_words time h)
@@ -101,7 +107,7 @@ tick_states names number time h =
     line_states (record { outside = true; names = names }) number (codes "tick") (decimal time ∷ []) (Ticks time) (tick_words time h) (tick_says names time h)
 
 each_words : AreWords (codes "each" ∷ [])
-each_words = (fixed _ _ refl refl, tt)
+each_words = (as_word _ refl, tt)
 
 pub each_line : IsLine (line_text (codes "each" ∷ []))
 each_line = is_line (codes "each") [] each_words
@@ -110,7 +116,7 @@ pub each_states : (standing : Standing) (number : ℕ) → States standing (numb
 each_states standing number = line_states standing number (codes "each") [] OpensEach each_words (each_says standing)
 
 end_words : AreWords (codes "end" ∷ [])
-end_words = (fixed _ _ refl refl, tt)
+end_words = (as_word _ refl, tt)
 
 pub last_line : IsLine (line_text (codes "end" ∷ []))
 last_line = is_line (codes "end") [] end_words
@@ -119,7 +125,7 @@ pub end_states : (names : List (List ℕ)) (number : ℕ) → States (record { o
 end_states names number = line_states (record { outside = false; names = names }) number (codes "end") [] Ends end_words (end_says names)
 
 handler_words : (name : List ℕ) → is_name name ≡ true → AreWords (codes "handler" ∷ name ∷ [])
-handler_words name h = (fixed _ _ refl refl, (name_word name h, tt))
+handler_words name h = (as_word _ refl, (name_word name h, tt))
 
 pub handler_line : (name : List ℕ) → is_name name ≡ true → IsLine (line_text (codes "handler" ∷ name ∷ []))
 handler_line name h = is_line (codes "handler") (name ∷ []) (handler_words name h)
@@ -130,13 +136,14 @@ handler_states names number name h new =
     line_states (record { outside = true; names = names }) number (codes "handler") (name ∷ []) (OpensHandler name) (handler_words name h) (handler_says names name h new)
 
 condition_good : (negated : Bool) (words : List (List ℕ)) → AreWords words → AreWords (cond negated (codes "not" ∷ []) [] ++ words)
-condition_good true words h = (fixed _ _ refl refl, h)
+condition_good true words h = (as_word _ refl, h)
 condition_good false words h = h
 
 when_words : (condition : Condition) → AreMeant (test_parts condition.asks) → AreWords (codes "when" ∷ condition_words condition)
 when_words condition h =
-    let f = test_found condition.asks in
-    (fixed _ _ refl refl, condition_good condition.negated (test_head condition.asks ∷ all_words (test_parts condition.asks)) (f.word, parts_good (test_parts condition.asks) h f.stand))
+    let test : Test = condition.asks in
+    let behind = phrase_good (test_at (test_head test)) (test_phrase test).values (test_stands test) h in
+    (as_word _ refl, condition_good condition.negated (test_head test ∷ all_words (test_parts test)) (test_word test, behind))
 
 pub when_line : (condition : Condition) → AreMeant (test_parts condition.asks) → IsLine (line_text (codes "when" ∷ condition_words condition))
 when_line condition h = is_line (codes "when") (condition_words condition) (when_words condition h)

@@ -1,5 +1,5 @@
 -- The parts of a line are read as what they stand for.
-use Rattle.std.proofs.Common.{◌≡◌, ℕ, ℤ, ◌+◌, Bool, true, false, cond, ◌==◌, not, List, [], ◌∷◌, ◌++◌, length, Some, None, refl, ap, sym, ◌∙◌, subst, append-nil}
+use Rattle.std.proofs.Common.{◌≡◌, ℕ, ℤ, ◌+◌, Bool, true, false, cond, ◌&&◌, ◌==◌, List, [], ◌∷◌, ◌++◌, length, Some, None, refl, ap, sym, ◌∙◌, subst, append-nil}
 use Rattle.std.specs.Prelude.{Option, Result, Ok, bytes_eq, map, codes}
 use Rattle.std.specs.List.{list_all, join_with_byte}
 use Rattle.std.proofs.lemmas.Bool.{and_parts, eqb-true}
@@ -17,12 +17,13 @@ use Rattle.script_model.specs.Forms.{Taken, next_in, next_of, word_as, none_in, 
 use Rattle.media_queries.specs.LengthText.{length_text}
 use Rattle.script_text.specs.NumberText.{signed_text, number_text}
 use Rattle.script_text.specs.WordText.{operand_text, aim_text, dash_or, box_text, dimension_text}
-use Rattle.script_text.specs.Parts.{Part, PartOf, part_words, all_words}
+use Rattle.script_text.specs.Parts.{part_words, all_words}
+use Rattle.script_text.specs.Entries.{Entry, Values, ValuesOf, parts, parts_behind}
 use Rattle.script_text.specs.DeclarationText.{property_text, value_text}
 use Rattle.script_text.specs.WellFormed.{IsMargin, is_margin_word, IsDeclaration, AreNumbers, IsMeant, AreMeant}
 use Rattle.script_text.proofs.FormParts.{bytes_same}
 use Rattle.script_text.proofs.NumbersAgain.{length_again, signed_again, number_again}
-use Rattle.script_text.proofs.WordBytes.{IsWord}
+use Rattle.script_text.proofs.WordBytes.{IsWord, not_true, is_word, as_word}
 use Rattle.script_text.proofs.WordsAgain.{name_again, node_again, aim_again, handler_again, root_again, event_again, box_again, dimension_again}
 use Rattle.script_text.proofs.DeclarationsAgain.{declaration_again}
 
@@ -59,17 +60,14 @@ unfolding declaration_as words_at
 declaration_read declaration h column rest after bytes =
     let again = declaration_again declaration h in
     let second : List Word = words_at (column + length (property_text declaration) + 1) (value_text declaration ∷ []) ++ rest in
-    ap (λ (r : Taken ValueReader). r >>= λ property. word_as property.0 property.1) (word_read property_of again.reader column (property_text declaration) second again.names.named after bytes)
+    ap (λ (r : Taken ValueReader). r >>= λ property. word_as property.0 property.1) (word_read property_of again.reader column (property_text declaration) second again.named after bytes)
     ∙ word_read again.reader declaration (column + length (property_text declaration) + 1) (value_text declaration) rest again.again.read after bytes
 
 -- Margins.
 
 no_threshold : (word : List ℕ) → is_margin_word word ≡ true → bytes_eq word (codes "threshold") ≡ false
 unfolding is_margin_word
-no_threshold word h = not_true (bytes_eq word (codes "threshold")) (and_parts _ _ h).1 where
-  not_true : (b : Bool) → not b ≡ true → b ≡ false
-  not_true true e = absurd cc
-  not_true false e = refl
+no_threshold word h = not_true (bytes_eq word (codes "threshold")) (and_parts _ _ h).1
 
 -- words that end at `threshold`, or at the line's end
 abbrev pub StopsAt : List Word → Type 0
@@ -199,26 +197,74 @@ part_again QueryForm queries h column rest follows = absurd follows
 
 -- Whole lines.
 
-abbrev pub forms_in : List Part → List Form
-forms_in [] = []
-forms_in (PartOf form value ∷ parts) = form ∷ forms_in parts
+abbrev is_end : List Form → Bool
+is_end [] = true
+is_end (form ∷ forms) = false
 
-abbrev pub applied : {A : Type 0} (parts : List Part) → From (forms_in parts) A → A
-applied [] value = value
-applied (PartOf form value ∷ parts) makes = applied parts (makes value)
+-- whether these are the forms of what ends a margin: the word `threshold`, or the line's end
+abbrev is_stop : List Form → Bool
+is_stop [] = true
+is_stop (JustForm word ∷ forms) = bytes_eq word (codes "threshold")
+is_stop forms = false
+
+-- whether parts of these forms may stand behind a part of this form
+abbrev may_follow : Form → List Form → Bool
+may_follow MarginForm forms = is_stop forms
+may_follow NumbersForm forms = is_end forms
+may_follow QueryForm forms = false
+may_follow (JustForm word) forms = is_word word
+may_follow form forms = true
 
 -- margins stand before `threshold`, numbers at the end, and queries nowhere
-abbrev pub Stand : List Part → Type 0
-Stand [] = Unit {0}
-Stand (PartOf form value ∷ parts) = ((column : ℕ) → Follows form (words_at column (all_words parts))) × Stand parts
+abbrev pub stand : List Form → Bool
+stand [] = true
+stand (form ∷ forms) = may_follow form forms && stand forms
 
-pub made_again : {A : Type 0} (parts : List Part) (makes : From (forms_in parts) A) → AreMeant parts → Stand parts → (column after : ℕ) (bytes : List ℕ)
-    → made (forms_in parts) makes (row (words_at column (all_words parts)) after bytes) ≡ Ok (applied parts makes)
+pub follows : (form : Form) (forms : List Form) (values : Values forms) → may_follow form forms ≡ true → (column : ℕ) → Follows form (words_at column (all_words (parts forms values)))
+unfolding words_at
+follows MarginForm [] values h column = tt
+follows MarginForm (JustForm word ∷ forms) values h column = h
+follows MarginForm (form ∷ forms) values h column = absurd cc
+follows NumbersForm [] values h column = refl
+follows NumbersForm (form ∷ forms) values h column = absurd cc
+follows QueryForm forms values h column = absurd cc
+follows (JustForm word) forms values h column = as_word word h
+follows form forms values h column = tt
+
+-- what the values of these parts make
+abbrev pub applied : {A : Type 0} (forms : List Form) → From forms A → Values forms → A
+applied [] value values = value
+applied (form ∷ forms) makes values = applied forms (makes values.0) values.1
+
+pub made_again : {A : Type 0} (forms : List Form) (makes : From forms A) (values : Values forms) → stand forms ≡ true → AreMeant (parts forms values) → (column after : ℕ) (bytes : List ℕ)
+    → made forms makes (row (words_at column (all_words (parts forms values))) after bytes) ≡ Ok (applied forms makes values)
 unfolding made none_left none_in words_at
-made_again [] value h stand column after bytes = refl
-made_again (PartOf form value ∷ parts) makes h stand column after bytes =
-    let next : ℕ = past column (part_words form value) in
-    let rest : List Word = words_at next (all_words parts) in
-    ap (λ (ws : List Word). part_as form (row ws after bytes) >>= λ part. made (forms_in parts) (makes part.0) part.1) (words_parted column (part_words form value) (all_words parts))
-    ∙ ap (λ (r : Taken (Meant form)). r >>= λ part. made (forms_in parts) (makes part.0) part.1) (part_again form value h.0 column rest (stand.0 next) after bytes)
-    ∙ made_again parts (makes value) h.1 stand.1 next after bytes
+made_again [] value values stands h column after bytes = refl
+made_again (form ∷ forms) makes values stands h column after bytes =
+    let both = and_parts _ _ stands in
+    let behind : List (List ℕ) = all_words (parts forms values.1) in
+    let next : ℕ = past column (part_words form values.0) in
+    ap (λ (ws : List Word). part_as form (row ws after bytes) >>= λ part. made forms (makes part.0) part.1) (words_parted column (part_words form values.0) behind)
+    ∙ ap (λ (r : Taken (Meant form)). r >>= λ part. made forms (makes part.0) part.1)
+    (part_again form values.0 h.0 column (words_at next behind) (follows form forms values.1 both.0 next) after bytes)
+    ∙ made_again forms (makes values.0) values.1 both.1 h.1 next after bytes
+
+-- What stands behind a word of a table.
+
+abbrev pub stands : {A : Type 0} → Option (Entry A) → Bool
+stands None = false
+stands (Some entry) = stand entry.forms
+
+abbrev pub made_of : {A : Type 0} (entry : Option (Entry A)) → ValuesOf entry → A
+made_of None values = absurd values
+made_of (Some entry) values = applied entry.forms entry.makes values
+
+-- a row is read as what the values make
+abbrev pub IsMadeOf : {A : Type 0} (entry : Option (Entry A)) → ValuesOf entry → Row → Type 0
+IsMadeOf None values r = ⊥
+IsMadeOf (Some entry) values r = made entry.forms entry.makes r ≡ Ok (applied entry.forms entry.makes values)
+
+pub phrase_again : {A : Type 0} (entry : Option (Entry A)) (values : ValuesOf entry) → stands entry ≡ true → AreMeant (parts_behind entry values) → (column after : ℕ) (bytes : List ℕ)
+    → IsMadeOf entry values (row (words_at column (all_words (parts_behind entry values))) after bytes)
+phrase_again None values stands h column after bytes = absurd values
+phrase_again (Some entry) values stands h column after bytes = made_again entry.forms entry.makes values stands h column after bytes

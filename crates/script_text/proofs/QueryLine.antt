@@ -18,14 +18,14 @@ use Rattle.script_model.specs.Syntax.{Action, MakeQueryList}
 use Rattle.script_model.specs.Statements.{Does, Standing, statement_of}
 use Rattle.media_queries.specs.QueryText.{list_text}
 use Rattle.media_queries.proofs.ReadsBack.{IsWithin, AreWithin, IsQueryWithin, AreQueriesWithin, printed_again}
-use Rattle.script_text.specs.Phrases.{action_parts, action_words}
+use Rattle.script_text.specs.Phrases.{action_at, action_head, action_parts, action_words}
 use Rattle.script_text.specs.NumberedLines.{numbered}
 use Rattle.script_text.specs.ScriptText.{line_text}
 use Rattle.script_text.specs.WellFormed.{IsFeature, AreFeatures, IsQuery, AreQueries, IsQueryList, AreMeant}
-use Rattle.script_text.proofs.WordBytes.{IsWord, is_quiet, all_bytes, name_word}
-use Rattle.script_text.proofs.WordsAgain.{fixed, name_again}
-use Rattle.script_text.proofs.PartsAgain.{row, word_read}
-use Rattle.script_text.proofs.StatementsAgain.{is_media, action_behind}
+use Rattle.script_text.proofs.WordBytes.{IsWord, as_word, is_quiet, all_bytes, name_word}
+use Rattle.script_text.proofs.WordsAgain.{name_again}
+use Rattle.script_text.proofs.PartsAgain.{row, word_read, stands}
+use Rattle.script_text.proofs.StatementsAgain.{action_behind}
 use Rattle.script_model.proofs.Runs.{skips, joins}
 use Rattle.script_text.proofs.LineWords.{word_spaced, comment_behind, IsLine, spaced_on, line_of, States}
 use Rattle.script_text.proofs.QueryBytes.{Clean, list_clean}
@@ -117,7 +117,7 @@ quiet_words (w ∷ ws) all = ap (λ b. cond b [] (w ∷ before_comment ws)) all.
 -- The line.
 
 media_word : IsWord (codes "media")
-media_word = fixed _ _ refl refl
+media_word = as_word _ refl
 
 abbrev front_text : List ℕ → List ℕ → List ℕ
 front_text name document = codes "media " ++ (name ++ (32 ∷ (document ++ (32 ∷ []))))
@@ -264,19 +264,21 @@ media_says standing name document list name_is document_is named documented read
     ap (λ (ws : List Word). statement_of standing (row_of ws text)) (line_words name document queries name_is document_is clean)
     ∙ ap (λ (bytes : List ℕ). statement_of standing (row words after bytes)) (row_bytes name document queries clean)
     ∙ action_behind standing (MakeQueryList name document list) 1 (record { column = 7; text = name } ∷ record { column = 7 + length name + 1; text = document } ∷ rest) after text
-    (λ makes. parts_read name document list rest after text named documented taken makes)
+    (parts_read name document list rest after text named documented taken MakeQueryList)
 
-pub query_line : (action : Action) → is_media action ≡ true → AreMeant (action_parts action) → IsLine (line_text (action_words action))
-unfolding is_media
+differ : true ≡ false → ⊥
+differ e = cc
+
+pub query_line : (action : Action) → stands (action_at (action_head action)) ≡ false → AreMeant (action_parts action) → IsLine (line_text (action_words action))
 query_line (MakeQueryList name document list) e h =
     subst IsLine (sym (text_is name document (list_text list)))
     (text_line name document (list_text list) (name_word name h.0) (name_word document h.1.0) (list_read list h.1.1.0).1)
-query_line action e h = absurd cc
+query_line action e h = absurd (differ e)
 
-pub query_states : (standing : Standing) (number : ℕ) (action : Action) → is_media action ≡ true → AreMeant (action_parts action) → States standing (numbered number (action_words action)) (Does action)
-unfolding is_media line_of
+pub query_states : (standing : Standing) (number : ℕ) (action : Action) → stands (action_at (action_head action)) ≡ false → AreMeant (action_parts action) → States standing (numbered number (action_words action)) (Does action)
+unfolding line_of
 query_states standing number (MakeQueryList name document list) e h =
     let again = list_read list h.1.1.0 in
     ap (λ (text : List ℕ). statement_of standing (row_of (words_of text) text)) (text_is name document (list_text list))
     ∙ media_says standing name document list (name_word name h.0) (name_word document h.1.0) (name_again name h.0).read (name_again document h.1.0).read again.0 again.1
-query_states standing number action e h = absurd cc
+query_states standing number action e h = absurd (differ e)

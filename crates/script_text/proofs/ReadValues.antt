@@ -16,6 +16,7 @@ use Rattle.script_text.specs.WordText.{operand_text, aim_text, dash_or}
 use Rattle.script_text.specs.WellFormed.{IsName, IsOperand, IsAim, IfSome, IsLength, IsPercentage, IsNumber}
 use Rattle.script_text.proofs.Decimals.{decimal_short}
 use Rattle.script_text.proofs.NumbersAgain.{signed_by_is}
+use Rattle.script_text.proofs.Tables.{Each, looked_up}
 use Rattle.script_text.proofs.Shortness.{FormRead, form_read, in_bound, fraction_small, plus_is, minus_zero, minus_suc, length_shorter, signed_shorter, percent_shorter, number_shorter}
 
 -- What holds of each value that a reader of words gives.
@@ -73,23 +74,6 @@ unfolding just
 just_fits word text = chosen_some (Fits (λ unit. Unit {0}) (λ unit. word) text) (bytes_eq text word) (Some tt) None (λ h. (tt, same_long text word h)) (λ h. tt)
 
 -- Tables of fixed words.
-
--- what holds of a table's first word, and of the others
-infixr 3 ◌also◌
-pub ◌also◌ : {A B : Type 0} → A → B → A × B
-first also others = (first, others)
-
--- something holds of each word of a table with what it stands for
-abbrev pub Each : {A : Type 0} → (List ℕ → A → Type 0) → List (Keyword A) → Type 0
-Each Is [] = Unit {0}
-Each Is (k ∷ ks) = Is k.word k.means × Each Is ks
-
-pub looked_up : {A : Type 0} (Is : List ℕ → A → Type 0) (ks : List (Keyword A)) → Each Is ks → (text : List ℕ) → IfSome (Is text) (lookup ks text)
-unfolding lookup
-looked_up Is [] each text = tt
-looked_up Is (k ∷ ks) each text =
-    chosen_some (Is text) (bytes_eq text k.word) (Some k.means) (lookup ks text)
-    (λ h. subst (λ (t : List ℕ). Is t k.means) (sym ((bytes_eq-Decides text k.word).0 h)) each.0) (λ h. looked_up Is ks each.1 text)
 
 pub keyword_fits : {A : Type 0} (text_of : A → List ℕ) (ks : List (Keyword A)) → Each (λ word value. word ≡ text_of value) ks → ReadsFit (lookup ks) (λ value. Unit {0}) text_of
 keyword_fits text_of ks each text =

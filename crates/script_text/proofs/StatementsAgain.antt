@@ -1,68 +1,34 @@
 -- The words of a line are read as what the line says.
 use Rattle.std.proofs.Common.{◌≡◌, ℕ, ◌+◌, ◌≤◌, Bool, true, false, cond, ◌&&◌, not, List, [], ◌∷◌, ◌++◌, length, Some, None, refl, ap, ◌∙◌}
-use Rattle.std.specs.Prelude.{option_and_then, Result, Ok, bytes_eq, codes}
+use Rattle.std.specs.Prelude.{Option, option_and_then, Result, Ok, bytes_eq, codes}
 use Rattle.std.specs.List.{list_any}
 use Rattle.word_model.specs.Names.{is_name}
 use Rattle.word_model.specs.Numbers.{decimal}
-use Rattle.script_model.specs.Syntax.{Action, Viewport, MakeBlock, MakeImage, MakeFrame, Append, Before, Remove, SetStyle, Grow, Load, MakeResizeObserver, ObserveResize, UnobserveResize, DisconnectResize, MakeIntersectionObserver, ObserveIntersection, UnobserveIntersection, DisconnectIntersection, TakeIntersections, Listen, Unlisten, MakeQueryList, ScrollTo, ScrollBy, RequestFrame, CancelFrame, SetTimer, ClearTimer, Post, Say, Read, Test, Wider, Taller, Matches, Attached, Seen, Condition}
+use Rattle.script_model.specs.Syntax.{Action, Viewport, Test, Seen, Condition}
 use Rattle.script_model.specs.Readers.{◌>>=◌}
 use Rattle.script_model.specs.Keywords.{lookup}
 use Rattle.script_model.specs.Lexing.{Word, Row}
 use Rattle.script_model.specs.Forms.{Taken, WholeForm, none_in, none_left, From, made}
-use Rattle.script_model.specs.Commands.{TestShape, TestOf, tests, Head, ActionHead, TickHead, EachHead, WhenHead, HandlerHead, EndHead, make_observer, heads}
+use Rattle.script_model.specs.Commands.{TestShape, TestOf, tests, Head, ActionHead, TickHead, EachHead, WhenHead, HandlerHead, EndHead, heads}
 use Rattle.script_model.specs.Statements.{Statement, Does, Ticks, OpensEach, OpensWhen, OpensHandler, Ends, Standing, permitted, head_of, fresh_name_of, negation_in, test_in, condition_behind, condition_as, handler_as, operands_of, statement_of}
-use Rattle.script_text.specs.Parts.{PartOf, all_words}
-use Rattle.script_text.specs.Phrases.{action_head, action_parts, action_words, test_head, test_parts, condition_words}
+use Rattle.script_text.specs.Parts.{all_words}
+use Rattle.script_text.specs.Entries.{entry_at, ValuesOf}
+use Rattle.script_text.specs.Phrases.{action_entry, action_at, action_phrase, action_head, action_parts, action_words, test_entry, test_at, test_phrase, test_head, test_parts, condition_words}
 use Rattle.script_text.specs.WellFormed.{AreMeant}
 use Rattle.script_text.proofs.WordBytes.{IsWord}
-use Rattle.script_text.proofs.WordsAgain.{fixed}
-use Rattle.script_text.proofs.PartsAgain.{words_at, row, word_read, forms_in, applied, Stand, made_again}
+use Rattle.script_text.proofs.Tables.{lookup_found, table_word}
+use Rattle.script_text.proofs.PartsAgain.{words_at, row, word_read, made_again, stands, made_of, IsMadeOf, phrase_again}
 
-unfoldable pub is_media : Action → Bool
-is_media (MakeQueryList name document query) = true
-is_media action = false
+-- the table of commands makes each action of what it is said by
+action_again : (action : Action) → made_of (action_at (action_head action)) (action_phrase action).values ≡ action
+action_again (Viewport width height) = refl
+action_again action = refl
 
--- what a command's word makes of its parts
-pub record ActionFound (action : Action) : Type 0 where
-  pub makes : From (forms_in (action_parts action)) Action
-  pub found : lookup heads (action_head action) ≡ Some (ActionHead (forms_in (action_parts action)) makes)
-  pub made : applied (action_parts action) makes ≡ action
-  pub word : IsWord (action_head action)
-  pub stand : is_media action ≡ false → Stand (action_parts action)
-
-pub action_found : (action : Action) → ActionFound action
-unfolding lookup is_media words_at
-action_found (Viewport width height) = record { makes = Viewport; found = refl; made = refl; word = fixed _ _ refl refl; stand = λ plain. (λ column. tt, (λ column. tt, tt)) }
-action_found (MakeBlock name document) = record { makes = MakeBlock; found = refl; made = refl; word = fixed _ _ refl refl; stand = λ plain. (λ column. tt, (λ column. tt, tt)) }
-action_found (MakeImage name document width height) = record { makes = MakeImage; found = refl; made = refl; word = fixed _ _ refl refl; stand = λ plain. (λ column. tt, (λ column. tt, (λ column. tt, (λ column. tt, tt)))) }
-action_found (MakeFrame name document inside) = record { makes = MakeFrame; found = refl; made = refl; word = fixed _ _ refl refl; stand = λ plain. (λ column. tt, (λ column. tt, (λ column. tt, tt))) }
-action_found (Append parent node) = record { makes = Append; found = refl; made = refl; word = fixed _ _ refl refl; stand = λ plain. (λ column. tt, (λ column. tt, tt)) }
-action_found (Before parent node sibling) = record { makes = Before; found = refl; made = refl; word = fixed _ _ refl refl; stand = λ plain. (λ column. tt, (λ column. tt, (λ column. tt, tt))) }
-action_found (Remove node) = record { makes = Remove; found = refl; made = refl; word = fixed _ _ refl refl; stand = λ plain. (λ column. tt, tt) }
-action_found (SetStyle node declaration) = record { makes = SetStyle; found = refl; made = refl; word = fixed _ _ refl refl; stand = λ plain. (λ column. tt, (λ column. tt, tt)) }
-action_found (Grow node dimension by) = record { makes = Grow; found = refl; made = refl; word = fixed _ _ refl refl; stand = λ plain. (λ column. tt, (λ column. tt, (λ column. tt, tt))) }
-action_found (Load node width height) = record { makes = Load; found = refl; made = refl; word = fixed _ _ refl refl; stand = λ plain. (λ column. tt, (λ column. tt, (λ column. tt, tt))) }
-action_found (MakeResizeObserver name document handler) = record { makes = MakeResizeObserver; found = refl; made = refl; word = fixed _ _ refl refl; stand = λ plain. (λ column. tt, (λ column. tt, (λ column. tt, tt))) }
-action_found (ObserveResize observer node observed) = record { makes = ObserveResize; found = refl; made = refl; word = fixed _ _ refl refl; stand = λ plain. (λ column. tt, (λ column. tt, (λ column. tt, tt))) }
-action_found (UnobserveResize observer node) = record { makes = UnobserveResize; found = refl; made = refl; word = fixed _ _ refl refl; stand = λ plain. (λ column. tt, (λ column. tt, tt)) }
-action_found (DisconnectResize observer) = record { makes = DisconnectResize; found = refl; made = refl; word = fixed _ _ refl refl; stand = λ plain. (λ column. tt, tt) }
-action_found (MakeIntersectionObserver making) = record { makes = make_observer; found = refl; made = refl; word = fixed _ _ refl refl; stand = λ plain. (λ column. tt, (λ column. tt, (λ column. tt, (λ column. fixed _ _ refl refl, (λ column. tt, (λ column. fixed _ _ refl refl, (λ column. refl, (λ column. fixed _ _ refl refl, (λ column. refl, tt))))))))) }
-action_found (ObserveIntersection observer node) = record { makes = ObserveIntersection; found = refl; made = refl; word = fixed _ _ refl refl; stand = λ plain. (λ column. tt, (λ column. tt, tt)) }
-action_found (UnobserveIntersection observer node) = record { makes = UnobserveIntersection; found = refl; made = refl; word = fixed _ _ refl refl; stand = λ plain. (λ column. tt, (λ column. tt, tt)) }
-action_found (DisconnectIntersection observer) = record { makes = DisconnectIntersection; found = refl; made = refl; word = fixed _ _ refl refl; stand = λ plain. (λ column. tt, tt) }
-action_found (TakeIntersections observer) = record { makes = TakeIntersections; found = refl; made = refl; word = fixed _ _ refl refl; stand = λ plain. (λ column. tt, tt) }
-action_found (Listen aim event handler) = record { makes = Listen; found = refl; made = refl; word = fixed _ _ refl refl; stand = λ plain. (λ column. tt, (λ column. tt, (λ column. tt, tt))) }
-action_found (Unlisten aim event handler) = record { makes = Unlisten; found = refl; made = refl; word = fixed _ _ refl refl; stand = λ plain. (λ column. tt, (λ column. tt, (λ column. tt, tt))) }
-action_found (MakeQueryList name document query) = record { makes = MakeQueryList; found = refl; made = refl; word = fixed _ _ refl refl; stand = λ plain. absurd cc }
-action_found (ScrollTo node left top) = record { makes = ScrollTo; found = refl; made = refl; word = fixed _ _ refl refl; stand = λ plain. (λ column. tt, (λ column. tt, (λ column. tt, tt))) }
-action_found (ScrollBy node left top) = record { makes = ScrollBy; found = refl; made = refl; word = fixed _ _ refl refl; stand = λ plain. (λ column. tt, (λ column. tt, (λ column. tt, tt))) }
-action_found (RequestFrame document key handler) = record { makes = RequestFrame; found = refl; made = refl; word = fixed _ _ refl refl; stand = λ plain. (λ column. tt, (λ column. tt, (λ column. tt, tt))) }
-action_found (CancelFrame document key) = record { makes = CancelFrame; found = refl; made = refl; word = fixed _ _ refl refl; stand = λ plain. (λ column. tt, (λ column. tt, tt)) }
-action_found (SetTimer document key delay handler) = record { makes = SetTimer; found = refl; made = refl; word = fixed _ _ refl refl; stand = λ plain. (λ column. tt, (λ column. tt, (λ column. tt, (λ column. tt, tt)))) }
-action_found (ClearTimer document key) = record { makes = ClearTimer; found = refl; made = refl; word = fixed _ _ refl refl; stand = λ plain. (λ column. tt, (λ column. tt, tt)) }
-action_found (Post document handler) = record { makes = Post; found = refl; made = refl; word = fixed _ _ refl refl; stand = λ plain. (λ column. tt, (λ column. tt, tt)) }
-action_found (Say word) = record { makes = Say; found = refl; made = refl; word = fixed _ _ refl refl; stand = λ plain. (λ column. tt, tt) }
-action_found (Read node) = record { makes = Read; found = refl; made = refl; word = fixed _ _ refl refl; stand = λ plain. (λ column. tt, tt) }
+pub action_word : (action : Action) → IsWord (action_head action)
+action_word action = by_found (entry_at heads (action_head action)) (action_phrase action).values refl where
+  by_found : (head : Option Head) → ValuesOf (action_entry head) → entry_at heads (action_head action) ≡ head → IsWord (action_head action)
+  by_found None values e = absurd values
+  by_found (Some head) values e = table_word heads refl (action_head action) head (lookup_found heads (action_head action) ∙ e)
 
 -- a line says this, wherever its words end
 abbrev pub Says : Standing → List Word → Statement → Type 0
@@ -83,29 +49,36 @@ operands_action : (names : List (List ℕ)) (forms : _) (makes : From forms Acti
 unfolding operands_of
 operands_action names forms makes r = refl
 
+head_behind : (standing : Standing) (word : List ℕ) (head : Option Head) (values : ValuesOf (action_entry head)) → lookup heads word ≡ head → (column : ℕ) (rest : List Word) (after : ℕ) (bytes : List ℕ)
+    → IsMadeOf (action_entry head) values (row rest after bytes)
+    → statement_of standing (row (record { column = column; text = word } ∷ rest) after bytes) ≡ Ok (Does (made_of (action_entry head) values))
+head_behind standing word (Some (ActionHead forms makes)) values found column rest after bytes h =
+    headed standing (ActionHead forms makes) word column rest (action_permitted standing.outside word forms makes found) after bytes
+    ∙ operands_action standing.names forms makes (row rest after bytes)
+    ∙ ap (λ (r : Result Action ℕ). r >>= λ action. Ok (Does action)) h
+head_behind standing word head values found column rest after bytes h = absurd values
+
 -- what stands behind a command's word
 pub action_behind : (standing : Standing) (action : Action) (column : ℕ) (rest : List Word) (after : ℕ) (bytes : List ℕ)
-    → ((makes : From (forms_in (action_parts action)) Action) → made (forms_in (action_parts action)) makes (row rest after bytes) ≡ Ok (applied (action_parts action) makes))
+    → IsMadeOf (action_at (action_head action)) (action_phrase action).values (row rest after bytes)
     → statement_of standing (row (record { column = column; text = action_head action } ∷ rest) after bytes) ≡ Ok (Does action)
 action_behind standing action column rest after bytes h =
-    let f = action_found action in
-    headed standing (ActionHead (forms_in (action_parts action)) f.makes) (action_head action) column rest (action_permitted standing.outside (action_head action) _ f.makes f.found) after bytes
-    ∙ operands_action standing.names _ f.makes (row rest after bytes)
-    ∙ ap (λ (r : Result Action ℕ). r >>= λ action. Ok (Does action)) (h f.makes)
-    ∙ ap (λ (a : Action). Ok (Does a)) f.made
+    let word : List ℕ = action_head action in
+    head_behind standing word (entry_at heads word) (action_phrase action).values (lookup_found heads word) column rest after bytes h
+    ∙ ap (λ (a : Action). Ok (Does a)) (action_again action)
 
-pub action_says : (standing : Standing) (action : Action) → is_media action ≡ false → AreMeant (action_parts action) → Says standing (words_at 1 (action_words action)) (Does action)
+pub action_says : (standing : Standing) (action : Action) → stands (action_at (action_head action)) ≡ true → AreMeant (action_parts action) → Says standing (words_at 1 (action_words action)) (Does action)
 unfolding words_at
-action_says standing action plain h after bytes =
+action_says standing action stands h after bytes =
     let column : ℕ = 1 + length (action_head action) + 1 in
     action_behind standing action 1 (words_at column (all_words (action_parts action))) after bytes
-    (λ makes. made_again (action_parts action) makes h ((action_found action).stand plain) column after bytes)
+    (phrase_again (action_at (action_head action)) (action_phrase action).values stands h column after bytes)
 
 pub tick_says : (names : List (List ℕ)) (time : ℕ) → time ≤ 1000000000000 → Says (record { outside = true; names = names }) (words_at 1 (codes "tick" ∷ decimal time ∷ [])) (Ticks time)
 unfolding words_at head_of lookup operands_of
 tick_says names time h after bytes =
     headed (record { outside = true; names = names }) TickHead (codes "tick") 1 (words_at 6 (decimal time ∷ [])) refl after bytes
-    ∙ made_again (PartOf WholeForm time ∷ []) Ticks (h, tt) (λ column. tt, tt) 6 after bytes
+    ∙ made_again (WholeForm ∷ []) Ticks (time, tt) refl (h, tt) 6 after bytes
 
 each_permitted : (outside : Bool) → head_of outside (codes "each") ≡ Some EachHead
 unfolding head_of permitted lookup
@@ -139,33 +112,43 @@ handler_says names name h new after bytes =
 
 -- Conditions.
 
-pub record TestFound (test : Test) : Type 0 where
-  pub makes : From (forms_in (test_parts test)) Test
-  pub found : lookup tests (test_head test) ≡ Some (TestOf (forms_in (test_parts test)) makes)
-  pub made : applied (test_parts test) makes ≡ test
-  pub stand : Stand (test_parts test)
-  pub word : IsWord (test_head test)
-  pub no_negation : bytes_eq (test_head test) (codes "not") ≡ false
+-- the table of tests makes each test of what it is said by
+test_again : (test : Test) → made_of (test_at (test_head test)) (test_phrase test).values ≡ test
+test_again Seen = refl
+test_again test = refl
 
-pub test_found : (test : Test) → TestFound test
-unfolding lookup
-test_found (Wider node units) = record { makes = Wider; found = refl; made = refl; stand = (λ column. tt, (λ column. tt, tt)); word = fixed _ _ refl refl; no_negation = refl }
-test_found (Taller node units) = record { makes = Taller; found = refl; made = refl; stand = (λ column. tt, (λ column. tt, tt)); word = fixed _ _ refl refl; no_negation = refl }
-test_found (Matches query) = record { makes = Matches; found = refl; made = refl; stand = (λ column. tt, tt); word = fixed _ _ refl refl; no_negation = refl }
-test_found (Attached node) = record { makes = Attached; found = refl; made = refl; stand = (λ column. tt, tt); word = fixed _ _ refl refl; no_negation = refl }
-test_found Seen = record { makes = Seen; found = refl; made = refl; stand = tt; word = fixed _ _ refl refl; no_negation = refl }
+pub test_stands : (test : Test) → stands (test_at (test_head test)) ≡ true
+test_stands Seen = refl
+test_stands test = refl
+
+no_negation : (test : Test) → bytes_eq (test_head test) (codes "not") ≡ false
+no_negation Seen = refl
+no_negation test = refl
+
+pub test_word : (test : Test) → IsWord (test_head test)
+test_word test = by_found (entry_at tests (test_head test)) (test_phrase test).values refl where
+  by_found : (shape : Option TestShape) → ValuesOf (test_entry shape) → entry_at tests (test_head test) ≡ shape → IsWord (test_head test)
+  by_found None values e = absurd values
+  by_found (Some shape) values e = table_word tests refl (test_head test) shape (lookup_found tests (test_head test) ∙ e)
+
+shape_behind : (negated : Bool) (word : List ℕ) (shape : Option TestShape) (values : ValuesOf (test_entry shape)) → lookup tests word ≡ shape → (column : ℕ) (rest : List Word) (after : ℕ) (bytes : List ℕ)
+    → IsMadeOf (test_entry shape) values (row rest after bytes)
+    → condition_behind negated (row (record { column = column; text = word } ∷ rest) after bytes) ≡ Ok (record { negated = negated; asks = made_of (test_entry shape) values })
+unfolding condition_behind test_in
+shape_behind negated word None values found column rest after bytes h = absurd values
+shape_behind negated word (Some (TestOf forms makes)) values found column rest after bytes h =
+    ap (λ (r : Taken TestShape). r >>= λ test. test_in test.0 test.1 >>= λ asks. Ok (record { negated = negated; asks = asks })) (word_read (lookup tests) (TestOf forms makes) column word rest found after bytes)
+    ∙ ap (λ (r : Result Test ℕ). r >>= λ asks. Ok (record { negated = negated; asks = asks })) h
 
 test_behind : (negated : Bool) (test : Test) → AreMeant (test_parts test) → (column after : ℕ) (bytes : List ℕ)
     → condition_behind negated (row (words_at column (test_head test ∷ all_words (test_parts test))) after bytes) ≡ Ok (record { negated = negated; asks = test })
-unfolding condition_behind test_in words_at
+unfolding words_at
 test_behind negated test h column after bytes =
-    let f = test_found test in
-    let next : ℕ = column + length (test_head test) + 1 in
-    let rest : List Word = words_at next (all_words (test_parts test)) in
-    ap (λ (r : Taken TestShape). r >>= λ test. test_in test.0 test.1 >>= λ asks. Ok (record { negated = negated; asks = asks }))
-    (word_read (lookup tests) (TestOf (forms_in (test_parts test)) f.makes) column (test_head test) rest f.found after bytes)
-    ∙ ap (λ (r : Result Test ℕ). r >>= λ asks. Ok (record { negated = negated; asks = asks })) (made_again (test_parts test) f.makes h f.stand next after bytes)
-    ∙ ap (λ (t : Test). Ok (record { negated = negated; asks = t })) f.made
+    let word : List ℕ = test_head test in
+    let next : ℕ = column + length word + 1 in
+    shape_behind negated word (entry_at tests word) (test_phrase test).values (lookup_found tests word) column (words_at next (all_words (test_parts test))) after bytes
+    (phrase_again (test_at word) (test_phrase test).values (test_stands test) h next after bytes)
+    ∙ ap (λ (t : Test). Ok (record { negated = negated; asks = t })) (test_again test)
 
 negated_read : (negated : Bool) (test : Test) → AreMeant (test_parts test) → (column after : ℕ) (bytes : List ℕ)
     → condition_as (row (words_at column (cond negated (codes "not" ∷ []) [] ++ (test_head test ∷ all_words (test_parts test)))) after bytes) ≡ Ok (record { negated = negated; asks = test })
@@ -174,7 +157,7 @@ negated_read true test h column after bytes = test_behind true test h (column + 
 negated_read false test h column after bytes =
     let words : List Word = words_at column (test_head test ∷ all_words (test_parts test)) in
     ap (λ (b : Bool). condition_behind (cond {A = Bool × Row} b (true, row (words_at (column + length (test_head test) + 1) (all_words (test_parts test))) after bytes) (false, row words after bytes)).0
-    (cond {A = Bool × Row} b (true, row (words_at (column + length (test_head test) + 1) (all_words (test_parts test))) after bytes) (false, row words after bytes)).1) (test_found test).no_negation
+    (cond {A = Bool × Row} b (true, row (words_at (column + length (test_head test) + 1) (all_words (test_parts test))) after bytes) (false, row words after bytes)).1) (no_negation test)
     ∙ test_behind false test h column after bytes
 
 condition_read : (condition : Condition) → AreMeant (test_parts condition.asks) → (column after : ℕ) (bytes : List ℕ)

@@ -12,11 +12,10 @@ use Rattle.script_model.specs.Lines.{row_of}
 use Rattle.script_model.specs.Forms.{JustForm}
 use Rattle.script_model.specs.Statements.{version_as}
 use Rattle.script_model.specs.Reading.{Refusal, SyntaxAt, State, nothing_read, steps, finished, read_lines, read_lexed, reading}
-use Rattle.script_text.specs.Parts.{PartOf}
 use Rattle.script_text.specs.NumberedLines.{NumberedLine, numbered, command_lines, block_lines, item_lines, items_lines}
 use Rattle.script_text.specs.ScriptText.{line_text, lines_text, script_text, printed}
 use Rattle.script_text.specs.WellFormed.{IsCommand, IsBlock, IsItem, AreItems, AreShort, IsWellFormed}
-use Rattle.script_text.proofs.WordsAgain.{fixed}
+use Rattle.script_text.proofs.WordBytes.{as_word}
 use Rattle.script_text.proofs.PartsAgain.{words_at, row, made_again}
 use Rattle.script_text.proofs.LineWords.{AreWords, words_are, is_line, IsLine, line_of}
 use Rattle.script_text.proofs.LinesSay.{action_line, each_line, when_line, last_line, tick_line, handler_line}
@@ -62,13 +61,12 @@ unfolding line_text
 first_text = refl
 
 first_words : AreWords (codes "script" ∷ codes "1" ∷ [])
-first_words = (fixed _ _ refl refl, (fixed _ _ refl refl, tt))
+first_words = (as_word _ refl, (as_word _ refl, tt))
 
 version_row : (after : ℕ) (bytes : List ℕ) → version_as (row (words_at 1 (codes "script" ∷ codes "1" ∷ [])) after bytes) ≡ Ok tt
 unfolding version_as
 version_row after bytes =
-    made_again (PartOf (JustForm (codes "script")) tt ∷ PartOf (JustForm (codes "1")) tt ∷ []) (λ script version. tt) (tt, (tt, tt))
-    (λ column. fixed _ _ refl refl, (λ column. fixed _ _ refl refl, tt)) 1 after bytes
+    made_again (JustForm (codes "script") ∷ JustForm (codes "1") ∷ []) (λ script version. tt) (tt, (tt, tt)) refl (tt, (tt, tt)) 1 after bytes
 
 version_read : version_as (line_of (numbered 1 (codes "script" ∷ codes "1" ∷ []))).row ≡ Ok tt
 unfolding line_of row_of

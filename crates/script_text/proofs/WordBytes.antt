@@ -23,6 +23,18 @@ pub record IsWord (text : List ℕ) : Type 0 where
   pub bytes : AreWordBytes (first ∷ others)
   pub no_comment : (first == 35) ≡ false
 
+abbrev pub is_word : List ℕ → Bool
+is_word [] = false
+is_word (b ∷ bs) = list_all is_word_byte (b ∷ bs) && not (b == 35)
+
+pub not_true : (b : Bool) → not b ≡ true → b ≡ false
+not_true true h = absurd cc
+not_true false h = refl
+
+pub as_word : (text : List ℕ) → is_word text ≡ true → IsWord text
+as_word [] h = absurd cc
+as_word (b ∷ bs) h = let both = and_parts _ _ h in record { first = b; others = bs; text_is = refl; bytes = both.0; no_comment = not_true (b == 35) both.1 }
+
 -- a byte of a line that begins no comment
 abbrev pub is_quiet : ℕ → Bool
 is_quiet b = is_line_byte b && not (b == 35)

@@ -4,17 +4,18 @@ use Rattle.std.specs.Prelude.{Option, option_map, bytes_eq, codes}
 use Rattle.std.specs.List.{list_all}
 use Rattle.word_model.specs.Names.{is_name}
 use Rattle.px_units.specs.declared.BoxKind.{BoxKind}
-use Rattle.px_units.specs.declared.BoxKind.TheVariants.{Content, Border}
+use Rattle.px_units.specs.declared.BoxKind.TheVariants.{Content}
 use Rattle.text_io.specs.Kinds.{event_word}
 use Rattle.text_io.specs.declared.kinds.EventKind.{EventKind}
 use Rattle.text_io.specs.declared.kinds.EventKind.TheVariants as event
-use Rattle.script_model.specs.Syntax.{Operand, Named, Target, Aim, PlainAim, WindowAim, Dimension, WidthDimension, HeightDimension}
-use Rattle.script_model.specs.Keywords.{lookup}
+use Rattle.script_model.specs.Syntax.{Operand, Named, Target, Aim, PlainAim, WindowAim, Dimension, WidthDimension}
+use Rattle.script_model.specs.Keywords.{Keyword, lookup}
 use Rattle.script_model.specs.Lines.{is_word_byte}
 use Rattle.script_model.specs.Words.{name_of, node_of, aim_of, or_dash, events, boxes, dimensions}
 use Rattle.script_text.specs.WordText.{operand_text, aim_text, dash_or, box_text, dimension_text}
 use Rattle.script_text.specs.WellFormed.{IsName, IsOperand, IsAim, IfSome}
-use Rattle.script_text.proofs.WordBytes.{IsWord, letter_first, name_first, name_word}
+use Rattle.script_text.proofs.WordBytes.{IsWord, as_word, letter_first, name_first, name_word}
+use Rattle.script_text.proofs.Tables.{are_words, table_word}
 
 -- a word that is read so
 pub record IsReadAs {A : Type 0} (of : List ℕ → Option A) (value : A) (text : List ℕ) : Type 0 where
@@ -23,9 +24,6 @@ pub record IsReadAs {A : Type 0} (of : List ℕ → Option A) (value : A) (text 
 
 pub first_differs : (b c : ℕ) (bs cs : List ℕ) → (b == c) ≡ false → bytes_eq (b ∷ bs) (c ∷ cs) ≡ false
 first_differs b c bs cs h = ap (λ t. t && bytes_eq bs cs) h
-
-pub fixed : (b : ℕ) (bs : List ℕ) → list_all is_word_byte (b ∷ bs) ≡ true → (b == 35) ≡ false → IsWord (b ∷ bs)
-fixed b bs bytes no_comment = record { first = b; others = bs; text_is = refl; bytes = bytes; no_comment = no_comment }
 
 pub word_differs : (c : ℕ) (cs text : List ℕ) (word : IsWord text) → (word.first == c) ≡ false → bytes_eq text (c ∷ cs) ≡ false
 word_differs c cs text word h = ap (λ (t : List ℕ). bytes_eq t (c ∷ cs)) word.text_is ∙ first_differs word.first c word.others cs h
@@ -42,7 +40,7 @@ node_named (b ∷ bs) h =
     ∙ ap (option_map Named) (name_again (b ∷ bs) h).read
 
 target_word : IsWord (codes "$target")
-target_word = fixed 36 (codes "target") refl refl
+target_word = as_word (codes "$target") refl
 
 pub node_again : (operand : Operand) → IsOperand operand → IsReadAs node_of operand (operand_text operand)
 unfolding node_of
@@ -66,7 +64,7 @@ aim_again (PlainAim Target) h = record { read = refl; word = target_word }
 aim_again (WindowAim document) h = record { read = ap (option_map WindowAim) (name_again document h).read; word = at_word document (name_word document h) }
 
 dash_word : IsWord (codes "-")
-dash_word = fixed 45 [] refl refl
+dash_word = as_word (codes "-") refl
 
 some_again : {A : Type 0} (of : List ℕ → Option A) (value : A) (text : List ℕ) → of text ≡ Some value → bytes_eq text (codes "-") ≡ false → or_dash of text ≡ Some (Some value)
 unfolding or_dash
@@ -88,19 +86,30 @@ root_again None h = record { read = refl; word = dash_word }
 root_again (Some (Named name)) h = record { read = some_again node_of (Named name) name (node_named name h) (no_dash_name name h); word = name_word name h }
 root_again (Some Target) h = record { read = some_again node_of Target (codes "$target") (node_again Target tt).read refl; word = target_word }
 
-pub event_again : (kind : EventKind) → IsReadAs (lookup events) kind (event_word kind)
+-- a word of a table is read as what the table has there
+pub keyword_again : {A : Type 0} (ks : List (Keyword A)) → are_words ks ≡ true → (text : List ℕ) (value : A) → lookup ks text ≡ Some value → IsReadAs (lookup ks) value text
+keyword_again ks words text value found = record { read = found; word = table_word ks words text value found }
+
+event_found : (kind : EventKind) → lookup events (event_word kind) ≡ Some kind
 unfolding lookup
-event_again event.Resize = record { read = refl; word = fixed 114 (codes "esize") refl refl }
-event_again event.Scroll = record { read = refl; word = fixed 115 (codes "croll") refl refl }
-event_again event.Error = record { read = refl; word = fixed 101 (codes "rror") refl refl }
-event_again event.Change = record { read = refl; word = fixed 99 (codes "hange") refl refl }
+event_found event.Resize = refl
+event_found kind = refl
+
+pub event_again : (kind : EventKind) → IsReadAs (lookup events) kind (event_word kind)
+event_again kind = keyword_again events refl (event_word kind) kind (event_found kind)
+
+box_found : (box : BoxKind) → lookup boxes (box_text box) ≡ Some box
+unfolding lookup
+box_found Content = refl
+box_found box = refl
 
 pub box_again : (box : BoxKind) → IsReadAs (lookup boxes) box (box_text box)
+box_again box = keyword_again boxes refl (box_text box) box (box_found box)
+
+dimension_found : (dimension : Dimension) → lookup dimensions (dimension_text dimension) ≡ Some dimension
 unfolding lookup
-box_again Content = record { read = refl; word = fixed 99 (codes "ontent") refl refl }
-box_again Border = record { read = refl; word = fixed 98 (codes "order") refl refl }
+dimension_found WidthDimension = refl
+dimension_found dimension = refl
 
 pub dimension_again : (dimension : Dimension) → IsReadAs (lookup dimensions) dimension (dimension_text dimension)
-unfolding lookup
-dimension_again WidthDimension = record { read = refl; word = fixed 119 (codes "idth") refl refl }
-dimension_again HeightDimension = record { read = refl; word = fixed 104 (codes "eight") refl refl }
+dimension_again dimension = keyword_again dimensions refl (dimension_text dimension) dimension (dimension_found dimension)

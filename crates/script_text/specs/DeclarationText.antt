@@ -38,30 +38,30 @@ overflow_text OverflowClip = codes "clip"
 overflow_text OverflowScroll = codes "scroll"
 overflow_text OverflowAuto = codes "auto"
 
+-- the name of a property, and a value
+pub record DeclarationPhrase : Type 0 where
+  pub property : List ℕ
+  pub value : List ℕ
+
+abbrev pub sets_to : List ℕ → List ℕ → DeclarationPhrase
+sets_to property value = record { property = property; value = value }
+
+abbrev pub declaration_phrase : Declaration → DeclarationPhrase
+declaration_phrase (SetDisplay hidden) = sets_to (codes "display") (display_text hidden)
+declaration_phrase (SetWidth value) = sets_to (codes "width") (size_text value)
+declaration_phrase (SetHeight value) = sets_to (codes "height") (size_text value)
+declaration_phrase (SetMinWidth value) = sets_to (codes "min-width") (size_text value)
+declaration_phrase (SetMinHeight value) = sets_to (codes "min-height") (size_text value)
+declaration_phrase (SetMaxWidth value) = sets_to (codes "max-width") (none_or_text value)
+declaration_phrase (SetMaxHeight value) = sets_to (codes "max-height") (none_or_text value)
+declaration_phrase (SetMargin side value) = sets_to (codes "margin" ++ side_text side) (size_text value)
+declaration_phrase (SetPadding side value) = sets_to (codes "padding" ++ side_text side) (size_text value)
+declaration_phrase (SetBorder side units) = sets_to (codes "border" ++ side_text side) (length_text units)
+declaration_phrase (SetBoxSizing value) = sets_to (codes "box-sizing") (box_sizing_text value)
+declaration_phrase (SetOverflow value) = sets_to (codes "overflow") (overflow_text value)
+
 abbrev pub property_text : Declaration → List ℕ
-property_text (SetDisplay hidden) = codes "display"
-property_text (SetWidth value) = codes "width"
-property_text (SetHeight value) = codes "height"
-property_text (SetMinWidth value) = codes "min-width"
-property_text (SetMinHeight value) = codes "min-height"
-property_text (SetMaxWidth value) = codes "max-width"
-property_text (SetMaxHeight value) = codes "max-height"
-property_text (SetMargin side value) = codes "margin" ++ side_text side
-property_text (SetPadding side value) = codes "padding" ++ side_text side
-property_text (SetBorder side units) = codes "border" ++ side_text side
-property_text (SetBoxSizing value) = codes "box-sizing"
-property_text (SetOverflow value) = codes "overflow"
+property_text declaration = (declaration_phrase declaration).property
 
 abbrev pub value_text : Declaration → List ℕ
-value_text (SetDisplay hidden) = display_text hidden
-value_text (SetWidth value) = size_text value
-value_text (SetHeight value) = size_text value
-value_text (SetMinWidth value) = size_text value
-value_text (SetMinHeight value) = size_text value
-value_text (SetMaxWidth value) = none_or_text value
-value_text (SetMaxHeight value) = none_or_text value
-value_text (SetMargin side value) = size_text value
-value_text (SetPadding side value) = size_text value
-value_text (SetBorder side units) = length_text units
-value_text (SetBoxSizing value) = box_sizing_text value
-value_text (SetOverflow value) = overflow_text value
+value_text declaration = (declaration_phrase declaration).value

@@ -2,6 +2,7 @@ pub mod NumberText
 pub mod WordText
 pub mod DeclarationText
 pub mod Parts
+pub mod Entries
 pub mod Phrases
 pub mod NumberedLines
 pub mod ScriptText

@@ -1,113 +1,86 @@
--- The words of commands: the word that names a command, and the parts behind it.
-use Rattle.std.specs.Prelude.{ℕ, cond, List, [], ◌∷◌, ◌++◌, codes}
-use Rattle.script_model.specs.Syntax.{Action, Viewport, MakeBlock, MakeImage, MakeFrame, Append, Before, Remove, SetStyle, Grow, Load, MakeResizeObserver, ObserveResize, UnobserveResize, DisconnectResize, MakeIntersectionObserver, ObserveIntersection, UnobserveIntersection, DisconnectIntersection, TakeIntersections, Listen, Unlisten, MakeQueryList, ScrollTo, ScrollBy, RequestFrame, CancelFrame, SetTimer, ClearTimer, Post, Say, Read, Test, Wider, Taller, Matches, Attached, Seen, Condition, ObserverMaking}
-use Rattle.script_model.specs.Forms.{NameForm, NodeForm, AimForm, HandlerForm, RootForm, LengthForm, SignedForm, WholeForm, EventForm, BoxForm, DimensionForm, DeclarationForm, JustForm, MarginForm, NumbersForm, QueryForm}
-use Rattle.script_text.specs.Parts.{Part, PartOf, all_words}
+-- The words of commands and tests: each is said by its word in the table of commands and the values of its parts, whose
+-- forms are those that the table has at that word.
+use Rattle.std.specs.Prelude.{ℕ, cond, List, [], ◌∷◌, ◌++◌, Option, Some, None, codes}
+use Rattle.script_model.specs.Syntax.{Action, Viewport, MakeBlock, MakeImage, MakeFrame, Append, Before, Remove, SetStyle, Grow, Load, MakeResizeObserver, ObserveResize, UnobserveResize, DisconnectResize, MakeIntersectionObserver, ObserveIntersection, UnobserveIntersection, DisconnectIntersection, TakeIntersections, Listen, Unlisten, MakeQueryList, ScrollTo, ScrollBy, RequestFrame, CancelFrame, SetTimer, ClearTimer, Post, Say, Read, Test, Wider, Taller, Matches, Attached, Seen, Condition}
+use Rattle.script_model.specs.Commands.{TestShape, TestOf, tests, Head, ActionHead, heads}
+use Rattle.script_text.specs.Parts.{Part, all_words}
+use Rattle.script_text.specs.Entries.{Entry, entry_at, Takes, Phrase, phrase_at, parts_behind}
 
-abbrev pub observer_parts : ObserverMaking → List Part
-observer_parts making =
-    PartOf NameForm (making.name)
-    ∷ PartOf NameForm (making.document)
-    ∷ PartOf HandlerForm (making.handler)
-    ∷ PartOf (JustForm (codes "root")) tt
-    ∷ PartOf RootForm (making.root)
-    ∷ PartOf (JustForm (codes "margin")) tt
-    ∷ PartOf MarginForm (making.margin)
-    ∷ PartOf (JustForm (codes "threshold")) tt
-    ∷ PartOf NumbersForm (making.thresholds)
-    ∷ []
+abbrev pub action_entry : Option Head → Option (Entry Action)
+action_entry (Some (ActionHead forms makes)) = Some (record { forms = forms; makes = makes })
+action_entry other = None
+
+abbrev pub action_at : List ℕ → Option (Entry Action)
+action_at word = action_entry (entry_at heads word)
+
+abbrev pub says : (word : List ℕ) → Takes (action_at word) (Phrase action_at)
+says word = phrase_at action_at word
+
+abbrev pub action_phrase : Action → Phrase action_at
+action_phrase (Viewport width height) = says (codes "viewport") width height
+action_phrase (MakeBlock name document) = says (codes "block") name document
+action_phrase (MakeImage name document width height) = says (codes "image") name document width height
+action_phrase (MakeFrame name document inside) = says (codes "frame") name document inside
+action_phrase (Append parent node) = says (codes "append") parent node
+action_phrase (Before parent node sibling) = says (codes "before") parent node sibling
+action_phrase (Remove node) = says (codes "remove") node
+action_phrase (SetStyle node declaration) = says (codes "set") node declaration
+action_phrase (Grow node dimension by) = says (codes "grow") node dimension by
+action_phrase (Load node width height) = says (codes "load") node width height
+action_phrase (MakeResizeObserver name document handler) = says (codes "ro") name document handler
+action_phrase (ObserveResize observer node observed) = says (codes "ro-observe") observer node observed
+action_phrase (UnobserveResize observer node) = says (codes "ro-unobserve") observer node
+action_phrase (DisconnectResize observer) = says (codes "ro-disconnect") observer
+action_phrase (MakeIntersectionObserver making) =
+    says (codes "io") making.name making.document making.handler tt making.root tt making.margin tt making.thresholds
+action_phrase (ObserveIntersection observer node) = says (codes "io-observe") observer node
+action_phrase (UnobserveIntersection observer node) = says (codes "io-unobserve") observer node
+action_phrase (DisconnectIntersection observer) = says (codes "io-disconnect") observer
+action_phrase (TakeIntersections observer) = says (codes "io-take") observer
+action_phrase (Listen aim event handler) = says (codes "listen") aim event handler
+action_phrase (Unlisten aim event handler) = says (codes "unlisten") aim event handler
+action_phrase (MakeQueryList name document query) = says (codes "media") name document query
+action_phrase (ScrollTo node left top) = says (codes "scroll") node left top
+action_phrase (ScrollBy node left top) = says (codes "scroll-by") node left top
+action_phrase (RequestFrame document key handler) = says (codes "raf") document key handler
+action_phrase (CancelFrame document key) = says (codes "cancel-raf") document key
+action_phrase (SetTimer document key delay handler) = says (codes "timer") document key delay handler
+action_phrase (ClearTimer document key) = says (codes "clear-timer") document key
+action_phrase (Post document handler) = says (codes "post") document handler
+action_phrase (Say word) = says (codes "say") word
+action_phrase (Read node) = says (codes "read") node
 
 abbrev pub action_head : Action → List ℕ
-action_head (Viewport width height) = codes "viewport"
-action_head (MakeBlock name document) = codes "block"
-action_head (MakeImage name document width height) = codes "image"
-action_head (MakeFrame name document inside) = codes "frame"
-action_head (Append parent node) = codes "append"
-action_head (Before parent node sibling) = codes "before"
-action_head (Remove node) = codes "remove"
-action_head (SetStyle node declaration) = codes "set"
-action_head (Grow node dimension by) = codes "grow"
-action_head (Load node width height) = codes "load"
-action_head (MakeResizeObserver name document handler) = codes "ro"
-action_head (ObserveResize observer node observed) = codes "ro-observe"
-action_head (UnobserveResize observer node) = codes "ro-unobserve"
-action_head (DisconnectResize observer) = codes "ro-disconnect"
-action_head (MakeIntersectionObserver making) = codes "io"
-action_head (ObserveIntersection observer node) = codes "io-observe"
-action_head (UnobserveIntersection observer node) = codes "io-unobserve"
-action_head (DisconnectIntersection observer) = codes "io-disconnect"
-action_head (TakeIntersections observer) = codes "io-take"
-action_head (Listen aim event handler) = codes "listen"
-action_head (Unlisten aim event handler) = codes "unlisten"
-action_head (MakeQueryList name document query) = codes "media"
-action_head (ScrollTo node left top) = codes "scroll"
-action_head (ScrollBy node left top) = codes "scroll-by"
-action_head (RequestFrame document key handler) = codes "raf"
-action_head (CancelFrame document key) = codes "cancel-raf"
-action_head (SetTimer document key delay handler) = codes "timer"
-action_head (ClearTimer document key) = codes "clear-timer"
-action_head (Post document handler) = codes "post"
-action_head (Say word) = codes "say"
-action_head (Read node) = codes "read"
+action_head action = (action_phrase action).word
 
 abbrev pub action_parts : Action → List Part
-action_parts (Viewport width height) = PartOf LengthForm width ∷ PartOf LengthForm height ∷ []
-action_parts (MakeBlock name document) = PartOf NameForm name ∷ PartOf NameForm document ∷ []
-action_parts (MakeImage name document width height) =
-    PartOf NameForm name ∷ PartOf NameForm document ∷ PartOf LengthForm width ∷ PartOf LengthForm height ∷ []
-action_parts (MakeFrame name document inside) =
-    PartOf NameForm name ∷ PartOf NameForm document ∷ PartOf NameForm inside ∷ []
-action_parts (Append parent node) = PartOf NodeForm parent ∷ PartOf NodeForm node ∷ []
-action_parts (Before parent node sibling) =
-    PartOf NodeForm parent ∷ PartOf NodeForm node ∷ PartOf NodeForm sibling ∷ []
-action_parts (Remove node) = PartOf NodeForm node ∷ []
-action_parts (SetStyle node declaration) = PartOf NodeForm node ∷ PartOf DeclarationForm declaration ∷ []
-action_parts (Grow node dimension by) =
-    PartOf NodeForm node ∷ PartOf DimensionForm dimension ∷ PartOf SignedForm by ∷ []
-action_parts (Load node width height) = PartOf NodeForm node ∷ PartOf LengthForm width ∷ PartOf LengthForm height ∷ []
-action_parts (MakeResizeObserver name document handler) =
-    PartOf NameForm name ∷ PartOf NameForm document ∷ PartOf HandlerForm handler ∷ []
-action_parts (ObserveResize observer node observed) =
-    PartOf NameForm observer ∷ PartOf NodeForm node ∷ PartOf BoxForm observed ∷ []
-action_parts (UnobserveResize observer node) = PartOf NameForm observer ∷ PartOf NodeForm node ∷ []
-action_parts (DisconnectResize observer) = PartOf NameForm observer ∷ []
-action_parts (MakeIntersectionObserver making) = observer_parts making
-action_parts (ObserveIntersection observer node) = PartOf NameForm observer ∷ PartOf NodeForm node ∷ []
-action_parts (UnobserveIntersection observer node) = PartOf NameForm observer ∷ PartOf NodeForm node ∷ []
-action_parts (DisconnectIntersection observer) = PartOf NameForm observer ∷ []
-action_parts (TakeIntersections observer) = PartOf NameForm observer ∷ []
-action_parts (Listen aim event handler) = PartOf AimForm aim ∷ PartOf EventForm event ∷ PartOf NameForm handler ∷ []
-action_parts (Unlisten aim event handler) = PartOf AimForm aim ∷ PartOf EventForm event ∷ PartOf NameForm handler ∷ []
-action_parts (MakeQueryList name document query) =
-    PartOf NameForm name ∷ PartOf NameForm document ∷ PartOf QueryForm query ∷ []
-action_parts (ScrollTo node left top) = PartOf NodeForm node ∷ PartOf SignedForm left ∷ PartOf SignedForm top ∷ []
-action_parts (ScrollBy node left top) = PartOf NodeForm node ∷ PartOf SignedForm left ∷ PartOf SignedForm top ∷ []
-action_parts (RequestFrame document key handler) =
-    PartOf NameForm document ∷ PartOf NameForm key ∷ PartOf NameForm handler ∷ []
-action_parts (CancelFrame document key) = PartOf NameForm document ∷ PartOf NameForm key ∷ []
-action_parts (SetTimer document key delay handler) =
-    PartOf NameForm document ∷ PartOf NameForm key ∷ PartOf WholeForm delay ∷ PartOf NameForm handler ∷ []
-action_parts (ClearTimer document key) = PartOf NameForm document ∷ PartOf NameForm key ∷ []
-action_parts (Post document handler) = PartOf NameForm document ∷ PartOf NameForm handler ∷ []
-action_parts (Say word) = PartOf NameForm word ∷ []
-action_parts (Read node) = PartOf NodeForm node ∷ []
+action_parts action = parts_behind (action_at (action_head action)) (action_phrase action).values
 
 abbrev pub action_words : Action → List (List ℕ)
 action_words action = action_head action ∷ all_words (action_parts action)
 
+abbrev pub test_entry : Option TestShape → Option (Entry Test)
+test_entry (Some (TestOf forms makes)) = Some (record { forms = forms; makes = makes })
+test_entry None = None
+
+abbrev pub test_at : List ℕ → Option (Entry Test)
+test_at word = test_entry (entry_at tests word)
+
+abbrev pub asks : (word : List ℕ) → Takes (test_at word) (Phrase test_at)
+asks word = phrase_at test_at word
+
+abbrev pub test_phrase : Test → Phrase test_at
+test_phrase (Wider node units) = asks (codes "wider") node units
+test_phrase (Taller node units) = asks (codes "taller") node units
+test_phrase (Matches query) = asks (codes "matches") query
+test_phrase (Attached node) = asks (codes "attached") node
+test_phrase Seen = asks (codes "seen")
+
 abbrev pub test_head : Test → List ℕ
-test_head (Wider node units) = codes "wider"
-test_head (Taller node units) = codes "taller"
-test_head (Matches query) = codes "matches"
-test_head (Attached node) = codes "attached"
-test_head Seen = codes "seen"
+test_head test = (test_phrase test).word
 
 abbrev pub test_parts : Test → List Part
-test_parts (Wider node units) = PartOf NodeForm node ∷ PartOf LengthForm units ∷ []
-test_parts (Taller node units) = PartOf NodeForm node ∷ PartOf LengthForm units ∷ []
-test_parts (Matches query) = PartOf NameForm query ∷ []
-test_parts (Attached node) = PartOf NodeForm node ∷ []
-test_parts Seen = []
+test_parts test = parts_behind (test_at (test_head test)) (test_phrase test).values
 
 -- `not` stands before a condition that is turned round
 abbrev pub condition_words : Condition → List (List ℕ)
