@@ -6,8 +6,6 @@ mod entry;
 mod laws;
 mod registration;
 mod root;
-#[cfg(test)]
-mod tests;
 mod watcher;
 mod watchers;
 

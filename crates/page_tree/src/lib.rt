@@ -7,8 +7,6 @@ mod faults;
 mod page;
 mod readings;
 mod standing;
-#[cfg(test)]
-mod tests;
 
 pub use element::Element;
 pub use faults::{MakeFault, PlaceFault};

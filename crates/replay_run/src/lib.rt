@@ -5,21 +5,13 @@
 
 mod call;
 mod check;
-#[cfg(test)]
-mod forms;
 mod input;
 mod laws;
-#[cfg(test)]
-mod limits;
 mod lines;
 mod play;
 mod printing;
-#[cfg(test)]
-mod scripts;
 mod status;
 mod summary;
-#[cfg(test)]
-mod tests;
 mod words;
 
 pub use call::{Report, run, run_uncounted};

@@ -1,8 +1,8 @@
 //! Calls with their answers, as the standard's steps give them, with each call that memory is refused to.
 ghost use Rattle.std.specs.Prelude.{◌≡◌, ◌<◌, ◌≤◌, ◌+◌, ◌^◌, length, IfOk};
 
-use crate::{Entry, Finding, Root, Settled, WatchFault, WatcherId, Watchers};
 use element_tree::NodeId;
+use intersection_observer::{Entry, Finding, Root, Settled, WatchFault, WatcherId, Watchers};
 use px_units::Rect;
 use std::alloc::Global;
 use std::test::Fail;

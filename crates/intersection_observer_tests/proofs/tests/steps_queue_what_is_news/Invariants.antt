@@ -1,5 +1,5 @@
 use Rattle.std.proofs.Common.{◌≤◌, ◌*◌}
-use Rattle.intersection_observer.proofs.tests.steps_queue_what_is_news.Given as goal
+use Rattle.intersection_observer_tests.proofs.tests.steps_queue_what_is_news.Given as goal
 
 -- a step gives one serial number at most, and it is tried twice at most
 abbrev pub invariant-loop-number : goal.invariant-loop-number

@@ -1,5 +1,5 @@
 use crate::scripts::{ENDLESS, GROWING, PAGE, REFUSED, RUNS, TOLD};
-use crate::{Status, run_uncounted};
+use replay_run::{Status, run_uncounted};
 use std::alloc::{AllocError, Global};
 use std::marker::Brand;
 use std::process::Abort;

@@ -1,9 +1,9 @@
 //! Edits of a page of five elements, by the rules of DOM, lengths that grow, and the life of three documents in frames.
 
-use crate::{Axis, Container, MakeFault, PageTree, PlaceFault};
 use block_layout::ItemKind;
 use element_tree::NodeId;
 use page_documents::DocumentState;
+use page_tree::{Axis, Container, MakeFault, PageTree, PlaceFault};
 use px_units::{Length, Px, Size};
 use std::alloc::Global;
 use std::process::Abort;

@@ -1,8 +1,8 @@
 //! The five forms of words, with what they give, and other words.
 
-use crate::Status;
 use crate::scripts::{GROWING, PAGE};
 use crate::tests::{Answer, WHOLE, replayed};
+use replay_run::Status;
 use std::alloc::{AllocError, Global};
 use std::test::Fail;
 

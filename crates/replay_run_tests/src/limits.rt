@@ -1,8 +1,8 @@
 //! Each limit at its number, and one past it.
 
-use crate::Status;
 use crate::scripts::{NUMBERED, Numbered, OBSERVING, Observing};
 use crate::tests::{WHOLE, expect};
+use replay_run::Status;
 use std::alloc::{AllocError, Global};
 use std::process::Abort;
 use std::test::Fail;
