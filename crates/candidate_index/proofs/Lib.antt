@@ -1,4 +1,3 @@
-pub mod Cuts
 pub mod Leaving
 pub mod Places
 pub mod Asking

@@ -1,10 +1,9 @@
 //! What is found of a target, and from what.
 
-ghost use Rattle.std.specs.Prelude.{◌≡◌, ◌+◌, ℕ, List, IfSome, unwrap_or, option_map};
-ghost use Rattle.px_units.specs.Rects.{area};
+ghost use Rattle.std.specs.Prelude.{◌≡◌, ◌+◌, ℕ, List, IfSome};
 ghost use Rattle.page_model.specs.World.{Root as ModelRoot};
 ghost use Rattle.page_model.specs.Chains.{moved_out};
-ghost use Rattle.page_model.specs.Findings.{all_or_nothing, ratio_of, unseen};
+ghost use Rattle.page_model.specs.Findings.{unseen};
 ghost use Rattle.clip_chain.specs.declared.spot.Spot.{Spot as SpotOf};
 ghost use Rattle.clip_chain.specs.Ranges.{IsBounds};
 ghost use Rattle.clip_chain.specs.Scenes.{root_bounds};
@@ -13,7 +12,8 @@ ghost use Rattle.clip_chain.specs.Worlds.{element_spot, spot_of_root};
 ghost use Rattle.intersection_observer.specs.Places.{IsStanding};
 ghost use Rattle.intersection_observer.specs.Seen.{seen_root, seen_finding};
 ghost use Rattle.kept_clips.specs.Chains.{IsExact};
-ghost use Rattle.candidate_index.specs.Ranges.{LiesIn, HasBoundsIn, HasBounds};
+ghost use Rattle.thresholds.specs.Areas.{LiesIn};
+ghost use Rattle.candidate_index.specs.Ranges.{HasBoundsIn, HasBounds};
 ghost use Rattle.candidate_index.specs.Findings.{cut_to, seen, found_from, sight_over};
 ghost use Rattle.candidate_index.specs.Registrations.{basis_for, IfChained, HasClip, IsReady, IsBetween};
 ghost use Rattle.candidate_index.specs.Asked.{asked_if, steps_if, asked_for, steps_for};
@@ -23,14 +23,10 @@ use clip_chain::{Geometry, Spot, root_rect};
 use element_tree::NodeId;
 use intersection_observer::{Finding, RegistrationId, Root, Watchers};
 use kept_clips::{Clip, Clips};
-use px_units::{Rect, area, meet};
+use px_units::{Rect, meet};
 use std::sync::ledger::Ledger;
 use step_count::Steps;
-use thresholds::{Margins, Ratio, Thresholds};
-
-const NOTHING: Ratio = Ratio { part: 0, whole: 1 };
-
-const ALL: Ratio = Ratio { part: 1, whole: 1 };
+use thresholds::{Margins, NOTHING, Thresholds, ratio_of};
 
 const NO_RECT: Rect = Rect {
     left: 0,
@@ -118,9 +114,7 @@ pub(crate) fn basis_of<S: Scene, L: Ledger>(
 
 // What limits and a clip leave of a box.
 fn cut_to(bounds: Rect, limits: Rect, clip: Clip) -> Option<Rect>
-    requires { IsBounds bounds }
     ensures value { result ≡ cut_to bounds limits clip }
-    ensures range { IfSome result IsBounds }
     ensures inside { IfSome result (LiesIn bounds) }
 {
     let within = meet(bounds, limits)?;
@@ -131,43 +125,9 @@ fn cut_to(bounds: Rect, limits: Rect, clip: Clip) -> Option<Rect>
     }
 }
 
-// The area of what is seen, 0 where nothing is.
-fn area_seen(cut: Option<Rect>) -> u128
-    ensures { result ≡ unwrap_or (option_map area cut) 0 }
-{
-    match cut {
-        Some(part) => area(part),
-        None => 0,
-    }
-}
-
-fn all_or_nothing(is_seen: bool) -> Ratio
-    ensures { record { part = result.part; whole = result.whole } ≡ all_or_nothing is_seen }
-{
-    if is_seen { ALL } else { NOTHING }
-}
-
-// The part of a box that is seen. A box without area is seen whole or not at all.
-fn ratio_of(bounds: Rect, cut: Option<Rect>) -> Ratio
-    requires bounds { IsBounds bounds }
-    requires cut { IfSome cut IsBounds }
-    requires inside { IfSome cut (LiesIn bounds) }
-    ensures { record { part = result.part; whole = result.whole } ≡ ratio_of bounds cut }
-{
-    let whole = area(bounds);
-    if whole == 0 {
-        return all_or_nothing(cut.is_some());
-    }
-    Ratio {
-        part: area_seen(cut),
-        whole,
-    }
-}
-
 // What is found of a target of whose box so much is seen.
 fn seen(thresholds: &Thresholds, bounds: Rect, cut: Option<Rect>, limits: Rect) -> Finding
     requires bounds { IsBounds bounds }
-    requires cut { IfSome cut IsBounds }
     requires inside { IfSome cut (LiesIn bounds) }
     ensures { seen_finding result ≡ seen thresholds.now bounds cut limits }
 {

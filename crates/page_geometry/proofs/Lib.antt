@@ -3,7 +3,6 @@ pub mod Shown
 pub mod Levels
 pub mod Chains
 pub mod Ends
-pub mod Cuts
 pub mod Moves
 pub mod Beginnings
 pub mod Found

@@ -37,10 +37,3 @@ pub record IsReached (it : Finding) : Type 0 where
   pub root : IsRectReached it.root
   pub bounds : IsRectReached it.bounds
   pub cut : IsRectReached it.cut
-
--- a rectangle that doesn't reach beyond another one
-pub record LiesIn (outer inner : Rect) : Type 0 where
-  pub left : outer.left ≤ℤ inner.left
-  pub top : outer.top ≤ℤ inner.top
-  pub right : inner.right ≤ℤ outer.right
-  pub bottom : inner.bottom ≤ℤ outer.bottom

@@ -10,13 +10,14 @@ ghost use Rattle.page_tree.specs.Items.{IsNatural};
 ghost use Rattle.page_boxes.specs.Fresh.{IsFresh};
 ghost use Rattle.page_boxes.specs.Pages.{seen_size};
 ghost use Rattle.clip_chain.specs.Ranges.{IsBounds};
+ghost use Rattle.thresholds.specs.Areas.{LiesIn};
 ghost use Rattle.intersection_observer.specs.Seen.{seen_root, seen_finding};
 ghost use Rattle.page_geometry.specs.Worlds.{world_with};
-ghost use Rattle.page_geometry.specs.Ranges.{IsOrigin, IsMoved, IsReached, LiesIn};
+ghost use Rattle.page_geometry.specs.Ranges.{IsOrigin, IsMoved, IsReached};
 
 use crate::geometry::{PageGeometry, clips};
 use crate::origins::{NOWHERE, origin};
-use crate::ratios::{NOTHING, seen_at, unseen};
+use crate::ratios::{seen_at, unseen};
 use crate::rects::{NO_RECT, border_rect, moved_back, padding_rect, viewport_rect};
 use crate::relations::{is_apart, spot_of_root};
 use clip_chain::{Spot, visible_rect};
@@ -27,7 +28,7 @@ use page_boxes::has_box;
 use page_tree::PageTree;
 use px_units::{Point, Rect, Size};
 use scrolling::Scrolls;
-use thresholds::Margins;
+use thresholds::{Margins, NOTHING};
 
 // Where the viewport of the root's document begins.
 fn root_origin(geometry: &PageGeometry<'_>, root: Root) -> Point

@@ -1,54 +1,17 @@
 //! The part of a target that is seen, and what is told of it (Intersection Observer, 3.2.10).
 
 ghost use Rattle.std.specs.Prelude.{◌≡◌, IfSome, unwrap_or, option_map};
-ghost use Rattle.px_units.specs.Rects.{area};
 ghost use Rattle.page_model.specs.Chains.{moved_back, zero_rect};
-ghost use Rattle.page_model.specs.Findings.{all_or_nothing, ratio_of, seen_at, unseen};
+ghost use Rattle.page_model.specs.Findings.{seen_at, unseen};
 ghost use Rattle.clip_chain.specs.Ranges.{IsBounds};
+ghost use Rattle.thresholds.specs.Areas.{LiesIn};
 ghost use Rattle.intersection_observer.specs.Seen.{seen_finding};
-ghost use Rattle.page_geometry.specs.Ranges.{IsOrigin, IsRectReached, IsReached, LiesIn};
+ghost use Rattle.page_geometry.specs.Ranges.{IsOrigin, IsRectReached, IsReached};
 
 use crate::rects::{NO_RECT, moved_back};
 use intersection_observer::Finding;
-use px_units::{Point, Rect, area};
-use thresholds::{Ratio, Thresholds};
-
-pub(crate) const NOTHING: Ratio = Ratio { part: 0, whole: 1 };
-
-const ALL: Ratio = Ratio { part: 1, whole: 1 };
-
-// The area of what is seen, 0 where nothing is.
-fn area_seen(cut: Option<Rect>) -> u128
-    ensures { result ≡ unwrap_or (option_map area cut) 0 }
-{
-    match cut {
-        Some(part) => area(part),
-        None => 0,
-    }
-}
-
-fn all_or_nothing(is_seen: bool) -> Ratio
-    ensures { record { part = result.part; whole = result.whole } ≡ all_or_nothing is_seen }
-{
-    if is_seen { ALL } else { NOTHING }
-}
-
-// The part of a box that is seen. A box without area is seen whole or not at all.
-fn ratio_of(bounds: Rect, cut: Option<Rect>) -> Ratio
-    requires bounds { IsBounds bounds }
-    requires cut { IfSome cut IsBounds }
-    requires inside { IfSome cut (LiesIn bounds) }
-    ensures { record { part = result.part; whole = result.whole } ≡ ratio_of bounds cut }
-{
-    let whole = area(bounds);
-    if whole == 0 {
-        return all_or_nothing(cut.is_some());
-    }
-    Ratio {
-        part: area_seen(cut),
-        whole,
-    }
-}
+use px_units::{Point, Rect};
+use thresholds::{NOTHING, Thresholds, ratio_of};
 
 // What is seen, as it is in the viewport of a document that begins there; zeros where nothing is.
 fn cut_from(from: Point, cut: Option<Rect>) -> Rect

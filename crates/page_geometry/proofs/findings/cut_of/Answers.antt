@@ -1,14 +1,16 @@
 use Rattle.std.proofs.Common.{◌≤◌, ◌∷◌, sym, subst, ◌∙◌}
+use Rattle.std.specs.Prelude.{IfSome}
 use Rattle.page_model.specs.Chains.{border_rect, clips_between}
 use Rattle.clip_chain.specs.Chains.{Leads, IsAbove}
 use Rattle.clip_chain.specs.Worlds.{scene_of, element_spot, spot_of_root}
 use Rattle.clip_chain.proofs.Worlds.{part_is}
+use Rattle.thresholds.specs.Areas.{LiesIn}
+use Rattle.thresholds.proofs.Areas.{part_inside}
 use Rattle.intersection_observer.specs.Seen.{seen_root}
 use Rattle.page_boxes.specs.Pages.{seen_size}
 use Rattle.page_geometry.specs.Worlds.{world_with}
 use Rattle.page_geometry.proofs.Chains.{above}
 use Rattle.page_geometry.proofs.Ends.{few_between}
-use Rattle.page_geometry.proofs.Cuts.{cut_inside}
 use Rattle.page_geometry.proofs.findings.cut_of.Goals as goal
 
 pub visible_rect-requires : goal.visible_rect-requires
@@ -32,5 +34,5 @@ returns-clause-value c =
 pub returns-clause-inside : goal.returns-clause-inside
 returns-clause-inside c =
     let world = world_with (c.args.geometry.now.page.now.tree) (seen_size c.args.geometry.now.viewport) (c.args.geometry.now.scrolls.now) in
-    cut_inside (border_rect world (c.args.target.0)) (c.args.limits ∷ clips_between world (seen_root c.args.root) (c.args.target.0)) c.visible_rect.result
-    (returns-clause-value c) c.visible_rect.ensures.range
+    subst (λ o. IfSome o (LiesIn (border_rect world (c.args.target.0)))) (sym (returns-clause-value c))
+    (part_inside (border_rect world (c.args.target.0)) (c.args.limits ∷ clips_between world (seen_root c.args.root) (c.args.target.0)))
