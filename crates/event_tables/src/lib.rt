@@ -10,8 +10,6 @@ mod frame_callbacks;
 mod laws;
 mod listeners;
 mod tasks;
-#[cfg(test)]
-mod tests;
 mod timers;
 
 pub use answers::TableFault;

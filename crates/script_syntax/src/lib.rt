@@ -15,8 +15,6 @@ mod parser;
 mod script;
 mod statements;
 mod tables;
-#[cfg(test)]
-mod tests;
 mod texts;
 mod words;
 

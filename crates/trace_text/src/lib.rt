@@ -7,10 +7,6 @@ mod kinds;
 mod laws;
 mod lengths;
 mod read;
-#[cfg(test)]
-mod tests;
-#[cfg(test)]
-mod traces;
 mod write;
 
 pub use laws::{line_ends_once, text_has_one_line, value_is_a_line};

@@ -1,10 +1,10 @@
 use crate::traces::TRACES;
-use crate::{EventLine, TraceFault, TraceLine, read_line, write_line};
 use px_units::{Point, Rect, Size};
 use std::alloc::Global;
 use std::process::Abort;
 use std::test::Fail;
 use text_io::{LimitKind, Name, ThrowKind};
+use trace_text::{EventLine, TraceFault, TraceLine, read_line, write_line};
 
 // 2^50 units, which are 17,592,186,044,416 pixels.
 const REACH: i64 = 1125899906842624;

@@ -1,5 +1,5 @@
-use crate::{Item, ParseFault, Script, What, parse};
 use script_lexer::Lexer;
+use script_syntax::{Item, ParseFault, Script, What, parse};
 use std::alloc::{AllocError, Global};
 use std::test::Fail;
 use text_io::{LimitKind, Name};

@@ -1,11 +1,11 @@
 //! The tables through calls, with answers from the rules.
 ghost use Rattle.std.specs.Prelude.{◌<◌, ◌≤◌, ◌+◌, ◌^◌};
 
-use crate::{
+use element_tree::NodeId;
+use event_tables::{
     Batch, Dispatch, EventTarget, FrameCallbacks, HandlerId, Listeners, TableFault, Task, Tasks,
     Timers,
 };
-use element_tree::NodeId;
 use std::test::Fail;
 use text_io::{EventKind, Name};
 
