@@ -78,12 +78,7 @@ fn root_rect(geometry: &PageGeometry<'_>, root: Root, margins: &Margins) -> Rect
 }
 
 // What is seen of a target that has a box and isn't apart from the root, within limits.
-fn cut_of(
-    geometry: &PageGeometry<'_>,
-    root: Root,
-    target: NodeId,
-    limits: Rect,
-) -> Option<Rect>
+fn cut_of(geometry: &PageGeometry<'_>, root: Root, target: NodeId, limits: Rect) -> Option<Rect>
     requires boxed { has_box geometry.now.page.now.tree (seen_size geometry.now.viewport) target.0 ≡ true }
     requires near { is_apart (world_with geometry.now.page.now.tree (seen_size geometry.now.viewport) geometry.now.scrolls.now) (seen_root root) target.0 ≡ false }
     ensures value { let world = world_with geometry.now.page.now.tree (seen_size geometry.now.viewport) geometry.now.scrolls.now in
