@@ -2,4 +2,4 @@
 use Rattle.page_boxes.proofs.tests.read_twice.Given as goal
 
 abbrev pub ghosts-renew_for : goal.ghosts-renew_for
-ghosts-renew_for a = record { name = a.blank.name; parts = a.blank.parts }
+ghosts-renew_for g a = record { name = a.blank.name; parts = a.blank.parts }

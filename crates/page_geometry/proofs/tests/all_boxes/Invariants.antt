@@ -2,4 +2,4 @@
 use Rattle.page_geometry.proofs.tests.all_boxes.Given as goal
 
 abbrev pub ghosts-renew : goal.ghosts-renew
-ghosts-renew a = record { name = a.blank.name; parts = a.blank.parts }
+ghosts-renew g a = record { name = a.blank.name; parts = a.blank.parts }
