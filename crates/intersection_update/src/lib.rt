@@ -4,8 +4,6 @@
 
 mod rooted;
 mod settling;
-#[cfg(test)]
-mod tests;
 
 pub use rooted::watchers_of;
 pub use settling::update;

@@ -17,8 +17,6 @@ mod layout;
 mod offsets;
 mod ranges;
 mod readings;
-#[cfg(test)]
-mod tests;
 
 pub use documents::{has_box, viewport_of};
 pub use exact::undue_boxes_are_exact;

@@ -12,8 +12,6 @@ mod origins;
 mod ratios;
 mod rects;
 mod relations;
-#[cfg(test)]
-mod tests;
 
 pub use findings::find;
 pub use geometry::PageGeometry;

@@ -3,7 +3,5 @@
 
 mod laid;
 mod marks;
-#[cfg(test)]
-mod tests;
 
 pub use laid::LaidTree;

@@ -5,13 +5,13 @@ ghost use Rattle.page_boxes.specs.Fresh.{IsFresh};
 ghost use Rattle.page_boxes.specs.Kept.{AreKept};
 ghost use Rattle.page_boxes.specs.Pages.{seen_size};
 
-use crate::{PageGeometry, find};
 use block_layout::ItemKind;
 use clip_chain::{Spot, reaches};
 use element_tree::NodeId;
 use intersection_observer::{Finding, Root, WatcherId, Watchers};
 use kept_layout::Kept;
 use page_boxes::{nothing_kept_fits, range_of, refresh};
+use page_geometry::{PageGeometry, find};
 use page_tree::{Container, PageTree};
 use px_units::{Point, Rect, Size};
 use scrolling::{ScrollTarget, Scrolls};

@@ -5,13 +5,13 @@ ghost use Rattle.kept_layout.specs.Slots.{slot_in, no_slot};
 ghost use Rattle.page_tree.specs.Items.{IsKind, IsNatural};
 ghost use Rattle.page_boxes.specs.Kept.{AreKept};
 
-use crate::{
-    Reading, border_rect, content_origin, corner_of, has_box, is_scroller, nothing_kept_fits,
-    offset_of, padding_rect, range_of, read, refresh, refresh_for, size_of,
-};
 use block_layout::ItemKind;
 use element_tree::NodeId;
 use kept_layout::Kept;
+use page_boxes::{
+    Reading, border_rect, content_origin, corner_of, has_box, is_scroller, nothing_kept_fits,
+    offset_of, padding_rect, range_of, read, refresh, refresh_for, size_of,
+};
 use page_tree::{Container, PageTree};
 use px_units::{BoxKind, Point, Rect, Size};
 use scrolling::{ScrollTarget, Scrolls};

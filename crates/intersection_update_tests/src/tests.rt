@@ -5,10 +5,10 @@ ghost use Rattle.page_boxes.specs.Fresh.{IsFresh};
 ghost use Rattle.page_boxes.specs.Kept.{AreKept};
 ghost use Rattle.page_boxes.specs.Pages.{seen_size};
 
-use crate::{update, watchers_of};
 use block_layout::ItemKind;
 use element_tree::NodeId;
 use intersection_observer::{Root, WatcherId, Watchers};
+use intersection_update::{update, watchers_of};
 use kept_layout::Kept;
 use page_boxes::{nothing_kept_fits, refresh};
 use page_tree::{Container, PageTree};

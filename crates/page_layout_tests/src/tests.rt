@@ -4,10 +4,10 @@
 ghost use Rattle.std.specs.Prelude.{◌≡◌, ◌<◌};
 ghost use Rattle.page_tree.specs.Items.{IsKind, IsNatural};
 
-use crate::LaidTree;
 use block_layout::ItemKind;
 use element_tree::NodeId;
 use page_boxes::size_of;
+use page_layout::LaidTree;
 use page_tree::{Axis, Container};
 use px_units::{BoxKind, Px, Size};
 use std::alloc::Global;
