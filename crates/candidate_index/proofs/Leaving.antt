@@ -71,7 +71,7 @@ within_limits : (x : Rect) (d : Bool) → has_points x ≡ d → option_and_then
 within_limits x true e = refl
 within_limits x false e = refl
 
-no_clips : (bounds limits : Rect) → meeting bounds limits ≡ common_part bounds (limits ∷ [])
+pub no_clips : (bounds limits : Rect) → meeting bounds limits ≡ common_part bounds (limits ∷ [])
 unfolding common_part
 no_clips bounds limits = refl
 
