@@ -1,5 +1,4 @@
-use Rattle.std.proofs.Common.{◌≡◌, ◌++◌, ℕ, List, Result, OnOk, sym, subst}
-use Rattle.std.specs.declared.alloc.AllocError.{AllocError}
+use Rattle.std.proofs.Common.{◌≡◌, ◌++◌, ℕ, List, OnOk, inl, inr, sym, subst}
 use Rattle.script_syntax.specs.Seen.{action_of}
 use Rattle.script_syntax.specs.declared.commands.What.{What}
 use Rattle.script_text.specs.Phrases.{action_words}
@@ -105,4 +104,12 @@ pub returns-in-Read : goal.returns-in-Read
 returns-in-Read c = known c.read.result OnOk _ _ _ _ c.in-Read.is c.read.ensures
 
 pub returns-in-Each : goal.returns-in-Each
-returns-in-Each c = ?
+returns-in-Each c =
+    elim c.in-Each.is [
+      | inl each ↦ known c.say_nothing.result OnOk _ _ _ _ each.1 c.say_nothing.ensures
+      | inr others ↦
+          elim others [
+            | inl when ↦ known c.say_nothing.result OnOk _ _ _ _ when.2 c.say_nothing.ensures
+            | inr tick ↦ known c.say_nothing.result OnOk _ _ _ _ tick.1 c.say_nothing.ensures
+          ]
+    ]
