@@ -1,6 +1,6 @@
 //! What is kept of each registration.
 
-ghost use Rattle.std.specs.Prelude.{◌≡◌, ◌+◌, ◌<◌, ◌≤◌, ℕ, List, [], ◌∷◌, ◌++◌, length, filter, None, vec_len, vec_capacity, IfOk, OnOk, OnErr};
+ghost use Rattle.std.specs.Prelude.{◌≡◌, ◌+◌, ◌<◌, ◌≤◌, ℕ, List, true, [], ◌∷◌, ◌++◌, length, filter, None, vec_len, vec_capacity, IfOk, IsOk, OnOk, OnErr};
 ghost use Rattle.std.specs.List.{All};
 ghost use Rattle.std.specs.FinMap as finite;
 ghost use Rattle.clip_chain.specs.declared.spot.Spot.{Spot as SpotOf};
@@ -80,10 +80,12 @@ impl Index {
         self.kept.get(registration.0)?
     }
 
-    /// Adds a registration, which counts as never computed. Refused only where there is no memory, and then nothing changes.
+    /// Adds a registration, which counts as never computed. Refused only for want of memory, and never where the registration was
+    /// added; nothing changes then.
     pub fn add(&mut self, registration: RegistrationId) -> Result<(), AllocError>
         ensures added { OnOk result (self.new ≡ finite.insert self.old registration.0 None) }
         ensures same { OnErr result (self.new ≡ self.old) }
+        ensures there { finite.contains_key self.old registration.0 ≡ true → IsOk result }
     {
         self.kept.insert(registration.0, None)
     }

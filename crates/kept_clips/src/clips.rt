@@ -1,6 +1,6 @@
 //! The pairs whose clips are kept.
 
-ghost use Rattle.std.specs.Prelude.{◌≡◌, ◌↔◌, ◌+◌, ℕ, ℤ, List, [], length, true, false, None, IfSome, OnOk, OnErr};
+ghost use Rattle.std.specs.Prelude.{◌≡◌, ◌↔◌, ◌+◌, ℕ, ℤ, List, [], length, true, false, None, IfSome, IsOk, OnOk, OnErr};
 ghost use Rattle.std.specs.List.{All};
 ghost use Rattle.std.specs.FinMap.{empty};
 ghost use Rattle.clip_chain.specs.declared.spot.Spot.{Spot as SpotOf};
@@ -78,10 +78,12 @@ impl Clips {
     }
 
     /// Adds a spot, so that it may be touched, with all spots of its kind that have lower numbers. It needn't stand anywhere
-    /// yet; spots that were added stay as they are. Refused only where there is no memory, and then nothing changes.
+    /// yet; spots that were added stay as they are. Refused only for want of memory, and never where the spot was added; nothing
+    /// changes then.
     pub fn add(&mut self, of: Spot) -> Result<(), AllocError>
         ensures added { OnOk result (self.new ≡ record self.old { touches = with_spot of (self.old.touches) }) }
         ensures same { OnErr result (self.new ≡ self.old) }
+        ensures there { IsAdded self.old.touches of → IsOk result }
         ensures exact { (scene : Scene) (other : ℕ) → IsExact scene self.old other → IsExact scene self.new other }
     {
         self.touches.add(of)

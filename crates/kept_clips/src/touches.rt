@@ -1,6 +1,6 @@
 //! When each spot was touched last.
 
-ghost use Rattle.std.specs.Prelude.{◌≡◌, [], slice_index, OnOk, OnErr};
+ghost use Rattle.std.specs.Prelude.{◌≡◌, ◌<◌, [], length, slice_index, IsOk, OnOk, OnErr};
 ghost use Rattle.kept_clips.specs.Touches.{last_touch, is_added, IsAdded, with_spot, touched, up_to};
 
 use clip_chain::Spot;
@@ -52,6 +52,7 @@ impl Touches {
     pub(crate) fn add(&mut self, of: Spot) -> Result<(), AllocError>
         ensures added { OnOk result (self.new ≡ with_spot of self.old) }
         ensures same { OnErr result (self.new ≡ self.old) }
+        ensures there { IsAdded self.old of → IsOk result }
     {
         match of {
             Spot::Node(node) => extend(&mut self.nodes, node.0),
@@ -84,6 +85,7 @@ impl Touches {
 fn extend(numbers: &mut Vec<u64>, place: u32) -> Result<(), AllocError>
     ensures extended { OnOk result (numbers.new.items ≡ up_to place numbers.old.items) }
     ensures same { OnErr result (numbers.new.items ≡ numbers.old.items) }
+    ensures there { place < length numbers.old.items → IsOk result }
 {
     let count = place as usize + 1;
     if numbers.len() < count {
