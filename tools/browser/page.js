@@ -103,10 +103,13 @@
     spacer.style.cssText = 'display:flow-root;height:0;margin:0';
     element.style.cssText = base[kind] + common;
     element.observersName = name;
+    // An event at an element that stands nowhere by then doesn't come to a window.
+    element.addEventListener('scroll', event => { if (!windowOf(element)) fired(doc, event); });
     const made = { what: 'node', name, kind, element, spacer, style: { width: 'auto', height: 'auto' } };
     names.set(name, made);
     return made;
   }
+  const windowOf = element => element.isConnected ? element.ownerDocument.defaultView : null;
   // A spacer of no height stands behind each child, so that margins of neighbours don't collapse.
   function space(made) {
     const parent = made.element.parentNode;
@@ -429,27 +432,31 @@
     window.requestAnimationFrame(() => { for (const task of due.splice(0)) post(task); inUpdate = api.updated = true; });
     return true;
   }
+  // Waits until no task is left.
+  async function quiet() {
+    for (let turns = 0; turns < 2 && !api.stopped;) {
+      await new Promise(done => { const c = new MessageChannel(); c.port1.onmessage = () => { c.port1.close(); done(); }; c.port2.postMessage(0); });
+      turns = waiting ? 0 : turns + 1;
+    }
+  }
   const api = {
     stopped: null,
     updated: false,
     lines,
-    // Runs items up to the next thing that only the tool can do.
-    step() {
+    // Runs items up to the next thing that only the tool can do. A new page in a frame lays itself out in a task of its own: before
+    // an update there is time for it.
+    async step() {
       guarded(() => { while (next < script.items.length && !api.stopped) {
         const c = script.items[next++];
         if (c.op === 'tick') { if (startTick(c)) { api.wants = ['tick', clock]; return; } }
         else if (c.op === 'viewport') { api.wants = ['viewport', parseFloat(c.args[0]), parseFloat(c.args[1])]; return; }
         else begun(c, null, null);
       } api.wants = ['end']; });
+      if (!api.stopped && api.wants[0] === 'tick') await quiet();
       return api.stopped || api.wants;
     },
-    // Waits until no task is left.
     async drained() {
-      for (let quiet = 0; quiet < 2;) {
-        await new Promise(done => { const c = new MessageChannel(); c.port1.onmessage = () => { c.port1.close(); done(); }; c.port2.postMessage(0); });
-        quiet = waiting ? 0 : quiet + 1;
-        if (api.stopped) break;
-      }
+      await quiet();
       endRound();
       inUpdate = false;
     },
