@@ -100,7 +100,7 @@ pub fn least_depth(delivery: &Delivery) -> u32
     requires { 0 < length delivery.now.entries }
     ensures { fold shallower None (map seen_entry delivery.now.entries) ≡ Some result }
 {
-    let entries = delivery.entries.entries();
+    let entries = delivery.entries.as_slice();
     let mut least = entries[0].depth;
     for entry in entries {
         if entry.depth < least {

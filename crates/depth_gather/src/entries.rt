@@ -44,7 +44,7 @@ impl ResizeList {
     }
 
     /// Its entries.
-    pub fn entries(&self) -> &[ResizeEntry]
+    pub fn as_slice(&self) -> &[ResizeEntry]
         ensures { result.now ≡ self.now }
     {
         self.entries.as_slice()

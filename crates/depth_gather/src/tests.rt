@@ -84,7 +84,7 @@ fn deliver(
     };
     end_delivery(observers, delivery.observer);
     let least = least_depth(&delivery);
-    let entries = listed(alloc, delivery.entries.entries())?;
+    let entries = listed(alloc, delivery.entries.as_slice())?;
     Ok(format!(in alloc;
         "{}{entries} least {least} next {}",
         delivery.observer.0, delivery.place
@@ -231,7 +231,7 @@ fn the_least_depth_is_that_of_any_entry(rt: HostRuntime) -> Result<(), Fail> {
         entries: ResizeList::new(entries),
         place: 1,
     };
-    assert!(rt; delivery.entries.entries().len() == 3);
+    assert!(rt; delivery.entries.as_slice().len() == 3);
     assert_eq!(rt; least_depth(&delivery), 2);
     end_delivery(&mut observers, delivery.observer);
     let Delivery { entries, .. } = delivery;

@@ -1,26 +1,26 @@
 -- Over a whole run trees stay within their levels.
-use Rattle.std.proofs.Common.{◌≡◌, refl, ap, sym, subst, arith, ◌≤◌}
-use Rattle.std.specs.Prelude.{ℕ, zero, suc, ◌<◌, Bool, true, false, cond, List, [], ◌∷◌, length, Option, slice_get, unwrap_or, Ok, Err, ⊤}
+use Rattle.std.proofs.Common.{refl, sym, subst, arith, ◌≤◌}
+use Rattle.std.specs.Prelude.{ℕ, ◌<◌, List, [], length, Option, Ok, Err}
 use Rattle.std.specs.List.{AllByRecursion}
 use Rattle.script_model.specs.Syntax.{Command, Item, Outside, Tick, Handler}
 use Rattle.script_model.specs.Scripts.{handlers_in}
 use Rattle.script_model.specs.Reading.{Reading, reading}
-use Rattle.page_model.specs.World.{Observation, ResizeObserver, Entry, IntersectionObserver, World}
-use Rattle.page_model.specs.Lookups.{no_resize_observer, no_intersection_observer, resize_observer_at}
+use Rattle.page_model.specs.World.{Observation, World}
+use Rattle.page_model.specs.Lookups.{resize_observer_at}
 use Rattle.page_model.specs.Operands.{Present, NoEntry, ResizeEntry, IntersectionEntry}
 use Rattle.page_model.specs.Commands.{does}
 use Rattle.page_model.specs.Gathering.{is_of}
 use Rattle.page_model.specs.Callbacks.{Script, Entries, handler_names, presents, run_command, call}
 use Rattle.page_model.specs.Ticks.{time_set, tick}
 use Rattle.page_model.specs.Outcome.{opening_world, outcome_read, outcome, run_tick, run_item, run_items}
-use Rattle.page_model.specs.Ranges.{Counts, AreObserved, IsResizeObserverIn, IsIntersectionObserverIn, IsInRange, IsPresentIn}
+use Rattle.page_model.specs.Ranges.{IsInRange, IsPresentIn}
 use Rattle.page_laws.proofs.Lists.{all-map}
 use Rattle.page_laws.proofs.Steps.{on_did-with, on_did-map}
 use Rattle.page_laws.proofs.InRange.{does-in}
 use Rattle.page_laws.proofs.Commands.{does-next}
 use Rattle.page_laws.proofs.Keeping.{counted, carried-by, for_each-keeps, answered-keeps, once_begun-keeps, command-keeps, called-keeps, caught-keeps}
 use Rattle.page_laws.proofs.WholeRuns.{time-kept}
-use Rattle.page_laws.proofs.RunsInRange.{opening-in}
+use Rattle.page_laws.proofs.RunsInRange.{IsEntryIn, entry-in, observed-in, queue-in, if-own, same-count, opening-in}
 use Rattle.page_documents.proofs.Making.{opening_framed}
 use Rattle.page_documents.proofs.Shape.{depth_top}
 use Rattle.document_laws.specs.Levels.{IsWithinLevels}
@@ -34,39 +34,10 @@ record IsRunning (handlers k : ℕ) (world : World) : Type 0 where
   most : k ≤ length world.tree.elements
   levels : IsWithinLevels world.tree
 
--- the target of an entry, where there are so many elements
-abbrev IsEntryIn : ℕ → Present → Type 0
-IsEntryIn k NoEntry = ⊤
-IsEntryIn k (ResizeEntry target) = target < k
-IsEntryIn k (IntersectionEntry target meets) = target < k
-
 present_in : (handlers k : ℕ) (world : World) (present : Present) → IsRunning handlers k world → IsEntryIn k present → IsPresentIn world present
 present_in handlers k world NoEntry running is = tt
 present_in handlers k world (ResizeEntry target) running is = let most : k ≤ length world.tree.elements = running.most in omega arith
 present_in handlers k world (IntersectionEntry target meets) running is = let most : k ≤ length world.tree.elements = running.most in omega arith
-
-entry_in : (world : World) (present : Present) → IsPresentIn world present → IsEntryIn (length world.tree.elements) present
-entry_in world NoEntry is = tt
-entry_in world (ResizeEntry target) is = is
-entry_in world (IntersectionEntry target meets) is = is
-
--- the lists that callbacks are handed entries of
-
-active_in : (counts : Counts) (made : List ResizeObserver) (observer : ℕ) → AllByRecursion (IsResizeObserverIn counts) made →
-    AreObserved counts (unwrap_or (slice_get made observer) no_resize_observer).active
-active_in counts [] observer all = tt
-active_in counts (x ∷ xs) zero all = all.0.active
-active_in counts (x ∷ xs) (suc observer) all = active_in counts xs observer (all.1)
-
-queue_in : (counts : Counts) (made : List IntersectionObserver) (observer : ℕ) → AllByRecursion (IsIntersectionObserverIn counts) made →
-    AllByRecursion (λ (each : Entry). each.target < counts.elements) (unwrap_or (slice_get made observer) no_intersection_observer).queue
-queue_in counts [] observer all = tt
-queue_in counts (x ∷ xs) zero all = all.0.queue
-queue_in counts (x ∷ xs) (suc observer) all = queue_in counts xs observer (all.1)
-
-if_own : (P : Observation → Type 0) (own : Bool) (active : List Observation) → AllByRecursion P active → AllByRecursion P (cond own active [])
-if_own P true active all = all
-if_own P false active all = tt
 
 running_kept : (script : Script) → IsKept script (IsRunning (length (handler_names script))) IsEntryIn
 running_kept script = record {
@@ -90,9 +61,9 @@ running_kept script = record {
   entered = λ k world running. record { within = running.within; most = omega arith; levels = running.levels };
   left = λ k before now running after. record { within = after.within; most = omega (arith, running.most, after.most); levels = after.levels };
   due = λ k world document observer running.
-      if_own (λ (each : Observation). each.target < length world.tree.elements) (is_of document (resize_observer_at (world.resize_observers) observer)) _
-      (active_in _ (world.resize_observers.made) observer running.within.resize_observers);
-  queued = λ k world observer running. queue_in _ (world.intersection_observers.made) observer running.within.intersection_observers;
+      if-own (λ (each : Observation). each.target < length world.tree.elements) (is_of document (resize_observer_at (world.resize_observers) observer)) _
+      (observed-in _ (world.resize_observers.made) observer running.within.resize_observers);
+  queued = λ k world observer running. queue-in _ (world.intersection_observers.made) observer running.within.intersection_observers;
 }
   where
     counted_in : (world : World) → IsInRange (length (handler_names script)) world → IsInRange (length (handler_names script)) (counted world)
@@ -104,17 +75,13 @@ timed handlers k time world running = record { within = in_range (running.within
     in_range : IsInRange handlers world → IsInRange handlers (record world { clock = time })
     in_range within = search
 
-same_count : (script : Script) → length (handler_names script) ≡ length script
-same_count [] = refl
-same_count (x ∷ xs) = ap suc (same_count xs)
-
 module _ (script : Script) where
   abbrev Running : ℕ → World → Type 0
   Running k world = IsRunning (length (handler_names script)) k world
 
   begins : (world : World) → IsInRange (length script) world → IsWithinLevels world.tree → Running (length world.tree.elements) world
   begins world within levels =
-      record { within = subst (λ (count : ℕ). IsInRange count world) (sym (same_count script)) within; most = omega arith; levels = levels }
+      record { within = subst (λ (count : ℕ). IsInRange count world) (sym (same-count script)) within; most = omega arith; levels = levels }
 
   run_tick_keeps : (k line time : ℕ) (world : World) → Running k world → Running k (run_tick script line time world).state
   run_tick_keeps k line time world here =
@@ -141,14 +108,14 @@ module _ (script : Script) where
     pub command_levels : (entries : List Present) (command : Command) (present : Present) → AllByRecursion (IsPresentIn world) entries →
         IsPresentIn world present → IsWithinLevels (run_command script entries command present world).state.tree
     command_levels entries command present are is =
-        (command-keeps script _ _ ((running_kept script).carried many) entries (all-map (IsPresentIn world) (IsEntryIn many) (entry_in world) entries are)
-        command present world (entry_in world present is) (begins world within levels)).levels
+        (command-keeps script _ _ ((running_kept script).carried many) entries (all-map (IsPresentIn world) (IsEntryIn many) (entry-in world) entries are)
+        command present world (entry-in world present is) (begins world within levels)).levels
 
     pub call_levels : (document : ℕ) (handler : Option ℕ) (handed : Entries) → AllByRecursion (IsPresentIn world) (presents handed) →
         IsWithinLevels (call script document handler handed world).state.tree
     call_levels document handler handed are =
         (called-keeps script _ _ ((running_kept script).carried many) document handler handed world
-        (all-map (IsPresentIn world) (IsEntryIn many) (entry_in world) (presents handed) are) (begins world within levels)).levels
+        (all-map (IsPresentIn world) (IsEntryIn many) (entry-in world) (presents handed) are) (begins world within levels)).levels
 
     pub tick_levels : IsWithinLevels (tick script world).state.tree
     tick_levels = (tick-keeps script Running IsEntryIn (running_kept script) many world (begins world within levels)).levels

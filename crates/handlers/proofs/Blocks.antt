@@ -1,9 +1,9 @@
 -- Commands by what they are, and the blocks that a walk goes through.
-use Rattle.std.proofs.Common.{◌≡◌, ℕ, zero, suc, ◌+◌, ◌<◌, ◌≤◌, List, [], ◌∷◌, length, get_or, drop, refl, ap, sym, subst, ◌∙◌, arith}
+use Rattle.std.proofs.Common.{◌≡◌, ℕ, ◌+◌, ◌<◌, ◌≤◌, List, length, get_or, drop, refl, ap, sym, subst, ◌∙◌}
 use Rattle.std.proofs.lemmas.List.{drop_more, drop_all}
 use Rattle.script_model.specs.Syntax.{Simple, Block, Then}
 use Rattle.script_syntax.specs.Allowed.{WhatAllowed, TestAllowed}
-use Rattle.script_syntax.specs.Seen.{action_of, command_at, command_of, condition_of, block_of, command_size, block_size}
+use Rattle.script_syntax.specs.Seen.{action_of, command_at, command_of, condition_of, block_of}
 use Rattle.script_syntax.specs.declared.operands.Condition.{Condition}
 use Rattle.script_syntax.specs.declared.commands.Body.{Body}
 use Rattle.script_syntax.specs.declared.commands.Command.{Command}
@@ -16,12 +16,6 @@ use Rattle.page_model.specs.Runs.{Said, ◌followed_by◌, for_each, only_if, si
 use Rattle.page_model.specs.World.{World}
 
 -- commands by what they are -----------------------------------------------------------------------------------------------
-
-pub simple_is : (line : ℕ) (command : What) → ((body : Body) → command ≡ what.Each body → ⊥)
-    → ((condition : Condition) (body : Body) → command ≡ what.When condition body → ⊥) → command_at line command ≡ Simple line (action_of command)
-simple_is line (what.Each body) each whens = absurd (each body refl)
-simple_is line (what.When condition body) each whens = absurd (whens condition body refl)
-simple_is line other each whens = refl
 
 pub test_allowed : (command : What) (condition : Condition) (body : Body) → command ≡ what.When condition body → WhatAllowed command → TestAllowed condition.asks
 test_allowed command condition body is allowed = subst WhatAllowed is allowed
@@ -73,28 +67,6 @@ pub block_none : (commands : List Command) (i : ℕ) (script : Script) (entries 
     → run_block script entries (block_of (drop i commands)) present world ≡ silent world
 unfolding run_block
 block_none commands i script entries present world past = ap (λ rest. run_block script entries (block_of rest) present world) (drop_all i commands past)
-
--- sizes -------------------------------------------------------------------------------------------------------------------
-
-pub each_size : (line : ℕ) (command : What) (body : Body) → command ≡ what.Each body → command_size (command_at line command) ≡ block_size body.commands + 1
-unfolding command_size
-each_size line command body is = ap (λ it. command_size (command_at line it)) is
-
-pub when_size : (line : ℕ) (command : What) (condition : Condition) (body : Body) → command ≡ what.When condition body → command_size (command_at line command) ≡ block_size body.commands + 1
-unfolding command_size
-when_size line command condition body is = ap (λ it. command_size (command_at line it)) is
-
-size_at : (commands : List Command) (i : ℕ) (d : Command) → i < length commands → command_size (command_of (get_or commands i d)) ≤ block_size (block_of commands)
-unfolding block_size
-size_at [] i d within = absurd (omega arith)
-size_at (c ∷ cs) zero d within = omega arith
-size_at (c ∷ cs) (suc i) d within = let rest = size_at cs i d (omega (arith, within)) in omega (arith, rest)
-
-pub size_within : (commands : List Command) (i : ℕ) (d command : Command) → i < length commands → command ≡ get_or commands i d
-    → command_size (command_of command) ≤ block_size (block_of commands)
-size_within commands i d command within is =
-    let same : command_size (command_of command) ≡ command_size (command_of (get_or commands i d)) = ap (λ c. command_size (command_of c)) is in
-    omega (arith, size_at commands i d within)
 
 -- the same block in other words
 pub block_same : (script : Script) (entries : List Present) (present : Present) (world : World) {block other : Block} → other ≡ block

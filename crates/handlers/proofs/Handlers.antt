@@ -6,6 +6,7 @@ use Rattle.script_model.specs.Syntax.{Item, Outside, Tick, Handler, Block, NoMor
 use Rattle.script_syntax.specs.Seen.{is_handler, item_at}
 use Rattle.script_syntax.specs.declared.commands.What.{What}
 use Rattle.script_syntax.specs.declared.commands.What.TheVariants as what
+use Rattle.script_syntax.proofs.Handlers.{command_is_none}
 use Rattle.event_tables.specs.declared.events.HandlerId.{HandlerId}
 use Rattle.page_model.specs.Callbacks.{Script, Entries, call, entry_lines, handler_block, presents, run_block, run_handler}
 use Rattle.page_model.specs.Documents.{is_active}
@@ -45,12 +46,6 @@ at_number (Outside command ∷ items) number item is = at_number items number it
 at_number (Tick line time ∷ items) number item is = at_number items number item is
 at_number (Handler line name block end_line ∷ items) zero item is = let same : item ≡ Handler line name block end_line = cc in ap is_handler same
 at_number (Handler line name block end_line ∷ items) (suc number) item is = at_number items number item is
-
-command_is_none : (line : ℕ) (command : What) → is_handler (item_at line command) ≡ false
-command_is_none line (what.Each body) = refl
-command_is_none line (what.When condition body) = refl
-command_is_none line (what.Tick time) = refl
-command_is_none line other = refl
 
 pub no_command : (items : List Item) (number line : ℕ) (command : What) → Some (item_at line command) ≡ slice_get (filter is_handler items) number → ⊥
 no_command items number line command is = let handler = at_number items number _ is in let none = command_is_none line command in cc

@@ -151,7 +151,7 @@ pub(crate) fn run_block<K: Sink, L: Ledger>(
         (run_block (handlers_in script.now) (presents (entries_of entries.now)) block.now (present_at (presents (entries_of entries.now)) subject) page.old.world) }
 {
     runs_take_nothing_back();
-    for command in block.commands() {
+    for command in block.as_slice() {
         match run_command(alloc, page, script, command, entries, subject, sink, steps) {
             Ok(Flow::Next) => {}
             Ok(Flow::Thrown) => return Ok(Flow::Thrown),

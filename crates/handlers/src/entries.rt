@@ -44,7 +44,7 @@ impl Entries {
     {
         match self {
             Entries::Nothing => 0,
-            Entries::Resize(_, list) => list.entries().len(),
+            Entries::Resize(_, list) => list.as_slice().len(),
             Entries::Intersection(_, list) => list.as_slice().len(),
         }
     }
@@ -68,7 +68,7 @@ fn entry_at(entries: &Entries, place: usize) -> Subject
 {
     match entries {
         Entries::Nothing => NO_SUBJECT,
-        Entries::Resize(_, list) => match list.entries().get(place) {
+        Entries::Resize(_, list) => match list.as_slice().get(place) {
             None => NO_SUBJECT,
             Some(entry) => Subject {
                 target: Some(entry.target),
@@ -227,7 +227,7 @@ pub(crate) fn write_entries<K: Sink>(
     match entries {
         Entries::Nothing => Ok(()),
         Entries::Resize(observer, list) => {
-            write_sizes(alloc, page, *observer, list.entries(), sink)
+            write_sizes(alloc, page, *observer, list.as_slice(), sink)
         }
         Entries::Intersection(observer, list) => {
             write_cuts(alloc, page, *observer, list.as_slice(), sink)

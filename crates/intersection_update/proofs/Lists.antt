@@ -32,11 +32,6 @@ changed_same default f g place [] same = refl
 changed_same default f g zero (x ∷ xs) same = ap (λ it. it ∷ xs) same
 changed_same default f g (suc place) (x ∷ xs) same = ap (λ others. x ∷ others) (changed_same default f g place xs same)
 
-pub change-count : {A : Type 0} (change : A → A) (place : ℕ) (xs : List A) → length (change_at change place xs) ≡ length xs
-change-count change place [] = refl
-change-count change zero (x ∷ xs) = refl
-change-count change (suc place) (x ∷ xs) = ap suc (change-count change place xs)
-
 -- one more of the first ones
 pub any_more : {A : Type 0} (default : A) (test : A → Bool) (place : ℕ) (xs : List A) → place < length xs → list_any test (take (suc place) xs) ≡ (list_any test (take place xs) || test (entry_or default xs place))
 any_more default test place [] there = absurd (elim there [ ])

@@ -21,7 +21,8 @@ use Rattle.intersection_observer.specs.Watchers.{HeldWatchers}
 use Rattle.page_geometry.specs.Ranges.{IsReached}
 use Rattle.intersection_update.specs.Watching.{AreWatchers}
 use Rattle.intersection_update.specs.Updating.{AreKept, settled_one, settled_place}
-use Rattle.intersection_update.proofs.Lists.{changed_at, between, change-count}
+use Rattle.page_documents.proofs.Adopting.{change_length}
+use Rattle.intersection_update.proofs.Lists.{changed_at, between}
 use Rattle.intersection_update.proofs.Watching.{kept_settled}
 
 -- the registration at a place, by its name
@@ -160,7 +161,7 @@ kept_then elements first second third one two = record {
 
 with_count : (standing : Option Standing) (time : ℕ) (now : Finding) (it : IntersectionObservers) → (length (settled_standing standing time now it).made ≡ length it.made) × ((settled_standing standing time now it).given ≡ it.given)
 with_count None time now it = (refl, refl)
-with_count (Some standing) time now it = (change-count (settled_at (standing.target) time now) (standing.watcher) (it.made), refl)
+with_count (Some standing) time now it = (change_length (settled_at (standing.target) time now) (standing.watcher) (it.made), refl)
 
 pub kept_once : (elements : ℕ) (was now : HeldWatchers) (serial time : ℕ) (found : Finding) → IsReached found → now ≡ record was { part = with_settled serial time found (was.part) } → AreKept elements was now
 kept_once elements was now serial time found reached is =

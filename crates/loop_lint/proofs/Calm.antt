@@ -1,6 +1,6 @@
 -- What a command that a quiet handler may hold leaves: the sizes of all elements that there are, and each observation or none of it.
-use Rattle.std.proofs.Common.{◌≡◌, refl, sym, subst, ap, ◌∙◌, arith, ◌≤◌, true≢false}
-use Rattle.std.specs.Prelude.{ℕ, ℤ, zero, suc, ◌<◌, ◌==◌, not, Bool, true, false, List, [], ◌∷◌, ◌++◌, length, Option, Some, None, IfSome, ⊤}
+use Rattle.std.proofs.Common.{◌≡◌, refl, sym, subst, ◌∙◌, arith, ◌≤◌, true≢false}
+use Rattle.std.specs.Prelude.{ℕ, ℤ, zero, suc, ◌<◌, ◌==◌, not, Bool, true, false, List, [], ◌∷◌, ◌++◌, length, Option, Some, None, IfSome}
 use Rattle.std.specs.List.{AllByRecursion}
 use Rattle.px_units.specs.declared.BoxKind.{BoxKind}
 use Rattle.layout_model.specs.Items.{Kind}
@@ -23,6 +23,7 @@ use Rattle.page_laws.proofs.Steps.{bind, both, did, on_did-with}
 use Rattle.page_laws.proofs.Lists.{all-filter, all-map}
 use Rattle.page_laws.proofs.InRange.{does-in}
 use Rattle.page_laws.proofs.Keeping.{counted}
+use Rattle.page_laws.proofs.RunsInRange.{IsEntryIn, entry-in, same-count}
 use Rattle.loop_lint.specs.Verdicts.{disturbs}
 use Rattle.loop_lint.proofs.Holding.{BlockHolds, Fails}
 use Rattle.loop_lint.proofs.Carried.{IsCarried, call-carries}
@@ -195,25 +196,10 @@ module _ (document : ℕ) (handlers : Handlers) (world : World) (within : IsInRa
 
 -- callbacks -------------------------------------------------------------------------------------------------------------------------
 
--- the target of an entry, where there are so many elements
-abbrev IsEntryIn : ℕ → Present → Type 0
-IsEntryIn k NoEntry = ⊤
-IsEntryIn k (ResizeEntry target) = target < k
-IsEntryIn k (IntersectionEntry target meets) = target < k
-
-entry-in : (world : World) (present : Present) → IsPresentIn world present → IsEntryIn (length world.tree.elements) present
-entry-in world NoEntry is = tt
-entry-in world (ResizeEntry target) is = is
-entry-in world (IntersectionEntry target meets) is = is
-
 present-in : (k : ℕ) (world : World) (present : Present) → k ≤ length world.tree.elements → IsEntryIn k present → IsPresentIn world present
 present-in k world NoEntry most is = tt
 present-in k world (ResizeEntry target) most is = omega (arith, most, is)
 present-in k world (IntersectionEntry target meets) most is = omega (arith, most, is)
-
-same-count : (script : Script) → length (handler_names script) ≡ length script
-same-count [] = refl
-same-count (x ∷ xs) = ap suc (same-count xs)
 
 module _ (document : ℕ) (script : Script) (start : World) where
   -- a world in range that is calm since the start of a callback

@@ -1,20 +1,20 @@
 -- What each world of a run is, where each `ro` names a loop handler: numbers are in range, limits are kept, and each handler of a
 -- resize observer is a loop handler.
 use Rattle.std.proofs.Common.{◌≡◌, refl, sym, subst}
-use Rattle.std.specs.Prelude.{ℕ, zero, suc, ◌<◌, ◌&&◌, Bool, true, false, cond, List, [], ◌∷◌, length, slice_get, unwrap_or, Option, Some, None, IfSome, ⊤}
+use Rattle.std.specs.Prelude.{ℕ, ◌<◌, ◌&&◌, Bool, true, false, cond, List, [], length, Option, Some, None, IfSome, ⊤}
 use Rattle.std.specs.List.{AllByRecursion}
 use Rattle.script_model.specs.Syntax.{Action, Command}
 use Rattle.script_model.specs.Scripts.{NamedBlock}
 use Rattle.text_io.specs.declared.kinds.EventKind.TheVariants as events
 use Rattle.script_model.specs.TraceLines.{TraceLine, FiredError}
-use Rattle.page_model.specs.World.{World, WindowTarget, Entry, Observation, ResizeObserver, ResizeObservers, IntersectionObserver}
+use Rattle.page_model.specs.World.{World, WindowTarget, Observation, ResizeObservers}
 use Rattle.page_model.specs.Documents.{is_active}
-use Rattle.page_model.specs.Lookups.{no_resize_observer, no_intersection_observer, resize_observer_at}
+use Rattle.page_model.specs.Lookups.{resize_observer_at}
 use Rattle.page_model.specs.Gathering.{sight_of, is_of, has_skipped, without_active}
 use Rattle.page_model.specs.Names.{document_text}
 use Rattle.page_model.specs.Operands.{Present, NoEntry}
 use Rattle.page_model.specs.Callbacks.{Script, Entries, handler_block, presents, run_command, call, fire}
-use Rattle.page_model.specs.Ranges.{Counts, counts_of, AreObserved, IsResizeObserverIn, IsIntersectionObserverIn, IsInRange, IsPresentIn}
+use Rattle.page_model.specs.Ranges.{counts_of, IsInRange, IsPresentIn}
 use Rattle.page_model.specs.Loop.{emptied, gather, report_skipped, resize_loop}
 use Rattle.page_model.specs.Outcome.{opening_world}
 use Rattle.page_laws.specs.Bounds.{IsWithinLimits}
@@ -23,7 +23,7 @@ use Rattle.page_laws.proofs.Waiting.{tasks-alike}
 use Rattle.page_laws.proofs.Changes.{IsNext, gather-next, reported-next, emptied-next}
 use Rattle.page_laws.proofs.Limits.{as-many, counted-within}
 use Rattle.page_laws.proofs.Turns.{call-within, command-within, opening-within}
-use Rattle.page_laws.proofs.RunsInRange.{call-in, command-in, opening-in}
+use Rattle.page_laws.proofs.RunsInRange.{observed-in, queue-in, if-own, call-in, command-in, opening-in}
 use Rattle.page_laws.proofs.Later.{all-so}
 use Rattle.loop_laws.specs.Rounds.{rounds_up_to}
 use Rattle.loop_laws.specs.WholeLoops.{resize_rounds}
@@ -32,24 +32,6 @@ use Rattle.loop_lint.proofs.Holding.{CommandHolds, BlockHolds, Names, IsClean, b
 use Rattle.loop_lint.proofs.Carried.{IsCarried, command-carries, call-carries}
 use Rattle.loop_lint.proofs.Tame.{AreTame, changed-tame, gathering-tame, does-tame}
 use Rattle.loop_lint.proofs.Walk.{IsGood, IsWalked, then-good, if-good, fire-good, rounds-good}
-
--- lists that callbacks are handed entries of
-
-observed-in : (counts : Counts) (made : List ResizeObserver) (observer : ℕ) → AllByRecursion (IsResizeObserverIn counts) made →
-    AreObserved counts (unwrap_or (slice_get made observer) no_resize_observer).active
-observed-in counts [] observer all = tt
-observed-in counts (x ∷ xs) zero all = all.0.active
-observed-in counts (x ∷ xs) (suc observer) all = observed-in counts xs observer (all.1)
-
-queue-in : (counts : Counts) (made : List IntersectionObserver) (observer : ℕ) → AllByRecursion (IsIntersectionObserverIn counts) made →
-    AllByRecursion (λ (it : Entry). it.target < counts.elements) (unwrap_or (slice_get made observer) no_intersection_observer).queue
-queue-in counts [] observer all = tt
-queue-in counts (x ∷ xs) zero all = all.0.queue
-queue-in counts (x ∷ xs) (suc observer) all = queue-in counts xs observer (all.1)
-
-own-in : (P : Observation → Type 0) (own : Bool) (active : List Observation) → AllByRecursion P active → AllByRecursion P (cond own active [])
-own-in P true active all = all
-own-in P false active all = tt
 
 module _ (test : Action → Bool) (unnamed : List ℕ → Bool) (script : Script) where
   -- a world of a run
@@ -158,7 +140,7 @@ module _ (test : Action → Bool) (unnamed : List ℕ → Bool) (script : Script
       emptied = λ document observer world here.
           next-held world _ (emptied-next world document observer) (emptied-tame document observer world (here.tame)) here;
       due = λ document observer world here.
-          own-in (λ (it : Observation). it.target < length world.tree.elements) (is_of document (resize_observer_at (world.resize_observers) observer)) _
+          if-own (λ (it : Observation). it.target < length world.tree.elements) (is_of document (resize_observer_at (world.resize_observers) observer)) _
           (observed-in (counts_of (length script) world) (world.resize_observers.made) observer here.range.resize_observers);
     }
 

@@ -1,7 +1,7 @@
 -- A search through a list for the first line of all that its entries give, and through the commands of a block.
-use Rattle.std.proofs.Common.{◌≡◌, refl, sym, ap, ◌∙◌, arith, ◌≤◌, ◌<◌, get_or, drop, true≢false}
+use Rattle.std.proofs.Common.{◌≡◌, refl, sym, ap, ◌∙◌, ◌≤◌, ◌<◌, get_or, drop, true≢false}
 use Rattle.std.proofs.lemmas.List.{drop_more, drop_all}
-use Rattle.std.specs.Prelude.{ℕ, zero, suc, ◌+◌, Bool, true, false, not, cond, List, [], ◌∷◌, ◌++◌, map, flat_map, length, slice_get, Option, Some, None, is_some, is_none, IsNone, IsTrue, ◌↔◌}
+use Rattle.std.specs.Prelude.{ℕ, ◌+◌, Bool, true, false, not, cond, List, [], ◌∷◌, ◌++◌, map, flat_map, length, slice_get, Option, Some, None, is_some, is_none, IsNone, IsTrue, ◌↔◌}
 use Rattle.std.specs.Bool.{then_some}
 use Rattle.script_model.specs.Syntax as model
 use Rattle.script_model.specs.Scripts.{NamedBlock, handlers_in}
@@ -11,7 +11,7 @@ use Rattle.script_syntax.specs.declared.commands.Body.{Body}
 use Rattle.script_syntax.specs.declared.commands.Command.{Command}
 use Rattle.script_syntax.specs.declared.commands.Item.{Item}
 use Rattle.script_syntax.specs.declared.operands.Condition.{Condition}
-use Rattle.script_syntax.specs.Seen.{action_of, command_at, command_of, block_of, item_of, item_at, command_size, block_size}
+use Rattle.script_syntax.specs.Seen.{command_at, command_of, block_of, item_of, item_at}
 use Rattle.loop_lint.specs.LoopHandlers.{lines_in, block_lines, item_lines, is_empty, is_unnamed, names_handler, naming_lines, loop_handler_lines}
 use Rattle.loop_lint.specs.declared.kinds.Law.TheVariants as law
 use Rattle.loop_lint.specs.declared.kinds.Verdict.{Verdict}
@@ -81,36 +81,6 @@ module _ (test : model.Action → Bool) where
       then_some sought line ≡ slice_get (lines_in test (model.Simple line action)) 0
   unfolding lines_in
   simple-first line action sought is = of-test line sought ∙ ap (λ (it : Bool). slice_get (cond it (line ∷ []) []) 0) is
-
--- a command that isn't a block is its action's line
-pub simple_is : (line : ℕ) (command : What) → ((body : Body) → command ≡ what.Each body → ⊥) →
-    ((condition : Condition) (body : Body) → command ≡ what.When condition body → ⊥) → command_at line command ≡ model.Simple line (action_of command)
-simple_is line (what.Each body) each whens = absurd (each body refl)
-simple_is line (what.When condition body) each whens = absurd (whens condition body refl)
-simple_is line other each whens = refl
-
--- a block is one smaller than its command, and a command of a list no larger than the list
-pub each_size : (line : ℕ) (command : What) (body : Body) → command ≡ what.Each body → command_size (command_at line command) ≡ block_size body.commands + 1
-unfolding command_size
-each_size line command body is = ap (λ w. command_size (command_at line w)) is
-
-pub when_size : (line : ℕ) (command : What) (condition : Condition) (body : Body) → command ≡ what.When condition body
-    → command_size (command_at line command) ≡ block_size body.commands + 1
-unfolding command_size
-when_size line command condition body is = ap (λ w. command_size (command_at line w)) is
-
-size_at : (commands : List Command) (i : ℕ) (d : Command) → i < length commands
-    → command_size (command_of (get_or commands i d)) ≤ block_size (block_of commands)
-unfolding block_size
-size_at [] i d within = absurd (omega arith)
-size_at (c ∷ cs) zero d within = omega arith
-size_at (c ∷ cs) (suc i) d within = omega (arith, size_at cs i d (omega arith))
-
-pub size_within : (commands : List Command) (i : ℕ) (d command : Command) → i < length commands → command ≡ get_or commands i d
-    → command_size (command_of command) ≤ block_size (block_of commands)
-size_within commands i d command within is =
-    let same : command_size (command_of command) ≡ command_size (command_of (get_or commands i d)) = ap (λ c. command_size (command_of c)) is in
-    omega (arith, size_at commands i d within)
 
 -- items ---------------------------------------------------------------------------------------------------------------------------------------
 

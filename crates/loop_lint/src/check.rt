@@ -28,7 +28,7 @@ fn is_unnamed(items: &[Item], name: Name) -> bool
 fn blame_in(items: &[Item], name: Name, commands: &CommandList, law: Law) -> Option<u32>
     ensures { result ≡ slice_get (cond (is_unnamed (map item_of items.now) name) [] (block_lines (forbidden_by law) commands.now)) 0 }
 {
-    let line = first_in(commands.commands(), &Sought::Forbidden(law))?;
+    let line = first_in(commands.as_slice(), &Sought::Forbidden(law))?;
     if is_unnamed(items, name) {
         return None;
     }

@@ -61,8 +61,8 @@ pub fn first_in_command(command: &Command, sought: &Sought) -> Option<u32>
     ensures { result ≡ slice_get (lines_in (is_sought sought.now) (command_of command.now)) 0 }
 {
     match &command.what {
-        What::Each(body) => first_in(body.commands.commands(), sought),
-        What::When(_, body) => first_in(body.commands.commands(), sought),
+        What::Each(body) => first_in(body.commands.as_slice(), sought),
+        What::When(_, body) => first_in(body.commands.as_slice(), sought),
         what => is_sought(what, sought).then_some(command.line),
     }
 }
@@ -87,6 +87,6 @@ pub fn first_in_item(item: &Item, sought: &Sought) -> Option<u32>
 {
     match item {
         Item::Command(command) => first_in_command(command, sought),
-        Item::Handler { commands, .. } => first_in(commands.commands(), sought),
+        Item::Handler { commands, .. } => first_in(commands.as_slice(), sought),
     }
 }

@@ -1,15 +1,15 @@
 -- What an element that has a box stands in: its node document is Active, its parent or the frame around has a box.
-use Rattle.std.proofs.Common.{◌≡◌, ℕ, Bool, true, false, Option, Some, None, refl, ap, sym, ◌∙◌, nat_eq, eqb-true, arith}
-use Rattle.std.proofs.lemmas.Bool.Decides.{nat_tests}
+use Rattle.std.proofs.Common.{◌≡◌, ℕ, Bool, true, false, Option, Some, None, refl, ap, sym}
 use Rattle.std.specs.Prelude.{◌&&◌, not, is_some, option_map}
 use Rattle.layout_model.specs.Boxes.{Inputs, box_in, content_size}
 use Rattle.layout_model.specs.Clips.{is_block}
 use Rattle.layout_model.specs.Reach.{inputs_in_view}
 use Rattle.page_model.specs.World.{Extent, Tree}
 use Rattle.page_model.specs.Lookups.{element_at, document_at}
-use Rattle.page_model.specs.Documents.{nodes_of, is_active, is_number, is_root_element}
+use Rattle.page_model.specs.Documents.{nodes_of, is_active, is_root_element}
 use Rattle.page_model.specs.PageBoxes.{no_view, framed_size, view_with, view_of, has_box}
 use Rattle.page_documents.specs.Frames.{AreFramed}
+use Rattle.page_documents.proofs.Lists.{number_is, its_number}
 use Rattle.page_boxes.proofs.Boxed.{boxed_below, boxed_top}
 use Rattle.page_boxes.proofs.Views.{view_idle, view_whole, view_root, view_is}
 
@@ -29,14 +29,6 @@ both_true false b is = cc
 none_found : (found : Option Inputs) → is_some found ≡ false → found ≡ None
 none_found None is = refl
 none_found (Some inputs) is = cc
-
--- a number that is there
-pub number_is : (o : Option ℕ) (n : ℕ) → is_number o n ≡ true → o ≡ Some n
-number_is None n is = cc
-number_is (Some m) n is = ap Some (eqb-true m n is)
-
-pub is_number_of : (o : Option ℕ) (n : ℕ) → o ≡ Some n → is_number o n ≡ true
-is_number_of o n is = ap (λ o. is_number o n) is ∙ (let same : nat_eq n n ≡ true = grind (arith, nat_tests) in same)
 
 module _ (tree : Tree) (size : Extent) where
   pub boxed_in : (n : ℕ) → has_box tree size n ≡ is_some (inputs_in_view (nodes_of tree) (view_of tree size (element_at tree n).document) n)
@@ -66,7 +58,7 @@ module _ (tree : Tree) (size : Extent) where
 
       pub root_is : (element_at tree n).parent ≡ None → is_root_element tree n ≡ true
       root_is is =
-          is_number_of (document_at tree (element_at tree n).document).root n
+          its_number (document_at tree (element_at tree n).document).root n
           (view_root tree size (element_at tree n).document n
           (number_is (view_of tree size (element_at tree n).document).root n
           (both_true (not (nodes_of tree n).item.style.hidden) _

@@ -26,7 +26,7 @@ record IsRunning (handlers k : ℕ) (world : World) : Type 0 where
   most : k ≤ length world.tree.elements
 
 -- the target of an entry, where there are so many elements
-abbrev IsEntryIn : ℕ → Present → Type 0
+abbrev pub IsEntryIn : ℕ → Present → Type 0
 IsEntryIn k NoEntry = ⊤
 IsEntryIn k (ResizeEntry target) = target < k
 IsEntryIn k (IntersectionEntry target meets) = target < k
@@ -36,26 +36,26 @@ present-in handlers k world NoEntry running is = tt
 present-in handlers k world (ResizeEntry target) running is = let most : k ≤ length world.tree.elements = running.most in omega arith
 present-in handlers k world (IntersectionEntry target meets) running is = let most : k ≤ length world.tree.elements = running.most in omega arith
 
-entry-in : (world : World) (present : Present) → IsPresentIn world present → IsEntryIn (length world.tree.elements) present
+pub entry-in : (world : World) (present : Present) → IsPresentIn world present → IsEntryIn (length world.tree.elements) present
 entry-in world NoEntry is = tt
 entry-in world (ResizeEntry target) is = is
 entry-in world (IntersectionEntry target meets) is = is
 
 -- the lists that callbacks are handed entries of
 
-active-in : (counts : Counts) (made : List ResizeObserver) (observer : ℕ) → AllByRecursion (IsResizeObserverIn counts) made →
+pub observed-in : (counts : Counts) (made : List ResizeObserver) (observer : ℕ) → AllByRecursion (IsResizeObserverIn counts) made →
     AreObserved counts (unwrap_or (slice_get made observer) no_resize_observer).active
-active-in counts [] observer all = tt
-active-in counts (x ∷ xs) zero all = all.0.active
-active-in counts (x ∷ xs) (suc observer) all = active-in counts xs observer (all.1)
+observed-in counts [] observer all = tt
+observed-in counts (x ∷ xs) zero all = all.0.active
+observed-in counts (x ∷ xs) (suc observer) all = observed-in counts xs observer (all.1)
 
-queue-in : (counts : Counts) (made : List IntersectionObserver) (observer : ℕ) → AllByRecursion (IsIntersectionObserverIn counts) made →
+pub queue-in : (counts : Counts) (made : List IntersectionObserver) (observer : ℕ) → AllByRecursion (IsIntersectionObserverIn counts) made →
     AllByRecursion (λ (each : Entry). each.target < counts.elements) (unwrap_or (slice_get made observer) no_intersection_observer).queue
 queue-in counts [] observer all = tt
 queue-in counts (x ∷ xs) zero all = all.0.queue
 queue-in counts (x ∷ xs) (suc observer) all = queue-in counts xs observer (all.1)
 
-if-own : (P : Observation → Type 0) (own : Bool) (active : List Observation) → AllByRecursion P active → AllByRecursion P (cond own active [])
+pub if-own : (P : Observation → Type 0) (own : Bool) (active : List Observation) → AllByRecursion P active → AllByRecursion P (cond own active [])
 if-own P true active all = all
 if-own P false active all = tt
 
@@ -76,7 +76,7 @@ running-kept script = record {
   left = λ k before now running after. record { within = after.within; most = omega (arith, running.most, after.most) };
   due = λ k world document observer running.
       if-own (λ (each : Observation). each.target < length world.tree.elements) (is_of document (resize_observer_at (world.resize_observers) observer)) _
-      (active-in _ (world.resize_observers.made) observer running.within.resize_observers);
+      (observed-in _ (world.resize_observers.made) observer running.within.resize_observers);
   queued = λ k world observer running. queue-in _ (world.intersection_observers.made) observer running.within.intersection_observers;
 }
   where
@@ -86,7 +86,7 @@ running-kept script = record {
 timed : (handlers time : ℕ) (world : World) → IsInRange handlers world → IsInRange handlers (record world { clock = time })
 timed handlers time world within = search
 
-same-count : (script : Script) → length (handler_names script) ≡ length script
+pub same-count : (script : Script) → length (handler_names script) ≡ length script
 same-count [] = refl
 same-count (x ∷ xs) = ap suc (same-count xs)
 

@@ -41,7 +41,7 @@ impl Page {
         let handler = handler_given(script, making.handler)?;
         let root = self.root(making.root, subject)?;
         let margins = margins_given(&making.margin)?;
-        let thresholds = self.thresholds_given(making.thresholds.numbers())?;
+        let thresholds = self.thresholds_given(making.thresholds.as_slice())?;
         self.names.reserve(1)?;
         let Ok(watcher) = self
             .watchers
@@ -129,7 +129,7 @@ impl Page {
 fn margins_given(text: &MarginText) -> Result<Margins, ThrowKind>
     ensures { Finds (λ margins. margins) result (required SyntaxError (margins_of text.now)) }
 {
-    match Margins::parse(text.bytes()) {
+    match Margins::parse(text.as_slice()) {
         Ok(margins) => Ok(margins),
         Err(_) => Err(ThrowKind::SyntaxError),
     }

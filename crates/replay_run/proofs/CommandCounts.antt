@@ -13,7 +13,7 @@ use Rattle.script_syntax.specs.declared.commands.Command as code
 use Rattle.script_syntax.specs.declared.commands.Item as code_item
 use Rattle.script_syntax.specs.declared.commands.What.{What}
 use Rattle.script_syntax.specs.declared.commands.What.TheVariants as what
-use Rattle.script_print.proofs.Walked.{simple_is}
+use Rattle.script_syntax.proofs.Walked.{simple_is}
 use Rattle.script_text.specs.NumberedLines.{NumberedLine, end_line, command_lines, block_lines, item_lines, items_lines}
 use Rattle.script_text.specs.ScriptText.{line_text, lines_text, script_text}
 use Rattle.script_text.specs.WellFormed.{Rise, IsWellFormed}

@@ -21,8 +21,8 @@ fn count_command(command: &Command) -> u64
     ensures { result ≡ commands_in (command_of command.now) }
 {
     match &command.what {
-        What::Each(body) => 1 + count_commands(body.commands.commands()),
-        What::When(_, body) => 1 + count_commands(body.commands.commands()),
+        What::Each(body) => 1 + count_commands(body.commands.as_slice()),
+        What::When(_, body) => 1 + count_commands(body.commands.as_slice()),
         _ => 1,
     }
 }
@@ -46,7 +46,7 @@ fn count_item(item: &Item) -> u64
 {
     match item {
         Item::Command(command) => count_command(command),
-        Item::Handler { commands, .. } => count_commands(commands.commands()),
+        Item::Handler { commands, .. } => count_commands(commands.as_slice()),
     }
 }
 

@@ -57,7 +57,7 @@ fn push_handler(
 {
     push_line_feeds(into, after, line)?;
     push_line(into, b"handler", &[Word(name)])?;
-    let last = push_commands(into, line, commands.commands())?;
+    let last = push_commands(into, line, commands.as_slice())?;
     push_end(into, last, end_line)?;
     Ok(end_line)
 }

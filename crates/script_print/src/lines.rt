@@ -62,7 +62,7 @@ fn push_body(into: &mut Vec<u8>, after: u32, body: &Body) -> Result<u32, AllocEr
     ensures text { OnOk result (into.new.items ≡ into.old.items ++ lines_text after (block_lines body.now.commands ++ (end_line body.now.end_line ∷ []))) }
     ensures last { IfOk result (λ last. last ≡ body.now.end_line) }
 {
-    let last = push_commands(into, after, body.commands.commands())?;
+    let last = push_commands(into, after, body.commands.as_slice())?;
     push_end(into, last, body.end_line)?;
     Ok(body.end_line)
 }

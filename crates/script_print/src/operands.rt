@@ -210,7 +210,7 @@ pub fn push_phrase(into: &mut Vec<u8>, head: &[u8], entries: &[Entry]) -> Result
 pub fn push_margin(into: &mut Vec<u8>, margin: &MarginText) -> Result<(), AllocError>
     ensures { OnOk result (into.new.items ≡ into.old.items ++ spaced (parts_of margin.now)) }
 {
-    let words = margin.bytes();
+    let words = margin.as_slice();
     if words.is_empty() {
         return Ok(());
     }
@@ -232,7 +232,7 @@ fn push_numbers(into: &mut Vec<u8>, numbers: &[i64]) -> Result<(), AllocError>
 pub fn push_thresholds(into: &mut Vec<u8>, numbers: &NumberList) -> Result<(), AllocError>
     ensures { OnOk result (into.new.items ≡ into.old.items ++ spaced (map number_text numbers.now)) }
 {
-    push_numbers(into, numbers.numbers())
+    push_numbers(into, numbers.as_slice())
 }
 
 /// Appends a list of media queries behind a space.

@@ -9,4 +9,5 @@ pub mod Lookups
 pub mod Opened
 pub mod Queries
 pub mod Reversed
+pub mod Walked
 pub mod WholeTexts

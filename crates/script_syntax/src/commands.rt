@@ -145,7 +145,7 @@ impl CommandList {
     }
 
     /// Its commands, none of which is a `tick`.
-    pub fn commands(&self) -> &[Command]
+    pub fn as_slice(&self) -> &[Command]
         ensures value { block_of result.now ≡ self.now }
         ensures allowed { All InnerAllowed result.now }
     {

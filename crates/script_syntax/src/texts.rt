@@ -27,7 +27,7 @@ impl MarginText {
     }
 
     /// Its bytes.
-    pub fn bytes(&self) -> &[u8]
+    pub fn as_slice(&self) -> &[u8]
         ensures { result.now ≡ self.now }
     {
         self.bytes.as_slice()
@@ -64,7 +64,7 @@ impl NumberList {
     }
 
     /// Its numbers.
-    pub fn numbers(&self) -> &[i64]
+    pub fn as_slice(&self) -> &[i64]
         ensures { result.now ≡ self.now }
     {
         self.numbers.as_slice()

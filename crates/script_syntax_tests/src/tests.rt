@@ -156,7 +156,7 @@ fn line_of(item: &Item) -> u32 {
 fn commands_of(item: &Item) -> usize {
     match item {
         Item::Command(_) => 0,
-        Item::Handler { commands, .. } => commands.commands().len(),
+        Item::Handler { commands, .. } => commands.as_slice().len(),
     }
 }
 

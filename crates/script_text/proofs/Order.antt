@@ -1,13 +1,12 @@
 -- Of the texts that are read as a value, none of the printed one's length comes before it in byte order.
 use Rattle.std.proofs.Common.{◌≡◌, ℕ, zero, suc, ◌+◌, ◌-◌, ◌*◌, ◌/◌, ◌%◌, ◌^◌, ◌<◌, ◌≤◌, ℤ, Bool, true, false, cond, ◌&&◌, ◌||◌, ◌==◌, nat_lt, List, [], ◌∷◌, ◌++◌, length, drop, Some, None, refl, ap, sym, ◌∙◌, arith, subst, length-append, ◌⊎◌, inl, inr}
 use Rattle.std.specs.Prelude.{Option, option_map, unsigned_abs, codes}
-use Rattle.std.proofs.lemmas.Bool.{and_parts, ltb-true, ltb-false, lt-ltb, le-ltb, leb-true, eq-eqb, eqb-true, eqb-false}
+use Rattle.std.proofs.lemmas.Bool.{and_parts, ltb-true, ltb-false, lt-ltb, le-ltb, eq-eqb, eqb-true, eqb-false}
 use Rattle.std.proofs.Math.Nat.{pow-suc}
-use Rattle.word_model.specs.Names.{is_digit}
 use Rattle.word_model.specs.Numbers.{begins_with, decimal, digits_value, form_of, has_form, scaled, with_sign, signed_by, length_of, signed_of, percent_of, ten_thousandths_of, number_of}
 use Rattle.word_model.proofs.Digits.{unsigned_is}
 use Rattle.word_model.proofs.Forms.{length_of_is, percent_of_is, ten_thousandths_of_is}
-use Rattle.word_model.proofs.Values.{value_from, value_from_zero, value_small, nine_digits}
+use Rattle.word_model.proofs.Values.{value_from, value_from_zero, value_large, value_small, digit_range, nine_digits}
 use Rattle.media_queries.specs.LengthText.{tenths_of, hundredths_of, last_digit, tenths_text, hundredths_text, length_text}
 use Rattle.word_model.proofs.RoundTrip.{decimal_value, decimal_digits}
 use Rattle.script_text.specs.NumberText.{places_text, percent_text, with_minus, signed_text, number_text}
@@ -40,13 +39,6 @@ times : (a b p : ℕ) → a ≤ b → a * p ≤ b * p
 times a b zero h = omega arith
 times a b (suc p) h = let e : a * p ≤ b * p = times a b p h in grind arith
 
-value_large : (digits : List ℕ) (value : ℕ) → value * 10 ^ length digits ≤ value_from value digits
-value_large [] value = omega arith
-value_large (d ∷ ds) value =
-    let next : (value * 10 + (d - 48)) * 10 ^ length ds ≤ value_from (value * 10 + (d - 48)) ds = value_large ds (value * 10 + (d - 48)) in
-    let more : value * 10 * 10 ^ length ds ≤ (value * 10 + (d - 48)) * 10 ^ length ds = times (value * 10) (value * 10 + (d - 48)) (10 ^ length ds) (omega arith) in
-    rw (pow-suc 10 (length ds)) (omega arith)
-
 three : (b c : ℕ) → (b < c) ⊎ ((b ≡ c) ⊎ (c < b))
 three b c = by_less (nat_lt b c) refl where
   by_less : (t : Bool) → nat_lt b c ≡ t → (b < c) ⊎ ((b ≡ c) ⊎ (c < b))
@@ -56,9 +48,6 @@ three b c = by_less (nat_lt b c) refl where
     by_equal true e f = inl (eqb-true b c e)
     by_equal false e f = let g = eqb-false b c e in inr (omega arith)
 
-high_digit : (d : ℕ) → is_digit d ≡ true → (48 ≤ d) × (d ≤ 57)
-high_digit d h = let parts = and_parts _ _ h in (leb-true 48 d parts.0, leb-true d 57 parts.1)
-
 -- digits of a smaller number stand before those of a larger one with as many
 ordered : (a b x y : List ℕ) (value : ℕ) → AreDigits a → AreDigits b → length a ≡ length b → value_from value a ≤ value_from value b
     → (value_from value a ≡ value_from value b → is_not_after x y ≡ true) → is_not_after (a ++ x) (b ++ y) ≡ true
@@ -66,8 +55,8 @@ ordered [] [] x y value all more long less equal = equal refl
 ordered [] (c ∷ cs) x y value all more long less equal = absurd (omega arith)
 ordered (b ∷ bs) [] x y value all more long less equal = absurd (omega arith)
 ordered (b ∷ bs) (c ∷ cs) x y value all more long less equal =
-    let first = high_digit b (and_parts _ _ all).0 in
-    let second = high_digit c (and_parts _ _ more).0 in
+    let first = digit_range b (and_parts _ _ all).0 in
+    let second = digit_range c (and_parts _ _ more).0 in
     elim (three b c) [
       | inl below ↦ lower b c (bs ++ x) (cs ++ y) below
       | inr rest ↦ elim rest [

@@ -2,26 +2,24 @@
 use Rattle.std.proofs.Common.{◌≡◌, ◌∙◌, refl, sym, ap, subst, ℕ, suc, ◌+◌, ◌-◌, ◌*◌, ◌/◌, ◌%◌, ◌^◌, ◌<◌, ◌≤◌, Bool, true, false, cond, not, ◌&&◌, nat_lt, nat_le, ltb, List, [], ◌∷◌, ◌++◌, length, Some, None, arith, append-nil}
 use Rattle.std.specs.Prelude.{take_while, ◌==◌}
 use Rattle.std.specs.List.{list_all}
-use Rattle.std.proofs.Math.Nat.{pow-suc, pow-zero, pow-le-pow_right, mul-le-mul_left}
+use Rattle.std.proofs.Math.Nat.{pow-le-pow_right, mul-le-mul_left}
 use Rattle.std.proofs.lemmas.Bool.{and_parts, eqb-true, leb-true, lt-ltb, ltb-true, ltb-false}
 use Rattle.std.proofs.lemmas.List.Folds.{list_all-append}
 use Rattle.std.proofs.lemmas.List.Sums.{take_while-cons}
 use Rattle.std.proofs.lemmas.Grind.{common_steps}
 use Rattle.word_model.specs.Names.{is_digit}
 use Rattle.word_model.specs.Numbers.{begins_with, decimal_on, decimal, digits_value, at_most, is_whole, leading_digits, behind_digits}
-use Rattle.word_model.proofs.Values.{value_from, value_from_zero, not_above}
+use Rattle.word_model.proofs.Spelled.{digits_first}
+use Rattle.word_model.proofs.Values.{value_from, value_from_zero, value_large, digit_range, not_above}
 use Rattle.word_model.proofs.Decimals.{last_on, more_on}
 use Rattle.word_model.proofs.Forms.{is_whole_is}
 use Rattle.word_model.proofs.RoundTrip.{decimal_is, decimal_value, decimal_digits, decimal_whole}
 use Rattle.script_model.specs.TraceText.{ratio_text}
 use Rattle.trace_text.specs.Fields.{is_field_byte}
 use Rattle.trace_text.specs.Reading.{◌>>=◌, number_of, over, ratio_of}
-use Rattle.trace_text.proofs.Exact.{Exact, some_same, parts, chosen, run_of, run_first, behind_run}
+use Rattle.trace_text.proofs.Exact.{Exact, some_same, parts, chosen, run_of, behind_run}
 
 -- ---- digits are those of the number that they write
-
-digit_range : (d : ℕ) → is_digit d ≡ true → (48 ≤ d) × (d ≤ 57)
-digit_range d h = let both : (nat_le 48 d ≡ true) × (nat_le d 57 ≡ true) = and_parts (nat_le 48 d) (nat_le d 57) h in (leb-true 48 d both.0, leb-true d 57 both.1)
 
 -- digits behind a number that is read are written last
 unread : (ds : List ℕ) (p v : ℕ) (behind : List ℕ) → list_all is_digit ds ≡ true → 0 < v → decimal_on (length ds + p) (value_from v ds) behind ≡ decimal_on p v (ds ++ behind)
@@ -38,12 +36,6 @@ unread (d ∷ ds) p v behind all some =
     ∙ ap (λ n. decimal_on p n ((48 + next % 10) ∷ (ds ++ behind))) tens
     ∙ ap (λ x. decimal_on p v (x ∷ (ds ++ behind))) ones
 
-grows : (ds : List ℕ) (v : ℕ) → v * 10 ^ length ds ≤ value_from v ds
-grows [] v = rw pow-zero (omega arith)
-grows (d ∷ ds) v =
-    let later : (v * 10 + (d - 48)) * 10 ^ length ds ≤ value_from (v * 10 + (d - 48)) ds = grows ds (v * 10 + (d - 48)) in
-    rw (pow-suc 10 (length ds)) (omega arith)
-
 short : (ds : List ℕ) (v : ℕ) → 0 < v → value_from v ds < 10 ^ 39 → length ds < 39
 short ds v some h =
     elim (ltb (length ds) 39) as (λ b. ltb (length ds) 39 ≡ b → length ds < 39)
@@ -51,7 +43,7 @@ short ds v some h =
       too_long : 39 ≤ length ds → ⊥
       too_long long =
           let power : 10 ^ 39 ≤ 10 ^ length ds = pow-le-pow_right (omega arith) long in
-          let larger : v * 10 ^ length ds ≤ value_from v ds = grows ds v in
+          let larger : v * 10 ^ length ds ≤ value_from v ds = value_large ds v in
           let once : 10 ^ length ds * 1 ≤ 10 ^ length ds * v = mul-le-mul_left (10 ^ length ds) (omega arith) in
           omega arith
 
@@ -136,10 +128,6 @@ leading_first digits rest all stop = run_of is_digit digits rest all stop
 pub behind_first : (digits rest : List ℕ) → list_all is_digit digits ≡ true → take_while is_digit rest ≡ [] → behind_digits (digits ++ rest) ≡ rest
 unfolding behind_digits leading_digits
 behind_first digits rest all stop = behind_run is_digit digits rest (run_of is_digit digits rest all stop)
-
-pub digits_first : (text : List ℕ) → leading_digits text ++ behind_digits text ≡ text
-unfolding behind_digits leading_digits
-digits_first text = run_first is_digit text
 
 -- ---- ratios
 

@@ -16,7 +16,8 @@ use Rattle.word_model.proofs.RoundTrip.{decimal_digits, decimal_length}
 use Rattle.trace_text.specs.Fields.{is_field_byte}
 use Rattle.trace_text.specs.Reading.{◌>>=◌, number_of, are_decimals, sixty_fourths, decimals_of, rest_of, magnitude_of, negative, pixels_of}
 use Rattle.trace_text.proofs.Exact.{Exact, some_same, parts, chosen}
-use Rattle.trace_text.proofs.Numerals.{number_exact, digits_field, at_most_some, leading_first, behind_first, digits_first}
+use Rattle.word_model.proofs.Spelled.{digits_first}
+use Rattle.trace_text.proofs.Numerals.{number_exact, digits_field, at_most_some, leading_first, behind_first}
 
 -- ---- each of the 64 rests of a pixel, computed
 

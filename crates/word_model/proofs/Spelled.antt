@@ -9,7 +9,7 @@ use Rattle.word_model.specs.Numbers.{begins_with, unsigned, leading_digits, behi
 use Rattle.word_model.proofs.Digits.{point_digits_are, behind_point_is, unsigned_is}
 
 -- digits and what stands behind them
-digits_first : (text : List ℕ) → leading_digits text ++ behind_digits text ≡ text
+pub digits_first : (text : List ℕ) → leading_digits text ++ behind_digits text ≡ text
 unfolding behind_digits
 digits_first text =
     ap (λ n. take (prefix_len is_digit text) text ++ drop n text) (length-prefix_len is_digit text) ∙ take-append-drop (prefix_len is_digit text) text

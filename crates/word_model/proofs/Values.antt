@@ -23,6 +23,16 @@ pub value_grows : (digits : List ℕ) (value : ℕ) → value ≤ value_from val
 value_grows [] value = omega arith
 value_grows (d ∷ ds) value = let h : value * 10 + (d - 48) ≤ value_from (value * 10 + (d - 48)) ds = value_grows ds (value * 10 + (d - 48)) in omega arith
 
+-- and by a place for each digit at least
+pub value_large : (digits : List ℕ) (value : ℕ) → value * 10 ^ length digits ≤ value_from value digits
+value_large [] value = rw pow-zero (omega arith)
+value_large (d ∷ ds) value =
+    let later : (value * 10 + (d - 48)) * 10 ^ length ds ≤ value_from (value * 10 + (d - 48)) ds = value_large ds (value * 10 + (d - 48)) in
+    rw (pow-suc 10 (length ds)) (omega arith)
+
+pub digit_range : (d : ℕ) → is_digit d ≡ true → (48 ≤ d) × (d ≤ 57)
+digit_range d h = let both : (nat_le 48 d ≡ true) × (nat_le d 57 ≡ true) = and_parts (nat_le 48 d) (nat_le d 57) h in (leb-true 48 d both.0, leb-true d 57 both.1)
+
 pub value_step : (digits : List ℕ) (i value : ℕ) → i < length digits
     → value_from value (drop i digits) ≡ value_from (value * 10 + (get_or digits i 0 - 48)) (drop (i + 1) digits)
 value_step digits i value h = rw (add-one, drop-cons digits i 0) refl

@@ -10,7 +10,8 @@ use Rattle.handlers.specs.Entries.{entries_of, present_at}
 use Rattle.trace_runs.proofs.Answered.{threw_run}
 use Rattle.handlers.proofs.Answered.{apply_same, begun_is, found_same, held_is, unheld_is, unbegun_run}
 use Rattle.script_syntax.proofs.Inner.{inner_action}
-use Rattle.handlers.proofs.Blocks.{block_more, block_same, block_none, command_begins, each_does, each_size, simple_does, simple_is, size_within, test_allowed, when_does, when_size}
+use Rattle.script_syntax.proofs.Walked.{each_size, simple_is, size_within, when_size}
+use Rattle.handlers.proofs.Blocks.{block_more, block_same, block_none, command_begins, each_does, simple_does, test_allowed, when_does}
 use Rattle.handlers.proofs.Growing.{in_after_begun, in_after_block, in_after_command}
 use Rattle.handlers.proofs.Places.{present_is, subject_in}
 use Rattle.handlers.proofs.commands.+blocks.Goals as goal

@@ -4,7 +4,8 @@ use Rattle.script_syntax.specs.declared.commands.Command.{Command}
 use Rattle.script_syntax.specs.Seen.{command_of, block_of, action_of, command_size, block_size}
 use Rattle.loop_lint.specs.LoopHandlers.{lines_in, block_lines}
 use Rattle.loop_lint.specs.Searches.{is_sought}
-use Rattle.loop_lint.proofs.Searching.{each_size, when_size, size_within, each-lines, when-lines, simple-first, simple_is, block-lines, searched-on, searched-found, searched-all, not-found}
+use Rattle.script_syntax.proofs.Walked.{each_size, when_size, size_within, simple_is}
+use Rattle.loop_lint.proofs.Searching.{each-lines, when-lines, simple-first, block-lines, searched-on, searched-found, searched-all, not-found}
 use Rattle.loop_lint.proofs.search.+walk.Goals as goal
 
 pub first_in_command-first_in-requires : goal.first_in_command-first_in-requires

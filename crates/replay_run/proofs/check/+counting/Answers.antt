@@ -1,7 +1,7 @@
 use Rattle.std.proofs.Common.{ap, arith}
 use Rattle.script_model.specs.Scripts.{block_commands}
 use Rattle.script_syntax.specs.Seen.{block_size}
-use Rattle.script_print.proofs.Walked.{each_size, when_size, size_within}
+use Rattle.script_syntax.proofs.Walked.{each_size, when_size, size_within}
 use Rattle.replay_run.proofs.CommandCounts.{commands_more, commands_none, each_count, when_count, simple_count}
 use Rattle.replay_run.proofs.check.+counting.Goals as goal
 

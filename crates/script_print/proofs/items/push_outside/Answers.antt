@@ -4,7 +4,7 @@ use Rattle.script_text.specs.NumberedLines.{item_lines}
 use Rattle.script_text.specs.ScriptText.{lines_text}
 use Rattle.script_print.specs.LastNumber.{last_number}
 use Rattle.script_print.proofs.Blocks.{outside_is}
-use Rattle.script_print.proofs.Walked.{outside_at}
+use Rattle.script_syntax.proofs.Walked.{outside_at}
 use Rattle.script_print.proofs.items.push_outside.Goals as goal
 
 pub returns-in_ok-last-in_default : goal.returns-in_ok-last-in_default

@@ -4,7 +4,7 @@ use Rattle.script_text.specs.NumberedLines.{command_lines}
 use Rattle.script_text.specs.ScriptText.{lines_text}
 use Rattle.script_print.specs.LastNumber.{last_number}
 use Rattle.script_print.proofs.Blocks.{simple_pushed, simple_last, each_pushed, each_last, when_pushed, when_last, lines_on, last_on, lines_end, last_end, blocks_are}
-use Rattle.script_print.proofs.Walked.{simple_is, each_size, when_size, size_within}
+use Rattle.script_syntax.proofs.Walked.{simple_is, each_size, when_size, size_within}
 use Rattle.script_print.proofs.lines.+lines.Goals as goal
 
 pub push_command-push_body-requires : goal.push_command-push_body-requires
