@@ -4,6 +4,7 @@ ghost use Rattle.std.specs.Prelude.{◌≡◌, ◌<◌, ℕ, All, IfOk, length};
 ghost use Rattle.page_model.specs.Documents.{is_number, tree_document};
 ghost use Rattle.page_model.specs.Intersections.{is_rooted_in, watchers as numbers_of};
 ghost use Rattle.intersection_observer.specs.Seen.{seen_root};
+ghost use Rattle.intersection_observer.specs.Watchers.{watcher_at};
 ghost use Rattle.intersection_observer.specs.declared.root.WatcherId.{WatcherId};
 ghost use Rattle.intersection_update.specs.Watching.{watcher_numbers};
 
@@ -25,9 +26,9 @@ fn stands_in(page: &PageTree, node: NodeId, document: u32) -> bool
     }
 }
 
-/// Whether an observer with this root is looked at with a document: where the root is the document or stands in its tree;
-/// with the implicit root, for the top document. No memory.
-pub(crate) fn is_rooted_in(page: &PageTree, root: Root, document: u32) -> bool
+// Whether an observer with this root is looked at with a document: where the root is the document or stands in its tree;
+// with the implicit root, for the top document.
+fn is_rooted_in(page: &PageTree, root: Root, document: u32) -> bool
     ensures { result ≡ is_rooted_in page.now.tree document (seen_root root) }
 {
     match root {
@@ -37,9 +38,23 @@ pub(crate) fn is_rooted_in(page: &PageTree, root: Root, document: u32) -> bool
     }
 }
 
+/// Whether an observer is looked at with a document, by its root alone: for which document it was made makes no difference.
+/// No memory.
+pub(crate) fn is_looked_at(
+    page: &PageTree,
+    watchers: &Watchers,
+    watcher: WatcherId,
+    document: u32,
+) -> bool
+    requires { watcher.0 < length watchers.now.part.made }
+    ensures { result ≡ is_rooted_in page.now.tree document (watcher_at watchers.now watcher.0).root }
+{
+    is_rooted_in(page, watchers.root_of(watcher), document)
+}
+
 /// The observers that are looked at with a document, in order of creation: those whose root is the document or stands in
 /// its tree, and for the top document those with the implicit root (Intersection Observer, 3.2.10: run the update
-/// intersection observations steps). For which document an observer was made makes no difference.
+/// intersection observations steps).
 ///
 /// # Errors
 ///
@@ -56,7 +71,7 @@ pub fn watchers_of(
     let mut found = Vec::new(alloc);
     for number in 0..watchers.count() {
         let watcher = WatcherId(number);
-        if is_rooted_in(page, watchers.root_of(watcher), document) {
+        if is_looked_at(page, watchers, watcher, document) {
             found.push(watcher)?;
         }
     }

@@ -12,7 +12,7 @@ ghost use Rattle.intersection_observer.specs.Watchers.{watcher_at};
 ghost use Rattle.intersection_update.specs.Watching.{AreWatchers};
 ghost use Rattle.intersection_update.specs.Updating.{updated, has_news, HasParts, AreKept, IsBegun, IsStopped, settled_place, settled_if_rooted};
 
-use crate::rooted::is_rooted_in;
+use crate::rooted::is_looked_at;
 use intersection_observer::{Settled, WatcherId, Watchers};
 use kept_layout::Kept;
 use page_geometry::find;
@@ -104,7 +104,7 @@ fn settle_if_rooted(
     ensures queued { IfOk result (λ queued. queued ≡ has_queued watchers.old.part watchers.new.part watcher.0) }
     ensures kept { AreKept (length page.now.tree.elements) watchers.old watchers.new }
 {
-    if is_rooted_in(page, watchers.root_of(watcher), document) {
+    if is_looked_at(page, watchers, watcher, document) {
         settle_watcher(page, boxes, scrolls, viewport, watchers, watcher, time)
     } else {
         Ok(false)
