@@ -1,5 +1,5 @@
 -- What an element that has a box stands in: its node document is Active, its parent or the frame around has a box.
-use Rattle.std.proofs.Common.{◌≡◌, ℕ, Bool, true, false, Option, Some, None, refl, ap, sym}
+use Rattle.std.proofs.Common.{◌≡◌, ℕ, Bool, true, false, Option, Some, None, refl, ap, sym, ◌∙◌}
 use Rattle.std.specs.Prelude.{◌&&◌, not, is_some, option_map}
 use Rattle.layout_model.specs.Boxes.{Inputs, box_in, content_size}
 use Rattle.layout_model.specs.Clips.{is_block}
