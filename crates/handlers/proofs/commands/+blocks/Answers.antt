@@ -92,15 +92,15 @@ run_when-returns-in-Err g t c =
 pub run_block-loop-command-init : goal.run_block-loop-command-init
 run_block-loop-command-init g t c =
     record {
-      following = rest_same (block_same _ _ _ _ c.commands-command-items.ensures.value) begin;
+      following = rest_same (block_same _ _ _ _ c.as_slice-command-items.ensures.value) begin;
       targets = c.requires.targets;
     }
 
 pub run_block-run_command-requires : goal.run_block-run_command-requires
 run_block-run_command-requires g t c =
-    let size : command_size (command_of c.command-item.result) ≤ block_size (block_of c.commands-command-items.result.now) =
-    size_within c.commands-command-items.result.now c.loop-command.command-index _ _ (omega arith) c.command-item.is in
-    let same = ap block_size c.commands-command-items.ensures.value in
+    let size : command_size (command_of c.command-item.result) ≤ block_size (block_of c.as_slice-command-items.result.now) =
+    size_within c.as_slice-command-items.result.now c.loop-command.command-index _ _ (omega arith) c.command-item.is in
+    let same = ap block_size c.as_slice-command-items.ensures.value in
     λ lives within. (omega arith, search rules)
 
 pub run_command-run_when-requires : goal.run_command-run_when-requires
@@ -120,7 +120,7 @@ run_each-returns-in-Err g t c =
 pub run_block-returns-in-Ok-Thrown : goal.run_block-returns-in-Ok-Thrown
 run_block-returns-in-Ok-Thrown g t c =
     end_thrown _ refl refl refl
-    (rest_same (block_more c.commands-command-items.result.now _ _ (omega arith) c.command-item.is _ _ _ _) c.loop-command.invariant.following)
+    (rest_same (block_more c.as_slice-command-items.result.now _ _ (omega arith) c.command-item.is _ _ _ _) c.loop-command.invariant.following)
     (rw c.in-Ok-Thrown.field-0-is at c.in-Ok-Thrown.ensures)
 
 pub run_block-loop-command-preserved : goal.run_block-loop-command-preserved
@@ -128,7 +128,7 @@ run_block-loop-command-preserved g t c =
     record {
       following =
           go_on _ refl
-          (rest_same (block_more c.commands-command-items.result.now _ _ (omega arith) c.command-item.is _ _ _ _) c.loop-command.invariant.following)
+          (rest_same (block_more c.as_slice-command-items.result.now _ _ (omega arith) c.command-item.is _ _ _ _) c.loop-command.invariant.following)
           (rw c.in-Ok-Next.field-0-is at c.in-Ok-Next.ensures);
       targets = in_after_command c.runs_take_nothing_back.ensures.commands _ _ _ _ _ _ c.in-Ok-Next.ensures.ended.state_is c.loop-command.invariant.targets;
     }
@@ -136,9 +136,9 @@ run_block-loop-command-preserved g t c =
 pub run_block-returns-in-Err : goal.run_block-returns-in-Err
 run_block-returns-in-Err g t c =
     end_cut c.in-Err.fault _
-    (rest_same (block_more c.commands-command-items.result.now _ _ (omega arith) c.command-item.is _ _ _ _) c.loop-command.invariant.following)
+    (rest_same (block_more c.as_slice-command-items.result.now _ _ (omega arith) c.command-item.is _ _ _ _) c.loop-command.invariant.following)
     c.in-Err.ensures
 
 pub run_block-returns : goal.run_block-returns
 run_block-returns g t c =
-    done refl (rest_same (block_none c.commands-command-items.result.now c.loop-command.command-index _ _ _ _ (omega arith)) c.loop-command.invariant.following)
+    done refl (rest_same (block_none c.as_slice-command-items.result.now c.loop-command.command-index _ _ _ _ (omega arith)) c.loop-command.invariant.following)

@@ -6,7 +6,7 @@ use Rattle.handlers.proofs.entries.entry_at.Goals as goal
 
 pub returns-in-Some : goal.returns-in-Some
 returns-in-Some c =
-    entry_found c.args.entries.now _ c.entries.result.now c.args.place c.in-Some.entry.now (c.in-Resize.is ∙ ap (Resize c.in-Resize.field-0) (sym c.entries.ensures)) (ltb-true _ _ (sym c.in-Some.ensures.lookup.0)) c.in-Some.ensures.lookup.1
+    entry_found c.args.entries.now _ c.as_slice.result.now c.args.place c.in-Some.entry.now (c.in-Resize.is ∙ ap (Resize c.in-Resize.field-0) (sym c.as_slice.ensures)) (ltb-true _ _ (sym c.in-Some.ensures.lookup.0)) c.in-Some.ensures.lookup.1
 
 pub returns-in-Some-get : goal.returns-in-Some-get
 returns-in-Some-get c =

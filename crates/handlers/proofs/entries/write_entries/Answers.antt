@@ -9,4 +9,4 @@ returns-in-Nothing g c = (nothing_told c.args.page.now.world.names c.args.entrie
 
 pub write_cuts-requires-clause-written : goal.write_cuts-requires-clause-written
 write_cuts-requires-clause-written g c =
-    subst (AreWritten _) (sym c.as_slice.ensures) (handed_written c.args.page.now.world c.args.entries.now c.in-Intersection.observer _ c.in-Intersection.is c.requires)
+    subst (AreWritten _) (sym c.as_slice-in-Intersection.ensures) (handed_written c.args.page.now.world c.args.entries.now c.in-Intersection.observer _ c.in-Intersection.is c.requires)

@@ -12,26 +12,26 @@ pub first_in_command-first_in-requires : goal.first_in_command-first_in-requires
 first_in_command-first_in-requires t c =
     let size : command_size (command_of c.args.command.now) ≡ block_size c.in-Each.body.commands + 1 =
     each_size c.args.command.now.line c.args.command.now.what c.in-Each.body c.in-Each.is in
-    let same : block_size (block_of c.commands.result.now) ≡ block_size c.in-Each.body.commands = ap block_size c.commands.ensures.value in
+    let same : block_size (block_of c.as_slice.result.now) ≡ block_size c.in-Each.body.commands = ap block_size c.as_slice.ensures.value in
     (omega arith, tt)
 
 pub first_in_command-first_in-requires-in-When : goal.first_in_command-first_in-requires-in-When
 first_in_command-first_in-requires-in-When t c =
     let size : command_size (command_of c.args.command.now) ≡ block_size c.in-When.body.commands + 1 =
     when_size c.args.command.now.line c.args.command.now.what c.in-When.field-0 c.in-When.body c.in-When.is in
-    let same : block_size (block_of c.commands-in-When.result.now) ≡ block_size c.in-When.body.commands = ap block_size c.commands-in-When.ensures.value in
+    let same : block_size (block_of c.as_slice-in-When.result.now) ≡ block_size c.in-When.body.commands = ap block_size c.as_slice-in-When.ensures.value in
     (omega arith, tt)
 
 pub first_in_command-returns-in-Each : goal.first_in_command-returns-in-Each
 first_in_command-returns-in-Each t c =
     c.first_in.ensures
-    ∙ ap (λ block. slice_get (block_lines (is_sought c.args.sought.now) block) 0) c.commands.ensures.value
+    ∙ ap (λ block. slice_get (block_lines (is_sought c.args.sought.now) block) 0) c.as_slice.ensures.value
     ∙ ap (λ lines. slice_get lines 0) (each-lines (is_sought c.args.sought.now) c.args.command.now.line c.args.command.now.what c.in-Each.body c.in-Each.is)
 
 pub first_in_command-returns-in-When : goal.first_in_command-returns-in-When
 first_in_command-returns-in-When t c =
     c.first_in-in-When.ensures
-    ∙ ap (λ block. slice_get (block_lines (is_sought c.args.sought.now) block) 0) c.commands-in-When.ensures.value
+    ∙ ap (λ block. slice_get (block_lines (is_sought c.args.sought.now) block) 0) c.as_slice-in-When.ensures.value
     ∙ ap (λ lines. slice_get lines 0)
     (when-lines (is_sought c.args.sought.now) c.args.command.now.line c.args.command.now.what c.in-When.field-0 c.in-When.body c.in-When.is)
 

@@ -9,40 +9,40 @@ pub count_command-count_commands-requires : goal.count_command-count_commands-re
 count_command-count_commands-requires t c =
     let size = each_size c.args.command.now.line c.args.command.now.what c.in-Each.body c.in-Each.is in
     let count = each_count c.args.command.now.line c.args.command.now.what c.in-Each.body c.in-Each.is in
-    let sizes = ap block_size c.commands.ensures.value in
-    let counts = ap block_commands c.commands.ensures.value in
+    let sizes = ap block_size c.as_slice.ensures.value in
+    let counts = ap block_commands c.as_slice.ensures.value in
     (omega arith, omega arith)
 
 pub count_command-overflow_add-result : goal.count_command-overflow_add-result
 count_command-overflow_add-result t c =
     let count = each_count c.args.command.now.line c.args.command.now.what c.in-Each.body c.in-Each.is in
-    let counts = ap block_commands c.commands.ensures.value in
+    let counts = ap block_commands c.as_slice.ensures.value in
     omega arith
 
 pub count_command-returns-in-Each : goal.count_command-returns-in-Each
 count_command-returns-in-Each t c =
     let count = each_count c.args.command.now.line c.args.command.now.what c.in-Each.body c.in-Each.is in
-    let counts = ap block_commands c.commands.ensures.value in
+    let counts = ap block_commands c.as_slice.ensures.value in
     omega arith
 
 pub count_command-count_commands-requires-in-When : goal.count_command-count_commands-requires-in-When
 count_command-count_commands-requires-in-When t c =
     let size = when_size c.args.command.now.line c.args.command.now.what c.in-When.field-0 c.in-When.body c.in-When.is in
     let count = when_count c.args.command.now.line c.args.command.now.what c.in-When.field-0 c.in-When.body c.in-When.is in
-    let sizes = ap block_size c.commands-in-When.ensures.value in
-    let counts = ap block_commands c.commands-in-When.ensures.value in
+    let sizes = ap block_size c.as_slice-in-When.ensures.value in
+    let counts = ap block_commands c.as_slice-in-When.ensures.value in
     (omega arith, omega arith)
 
 pub count_command-overflow_add-result-in-When : goal.count_command-overflow_add-result-in-When
 count_command-overflow_add-result-in-When t c =
     let count = when_count c.args.command.now.line c.args.command.now.what c.in-When.field-0 c.in-When.body c.in-When.is in
-    let counts = ap block_commands c.commands-in-When.ensures.value in
+    let counts = ap block_commands c.as_slice-in-When.ensures.value in
     omega arith
 
 pub count_command-returns-in-When : goal.count_command-returns-in-When
 count_command-returns-in-When t c =
     let count = when_count c.args.command.now.line c.args.command.now.what c.in-When.field-0 c.in-When.body c.in-When.is in
-    let counts = ap block_commands c.commands-in-When.ensures.value in
+    let counts = ap block_commands c.as_slice-in-When.ensures.value in
     omega arith
 
 pub count_command-returns-in_default : goal.count_command-returns-in_default
