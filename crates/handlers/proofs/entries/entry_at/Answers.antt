@@ -10,5 +10,5 @@ returns-in-Some c =
 
 pub returns-in-Some-get : goal.returns-in-Some-get
 returns-in-Some-get c =
-    cut_found c.args.entries.now c.in-Intersection.field-0 _ c.as_slice.result.now c.args.place c.in-Some-get.entry.now c.in-Intersection.is c.as_slice.ensures
+    cut_found c.args.entries.now c.in-Intersection.field-0 _ c.as_slice-in-Intersection.result.now c.args.place c.in-Some-get.entry.now c.in-Intersection.is c.as_slice-in-Intersection.ensures
     (ltb-true _ _ (sym c.in-Some-get.ensures.lookup.0)) c.in-Some-get.ensures.lookup.1
