@@ -1,8 +1,7 @@
 use Rattle.std.proofs.Common.{ap, sym, ◌∙◌}
 use Rattle.std.specs.Prelude.{Some}
 use Rattle.script_syntax.specs.Seen.{item_of}
-use Rattle.handlers.proofs.Handlers.{no_command}
-use Rattle.frame_update.proofs.Named.{handler_named, handler_there}
+use Rattle.frame_update.proofs.Named.{handler_named, handler_there, no_command}
 use Rattle.frame_update.proofs.tasks.handler_name.Goals as goal
 
 pub returns : goal.returns
