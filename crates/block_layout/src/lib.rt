@@ -8,8 +8,6 @@ mod held;
 mod numbers;
 mod reach;
 mod sizes;
-#[cfg(test)]
-mod tests;
 mod trees;
 
 pub use boxes::{BoxOf, child_inputs, compute_box};

@@ -6,8 +6,6 @@ mod commands;
 mod entries;
 mod handler;
 mod steps;
-#[cfg(test)]
-mod tests;
 
 pub use commands::run_command;
 pub use entries::Entries;

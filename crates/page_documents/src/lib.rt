@@ -9,8 +9,6 @@ mod finding;
 mod found;
 mod laws;
 mod owned;
-#[cfg(test)]
-mod tests;
 
 pub use documents::Documents;
 pub use entry::DocumentState;

@@ -2,7 +2,7 @@
 
 ghost use Rattle.std.specs.Prelude.{◌≡◌, ◌<◌, length};
 
-use crate::{
+use block_layout::{
     BoxOf, Boxes, FreshBoxes, Inputs, ItemKind, Styled, child_inputs, compute_box, fresh_box,
     overflow_reach,
 };

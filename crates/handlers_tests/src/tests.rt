@@ -1,8 +1,10 @@
+//! Texts of commands and handlers, run over a sink in memory that may fail.
+
 ghost use Rattle.std.specs.Prelude.{◌≡◌, ◌<◌};
 ghost use Rattle.script_syntax.specs.Allowed.{IsAllowed};
 
-use super::*;
 use event_tables::HandlerId;
+use handlers::{Entries, run_command, run_handler};
 use page_state::Page;
 use script_lexer::Lexer;
 use script_syntax::{Command, Item, ParseFault, Script, What, parse};
@@ -81,7 +83,7 @@ fn run_outside<L: Ledger>(
 }
 
 // Each command but `tick`, and then the first handler for a document.
-fn run<L: Ledger>(
+fn run_text<L: Ledger>(
     blank: Blank,
     alloc: Global,
     page: &mut Page,
@@ -125,7 +127,7 @@ fn expect(
         return Err(Fail::from(AllocError));
     };
     let mut page = Page::new(alloc)?;
-    let ran = run::<Brand>(
+    let ran = run_text::<Brand>(
         Blank::new(1),
         alloc,
         &mut page,

@@ -3,10 +3,10 @@
 ghost use Rattle.std.specs.Prelude.{◌≡◌, ℕ, refl};
 ghost use Rattle.page_model.specs.Lookups.{no_element};
 
-use crate::{DocumentState, Documents, Owned};
 use DocumentState::{Active, Dead, Fresh};
 use Move::{Append, Remove, Root};
 use element_tree::{NodeId, Tree};
+use page_documents::{DocumentState, Documents, Owned};
 use std::alloc::Global;
 use std::process::Abort;
 use std::test::Fail;
