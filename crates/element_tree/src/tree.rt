@@ -1,6 +1,6 @@
 //! The tree: its calls, each said in terms of a plain list of nodes.
 ghost use Rattle.std.specs.Prelude.{◌≡◌, ℕ, ◌+◌, ◌<◌, ◌≤◌, ◌++◌, ◌∷◌, [], length, slice_get, option_map, Some, nat_lt, IfOk, OnOk, OnErr, IfErr, IsOk, IsErr, Err, ◌≢◌, MatchResult, None, true, false, not};
-ghost use Rattle.element_tree.specs.Forest.{IsForest, parent_of, children_of, siblings_of, first_of, next_of, previous_of, depth, height, is_ancestor, names, most_levels};
+ghost use Rattle.element_tree.specs.Forest.{IsForest, parent_of, children_of, siblings_of, first_of, last_of, next_of, previous_of, depth, height, is_ancestor, names, most_levels};
 ghost use Rattle.element_tree.specs.Edits.{inserted, removed, mark_of, lone, with_nodes};
 ghost use Rattle.element_tree.specs.Answers.{append_fault, insert_fault, too_deep, IsAddFault};
 ghost use Rattle.element_tree.specs.declared.fault.TreeFault as TreeFault;
@@ -57,6 +57,14 @@ impl<P> Tree<P> {
         ensures forest { IsForest self.now.most_depth self.now.nodes }
     {
         links_of(&self.slots, node).first
+    }
+
+    /// The last of the node's children; none where it has none.
+    pub fn last_child(&self, node: NodeId) -> Option<NodeId>
+        ensures value { result ≡ node_ids (last_of (children_of self.now.nodes node.0)) }
+        ensures forest { IsForest self.now.most_depth self.now.nodes }
+    {
+        links_of(&self.slots, node).last
     }
 
     /// The sibling right behind a node; none for the last child and for a root.

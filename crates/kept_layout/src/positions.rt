@@ -132,8 +132,10 @@ fn moved_back(place: Shift, inner: Shift, view: Shift) -> Point
 }
 
 impl Kept {
-    // From the corner of the parent's border box to that of the node's own, and for a root element from the viewport's.
-    fn shift<P: Styled>(&self, tree: &Tree<P>, node: NodeId) -> Shift
+    /// From the corner of the parent's border box to that of the node's own where the parent isn't scrolled, and for a root element
+    /// from the viewport's corner (CSS 2.2, 8.1 and 9.4.1). It is so where the node has a box, and its own and those of its ancestors
+    /// are held as they are now. It reads its own box and its parent's alone.
+    pub fn shift<P: Styled>(&self, tree: &Tree<P>, node: NodeId) -> Shift
         ensures value { let at = layout_tree P.style P.kind tree.now.nodes in (view : View) →
             IsFreshPath at view (slot_in self.now) node.0 → (result.across, result.down) ≡ offset_of at view node.0 }
         ensures across { result.across ≤ 2147483647 }
