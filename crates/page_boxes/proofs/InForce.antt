@@ -1,5 +1,5 @@
 -- Scroll offsets in force: stored positions within what can be scrolled.
-use Rattle.std.proofs.Common.{◌≡◌, ℕ, Bool, true, false, cond, refl, ap, sym, ◌∙◌, arith, min}
+use Rattle.std.proofs.Common.{◌≡◌, ℕ, Bool, true, false, cond, None, refl, ap, sym, ◌∙◌, arith, min}
 use Rattle.std.specs.Prelude.{pos}
 use Rattle.px_units.specs.declared.Size.{Size}
 use Rattle.px_units.specs.declared.Point.{Point}
@@ -16,7 +16,7 @@ use Rattle.block_layout.specs.Seen.{as_size, as_point}
 use Rattle.scrolling.specs.Seen.{seen_size, point_of}
 use Rattle.kept_layout.proofs.Climbed.{pair_is}
 use Rattle.page_boxes.proofs.Shown.{offset_still, offset_force, offset_none, view_force}
-use Rattle.page_boxes.proofs.Reaching.{element_range, no_scroller}
+use Rattle.page_boxes.proofs.Reaching.{element_range, no_scroller, view_rangeless}
 
 -- the start is all that lies at the start within the largest range
 extent_none : (across down : ℕ) → across ≡ 0 → down ≡ 0 → ◌≡◌ {A = Extent} (record { across = across; down = down }) no_extent
@@ -97,6 +97,10 @@ module _ (tree : Tree) (size : Extent) (scrolls : Scrolls) where
   unfolding scroll_offset
   view_within document range found ranged is =
       is ∙ ap (λ r. point_of (lesser_extent (position_of (ScrolledDocument document) scrolls) (seen_size r))) ranged
+
+  pub view_rootless : (document : ℕ) → (view_of tree size document).root ≡ None → as_point (0, 0) ≡ as_point (pair_of (scroll_offset tree size scrolls (ScrolledDocument document)))
+  view_rootless document none =
+      view_within document (as_size (0, 0)) (as_point (0, 0)) (view_rangeless tree size document none) (ap as_point (no_range (position_of (ScrolledDocument document) scrolls)))
 
   pub document_offset : (document : ℕ) → view_in_force (nodes_of tree) (scrolled_view tree size scrolls document)
       ≡ pair_of (scroll_offset tree size scrolls (ScrolledDocument document))

@@ -10,5 +10,6 @@ pub mod Undue
 pub mod Going
 pub mod Nothing
 pub mod Reaching
+pub mod Edges
 pub mod InForce
 pub mod Rects

@@ -1,5 +1,5 @@
 -- How far scroll containers and viewports can be scrolled.
-use Rattle.std.proofs.Common.{◌≡◌, ◌≤◌, ℕ, Bool, true, false, cond, List, Option, Some, None, option_map, refl, ap, sym, subst, ◌∙◌, arith}
+use Rattle.std.proofs.Common.{◌≡◌, ◌≤◌, ℕ, Bool, true, false, cond, List, Option, Some, None, option_map, refl, ap, sym, ◌∙◌, arith}
 use Rattle.std.specs.Prelude.{◌&&◌, not, is_some, slice_get}
 use Rattle.px_units.specs.declared.Size.{Size}
 use Rattle.px_units.specs.Lengths.{cap}
@@ -8,16 +8,14 @@ use Rattle.layout_model.specs.Items.{Kind}
 use Rattle.layout_model.specs.Nodes.{Node}
 use Rattle.layout_model.specs.Boxes.{Inputs, Box, box_in, padding_size}
 use Rattle.layout_model.specs.Clips.{is_block, is_visible, is_clip, is_scroll_container}
-use Rattle.layout_model.specs.Points.{minus, capped, larger}
+use Rattle.layout_model.specs.Points.{minus, capped, larger, IsWithin}
 use Rattle.layout_model.specs.Reach.{View, view_size, view_inputs, inputs_in_view, reach_at, reach_of, reach_of_view, far_root, range_at, range_of, range_of_view}
 use Rattle.element_tree.specs.declared.node.NodeId.{NodeId}
 use Rattle.element_tree.specs.Links.{node_ids}
 use Rattle.element_tree.specs.Forest.{Knot, parent_of}
 use Rattle.page_model.specs.World.{Extent, ScrolledElement, ScrolledDocument, Tree}
-use Rattle.page_model.specs.Documents.{nodes_of, is_active}
-use Rattle.page_model.specs.Lookups.{document_at}
-use Rattle.page_model.specs.PageBoxes.{pair_of, framed_size, view_with, view_of, view_at, has_box, is_scroller, range_if, scroll_range}
-use Rattle.page_documents.specs.Frames.{AreFramed}
+use Rattle.page_model.specs.Documents.{nodes_of}
+use Rattle.page_model.specs.PageBoxes.{pair_of, view_of, view_at, has_box, is_scroller, range_if, scroll_range}
 use Rattle.block_layout.specs.Held.{HoldsBoxes}
 use Rattle.block_layout.specs.Seen.{as_size}
 use Rattle.block_layout.specs.Trees.{layout_tree}
@@ -26,10 +24,9 @@ use Rattle.kept_layout.specs.declared.slots.Slot.{Slot}
 use Rattle.kept_layout.specs.Slots.{held_in}
 use Rattle.kept_layout.proofs.Climbed.{pair_is}
 use Rattle.kept_layout.proofs.Exact.{held_fresh}
-use Rattle.page_boxes.specs.Fresh.{HoldsAll, IsFreshIn}
+use Rattle.page_boxes.specs.Fresh.{HoldsAll}
 use Rattle.page_boxes.specs.Pages.{seen_pair}
 use Rattle.page_boxes.proofs.Parents.{some_found, same_box, none_held}
-use Rattle.page_boxes.proofs.Renewed.{view_shown}
 
 -- a scroll container, by what is asked of its node
 regroup : (block visible clip inner : Bool) → ((block && not visible && inner) && not clip) ≡ (block && (not visible && not clip) && inner)
@@ -94,9 +91,21 @@ module _ (at : ℕ → Node) (view : View) (n : ℕ) where
   unfolding reach_of
   low_reach = low_at (inputs_in_view at view n)
 
-  range_found : (inputs : Inputs) → inputs_in_view at view n ≡ Some inputs → range_of at view n ≡ minus (reach_of at view n) (padding_size (box_in at inputs n))
+  pub range_found : (inputs : Inputs) → inputs_in_view at view n ≡ Some inputs → range_of at view n ≡ minus (reach_of at view n) (padding_size (box_in at inputs n))
   unfolding range_of
   range_found inputs is = ap (range_at at view n) is
+
+  low_found : (found : Option Inputs) → IsWithin (range_at at view n found) (2147483647, 2147483647)
+  low_found None = (omega arith, omega arith)
+  low_found (Some inputs) = (omega (arith, low_reach.0), omega (arith, low_reach.1))
+
+  low_range : IsWithin (range_of at view n) (2147483647, 2147483647)
+  unfolding range_of
+  low_range = low_found (inputs_in_view at view n)
+
+  pub low_boxed : (scrolls : Bool) → IsWithin (cond scrolls (range_of at view n) (0, 0)) (2147483647, 2147483647)
+  low_boxed true = low_range
+  low_boxed false = (omega arith, omega arith)
 
   pub holds_boxes : (kept : List Slot) → HoldsAll at view kept → HoldsBoxes at view n (held_in kept)
   holds_boxes kept holds d inputs inside is = held_fresh at kept d inputs (holds.boxes d inputs is)
@@ -134,7 +143,11 @@ low_view : (at : ℕ → Node) (view : View) → ((reach_of_view at view).0 ≤ 
 unfolding reach_of_view
 low_view at view = (low _, low _)
 
-range_viewed : (at : ℕ → Node) (view : View) (reach shown found : Size) → reach ≡ as_size (reach_of_view at view) → seen_pair shown ≡ view_size view
+pub low_viewed : (at : ℕ → Node) (view : View) → IsWithin (range_of_view at view) (2147483647, 2147483647)
+unfolding range_of_view
+low_viewed at view = (omega (arith, (low_view at view).0), omega (arith, (low_view at view).1))
+
+pub range_viewed : (at : ℕ → Node) (view : View) (reach shown found : Size) → reach ≡ as_size (reach_of_view at view) → seen_pair shown ≡ view_size view
     → found ≡ as_size (capped (minus (seen_pair reach) (seen_pair shown))) → found ≡ as_size (range_of_view at view)
 unfolding range_of_view
 range_viewed at view reach shown found reached shows is =
@@ -164,31 +177,9 @@ module _ (tree : Tree) (size : Extent) where
   element_rangeless n none = ap (range_if tree size n) (sym (no_scroller n none))
 
   -- ranges of documents' viewports
-  view_range : (document : ℕ) → range_of_view (nodes_of tree) (view_of tree size document) ≡ pair_of (scroll_range tree size (ScrolledDocument document))
+  pub view_range : (document : ℕ) → range_of_view (nodes_of tree) (view_of tree size document) ≡ pair_of (scroll_range tree size (ScrolledDocument document))
   unfolding scroll_range
   view_range document = refl
 
   pub view_rangeless : (document : ℕ) → (view_of tree size document).root ≡ None → as_size (0, 0) ≡ as_size (pair_of (scroll_range tree size (ScrolledDocument document)))
   view_rangeless document none = ap as_size (rootless_range (nodes_of tree) (view_of tree size document) none ∙ view_range document)
-
-  module _ (framed : AreFramed tree) (document : ℕ) (active : is_active tree document ≡ true)
-      (pair : ℕ × ℕ) (shown : Some pair ≡ framed_size tree size (view_of tree size) (document_at tree document).frame)
-      (at : ℕ → Node) (nodes : nodes_of tree ≡ at) (root : ℕ) (rooted : (document_at tree document).root ≡ Some root) where
-    view_here : view_of tree size document ≡ view_with (Some root) (Some pair)
-    view_here = view_shown tree framed size document active pair shown at nodes root rooted
-
-    top_here : (at root).parent ≡ None
-    top_here = sym (ap (λ at. (at root).parent) nodes) ∙ (framed.owners.roots document root rooted).top
-
-    pub view_ranged : (kept : List Slot) → IsFreshIn tree size kept document → (reach inside found : Size)
-        → ((at root).parent ≡ None → (view : View) → view.root ≡ Some root → view.width ≡ pair.0 → view.height ≡ pair.1 → HoldsBoxes at view root (held_in kept) → reach ≡ as_size (reach_of_view at view))
-        → seen_pair inside ≡ pair → found ≡ as_size (capped (minus (seen_pair reach) (seen_pair inside)))
-        → found ≡ as_size (pair_of (scroll_range tree size (ScrolledDocument document)))
-    view_ranged kept fresh reach inside found reached shows is =
-        let view = view_of tree size document in
-        let holds : HoldsAll at view kept = subst (λ at. HoldsAll at view kept) nodes fresh in
-        let far : reach ≡ as_size (reach_of_view at view)
-        = reached top_here view (ap (λ (v : View). v.root) view_here) (ap (λ (v : View). v.width) view_here) (ap (λ (v : View). v.height) view_here) (holds_boxes at view root kept holds) in
-        range_viewed at view reach inside found far (shows ∙ sym (ap view_size view_here)) is
-        ∙ ap (λ at. as_size (range_of_view at view)) (sym nodes)
-        ∙ ap as_size (view_range document)

@@ -4,7 +4,7 @@ ghost use Rattle.std.specs.Prelude.{◌≡◌, ◌<◌, ◌≤◌, Some, None, I
 ghost use Rattle.element_tree.specs.Links.{number};
 ghost use Rattle.page_model.specs.World.{Extent};
 ghost use Rattle.page_model.specs.Lookups.{element_at, document_at};
-ghost use Rattle.page_model.specs.PageBoxes.{pair_of, view_up, view_of, framed_size, viewport_of, has_box, box_of};
+ghost use Rattle.page_model.specs.PageBoxes.{pair_of, view_up, view_with, view_of, framed_size, viewport_of, has_box, box_of};
 ghost use Rattle.block_layout.specs.Seen.{as_size};
 ghost use Rattle.page_tree.specs.Items.{IsNatural};
 ghost use Rattle.page_boxes.specs.Fresh.{IsFreshIn, IsFreshAbove};
@@ -89,6 +89,39 @@ pub(crate) fn framed_size(
     };
     match own_box(page, boxes, frame) {
         Some(own) => Some(own.size(BoxKind::Content)),
+        None => None,
+    }
+}
+
+// The root element that a document shows, and the size of the viewport that it is shown in.
+#[derive(Clone, Copy, Debug, PartialEq, Eq)]
+pub(crate) struct Shown {
+    pub(crate) root: NodeId,
+    pub(crate) size: Size,
+}
+
+// What a document shows: nothing where it isn't Active, has no root element, or its frame has no box.
+pub(crate) fn shown_in(
+    page: &PageTree,
+    boxes: &Kept,
+    viewport: Size,
+    document: u32,
+) -> Option<Shown>
+    ensures nothing { IsFreshAbove page.now.tree (seen_size viewport) boxes.now document → result ≡ None →
+        (view_of page.now.tree (seen_size viewport) document).root ≡ None }
+    ensures shown { IsFreshAbove page.now.tree (seen_size viewport) boxes.now document → IfSome result (λ shown.
+        view_of page.now.tree (seen_size viewport) document ≡ view_with (Some shown.root.0) (Some (seen_pair shown.size))) }
+    ensures top { IfSome result (λ shown. (element_at page.now.tree shown.root.0).parent ≡ None) }
+    ensures made { IfSome result (λ shown. shown.root.0 < length page.now.tree.elements) }
+{
+    if !page.is_active(document) {
+        return None;
+    }
+    let Some(root) = page.root(document) else {
+        return None;
+    };
+    match framed_size(page, boxes, viewport, document) {
+        Some(size) => Some(Shown { root, size }),
         None => None,
     }
 }

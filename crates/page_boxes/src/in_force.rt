@@ -1,22 +1,24 @@
 //! How far elements and viewports are scrolled: the stored position, within what can be scrolled by now (CSSOM View, 4 to 6).
-//! Where nothing is stored no range is measured.
+//! Where nothing is stored no range is measured, and none where one box by itself reaches as far as the stored position.
 
-ghost use Rattle.std.specs.Prelude.{◌≡◌, ◌<◌, true, length, is_some};
-ghost use Rattle.layout_model.specs.Reach.{View, inputs_in_view, offset_in_force};
+ghost use Rattle.std.specs.Prelude.{◌≡◌, ◌<◌, ℕ, true, Some, None, IfSome, length, is_some};
+ghost use Rattle.layout_model.specs.Points.{IsWithin};
+ghost use Rattle.layout_model.specs.Reach.{View, inputs_in_view, offset_in_force, range_of_view};
 ghost use Rattle.page_model.specs.World.{Extent, ScrolledElement, ScrolledDocument};
 ghost use Rattle.page_model.specs.Lookups.{element_at, no_extent};
-ghost use Rattle.page_model.specs.Scrolls.{position_of};
-ghost use Rattle.page_model.specs.PageBoxes.{pair_of, stored_in, scroll_offset};
-ghost use Rattle.scrolling.specs.Seen.{seen_target};
+ghost use Rattle.page_model.specs.Scrolls.{position_of, lesser_extent};
+ghost use Rattle.page_model.specs.PageBoxes.{pair_of, extent_of, view_with, stored_in, scroll_offset};
+ghost use Rattle.scrolling.specs.Seen.{seen_target, point_of};
 ghost use Rattle.block_layout.specs.Seen.{as_point};
 ghost use Rattle.block_layout.specs.Trees.{layout_tree};
 ghost use Rattle.page_tree.specs.Items.{IsNatural};
 ghost use Rattle.page_boxes.specs.Fresh.{HoldsAll, IsFresh, IsFreshIn, IsFreshAbove};
-ghost use Rattle.page_boxes.specs.Pages.{seen_size};
+ghost use Rattle.page_boxes.specs.Pages.{seen_size, seen_pair};
 ghost use Rattle.page_boxes.specs.Ranges.{IsOffset};
 
-use crate::documents::has_box;
-use crate::ranges::{boxed_range, view_range};
+use crate::documents::{Shown, has_box, shown_in};
+use crate::least::{last_range, root_range};
+use crate::ranges::{boxed_range, shown_range};
 use block_layout::Styled;
 use element_tree::{NodeId, Tree};
 use kept_layout::Kept;
@@ -40,6 +42,20 @@ fn is_at_start(scrolls: &Scrolls, target: ScrollTarget) -> bool
     stored.left == 0 && stored.top == 0
 }
 
+// The stored position of a target, where it lies within what the target can be scrolled by at the least.
+fn stored_within(scrolls: &Scrolls, target: ScrollTarget, least: Size) -> Option<Point>
+    ensures value { IfSome result (λ offset. (range : ℕ × ℕ) → IsWithin (seen_pair least) range → IsWithin range (2147483647, 2147483647) →
+        offset ≡ point_of (lesser_extent (position_of (seen_target target) scrolls.now) (extent_of range))) }
+    ensures range { IfSome result IsOffset }
+{
+    let stored = scrolls.offset_in_force(target, FARTHEST);
+    if stored.left <= least.width && stored.top <= least.height {
+        Some(stored)
+    } else {
+        None
+    }
+}
+
 // The scroll offset in force of a node that has a box.
 pub(crate) fn boxed_offset<P: Styled>(
     tree: &Tree<P>,
@@ -57,8 +73,13 @@ pub(crate) fn boxed_offset<P: Styled>(
     if is_at_start(scrolls, target) {
         return ORIGIN;
     }
-    let range = boxed_range(tree, boxes, node);
-    scrolls.offset_in_force(target, range)
+    match stored_within(scrolls, target, last_range(tree, boxes, node)) {
+        Some(stored) => stored,
+        None => {
+            let range = boxed_range(tree, boxes, node);
+            scrolls.offset_in_force(target, range)
+        }
+    }
 }
 
 // The scroll offset in force of an element.
@@ -71,6 +92,26 @@ fn element_offset(page: &PageTree, boxes: &Kept, scrolls: &Scrolls, node: NodeId
         boxed_offset(page.tree(), boxes, scrolls, node)
     } else {
         ORIGIN
+    }
+}
+
+// The scroll offset in force of the viewport in which a root element is shown.
+fn shown_offset<P: Styled>(
+    tree: &Tree<P>,
+    boxes: &Kept,
+    scrolls: &Scrolls,
+    target: ScrollTarget,
+    shown: Shown,
+) -> Point
+    requires { shown.root.0 < length tree.now.nodes }
+    ensures value { let at = layout_tree P.style P.kind tree.now.nodes in (at shown.root.0).parent ≡ None → (view : View) →
+        view ≡ view_with (Some shown.root.0) (Some (seen_pair shown.size)) → HoldsAll at view boxes.now →
+        result ≡ point_of (lesser_extent (position_of (seen_target target) scrolls.now) (extent_of (range_of_view at view))) }
+    ensures range { IsOffset result }
+{
+    match stored_within(scrolls, target, root_range(tree, boxes, shown)) {
+        Some(stored) => stored,
+        None => scrolls.offset_in_force(target, shown_range(tree, boxes, shown)),
     }
 }
 
@@ -91,7 +132,10 @@ pub(crate) fn view_offset(
     if is_at_start(scrolls, target) {
         return ORIGIN;
     }
-    scrolls.offset_in_force(target, view_range(page, boxes, viewport, document))
+    match shown_in(page, boxes, viewport, document) {
+        Some(shown) => shown_offset(page.tree(), boxes, scrolls, target, shown),
+        None => ORIGIN,
+    }
 }
 
 /// The scroll offset in force of an element or of a document's viewport (CSSOM View, 4 to 6: `scrollTop`, `scrollY`): on each

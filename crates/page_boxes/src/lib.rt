@@ -14,6 +14,7 @@ mod in_force;
 mod laid_out;
 mod laws;
 mod layout;
+mod least;
 mod offsets;
 mod ranges;
 mod readings;

@@ -1,14 +1,14 @@
 //! How far elements and viewports can be scrolled (CSS Overflow 3, 2.2; CSSOM View: scrolling area).
 
-ghost use Rattle.std.specs.Prelude.{◌≡◌, ◌<◌, ◌-◌, ◌&&◌, pos, cond, true, not, length, is_some, unsigned_abs};
+ghost use Rattle.std.specs.Prelude.{◌≡◌, ◌<◌, ◌-◌, ◌&&◌, pos, cond, true, not, Some, None, length, is_some, unsigned_abs};
 ghost use Rattle.px_units.specs.Lengths.{cap};
 ghost use Rattle.layout_model.specs.Clips.{is_visible, is_clip, is_scroll_container};
 ghost use Rattle.layout_model.specs.Points.{minus, capped};
-ghost use Rattle.layout_model.specs.Reach.{View, inputs_in_view, range_of as range_in};
+ghost use Rattle.layout_model.specs.Reach.{View, inputs_in_view, range_of as range_in, range_of_view};
 ghost use Rattle.style_values.specs.Seen.{seen_style};
 ghost use Rattle.page_model.specs.World.{Extent, ScrolledElement, ScrolledDocument};
 ghost use Rattle.page_model.specs.Lookups.{element_at};
-ghost use Rattle.page_model.specs.PageBoxes.{pair_of, is_scroller, scroll_range};
+ghost use Rattle.page_model.specs.PageBoxes.{pair_of, view_with, is_scroller, scroll_range};
 ghost use Rattle.scrolling.specs.Ranges.{IsLength, IsRange};
 ghost use Rattle.scrolling.specs.Seen.{seen_target};
 ghost use Rattle.block_layout.specs.Seen.{as_size};
@@ -18,7 +18,7 @@ ghost use Rattle.page_boxes.specs.Fresh.{HoldsAll, IsFresh, IsFreshIn, IsFreshAb
 ghost use Rattle.page_boxes.specs.Pages.{seen_size, seen_pair};
 
 use crate::climb::has_kids;
-use crate::documents::{framed_size, has_box};
+use crate::documents::{Shown, has_box, shown_in};
 use block_layout::{Boxes, Styled, overflow_reach};
 use element_tree::{NodeId, Tree};
 use kept_layout::Kept;
@@ -44,7 +44,7 @@ fn is_scrollable(style: &Style) -> bool
 }
 
 // Whether the node's box is a scroll container. What `overflow` says at a root element is the viewport's (CSS Overflow 3, 3.3).
-fn is_scroll_container<P: Styled>(tree: &Tree<P>, node: NodeId) -> bool
+pub(crate) fn is_scroll_container<P: Styled>(tree: &Tree<P>, node: NodeId) -> bool
     requires { node.0 < length tree.now.nodes }
     ensures { result ≡ is_scroll_container (layout_tree P.style P.kind tree.now.nodes node.0) }
 {
@@ -73,7 +73,7 @@ fn behind(reach: i64, shown: i64) -> i64
 }
 
 // The scrolling range of something that reaches so far and shows so much.
-fn range_between(reach: Size, shown: Size) -> Size
+pub(crate) fn range_between(reach: Size, shown: Size) -> Size
     ensures value { result ≡ as_size (capped (minus (seen_pair reach) (seen_pair shown))) }
     ensures range { IsRange result }
 {
@@ -113,23 +113,29 @@ fn element_range(page: &PageTree, boxes: &Kept, node: NodeId) -> Size
     }
 }
 
+// The scrolling range of the viewport in which a root element is shown.
+pub(crate) fn shown_range<P: Styled>(tree: &Tree<P>, boxes: &Kept, shown: Shown) -> Size
+    requires { shown.root.0 < length tree.now.nodes }
+    ensures value { let at = layout_tree P.style P.kind tree.now.nodes in (at shown.root.0).parent ≡ None → (view : View) →
+        view ≡ view_with (Some shown.root.0) (Some (seen_pair shown.size)) → HoldsAll at view boxes.now →
+        result ≡ as_size (range_of_view at view) }
+    ensures range { IsRange result }
+{
+    let reach = overflow_reach(tree, boxes, shown.root, Some(shown.size));
+    range_between(reach, shown.size)
+}
+
 // The scrolling range of a document's viewport.
-pub(crate) fn view_range(page: &PageTree, boxes: &Kept, viewport: Size, document: u32) -> Size
+fn view_range(page: &PageTree, boxes: &Kept, viewport: Size, document: u32) -> Size
     ensures value { IsFreshAbove page.now.tree (seen_size viewport) boxes.now document →
         IsFreshIn page.now.tree (seen_size viewport) boxes.now document →
         result ≡ as_size (pair_of (scroll_range page.now.tree (seen_size viewport) (ScrolledDocument document))) }
     ensures range { IsRange result }
 {
-    if !page.is_active(document) {
-        return NO_SIZE;
+    match shown_in(page, boxes, viewport, document) {
+        Some(shown) => shown_range(page.tree(), boxes, shown),
+        None => NO_SIZE,
     }
-    let Some(root) = page.root(document) else {
-        return NO_SIZE;
-    };
-    let Some(shown) = framed_size(page, boxes, viewport, document) else {
-        return NO_SIZE;
-    };
-    range_between(overflow_reach(page.tree(), boxes, root, Some(shown)), shown)
 }
 
 /// How far an element or the viewport of a document can be scrolled (CSS Overflow 3, 2.2; CSSOM View: scrolling area): how
