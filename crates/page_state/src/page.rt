@@ -111,16 +111,20 @@ impl Page {
         let Some(top) = Name::read(b"top") else {
             return Err(AllocError);
         };
+        // What may be refused comes first, where little is made that would have to be dropped.
+        let laid = LaidTree::new(alloc)?;
+        let notifying = ByDocument::new(alloc)?;
+        let noted = ByDocument::new(alloc)?;
         let mut names = Names::new(alloc);
         if let Err(error) = names.insert(top, Thing::Document(0)) {
             return Err(error);
         }
         Ok(Page {
             names,
-            laid: LaidTree::new(alloc)?,
+            laid,
             observers: Observers::new(alloc, MOST_OBSERVERS, MOST_OBSERVATIONS),
             watchers: Watchers::new(alloc, MOST_WATCHERS, MOST_REGISTRATIONS),
-            notifying: ByDocument::new(alloc)?,
+            notifying,
             scrolls: Scrolls::new(alloc),
             queries: Vec::new(alloc),
             listeners: Listeners::new(alloc, MOST_CALLBACKS),
@@ -128,7 +132,7 @@ impl Page {
             timers: Timers::new(alloc, MOST_CALLBACKS),
             tasks: Tasks::new(alloc, MOST_CALLBACKS),
             size: FIRST_SIZE,
-            noted: ByDocument::new(alloc)?,
+            noted,
             clock: 0,
             count: 0,
             begun: false,

@@ -1,6 +1,6 @@
 -- What is asked for, by its reading.
 use Rattle.std.proofs.Common.{◌≡◌, sym, subst, ℕ, ◌+◌, List, [], ◌∷◌, Option}
-use Rattle.std.specs.Prelude.{Some, None, Err, IfSome, Result}
+use Rattle.std.specs.Prelude.{Some, None, Err, IfSome, Result, is_some, true}
 use Rattle.text_io.specs.Streams.{PassesLimit, Rose}
 use Rattle.text_io.specs.declared.kinds.LimitKind.TheVariants as limits
 use Rattle.script_model.specs.Reading.{LimitAt, SyntaxAt, Reading, reading, refusal_line}
@@ -8,7 +8,7 @@ use Rattle.page_model.specs.Outcome.{Ending}
 use Rattle.trace_runs.specs.declared.faults.RunFault.{RunFault}
 use Rattle.trace_runs.specs.Writes.{Told}
 use Rattle.replay_run.specs.Answers.{Tells, Ends}
-use Rattle.replay_run.specs.Statuses.{status_after}
+use Rattle.replay_run.specs.Statuses.{is_done, status_after}
 use Rattle.replay_run.specs.Words.{ending_by, written_by}
 use Rattle.replay_run.specs.declared.words.Job.{Job}
 use Rattle.replay_run.specs.declared.status.Status.{Status}
@@ -49,7 +49,8 @@ pub write_fault_rose : (status : Status) (ending : Ending) (text : List ℕ) (be
 write_fault_rose status ending text before after f g told is =
     let failed : Tells WriteFault ending text before after f g = subst (λ (s : Status). Tells s ending text before after f g) is told in failed.rose
 
--- what holds of the one value that there may be
-pub if_same : {A : Type 0} (P : A → Type 0) (found : Option A) (value : A) → IfSome found (λ it. it ≡ value) → P value → IfSome found P
-if_same P None value same holds = tt
-if_same P (Some it) value same holds = subst P (sym same) holds
+-- what holds of the one value that there may be, where it is there for this status alone
+pub if_done : {A : Type 0} (P : A → Type 0) (status : Status) (found : Option A) (value : A) → is_some found ≡ is_done status → IfSome found (λ it. it ≡ value)
+    → (is_done status ≡ true → P value) → IfSome found P
+if_done P status None value there same holds = tt
+if_done P status (Some it) value there same holds = subst P (sym same) (holds (sym there))

@@ -10,7 +10,7 @@ ghost use Rattle.script_syntax.specs.Parsing.{Parses};
 ghost use Rattle.page_model.specs.Outcome.{opening_world, outcome_read};
 ghost use Rattle.trace_runs.specs.Writes.{Told};
 ghost use Rattle.replay_run.specs.Answers.{Answers, Ends, IsTaken, Tells};
-ghost use Rattle.replay_run.specs.Statuses.{is_done, status_after, status_of};
+ghost use Rattle.replay_run.specs.Statuses.{is_done, status_after};
 ghost use Rattle.replay_run.specs.Words.{asked, ending_by, given, has_page, is_run, is_source, written_by};
 
 use crate::check::check;
@@ -18,7 +18,7 @@ use crate::input::feed_all;
 use crate::play::play;
 use crate::printing::write_script;
 use crate::status::Status;
-use crate::summary::summarize;
+use crate::summary::{status_of, summarize};
 use crate::words::{Job, Origin, Words};
 use page_state::Page;
 use script_generator::make;
@@ -39,21 +39,26 @@ pub struct Report {
     pub page: Option<Page>,
 }
 
-fn without_page(status: Status) -> Report
+pub(crate) fn without_page(status: Status) -> Report
     requires { is_done status ≡ false }
     ensures { result ≡ record { status = status; page = None } }
 {
     Report { status, page: None }
 }
 
-fn stopped(fault: RunFault) -> Report
-    ensures report { result ≡ record { status = status_of fault; page = None } }
-    ensures done { is_done result.status ≡ false }
+// The page of a run, where all was written to its end. It is the one place where a page is handed out or dropped, which is long
+// to prove.
+pub(crate) fn with_page(status: Status, page: Page) -> Report
+    ensures status { result.status ≡ status }
+    ensures page { is_some result.page ≡ is_done status }
+    ensures same { IfSome result.page (λ it. it ≡ page) }
 {
-    match fault {
-        RunFault::Limit { .. } => without_page(Status::Limit),
-        RunFault::Memory => without_page(Status::NoMemory),
-        RunFault::WriteFault => without_page(Status::WriteFault),
+    match status {
+        Status::Done => Report {
+            status,
+            page: Some(page),
+        },
+        _ => Report { status, page: None },
     }
 }
 
@@ -63,10 +68,7 @@ fn conclude(wrote: Result<(), RunFault>, status: Status) -> Report
     ensures report { result ≡ record { status = status_after wrote status; page = None } }
     ensures done { is_done result.status ≡ false }
 {
-    match wrote {
-        Ok(()) => without_page(status),
-        Err(fault) => stopped(fault),
-    }
+    without_page(status_of(wrote, status))
 }
 
 fn write_limit<K: Sink>(
@@ -122,26 +124,22 @@ fn refuse_text<K: Sink>(alloc: Global, fault: ParseFault, sink: &mut K) -> Repor
 // A script, on a page that was just made.
 fn run_on<K: Sink, L: Ledger>(
     alloc: Global,
-    mut page: Page,
+    page: &mut Page,
     script: &Script,
     sink: &mut K,
     steps: &mut Steps<L>,
-) -> Report
-    requires opening { page.world ≡ opening_world }
-    ensures answers { Answers result.status (outcome_read (Ok script.now)) (K.taken sink.old) (K.taken sink.new) (K.faults sink.old) (K.faults sink.new) }
-    ensures page { is_some result.page ≡ is_done result.status }
-    ensures world { IfSome result.page (λ page. page.world ≡ (outcome_read (Ok script.now)).world) }
+) -> Status
+    requires opening { page.old.world ≡ opening_world }
+    ensures answers { Answers result (outcome_read (Ok script.now)) (K.taken sink.old) (K.taken sink.new) (K.faults sink.old) (K.faults sink.new) }
+    ensures world { is_done result ≡ true → page.new.world ≡ (outcome_read (Ok script.now)).world }
 {
-    match play(alloc, &mut page, script, sink, steps) {
-        Ok(()) => Report {
-            status: Status::Done,
-            page: Some(page),
-        },
+    match play(alloc, page, script, sink, steps) {
+        Ok(()) => Status::Done,
         Err(RunFault::Limit { kind, line }) => {
-            conclude(write_limit(alloc, kind, line, sink), Status::Limit)
+            status_of(write_limit(alloc, kind, line, sink), Status::Limit)
         }
-        Err(RunFault::Memory) => without_page(Status::NoMemory),
-        Err(RunFault::WriteFault) => without_page(Status::WriteFault),
+        Err(RunFault::Memory) => Status::NoMemory,
+        Err(RunFault::WriteFault) => Status::WriteFault,
     }
 }
 
@@ -157,7 +155,10 @@ fn run_script<K: Sink, L: Ledger>(
     ensures world { IfSome result.page (λ page. page.world ≡ (outcome_read (Ok script.now)).world) }
 {
     match Page::new(alloc) {
-        Ok(page) => run_on(alloc, page, script, sink, steps),
+        Ok(mut page) => {
+            let status = run_on(alloc, &mut page, script, sink, steps);
+            with_page(status, page)
+        }
         Err(_) => without_page(Status::NoMemory),
     }
 }

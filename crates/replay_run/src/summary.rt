@@ -1,6 +1,6 @@
 //! Scripts that are run for the summary of their traces.
 
-ghost use Rattle.std.specs.Prelude.{◌≡◌, ◌++◌, List, [], ◌∷◌, false, Ok, is_some, IfSome};
+ghost use Rattle.std.specs.Prelude.{◌≡◌, ◌++◌, List, [], ◌∷◌, false, true, Ok, is_some, IfSome};
 ghost use Rattle.text_io.specs.Limits.{limit_number};
 ghost use Rattle.script_model.specs.Summary.{summary_text};
 ghost use Rattle.script_model.specs.TraceLines.{LimitLine, TraceLine as LineModel};
@@ -10,7 +10,7 @@ ghost use Rattle.trace_summary.specs.Counts.{IsTrace};
 ghost use Rattle.replay_run.specs.Answers.{Tells};
 ghost use Rattle.replay_run.specs.Statuses.{is_done, status_after};
 
-use crate::call::Report;
+use crate::call::{Report, with_page, without_page};
 use crate::play::play;
 use crate::status::Status;
 use page_state::Page;
@@ -39,8 +39,9 @@ fn write_summary<K: Sink>(alloc: Global, trace: &[u8], sink: &mut K) -> Result<(
 }
 
 // The status where all was written, else that of the fault.
-fn status_of(wrote: Result<(), RunFault>, status: Status) -> Status
-    ensures { result ≡ status_after wrote status }
+pub(crate) fn status_of(wrote: Result<(), RunFault>, status: Status) -> Status
+    ensures status { result ≡ status_after wrote status }
+    ensures done { is_done status ≡ false → is_done result ≡ false }
 {
     match wrote {
         Ok(()) => status,
@@ -70,49 +71,26 @@ fn summarize_to_limit<K: Sink>(
     }
 }
 
-// The page of a run, where the summary was written whole.
-fn report(status: Status, page: Page) -> Report
-    ensures status { result.status ≡ status }
-    ensures page { is_some result.page ≡ is_done status }
-    ensures same { IfSome result.page (λ it. it ≡ page) }
-{
-    match status {
-        Status::Done => Report {
-            status,
-            page: Some(page),
-        },
-        _ => Report { status, page: None },
-    }
-}
-
 // A script, on a page that was just made. Its trace is gathered in memory.
 fn summarize_on<K: Sink, L: Ledger>(
     alloc: Global,
-    mut page: Page,
+    page: &mut Page,
     script: &Script,
     sink: &mut K,
     steps: &mut Steps<L>,
-) -> Report
-    requires opening { page.world ≡ opening_world }
-    ensures tells { Tells result.status (outcome_read (Ok script.now)).ending (summary_read (Ok script.now)) (K.taken sink.old) (K.taken sink.new) (K.faults sink.old) (K.faults sink.new) }
-    ensures page { is_some result.page ≡ is_done result.status }
-    ensures world { IfSome result.page (λ page. page.world ≡ (outcome_read (Ok script.now)).world) }
+) -> Status
+    requires opening { page.old.world ≡ opening_world }
+    ensures tells { Tells result (outcome_read (Ok script.now)).ending (summary_read (Ok script.now)) (K.taken sink.old) (K.taken sink.new) (K.faults sink.old) (K.faults sink.new) }
+    ensures world { is_done result ≡ true → page.new.world ≡ (outcome_read (Ok script.now)).world }
 {
     let mut gathered = GatherSink::new(alloc);
-    match play(alloc, &mut page, script, &mut gathered, steps) {
-        Ok(()) => {
-            let wrote = write_summary(alloc, gathered.taken(), sink);
-            report(status_of(wrote, Status::Done), page)
+    match play(alloc, page, script, &mut gathered, steps) {
+        Ok(()) => status_of(write_summary(alloc, gathered.taken(), sink), Status::Done),
+        Err(RunFault::Limit { kind, line }) => {
+            summarize_to_limit(alloc, kind, line, gathered, sink)
         }
-        Err(RunFault::Limit { kind, line }) => Report {
-            status: summarize_to_limit(alloc, kind, line, gathered, sink),
-            page: None,
-        },
         // In memory a write fails for want of it alone.
-        Err(RunFault::Memory | RunFault::WriteFault) => Report {
-            status: Status::NoMemory,
-            page: None,
-        },
+        Err(RunFault::Memory | RunFault::WriteFault) => Status::NoMemory,
     }
 }
 
@@ -129,10 +107,10 @@ pub fn summarize<K: Sink, L: Ledger>(
     ensures world { IfSome result.page (λ page. page.world ≡ (outcome_read (Ok script.now)).world) }
 {
     match Page::new(alloc) {
-        Ok(page) => summarize_on(alloc, page, script, sink, steps),
-        Err(_) => Report {
-            status: Status::NoMemory,
-            page: None,
-        },
+        Ok(mut page) => {
+            let status = summarize_on(alloc, &mut page, script, sink, steps);
+            with_page(status, page)
+        }
+        Err(_) => without_page(Status::NoMemory),
     }
 }

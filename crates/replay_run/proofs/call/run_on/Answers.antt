@@ -9,22 +9,18 @@ pub returns-in-Ok-clause-answers : goal.returns-in-Ok-clause-answers
 returns-in-Ok-clause-answers g c = done_answers _ _ c.requires.opening _ _ c.in-Ok.ensures.ended
 
 pub returns-in-Ok-clause-world : goal.returns-in-Ok-clause-world
-returns-in-Ok-clause-world g c = done_world _ _ c.requires.opening _ _ c.in-Ok.ensures.ended
+returns-in-Ok-clause-world g c = λ done. done_world _ _ c.requires.opening _ _ c.in-Ok.ensures.ended
 
 pub returns-in-Err-Limit-clause-answers : goal.returns-in-Err-Limit-clause-answers
 returns-in-Err-Limit-clause-answers g c =
     let cut = rw c.in-Err-Limit.field-0-is at c.in-Err-Limit.ensures in
-    let wrote = rw c.in-Err-Limit.field-0-is at c.write_limit.ensures in
-    rw c.conclude.ensures.report
-    (limit_said _ _ c.requires.opening _ _ _ _ _ _ cut.cut_off c.write_limit.result _ _ wrote)
+    rw c.status_of.ensures.status
+    (limit_said _ _ c.requires.opening _ _ _ _ _ _ cut.cut_off c.write_limit.result _ _ c.write_limit.ensures)
 
 pub returns-in-Err-Memory-clause-answers : goal.returns-in-Err-Memory-clause-answers
 returns-in-Err-Memory-clause-answers g c =
-    let cut = rw c.in-Err-Memory.field-0-is at c.in-Err-Memory.ensures in
-    rw c.without_page.ensures (memory_answers _ _ c.requires.opening _ 0 0 cut.cut_off)
+    let cut = rw c.in-Err-Memory.field-0-is at c.in-Err-Memory.ensures in memory_answers _ _ c.requires.opening _ 0 0 cut.cut_off
 
--- a write that failed: the last arm
-pub returns-clause-answers : goal.returns-clause-answers
-returns-clause-answers g c =
-    let cut = rw c.in-Err-WriteFault.field-0-is at c.in-Err-WriteFault.ensures in
-    rw c.without_page-in-Err-WriteFault.ensures (failed_answers _ _ c.requires.opening _ _ cut.cut_off)
+pub returns-in-Err-WriteFault-clause-answers : goal.returns-in-Err-WriteFault-clause-answers
+returns-in-Err-WriteFault-clause-answers g c =
+    let cut = rw c.in-Err-WriteFault.field-0-is at c.in-Err-WriteFault.ensures in failed_answers _ _ c.requires.opening _ _ cut.cut_off

@@ -1,11 +1,26 @@
-use Rattle.std.proofs.Common.{ap, refl}
+use Rattle.std.proofs.Common.{◌≡◌, ◌∙◌, ap, refl, sym}
+use Rattle.std.specs.Prelude.{Ok}
+use Rattle.page_model.specs.Outcome.{outcome_read}
 use Rattle.page_state.specs.Views.{PageView}
 use Rattle.trace_runs.proofs.Writes.{no_part}
+use Rattle.replay_run.specs.Statuses.{is_done}
+use Rattle.replay_run.proofs.Asking.{if_done}
 use Rattle.replay_run.proofs.Endings.{memory_answers}
 use Rattle.replay_run.proofs.call.run_script.Goals as goal
 
-pub run_on-requires : goal.run_on-requires
-run_on-requires g c = record { opening = ap (λ (page : PageView). page.world) c.in-Ok.ensures }
+pub run_on-status-requires : goal.run_on-status-requires
+run_on-status-requires g c = record { opening = ap (λ (page : PageView). page.world) c.in-Ok.ensures }
+
+pub returns-in-Ok-clause-answers : goal.returns-in-Ok-clause-answers
+returns-in-Ok-clause-answers g c = rw c.with_page.ensures.status c.run_on-status.ensures.answers
+
+pub returns-in-Ok-clause-page : goal.returns-in-Ok-clause-page
+returns-in-Ok-clause-page g c = c.with_page.ensures.page ∙ ap is_done (sym c.with_page.ensures.status)
+
+pub returns-in-Ok-clause-world : goal.returns-in-Ok-clause-world
+returns-in-Ok-clause-world g c =
+    if_done (λ (page : PageView). page.world ≡ (outcome_read (Ok c.args.script.now)).world) c.run_on-status.result c.with_page.result.page _ c.with_page.ensures.page c.with_page.ensures.same
+    c.run_on-status.ensures.world
 
 pub returns-in-Err-clause-answers : goal.returns-in-Err-clause-answers
 returns-in-Err-clause-answers g c = rw c.without_page.ensures (memory_answers _ _ refl _ 0 0 (no_part _ _))

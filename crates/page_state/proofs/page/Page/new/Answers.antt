@@ -1,16 +1,14 @@
 -- A page keeps its facts as it opens.
 use Rattle.std.proofs.Common.{rules, List, [], ◌∷◌, ◌++◌, ap, ◌∙◌}
 use Rattle.page_model.specs.World.{Name, DocumentThing}
-use Rattle.page_state.specs.Known.{KnownNames}
 use Rattle.page_state.proofs.Opening.{known_first, no_elements}
 use Rattle.page_state.proofs.page.Page.new.Goals as goal
 
-pub invariant_of-result-2 : goal.invariant_of-result-2
-invariant_of-result-2 c =
+pub invariant_of-result : goal.invariant_of-result
+invariant_of-result c =
     let listed = c.in_default-insert.ensures.given ∙ ap (λ (list : List Name). list ++ record { text = c.in-Some.top; thing = DocumentThing 0 } ∷ []) c.new-names.ensures in
-    let held = ap (λ (names : KnownNames). names.list) c.names.view_is ∙ listed in
     record {
-      known = known_first c.in-Some.top _ _ _ _ _ _ held (search rules) (search rules) (search rules) (search rules) (search rules);
+      known = known_first c.in-Some.top _ _ _ _ _ _ listed (search rules) (search rules) (search rules) (search rules) (search rules);
       elements = no_elements _ _ (search rules) (search rules);
       limited = search rules;
       observations = search rules;
