@@ -1,6 +1,6 @@
 //! Registrations of a small page, which of them are stale and what is found of them, worked out by hand from its rectangles.
 
-ghost use Rattle.std.specs.Prelude.{◌≡◌, ◌<◌, length, IfOk};
+ghost use Rattle.std.specs.Prelude.{◌≡◌, ◌<◌, ◌+◌, length, IfOk, OnOk};
 ghost use Rattle.std.specs.List.{All};
 ghost use Rattle.clip_chain.specs.Ranges.{IsClip, IsBounds};
 ghost use Rattle.clip_chain.specs.Worlds.{element_spot, spot_of_root};
@@ -277,19 +277,32 @@ const STEPS: [Step; 46] = [
     Step::Stale(FIRST, &[1]),
 ];
 
-// The two observers with their targets.
-fn two_watchers(alloc: Global) -> Result<Watchers, Fail> {
-    let mut watchers = Watchers::new(alloc, 2, 3);
-    let margins = Margins::parse(b"1px")?;
-    let thresholds = Thresholds::new(alloc, &ALL_THREE)?;
-    let first = watchers.make(0, None, Root::Implicit, margins, thresholds)?;
-    let margins = Margins::parse(b"")?;
-    let thresholds = Thresholds::new(alloc, &[])?;
-    let second = watchers.make(0, None, Root::Node(NodeId(1)), margins, thresholds)?;
+fn make(
+    alloc: Global,
+    watchers: &mut Watchers,
+    root: Root,
+    margins: &[u8],
+    thresholds: &[i64],
+) -> Result<WatcherId, Fail>
+    ensures watcher { IfOk result (λ watcher. watcher.0 ≡ length watchers.old.part.made) }
+    ensures made { OnOk result (length watchers.new.part.made ≡ length watchers.old.part.made + 1) }
+    ensures given { watchers.new.part.given ≡ watchers.old.part.given }
+{
+    let margins = Margins::parse(margins)?;
+    let thresholds = Thresholds::new(alloc, thresholds)?;
+    Ok(watchers.make(0, None, root, margins, thresholds)?)
+}
+
+// Makes two observers with their targets.
+fn make_two(alloc: Global, watchers: &mut Watchers) -> Result<(), Fail>
+    requires { watchers.old.part.given ≡ 0 }
+{
+    let first = make(alloc, watchers, Root::Implicit, b"1px", &ALL_THREE)?;
+    let second = make(alloc, watchers, Root::Node(NodeId(1)), b"", &[])?;
     watchers.observe(first, NodeId(7))?;
     watchers.observe(first, NodeId(4))?;
     watchers.observe(second, NodeId(6))?;
-    Ok(watchers)
+    Ok(())
 }
 
 fn touch(rt: &impl Abort, clips: &mut Clips, of: Spot)
@@ -488,13 +501,10 @@ fn inquire(
     Ok(())
 }
 
-#[test]
-fn registrations_are_stale_where_something_differs(rt: HostRuntime) -> Result<(), Fail> {
-    let alloc = rt.alloc();
-    let watchers = two_watchers(alloc)?;
-    let mut page = PAGE;
-    let mut clips = Clips::new(alloc);
-    let mut index = Index::new(alloc);
+// Adds the registrations, and holds a pair of each.
+fn hold_pairs(rt: &impl Abort, clips: &mut Clips, index: &mut Index) -> Result<(), Fail>
+    ensures { (scene : SceneOf) → AreExact scene clips.old → AreExact scene clips.new }
+{
     clips.add(node(7))?;
     clips.add(Spot::View(0))?;
     for (number, root, of) in REGISTRATIONS {
@@ -502,16 +512,52 @@ fn registrations_are_stale_where_something_differs(rt: HostRuntime) -> Result<()
         assert!(rt; clips.pair(number).is_none());
         clips.hold(number, root, of)?;
     }
+    Ok(())
+}
+
+// Each step of a page whose clips are all exact.
+fn follow(
+    rt: &impl Abort,
+    page: &mut Page,
+    clips: &mut Clips,
+    index: &mut Index,
+    watchers: &Watchers,
+) -> Result<(), Fail>
+    requires { AreExact (sample page.old.clips page.old.boxes page.old.view) clips.old }
+{
     for step in STEPS {
-        change(&rt, &mut page, &mut clips, step);
-        inquire(&rt, &page, &mut clips, &mut index, &watchers, step)?;
+        change(rt, page, clips, step);
+        inquire(rt, page, clips, index, watchers, step)?;
     }
     Ok(())
 }
 
+fn see_page(
+    rt: &impl Abort,
+    alloc: Global,
+    clips: &mut Clips,
+    index: &mut Index,
+    watchers: &mut Watchers,
+) -> Result<(), Fail>
+    requires exact { (scene : SceneOf) → AreExact scene clips.old }
+    requires given { watchers.old.part.given ≡ 0 }
+{
+    make_two(alloc, watchers)?;
+    hold_pairs(rt, clips, index)?;
+    let mut page = PAGE;
+    follow(rt, &mut page, clips, index, watchers)
+}
+
 #[test]
-fn what_is_forgotten_is_not_there(rt: HostRuntime) -> Result<(), Fail> {
-    let mut index = Index::new(rt.alloc());
+fn registrations_are_stale_where_something_differs(rt: HostRuntime) -> Result<(), Fail> {
+    let alloc = rt.alloc();
+    let mut watchers = Watchers::new(alloc, 2, 3);
+    let mut clips = Clips::new(alloc);
+    let mut index = Index::new(alloc);
+    see_page(&rt, alloc, &mut clips, &mut index, &mut watchers)
+}
+
+fn see_forgetting(rt: &impl Abort, index: &mut Index) -> Result<(), Fail> {
     let registration = RegistrationId(5);
     index.add(registration)?;
     assert!(rt; index.is_added(registration));
@@ -521,4 +567,10 @@ fn what_is_forgotten_is_not_there(rt: HostRuntime) -> Result<(), Fail> {
     index.forget(registration);
     assert!(rt; !index.is_added(registration));
     Ok(())
+}
+
+#[test]
+fn what_is_forgotten_is_not_there(rt: HostRuntime) -> Result<(), Fail> {
+    let mut index = Index::new(rt.alloc());
+    see_forgetting(&rt, &mut index)
 }

@@ -1,10 +1,15 @@
 //! Calls with their answers, as the standard's steps give them, with each call that memory is refused to.
-ghost use Rattle.std.specs.Prelude.{◌≡◌, ◌<◌, ◌≤◌, ◌+◌, ◌^◌, length, IfOk};
+ghost use Rattle.std.specs.Prelude.{◌≡◌, ◌<◌, ◌≤◌, ◌+◌, ◌^◌, [], length, IfOk, OnOk};
+ghost use Rattle.intersection_observer.specs.Places.{IsStanding};
+ghost use Rattle.thresholds.specs.Roots.{IsRootRect};
 
 use element_tree::NodeId;
-use intersection_observer::{Entry, Finding, Root, Settled, WatchFault, WatcherId, Watchers};
+use intersection_observer::{
+    Entry, Finding, RegistrationId, Root, Settled, WatchFault, WatcherId, Watchers,
+};
 use px_units::Rect;
 use std::alloc::Global;
+use std::process::Abort;
 use std::test::Fail;
 use thresholds::{Margins, Ratio, Thresholds};
 
@@ -35,18 +40,56 @@ fn found(index: u32, meets: bool) -> Finding {
     }
 }
 
+fn push_entry(text: &mut String, alloc: Global, entry: &Entry) -> Result<(), Fail> {
+    let sign = if entry.finding.meets { "+" } else { "-" };
+    let shown = format!(in alloc;
+        " {}@{}:{}{sign}",
+        entry.target.0, entry.time, entry.finding.index
+    )?;
+    text.push_str(shown.as_str())?;
+    Ok(())
+}
+
+fn push_entries(text: &mut String, alloc: Global, entries: &[Entry]) -> Result<(), Fail> {
+    for entry in entries {
+        push_entry(text, alloc, entry)?;
+    }
+    Ok(())
+}
+
 // Entries as target, time, index, and `+` where they met.
 fn entries(alloc: Global, entries: &[Entry]) -> Result<String, Fail> {
     let mut text = String::new(alloc);
-    for each in entries {
-        let sign = if each.finding.meets { "+" } else { "-" };
-        let shown = format!(in alloc;
-            " {}@{}:{}{sign}",
-            each.target.0, each.time, each.finding.index
-        )?;
-        text.push_str(shown.as_str())?;
-    }
+    push_entries(&mut text, alloc, entries)?;
     Ok(text)
+}
+
+fn push_registration(
+    text: &mut String,
+    alloc: Global,
+    watchers: &Watchers,
+    registration: RegistrationId,
+) -> Result<(), Fail>
+    requires { IsStanding registration.0 watchers.now.part }
+{
+    let target = watchers.target_of(registration);
+    let shown = format!(in alloc; " {}:{}", registration.0, target.0)?;
+    text.push_str(shown.as_str())?;
+    Ok(())
+}
+
+fn push_registrations(
+    text: &mut String,
+    alloc: Global,
+    watchers: &Watchers,
+    watcher: WatcherId,
+) -> Result<(), Fail>
+    requires { watcher.0 < length watchers.now.part.made }
+{
+    for registration in watchers.registrations(watcher) {
+        push_registration(text, alloc, watchers, *registration)?;
+    }
+    Ok(())
 }
 
 // The registrations of an observer with their targets.
@@ -54,11 +97,7 @@ fn registrations(alloc: Global, watchers: &Watchers, watcher: WatcherId) -> Resu
     requires { watcher.0 < length watchers.now.part.made }
 {
     let mut text = String::new(alloc);
-    for each in watchers.registrations(watcher) {
-        let target = watchers.target_of(*each);
-        let shown = format!(in alloc; " {}:{}", each.0, target.0)?;
-        text.push_str(shown.as_str())?;
-    }
+    push_registrations(&mut text, alloc, watchers, watcher)?;
     Ok(text)
 }
 
@@ -148,21 +187,32 @@ fn apply(
     }
 }
 
-// Two observers, as many as there may be, and at most four registrations.
-fn two_watchers(alloc: Global) -> Result<Watchers, Fail>
-    ensures { IfOk result (λ watchers. (watchers.part.given ≡ 0) × (length watchers.part.made ≡ 2)) }
+fn make_two(alloc: Global, watchers: &mut Watchers) -> Result<(), Fail>
+    requires { watchers.old.part.made ≡ [] }
+    ensures given { watchers.new.part.given ≡ watchers.old.part.given }
+    ensures made { OnOk result (length watchers.new.part.made ≡ 2) }
 {
-    let mut watchers = Watchers::new(alloc, 2, 4);
     let margins = Margins::parse(b"")?;
     let thresholds = Thresholds::new(alloc, &[])?;
     watchers.make(0, None, Root::Implicit, margins, thresholds)?;
     let thresholds = Thresholds::new(alloc, &[])?;
     watchers.make(1, Some(3), Root::Document(1), margins, thresholds)?;
+    Ok(())
+}
+
+// Two observers, as many as there may be, and at most four registrations.
+fn two_watchers(alloc: Global) -> Result<Watchers, Fail>
+    ensures { IfOk result (λ watchers. (watchers.part.given ≡ 0) × (length watchers.part.made ≡ 2)) }
+{
+    let mut watchers = Watchers::new(alloc, 2, 4);
+    make_two(alloc, &mut watchers)?;
     Ok(watchers)
 }
 
 // Of an observer: the step, what it answers, and the registrations then.
-const STEPS: [(u32, Step, &'static str, &'static str); 27] = [
+type Row = (u32, Step, &'static str, &'static str);
+
+const STEPS: [Row; 27] = [
     (0, Step::Observe(5), "0", " 0:5"),
     (0, Step::Observe(6), "1", " 0:5 1:6"),
     (0, Step::Observe(5), "None", " 0:5 1:6"),
@@ -197,34 +247,111 @@ const STEPS: [(u32, Step, &'static str, &'static str); 27] = [
     (0, Step::Take, " 7@60:0-", " 5:7"),
 ];
 
-#[test]
-fn steps_queue_what_is_news(rt: HostRuntime) -> Result<(), Fail> {
-    let alloc = rt.alloc();
-    let mut watchers = two_watchers(alloc)?;
-    for (number, step, answer, want) in STEPS {
-        assert!(rt; number < watchers.count());
-        let watcher = WatcherId(number);
-        let before = registrations(alloc, &watchers, watcher)?;
-        let mut said = apply(alloc, &mut watchers, watcher, step)?;
-        if said.as_bytes() == b"Memory".as_slice() {
-            let now = registrations(alloc, &watchers, watcher)?;
-            assert!(rt;
-                now.as_bytes() == before.as_bytes(),
-                "refused before {want}"
-            );
-            said = apply(alloc, &mut watchers, watcher, step)?;
-        }
-        assert!(rt; said.as_bytes() == answer.as_bytes(), "want {answer}");
-        let now = registrations(alloc, &watchers, watcher)?;
-        assert!(rt; now.as_bytes() == want.as_bytes(), "want {want}");
+// Whether an observer has these registrations.
+fn has(alloc: Global, watchers: &Watchers, watcher: WatcherId, listed: &str) -> Result<bool, Fail>
+    requires { watcher.0 < length watchers.now.part.made }
+{
+    let now = registrations(alloc, watchers, watcher)?;
+    Ok(now.as_bytes() == listed.as_bytes())
+}
+
+// What a step answers, at a second try where memory was refused to it, which changes nothing.
+fn answer_of(
+    rt: &impl Abort,
+    alloc: Global,
+    watchers: &mut Watchers,
+    watcher: WatcherId,
+    step: Step,
+    want: &str,
+) -> Result<String, Fail>
+    requires watcher { watcher.0 < length watchers.old.part.made }
+    requires serials { watchers.old.part.given < 2 ^ 31 }
+    ensures count { length watchers.new.part.made ≡ length watchers.old.part.made }
+    ensures given { watchers.new.part.given ≤ watchers.old.part.given + 2 }
+{
+    let before = registrations(alloc, watchers, watcher)?;
+    let said = apply(alloc, watchers, watcher, step)?;
+    if said.as_bytes() != b"Memory".as_slice() {
+        return Ok(said);
+    }
+    let is_same = has(alloc, watchers, watcher, before.as_str())?;
+    assert!(rt; is_same, "refused before {want}");
+    apply(alloc, watchers, watcher, step)
+}
+
+fn see_step(rt: &impl Abort, alloc: Global, watchers: &mut Watchers, row: Row) -> Result<(), Fail>
+    requires { watchers.old.part.given < 2 ^ 31 }
+    ensures { watchers.new.part.given ≤ watchers.old.part.given + 2 }
+{
+    let (number, step, answer, want) = row;
+    assert!(rt; number < watchers.count());
+    let watcher = WatcherId(number);
+    let said = answer_of(rt, alloc, watchers, watcher, step, want)?;
+    assert!(rt; said.as_bytes() == answer.as_bytes(), "want {answer}");
+    let is_listed = has(alloc, watchers, watcher, want)?;
+    assert!(rt; is_listed, "want {want}");
+    Ok(())
+}
+
+fn see_steps(rt: &impl Abort, alloc: Global, watchers: &mut Watchers) -> Result<(), Fail>
+    requires { watchers.old.part.given ≡ 0 }
+{
+    for row in STEPS {
+        see_step(rt, alloc, watchers, row)?;
     }
     Ok(())
 }
 
 #[test]
-fn observers_are_as_they_were_made(rt: HostRuntime) -> Result<(), Fail> {
-    let alloc = rt.alloc();
-    let mut watchers = Watchers::new(alloc, 2, 4);
+fn steps_queue_what_is_news(rt: HostRuntime) -> Result<(), Fail> {
+    let mut watchers = two_watchers(rt.alloc())?;
+    see_steps(&rt, rt.alloc(), &mut watchers)
+}
+
+// A square of a pixel.
+fn small_view() -> Rect
+    ensures { IsRootRect result }
+{
+    Rect {
+        left: 0,
+        top: 0,
+        right: 64,
+        bottom: 64,
+    }
+}
+
+// The upper edge of a view once the root margins of an observer moved it.
+fn top_of(watchers: &Watchers, watcher: WatcherId, view: Rect) -> i64
+    requires watcher { watcher.0 < length watchers.now.part.made }
+    requires view { IsRootRect view }
+{
+    watchers.margins_of(watcher).dilate(view).top
+}
+
+fn see_first(rt: &impl Abort, watchers: &Watchers, first: WatcherId)
+    requires { first.0 < length watchers.now.part.made }
+{
+    assert_eq!(rt; watchers.document_of(first), 7);
+    assert_eq!(rt; watchers.handler_of(first), None);
+    assert_eq!(rt; watchers.root_of(first), Root::Node(NodeId(3)));
+    assert_eq!(rt; top_of(watchers, first, small_view()), -640);
+    let half = Ratio { part: 1, whole: 2 };
+    assert_eq!(rt; watchers.thresholds_of(first).index_of(half), 1);
+    assert!(rt; watchers.may_observe(first, NodeId(1)));
+}
+
+fn see_second(rt: &impl Abort, watchers: &Watchers, second: WatcherId)
+    requires { second.0 < length watchers.now.part.made }
+{
+    assert_eq!(rt; watchers.document_of(second), 8);
+    assert_eq!(rt; watchers.handler_of(second), Some(2));
+    assert_eq!(rt; watchers.root_of(second), Root::Document(8));
+    assert_eq!(rt; top_of(watchers, second, small_view()), 0);
+    let half = Ratio { part: 1, whole: 2 };
+    assert_eq!(rt; watchers.thresholds_of(second).index_of(half), 1);
+}
+
+fn see_making(rt: &impl Abort, alloc: Global, watchers: &mut Watchers) -> Result<(), Fail> {
     assert!(rt; !watchers.is_full());
     let margins = Margins::parse(b"10px 0px")?;
     let thresholds = Thresholds::new(alloc, &[5000, 10000])?;
@@ -237,23 +364,13 @@ fn observers_are_as_they_were_made(rt: HostRuntime) -> Result<(), Fail> {
     let refused = watchers.make(9, None, Root::Implicit, margins, thresholds);
     assert_eq!(rt; refused, Err(WatchFault::Limit));
     assert_eq!(rt; watchers.count(), 2);
-    assert_eq!(rt; watchers.document_of(first), 7);
-    assert_eq!(rt; watchers.handler_of(first), None);
-    assert_eq!(rt; watchers.root_of(first), Root::Node(NodeId(3)));
-    assert_eq!(rt; watchers.document_of(second), 8);
-    assert_eq!(rt; watchers.handler_of(second), Some(2));
-    assert_eq!(rt; watchers.root_of(second), Root::Document(8));
-    let view = Rect {
-        left: 0,
-        top: 0,
-        right: 64,
-        bottom: 64,
-    };
-    assert_eq!(rt; watchers.margins_of(first).dilate(view).top, -640);
-    assert_eq!(rt; watchers.margins_of(second).dilate(view).top, 0);
-    let half = Ratio { part: 1, whole: 2 };
-    assert_eq!(rt; watchers.thresholds_of(first).index_of(half), 1);
-    assert_eq!(rt; watchers.thresholds_of(second).index_of(half), 1);
-    assert!(rt; watchers.may_observe(first, NodeId(1)));
+    see_first(rt, watchers, first);
+    see_second(rt, watchers, second);
     Ok(())
+}
+
+#[test]
+fn observers_are_as_they_were_made(rt: HostRuntime) -> Result<(), Fail> {
+    let mut watchers = Watchers::new(rt.alloc(), 2, 4);
+    see_making(&rt, rt.alloc(), &mut watchers)
 }

@@ -124,21 +124,30 @@ fn kind_of(node: u32) -> ItemKind
     }
 }
 
-fn page_of(rt: &impl Abort, alloc: Global) -> Result<PageTree, Fail> {
-    let mut page = PageTree::new(alloc)?;
+fn make_elements(rt: &impl Abort, page: &mut PageTree) -> Result<(), Fail> {
     let name = Name::read(b"a").expect(rt, "a name");
     for number in 0..8 {
         assert_eq!(rt; page.make(0, name, kind_of(number))?, NodeId(number));
     }
-    put(rt, &mut page, Container::Document(0), 0);
+    Ok(())
+}
+
+fn place_and_style(rt: &impl Abort, page: &mut PageTree) {
+    put(rt, page, Container::Document(0), 0);
     for (parent, child) in PLACES {
-        put(rt, &mut page, Container::Element(NodeId(parent)), child);
+        put(rt, page, Container::Element(NodeId(parent)), child);
     }
     for (node, property, value) in STYLES {
-        set(rt, &mut page, node, property, value);
+        set(rt, page, node, property, value);
     }
-    set(rt, &mut page, 7, "padding-left", "5px");
-    set(rt, &mut page, 7, "box-sizing", "border-box");
+    set(rt, page, 7, "padding-left", "5px");
+    set(rt, page, 7, "box-sizing", "border-box");
+}
+
+fn page_of(rt: &impl Abort, alloc: Global) -> Result<PageTree, Fail> {
+    let mut page = PageTree::new(alloc)?;
+    make_elements(rt, &mut page)?;
+    place_and_style(rt, &mut page);
     Ok(page)
 }
 
@@ -168,8 +177,8 @@ fn all_boxes(
     page: &PageTree,
     viewport: Size,
 ) -> Result<Kept, Fail> {
-    let mut boxes = empty_slots(alloc)?;
     assert!(rt; !page.holds(NodeId(8)));
+    let mut boxes = empty_slots(alloc)?;
     nothing_kept_fits();
     renew::<Brand>(Blank::new(1), &mut boxes, page, viewport);
     Ok(boxes)
@@ -207,40 +216,93 @@ fn screen(is_narrow: bool) -> Size
     }
 }
 
+fn see_content(
+    rt: &impl Abort,
+    page: &PageTree,
+    boxes: &Kept,
+    node: u32,
+    content: (i64, i64, i64, i64),
+) {
+    let (left, top, width, height) = content;
+    let corner = corner_of(page, boxes, NodeId(node));
+    assert_eq!(rt; corner, Point { left, top }, "{node}");
+    let size = size_of(page, boxes, NodeId(node), BoxKind::Content);
+    assert_eq!(rt; size, Size { width, height }, "{node}");
+}
+
+// Reads the page, if this is what the step does.
+fn see(
+    rt: &impl Abort,
+    page: &PageTree,
+    boxes: &Kept,
+    scrolls: &Scrolls,
+    viewport: Size,
+    step: Step,
+)
+    requires { IsNatural viewport }
+{
+    match step {
+        Step::Read(node, edges) => {
+            let at = Container::Element(NodeId(node));
+            let found = read(page, boxes, scrolls, viewport, at);
+            assert_eq!(rt; found, reading(edges, 0), "{node}");
+            assert_eq!(rt; has_box(page, NodeId(node)), edges.2 != 0, "{node}");
+        }
+        Step::Content(node, content) => see_content(rt, page, boxes, node, content),
+        Step::Top(width, height) => {
+            let found = read(page, boxes, scrolls, viewport, Container::Document(0));
+            assert_eq!(rt; found, reading((0, 0, width, height), 0));
+        }
+        _ => {}
+    }
+}
+
+// Changes the page, if this is what the step does.
+fn change(rt: &impl Abort, page: &mut PageTree, is_narrow: &mut bool, step: Step) {
+    match step {
+        Step::Narrow => *is_narrow = true,
+        Step::Show(node) => set(rt, page, node, "display", "block"),
+        Step::Remove(node) => {
+            assert!(rt; page.holds(NodeId(node)));
+            page.remove(NodeId(node));
+        }
+        _ => {}
+    }
+}
+
+fn take_step(
+    rt: &impl Abort,
+    alloc: Global,
+    page: &mut PageTree,
+    scrolls: &Scrolls,
+    is_narrow: &mut bool,
+    step: Step,
+) -> Result<(), Fail> {
+    let viewport = screen(*is_narrow);
+    let boxes = all_boxes(rt, alloc, page, viewport)?;
+    see(rt, page, &boxes, scrolls, viewport, step);
+    change(rt, page, is_narrow, step);
+    Ok(())
+}
+
+fn take_steps(
+    rt: &impl Abort,
+    alloc: Global,
+    page: &mut PageTree,
+    scrolls: &Scrolls,
+) -> Result<(), Fail> {
+    let mut is_narrow = false;
+    for step in STEPS {
+        take_step(rt, alloc, page, scrolls, &mut is_narrow, step)?;
+    }
+    Ok(())
+}
+
 #[test]
 fn pages_are_read_as_they_are(rt: HostRuntime) -> Result<(), Fail> {
     let mut page = page_of(&rt, rt.alloc())?;
     let scrolls = Scrolls::new(rt.alloc());
-    let mut is_narrow = false;
-    for step in STEPS {
-        let viewport = screen(is_narrow);
-        let boxes = all_boxes(&rt, rt.alloc(), &page, viewport)?;
-        match step {
-            Step::Narrow => is_narrow = true,
-            Step::Show(node) => set(&rt, &mut page, node, "display", "block"),
-            Step::Remove(node) => {
-                assert!(rt; page.holds(NodeId(node)));
-                page.remove(NodeId(node));
-            }
-            Step::Read(node, edges) => {
-                let at = Container::Element(NodeId(node));
-                let found = read(&page, &boxes, &scrolls, viewport, at);
-                assert_eq!(rt; found, reading(edges, 0), "{node}");
-                assert_eq!(rt; has_box(&page, NodeId(node)), edges.2 != 0, "{node}");
-            }
-            Step::Content(node, (left, top, width, height)) => {
-                let corner = corner_of(&page, &boxes, NodeId(node));
-                assert_eq!(rt; corner, Point { left, top }, "{node}");
-                let size = size_of(&page, &boxes, NodeId(node), BoxKind::Content);
-                assert_eq!(rt; size, Size { width, height }, "{node}");
-            }
-            Step::Top(width, height) => {
-                let found = read(&page, &boxes, &scrolls, viewport, Container::Document(0));
-                assert_eq!(rt; found, reading((0, 0, width, height), 0));
-            }
-        }
-    }
-    Ok(())
+    take_steps(&rt, rt.alloc(), &mut page, &scrolls)
 }
 
 /// Where elements are put: 1 is the frame of document 1, and 3 that of document 2. All are made in `top`.
@@ -410,8 +472,7 @@ const INNER: ScrollTarget = ScrollTarget::Node(NodeId(5));
 /// The nested viewport.
 const OUTER: ScrollTarget = ScrollTarget::Document(1);
 
-fn nested_page(rt: &impl Abort, alloc: Global) -> Result<PageTree, Fail> {
-    let mut page = PageTree::new(alloc)?;
+fn make_nested(rt: &impl Abort, page: &mut PageTree) -> Result<(), Fail> {
     let name = Name::read(b"a").expect(rt, "a name");
     for number in 0..8 {
         if number == 1 || number == 3 {
@@ -421,12 +482,22 @@ fn nested_page(rt: &impl Abort, alloc: Global) -> Result<PageTree, Fail> {
             assert_eq!(rt; page.make(0, name, ItemKind::Block)?, NodeId(number));
         }
     }
+    Ok(())
+}
+
+fn place_and_style_nested(rt: &impl Abort, page: &mut PageTree) {
     for (container, node) in NESTED {
-        put(rt, &mut page, container, node);
+        put(rt, page, container, node);
     }
     for (node, property, value) in NESTED_STYLES {
-        set(rt, &mut page, node, property, value);
+        set(rt, page, node, property, value);
     }
+}
+
+fn nested_page(rt: &impl Abort, alloc: Global) -> Result<PageTree, Fail> {
+    let mut page = PageTree::new(alloc)?;
+    make_nested(rt, &mut page)?;
+    place_and_style_nested(rt, &mut page);
     Ok(page)
 }
 
@@ -446,7 +517,49 @@ fn renew_for<L: Ledger>(
     refresh_for(boxes, page, viewport, container, &mut steps);
 }
 
-// What is read of an element, from boxes that are all computed, and again from those of its document and of those around it.
+// What is read of an element, and its border rectangle, from boxes that are all computed.
+fn read_all(
+    rt: &impl Abort,
+    alloc: Global,
+    page: &PageTree,
+    scrolls: &Scrolls,
+    viewport: Size,
+    node: u32,
+) -> Result<(Reading, Rect), Fail>
+    requires { IsNatural viewport }
+{
+    let all = all_boxes(rt, alloc, page, viewport)?;
+    let found = read(
+        page,
+        &all,
+        scrolls,
+        viewport,
+        Container::Element(NodeId(node)),
+    );
+    let rect = border_rect(page, &all, scrolls, viewport, NodeId(node));
+    Ok((found, rect))
+}
+
+// What is read of an element, from the boxes of its document and of those around it.
+fn read_some(
+    rt: &impl Abort,
+    alloc: Global,
+    page: &PageTree,
+    scrolls: &Scrolls,
+    viewport: Size,
+    node: u32,
+) -> Result<Reading, Fail>
+    requires { IsNatural viewport }
+{
+    assert!(rt; !page.holds(NodeId(8)));
+    let container = Container::Element(NodeId(node));
+    let mut some = empty_slots(alloc)?;
+    nothing_kept_fits();
+    renew_for::<Brand>(Blank::new(1), &mut some, page, viewport, container);
+    Ok(read(page, &some, scrolls, viewport, container))
+}
+
+// What is read of an element, the same in both ways.
 fn read_twice(
     rt: &impl Abort,
     alloc: Global,
@@ -456,21 +569,50 @@ fn read_twice(
     node: u32,
 ) -> Result<Reading, Fail> {
     let viewport = screen(is_narrow);
-    let container = Container::Element(NodeId(node));
-    let all = all_boxes(rt, alloc, page, viewport)?;
-    let found = read(page, &all, scrolls, viewport, container);
-    let mut some = empty_slots(alloc)?;
-    assert!(rt; !page.holds(NodeId(8)));
-    nothing_kept_fits();
-    renew_for::<Brand>(Blank::new(1), &mut some, page, viewport, container);
-    let again = read(page, &some, scrolls, viewport, container);
+    let (found, rect) = read_all(rt, alloc, page, scrolls, viewport, node)?;
+    let again = read_some(rt, alloc, page, scrolls, viewport, node)?;
     assert_eq!(rt; found, again);
-    let rect = border_rect(page, &all, scrolls, viewport, NodeId(node));
     assert_eq!(rt; rect, found.rect);
     Ok(found)
 }
 
+fn read_viewport(
+    rt: &impl Abort,
+    alloc: Global,
+    page: &PageTree,
+    scrolls: &Scrolls,
+    is_narrow: bool,
+    document: u32,
+) -> Result<Reading, Fail> {
+    let viewport = screen(is_narrow);
+    let boxes = all_boxes(rt, alloc, page, viewport)?;
+    let container = Container::Document(document);
+    Ok(read(page, &boxes, scrolls, viewport, container))
+}
+
 // Scrolls downwards to a position, as far as it goes.
+fn scroll_over(
+    rt: &impl Abort,
+    page: &PageTree,
+    boxes: &Kept,
+    scrolls: &mut Scrolls,
+    viewport: Size,
+    target: ScrollTarget,
+    down: u16,
+) -> Result<(), Fail>
+    requires { IsNatural viewport }
+{
+    let range = range_of(page, boxes, viewport, target);
+    let wanted = Point {
+        left: 0,
+        top: i64::from(down),
+    };
+    let _outcome = scrolls.scroll_to(0, target, wanted, range)?;
+    let offset = offset_of(page, boxes, scrolls, viewport, target);
+    assert_eq!(rt; offset.top, i64::from(down).min(range.height));
+    Ok(())
+}
+
 fn scroll(
     rt: &impl Abort,
     alloc: Global,
@@ -482,51 +624,57 @@ fn scroll(
 ) -> Result<(), Fail> {
     let viewport = screen(is_narrow);
     let boxes = all_boxes(rt, alloc, page, viewport)?;
-    let range = range_of(page, &boxes, viewport, target);
-    let wanted = Point {
-        left: 0,
-        top: i64::from(down),
-    };
-    let _outcome = scrolls.scroll_to(0, target, wanted, range)?;
-    let offset = offset_of(page, &boxes, scrolls, viewport, target);
-    assert_eq!(rt; offset.top, i64::from(down).min(range.height));
-    Ok(())
+    scroll_over(rt, page, &boxes, scrolls, viewport, target, down)
 }
 
-fn follow(rt: &impl Abort, alloc: Global, steps: &[Look]) -> Result<(), Fail> {
-    let mut page = nested_page(rt, alloc)?;
-    let mut scrolls = Scrolls::new(alloc);
-    let mut is_narrow = false;
-    for step in steps {
-        match *step {
-            Look::Scroll(inner, outer) => {
-                scroll(rt, alloc, &page, &mut scrolls, is_narrow, INNER, inner)?;
-                scroll(rt, alloc, &page, &mut scrolls, is_narrow, OUTER, outer)?;
-            }
-            Look::Narrow => is_narrow = true,
-            Look::Set(node, property, value) => set(rt, &mut page, node, property, value),
-            Look::Append(parent, node) => {
-                put(rt, &mut page, Container::Element(NodeId(parent)), node);
-            }
-            Look::Read(node, edges, down) => {
-                let found = read_twice(rt, alloc, &page, &scrolls, is_narrow, node)?;
-                assert_eq!(rt; found, reading(edges, down), "{node}");
-            }
-            Look::Viewport(document, (width, height), down) => {
-                let viewport = screen(is_narrow);
-                let boxes = all_boxes(rt, alloc, &page, viewport)?;
-                let found = read(
-                    &page,
-                    &boxes,
-                    &scrolls,
-                    viewport,
-                    Container::Document(document),
-                );
-                assert_eq!(rt; found, reading((0, 0, width, height), down), "{document}");
-            }
+fn take_look(
+    rt: &impl Abort,
+    alloc: Global,
+    page: &mut PageTree,
+    scrolls: &mut Scrolls,
+    is_narrow: &mut bool,
+    look: Look,
+) -> Result<(), Fail> {
+    match look {
+        Look::Scroll(inner, outer) => {
+            scroll(rt, alloc, page, scrolls, *is_narrow, INNER, inner)?;
+            scroll(rt, alloc, page, scrolls, *is_narrow, OUTER, outer)?;
+        }
+        Look::Narrow => *is_narrow = true,
+        Look::Set(node, property, value) => set(rt, page, node, property, value),
+        Look::Append(parent, node) => {
+            put(rt, page, Container::Element(NodeId(parent)), node);
+        }
+        Look::Read(node, edges, down) => {
+            let found = read_twice(rt, alloc, page, scrolls, *is_narrow, node)?;
+            assert_eq!(rt; found, reading(edges, down), "{node}");
+        }
+        Look::Viewport(document, (width, height), down) => {
+            let found = read_viewport(rt, alloc, page, scrolls, *is_narrow, document)?;
+            assert_eq!(rt; found, reading((0, 0, width, height), down), "{document}");
         }
     }
     Ok(())
+}
+
+fn take_looks(
+    rt: &impl Abort,
+    alloc: Global,
+    page: &mut PageTree,
+    scrolls: &mut Scrolls,
+    looks: &[Look],
+) -> Result<(), Fail> {
+    let mut is_narrow = false;
+    for look in looks {
+        take_look(rt, alloc, page, scrolls, &mut is_narrow, *look)?;
+    }
+    Ok(())
+}
+
+fn follow(rt: &impl Abort, alloc: Global, looks: &[Look]) -> Result<(), Fail> {
+    let mut page = nested_page(rt, alloc)?;
+    let mut scrolls = Scrolls::new(alloc);
+    take_looks(rt, alloc, &mut page, &mut scrolls, looks)
 }
 
 #[test]
@@ -540,26 +688,42 @@ fn what_is_scrolled_is_read_as_it_is(rt: HostRuntime) -> Result<(), Fail> {
 }
 
 /// The left, top, right and bottom edges of a frame's padding box, and the corner of its content.
-const FRAMES: [(u32, (i64, i64, i64, i64), (i64, i64)); 2] = [
+type Frame = (u32, (i64, i64, i64, i64), (i64, i64));
+
+const FRAMES: [Frame; 2] = [
     (1, (1152, 512, 33689, 13696), (1344, 704)),
     (3, (800, 4076, 16620, 13676), (800, 4076)),
 ];
+
+fn see_frame(rt: &impl Abort, page: &PageTree, boxes: &Kept, scrolls: &Scrolls, frame: Frame) {
+    let (number, edges, (left, top)) = frame;
+    let viewport = screen(false);
+    let node = NodeId(number);
+    let padding = padding_rect(page, boxes, scrolls, viewport, node);
+    assert_eq!(rt; padding, reading(edges, 0).rect, "{number}");
+    let corner = content_origin(page, boxes, scrolls, viewport, node);
+    assert_eq!(rt; corner, Point { left, top }, "{number}");
+    assert!(rt; !is_scroller(page, node), "{number}");
+}
+
+fn see_frames(
+    rt: &impl Abort,
+    alloc: Global,
+    page: &PageTree,
+    scrolls: &mut Scrolls,
+) -> Result<(), Fail> {
+    assert!(rt; is_scroller(page, NodeId(5)));
+    scroll(rt, alloc, page, scrolls, false, OUTER, 688)?;
+    let boxes = all_boxes(rt, alloc, page, screen(false))?;
+    for frame in FRAMES {
+        see_frame(rt, page, &boxes, scrolls, frame);
+    }
+    Ok(())
+}
 
 #[test]
 fn frames_have_their_places(rt: HostRuntime) -> Result<(), Fail> {
     let page = nested_page(&rt, rt.alloc())?;
     let mut scrolls = Scrolls::new(rt.alloc());
-    scroll(&rt, rt.alloc(), &page, &mut scrolls, false, OUTER, 688)?;
-    let viewport = screen(false);
-    let boxes = all_boxes(&rt, rt.alloc(), &page, viewport)?;
-    for (number, edges, (left, top)) in FRAMES {
-        let node = NodeId(number);
-        let padding = padding_rect(&page, &boxes, &scrolls, viewport, node);
-        assert_eq!(rt; padding, reading(edges, 0).rect, "{number}");
-        let corner = content_origin(&page, &boxes, &scrolls, viewport, node);
-        assert_eq!(rt; corner, Point { left, top }, "{number}");
-        assert!(rt; !is_scroller(&page, node), "{number}");
-    }
-    assert!(rt; is_scroller(&page, NodeId(5)));
-    Ok(())
+    see_frames(&rt, rt.alloc(), &page, &mut scrolls)
 }

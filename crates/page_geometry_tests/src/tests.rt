@@ -378,8 +378,7 @@ fn put(rt: &impl Abort, page: &mut PageTree, container: Container, node: u32) {
     assert!(rt; page.place(container, NodeId(node), None).is_ok());
 }
 
-fn page_of(rt: &impl Abort, alloc: Global) -> Result<PageTree, Fail> {
-    let mut page = PageTree::new(alloc)?;
+fn make_elements(rt: &impl Abort, page: &mut PageTree) -> Result<(), Fail> {
     let name = Name::read(b"a").expect(rt, "a name");
     for number in 0..9 {
         if number == 1 {
@@ -389,23 +388,43 @@ fn page_of(rt: &impl Abort, alloc: Global) -> Result<PageTree, Fail> {
             assert_eq!(rt; page.make(0, name, ItemKind::Block)?, NodeId(number));
         }
     }
+    Ok(())
+}
+
+fn place_and_style(rt: &impl Abort, page: &mut PageTree) {
     for (container, node) in PLACES {
-        put(rt, &mut page, container, node);
+        put(rt, page, container, node);
     }
     for (node, property, value) in STYLES {
-        set(rt, &mut page, node, property, value);
+        set(rt, page, node, property, value);
     }
-    set(rt, &mut page, 8, "display", "none");
+    set(rt, page, 8, "display", "none");
+}
+
+fn page_of(rt: &impl Abort, alloc: Global) -> Result<PageTree, Fail> {
+    let mut page = PageTree::new(alloc)?;
+    make_elements(rt, &mut page)?;
+    place_and_style(rt, &mut page);
     Ok(page)
+}
+
+fn watch(alloc: Global, watchers: &mut Watchers, root: Root, margins: &str) -> Result<(), Fail> {
+    let margins = Margins::parse(margins.as_bytes())?;
+    let thresholds = Thresholds::new(alloc, &[0, 2500, 5000, 10000])?;
+    watchers.make(0, None, root, margins, thresholds)?;
+    Ok(())
+}
+
+fn watch_all(alloc: Global, watchers: &mut Watchers) -> Result<(), Fail> {
+    for (root, margins) in WATCHED {
+        watch(alloc, watchers, root, margins)?;
+    }
+    Ok(())
 }
 
 fn watchers_of(alloc: Global) -> Result<Watchers, Fail> {
     let mut watchers = Watchers::new(alloc, 6, 6);
-    for (root, margins) in WATCHED {
-        let margins = Margins::parse(margins.as_bytes())?;
-        let thresholds = Thresholds::new(alloc, &[0, 2500, 5000, 10000])?;
-        watchers.make(0, None, root, margins, thresholds)?;
-    }
+    watch_all(alloc, &mut watchers)?;
     Ok(watchers)
 }
 
@@ -428,9 +447,9 @@ fn renew<L: Ledger>(blank: Blank, boxes: &mut Kept, page: &PageTree, viewport: S
 fn all_boxes(rt: &impl Abort, alloc: Global, page: &PageTree, viewport: Size) -> Result<Kept, Fail>
     ensures { IfOk result (λ boxes. IsFresh page.now.tree (seen_size viewport) boxes) }
 {
+    assert!(rt; !page.holds(NodeId(9)));
     let mut boxes = Kept::new(alloc);
     boxes.add(NodeId(8))?;
-    assert!(rt; !page.holds(NodeId(9)));
     nothing_kept_fits();
     renew::<Brand>(Blank::new(1), &mut boxes, page, viewport);
     Ok(boxes)
@@ -455,6 +474,25 @@ fn edges_of(rect: Rect) -> Edges {
     (rect.left, rect.top, rect.right, rect.bottom)
 }
 
+fn find_over(
+    rt: &impl Abort,
+    page: &PageTree,
+    boxes: &Kept,
+    scrolls: &Scrolls,
+    watchers: &Watchers,
+    watcher: WatcherId,
+    target: NodeId,
+) -> Finding
+    requires watcher { watcher.0 < length watchers.now.part.made }
+    requires fresh { IsFresh page.now.tree (seen_size SCREEN) boxes.now }
+{
+    let geometry = PageGeometry::new(page, boxes, scrolls, SCREEN);
+    let is_shown = reaches(&geometry, Spot::Node(target), Spot::View(0));
+    let finding = find(page, boxes, scrolls, SCREEN, watchers, watcher, target);
+    assert!(rt; is_shown || !finding.meets);
+    finding
+}
+
 fn found(
     rt: &impl Abort,
     alloc: Global,
@@ -466,19 +504,15 @@ fn found(
 ) -> Result<Finding, Fail> {
     assert!(rt; watcher < watchers.count());
     let boxes = all_boxes(rt, alloc, page, SCREEN)?;
-    let geometry = PageGeometry::new(page, &boxes, scrolls, SCREEN);
-    let is_shown = reaches(&geometry, Spot::Node(NodeId(target)), Spot::View(0));
-    let finding = find(
+    Ok(find_over(
+        rt,
         page,
         &boxes,
         scrolls,
-        SCREEN,
         watchers,
         WatcherId(watcher),
         NodeId(target),
-    );
-    assert!(rt; is_shown || !finding.meets);
-    Ok(finding)
+    ))
 }
 
 fn compare(
@@ -496,25 +530,48 @@ fn compare(
     assert_eq!(rt; edges_of(found.cut), cut);
 }
 
-fn follow(rt: &impl Abort, alloc: Global, steps: &[Step]) -> Result<(), Fail> {
-    let mut page = page_of(rt, alloc)?;
-    let mut scrolls = Scrolls::new(alloc);
-    let watchers = watchers_of(alloc)?;
-    for step in steps {
-        match *step {
-            Step::Scroll(node, down) => scroll(rt, alloc, &page, &mut scrolls, node, down)?,
-            Step::Set(node, property, value) => set(rt, &mut page, node, property, value),
-            Step::Remove(node) => {
-                assert!(rt; page.holds(NodeId(node)));
-                page.remove(NodeId(node));
-            }
-            Step::Find(watcher, target, counts, areas, edges) => {
-                let it = found(rt, alloc, &page, &scrolls, &watchers, watcher, target)?;
-                compare(rt, it, counts, areas, edges);
-            }
+fn take_step(
+    rt: &impl Abort,
+    alloc: Global,
+    page: &mut PageTree,
+    scrolls: &mut Scrolls,
+    watchers: &Watchers,
+    step: Step,
+) -> Result<(), Fail> {
+    match step {
+        Step::Scroll(node, down) => scroll(rt, alloc, page, scrolls, node, down)?,
+        Step::Set(node, property, value) => set(rt, page, node, property, value),
+        Step::Remove(node) => {
+            assert!(rt; page.holds(NodeId(node)));
+            page.remove(NodeId(node));
+        }
+        Step::Find(watcher, target, counts, areas, edges) => {
+            let it = found(rt, alloc, page, scrolls, watchers, watcher, target)?;
+            compare(rt, it, counts, areas, edges);
         }
     }
     Ok(())
+}
+
+fn take_steps(
+    rt: &impl Abort,
+    alloc: Global,
+    page: &mut PageTree,
+    scrolls: &mut Scrolls,
+    watchers: &Watchers,
+    steps: &[Step],
+) -> Result<(), Fail> {
+    for step in steps {
+        take_step(rt, alloc, page, scrolls, watchers, *step)?;
+    }
+    Ok(())
+}
+
+fn follow(rt: &impl Abort, alloc: Global, steps: &[Step]) -> Result<(), Fail> {
+    let watchers = watchers_of(alloc)?;
+    let mut page = page_of(rt, alloc)?;
+    let mut scrolls = Scrolls::new(alloc);
+    take_steps(rt, alloc, &mut page, &mut scrolls, &watchers, steps)
 }
 
 #[test]

@@ -1,10 +1,6 @@
 use Rattle.candidate_index.specs.Sample.{sample, AreExact}
-use Rattle.candidate_index.proofs.tests.registrations_are_stale_where_something_differs.Given as goal
+use Rattle.candidate_index.proofs.tests.follow.Given as goal
 
 -- a clip that is handed out as it is held is exact
-
-abbrev pub invariant-loop-number : goal.invariant-loop-number
-invariant-loop-number g l = AreExact (sample l.page.clips l.page.boxes l.page.view) l.clips
-
 abbrev pub invariant-loop-step : goal.invariant-loop-step
 invariant-loop-step g l = AreExact (sample l.page.clips l.page.boxes l.page.view) l.clips
