@@ -2,7 +2,8 @@
 //! function that does nothing.
 
 ghost use Rattle.std.specs.Prelude.{◌≡◌, ◌↔◌, ℕ, List, Some, true, false};
-ghost use Rattle.page_model.specs.World.{World, Root, IntersectionObserver, IntersectionObservers};
+ghost use Rattle.page_model.specs.Shown.{Shown};
+ghost use Rattle.page_model.specs.World.{Root, IntersectionObserver, IntersectionObservers};
 ghost use Rattle.page_model.specs.Findings.{relation, finding};
 ghost use Rattle.clip_chain.specs.Worlds.{scene_of};
 ghost use Rattle.clip_chain.specs.declared.spot.Spot.{Spot as SpotOf};
@@ -30,7 +31,7 @@ pub fn what_is_not_stale_is_found_as_it_was()
 /// the target's box and what is seen of it are told in the coordinates of the target's document, and the root rectangle in those
 /// of the root's.
 pub fn findings_are_those_of_any_world()
-    ensures { (world : World) (observer : IntersectionObserver) (target : ℕ) (between : List SpotOf) →
-        IfChained (standing_in (relation world observer.root target)) (IsChain world observer.root target between) →
-        finding world observer target ≡ told world observer target (relation world observer.root target) (finding_over (scene_of world) (standing_in (relation world observer.root target)) observer target between) }
+    ensures { (shown : Shown) (observer : IntersectionObserver) (target : ℕ) (between : List SpotOf) →
+        IfChained (standing_in (relation shown observer.root target)) (IsChain shown observer.root target between) →
+        finding shown observer target ≡ told shown observer target (relation shown observer.root target) (finding_over (scene_of shown) (standing_in (relation shown observer.root target)) observer target between) }
 {}

@@ -9,6 +9,7 @@ use Rattle.page_model.specs.World.{DocumentState, Fresh, Active, Dead, Extent, T
 use Rattle.page_model.specs.Lookups.{element_at, document_at}
 use Rattle.page_model.specs.Documents.{is_active, is_active_state, nodes_of}
 use Rattle.page_model.specs.PageBoxes.{no_view, framed_size, view_with, view_if_active, view_up, view_of, inputs_of, has_box, box_of, place_of}
+use Rattle.page_model.specs.Shown.{shown_of}
 use Rattle.page_model.specs.Chains.{added, content_corner_at, origin_with_box, origin_by_frame, origin_up, origin}
 use Rattle.page_documents.specs.Paths.{holder_of}
 use Rattle.page_documents.proofs.Ways.{Reaches, no_way, reach_up, reach_more}
@@ -145,7 +146,7 @@ module _ (world : World) (levels : IsWithinLevels world.tree) where
   around frame = (element_at (world.tree) frame).document
 
   by_box : (above other : ℕ → Point) (frame : ℕ) (boxed : Bool) → (boxed ≡ true → above (around frame) ≡ other (around frame)) →
-      origin_with_box above world boxed frame ≡ origin_with_box other world boxed frame
+      origin_with_box above (shown_of world) boxed frame ≡ origin_with_box other (shown_of world) boxed frame
   by_box above other frame true same =
       ap (λ point. added (content_corner_at (place_of (world.tree) (world.viewports.size) (world.scrolls) frame)
       (box_of (world.tree) (world.viewports.size) frame)) point) (same refl)
@@ -153,7 +154,7 @@ module _ (world : World) (levels : IsWithinLevels world.tree) where
 
   by_frame : (above other : ℕ → Point) (found : Option ℕ) →
       ((frame : ℕ) → found ≡ Some frame → is_active (world.tree) (around frame) ≡ true → above (around frame) ≡ other (around frame)) →
-      origin_by_frame above world found ≡ origin_by_frame other world found
+      origin_by_frame above (shown_of world) found ≡ origin_by_frame other (shown_of world) found
   by_frame above other None same = refl
   by_frame above other (Some frame) same =
       by_box above other frame (has_box (world.tree) (world.viewports.size) frame)
@@ -161,12 +162,12 @@ module _ (world : World) (levels : IsWithinLevels world.tree) where
 
   origin_step : (few more document : ℕ) →
       ((frame : ℕ) → (document_at (world.tree) document).frame ≡ Some frame → is_active (world.tree) (around frame) ≡ true →
-      origin_up few world (around frame) ≡ origin_up more world (around frame)) → origin_up (suc few) world document ≡ origin_up (suc more) world document
+      origin_up few (shown_of world) (around frame) ≡ origin_up more (shown_of world) (around frame)) → origin_up (suc few) (shown_of world) document ≡ origin_up (suc more) (shown_of world) document
   unfolding origin_up
-  origin_step few more document same = by_frame (origin_up few world) (origin_up more world) ((document_at (world.tree) document).frame) same
+  origin_step few more document same = by_frame (origin_up few (shown_of world)) (origin_up more (shown_of world)) ((document_at (world.tree) document).frame) same
 
   same_origins : (few more document : ℕ) → Reaches (world.tree) few document → Reaches (world.tree) more document →
-      origin_up few world document ≡ origin_up more world document
+      origin_up few (shown_of world) document ≡ origin_up more (shown_of world) document
   same_origins zero more document reach reach' = absurd (no_way (world.tree) document reach)
   same_origins (suc few) zero document reach reach' = absurd (no_way (world.tree) document reach')
   same_origins (suc few) (suc more) document reach reach' =
@@ -175,7 +176,7 @@ module _ (world : World) (levels : IsWithinLevels world.tree) where
       same_origins few more (around frame) (holder_leads (world.tree) levels few document (around frame) held reach)
       (holder_leads (world.tree) levels more document (around frame) held reach'))
 
-  pub origins_whole : (most document : ℕ) → 65 ≤ most → origin_up most world document ≡ origin world document
+  pub origins_whole : (most document : ℕ) → 65 ≤ most → origin_up most (shown_of world) document ≡ origin (shown_of world) document
   unfolding origin
   origins_whole zero document enough = absurd (no_frames enough)
   origins_whole (suc most) document enough =

@@ -4,6 +4,7 @@ ghost use Rattle.std.specs.Prelude.{◌≡◌, ◌≤◌, ℕ, List, true};
 ghost use Rattle.page_model.specs.World.{Extent, Tree, World};
 ghost use Rattle.page_model.specs.Documents.{frame_levels, container_of, is_active_state, is_fresh_state, stands_in_active, frames_in, led_to, documents_inside, shown};
 ghost use Rattle.page_model.specs.PageBoxes.{view_up, view_of, has_box};
+ghost use Rattle.page_model.specs.Shown.{shown_of};
 ghost use Rattle.page_model.specs.Chains.{origin_up, origin, containers_by, containers_from, containers_of};
 ghost use Rattle.document_laws.specs.Levels.{IsWithinLevels};
 
@@ -15,7 +16,7 @@ pub fn frames_are_never_cut_off()
     ensures views { (tree : Tree) → IsWithinLevels tree → (most : ℕ) (size : Extent) (document : ℕ) → 64 ≤ most →
         view_up most tree size document ≡ view_of tree size document }
     ensures origins { (world : World) → IsWithinLevels world.tree → (most document : ℕ) → 65 ≤ most →
-        origin_up most world document ≡ origin world document }
+        origin_up most (shown_of world) document ≡ origin (shown_of world) document }
     ensures active { (tree : Tree) → IsWithinLevels tree → (most : ℕ) (documents : List ℕ) → 64 ≤ most →
         led_to most is_active_state tree documents ≡ led_to frame_levels is_active_state tree documents }
     ensures fresh { (tree : Tree) (n : ℕ) → IsWithinLevels (shown tree n) → stands_in_active tree n ≡ true → (most : ℕ) → 64 ≤ most →

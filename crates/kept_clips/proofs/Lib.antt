@@ -5,3 +5,5 @@ pub mod Points
 pub mod Pairs
 pub mod Adding
 pub mod Touching
+pub mod Agreeing
+pub mod Seeing

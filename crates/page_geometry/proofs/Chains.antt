@@ -8,6 +8,7 @@ use Rattle.page_model.specs.World.{Extent, Tree, Scrolls, Root, ImplicitRoot, Do
 use Rattle.page_model.specs.Lookups.{element_at, document_at}
 use Rattle.page_model.specs.Documents.{InElement, container_by, container_of, is_root_element, first_of_list, nodes_of, element_depth, is_inclusive_ancestor}
 use Rattle.page_model.specs.PageBoxes.{has_box}
+use Rattle.page_model.specs.Shown.{shown_with}
 use Rattle.page_model.specs.Findings.{is_proper_ancestor, is_apart}
 use Rattle.page_documents.specs.Paths.{owner_of, way_above, way_down}
 use Rattle.page_documents.specs.Frames.{AreFramed}
@@ -17,8 +18,7 @@ use Rattle.clip_chain.specs.Scenes.{Scene}
 use Rattle.clip_chain.specs.Chains.{Leads, IsAbove}
 use Rattle.clip_chain.specs.Worlds.{element_spot, spot_of, spot_of_root, scene_of}
 use Rattle.clip_chain.proofs.Leading.{above_inwards}
-use Rattle.page_geometry.specs.Worlds.{world_with}
-use Rattle.page_geometry.proofs.Shown.{active, parent_boxed, root_is, frame_boxed}
+use Rattle.page_geometry.proofs.Standing.{active, parent_boxed, root_is, frame_boxed}
 use Rattle.page_geometry.proofs.Levels.{count_is}
 use Rattle.page_boxes.proofs.Views.{way_less, no_way}
 
@@ -74,7 +74,7 @@ proper_is false inside is = (refl, is)
 
 module _ (tree : Tree) (size : Extent) (scrolls : Scrolls) (framed : AreFramed tree) where
   abbrev scene : Scene
-  scene = scene_of (world_with tree size scrolls)
+  scene = scene_of (shown_with tree size scrolls)
 
   abbrev own : ℕ → ℕ
   own n = (element_at tree n).document
@@ -185,7 +185,7 @@ module _ (tree : Tree) (size : Extent) (scrolls : Scrolls) (framed : AreFramed t
       (document_at tree (own n)).frame refl
 
   -- a root that a target isn't apart from is above it
-  pub above : (root : Root) (n : ℕ) → has_box tree size n ≡ true → is_apart (world_with tree size scrolls) root n ≡ false → IsAbove scene (spot_of_root root) (element_spot n)
+  pub above : (root : Root) (n : ℕ) → has_box tree size n ≡ true → is_apart (shown_with tree size scrolls) root n ≡ false → IsAbove scene (spot_of_root root) (element_spot n)
   above ImplicitRoot n boxed near =
       let counted = count_is tree framed (own n) (active tree size n boxed) (length tree.documents) refl in
       to_top counted.0 n boxed counted.2

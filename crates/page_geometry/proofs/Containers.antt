@@ -8,13 +8,13 @@ use Rattle.page_model.specs.World.{Extent, Tree, Scrolls}
 use Rattle.page_model.specs.Lookups.{document_at}
 use Rattle.page_model.specs.Documents.{InElement, container_of, nodes_of, element_depth}
 use Rattle.page_model.specs.PageBoxes.{has_box}
+use Rattle.page_model.specs.Shown.{shown_with}
 use Rattle.page_model.specs.Chains.{zero_rect, border_rect, padding_rect}
 use Rattle.page_documents.specs.Frames.{AreFramed}
 use Rattle.clip_chain.specs.declared.spot.Spot.{Spot}
 use Rattle.clip_chain.specs.declared.spot.Spot.TheVariants.{View}
 use Rattle.clip_chain.specs.Scenes.{Scene}
 use Rattle.clip_chain.specs.Worlds.{element_spot, spot_of, scene_of}
-use Rattle.page_geometry.specs.Worlds.{world_with}
 use Rattle.page_geometry.specs.Ranks.{rank_of}
 use Rattle.page_geometry.proofs.Ends.{falls}
 
@@ -28,7 +28,7 @@ clips_by node result block cuts is =
 
 module _ (tree : Tree) (size : Extent) (scrolls : Scrolls) where
   abbrev scene : Scene
-  scene = scene_of (world_with tree size scrolls)
+  scene = scene_of (shown_with tree size scrolls)
 
   module _ (n : ℕ) where
     pub no_container : has_box tree size n ≡ false → None ≡ scene.container (element_spot n)
@@ -40,22 +40,22 @@ module _ (tree : Tree) (size : Extent) (scrolls : Scrolls) where
     pub no_clip : (has_box tree size n && clips (nodes_of tree n)) ≡ false → None ≡ scene.clip (element_spot n)
     no_clip none = by_box (has_box tree size n) (clips (nodes_of tree n)) none
       where
-        by_box : (b c : Bool) → (b && c) ≡ false → None ≡ cond b (cond c (Some (padding_rect (world_with tree size scrolls) n)) None) None
-        by_box true c is = sym (ap (λ b. cond b (Some (padding_rect (world_with tree size scrolls) n)) None) is)
+        by_box : (b c : Bool) → (b && c) ≡ false → None ≡ cond b (cond c (Some (padding_rect (shown_with tree size scrolls) n)) None) None
+        by_box true c is = sym (ap (λ b. cond b (Some (padding_rect (shown_with tree size scrolls) n)) None) is)
         by_box false c is = refl
 
-    pub clip_is : (rect : Rect) → (has_box tree size n && clips (nodes_of tree n)) ≡ true → rect ≡ padding_rect (world_with tree size scrolls) n → Some rect ≡ scene.clip (element_spot n)
+    pub clip_is : (rect : Rect) → (has_box tree size n && clips (nodes_of tree n)) ≡ true → rect ≡ padding_rect (shown_with tree size scrolls) n → Some rect ≡ scene.clip (element_spot n)
     clip_is rect some is = ap Some is ∙ by_box (has_box tree size n) (clips (nodes_of tree n)) some
       where
-        by_box : (b c : Bool) → (b && c) ≡ true → Some (padding_rect (world_with tree size scrolls) n) ≡ cond b (cond c (Some (padding_rect (world_with tree size scrolls) n)) None) None
-        by_box true c there = sym (ap (λ b. cond b (Some (padding_rect (world_with tree size scrolls) n)) None) there)
+        by_box : (b c : Bool) → (b && c) ≡ true → Some (padding_rect (shown_with tree size scrolls) n) ≡ cond b (cond c (Some (padding_rect (shown_with tree size scrolls) n)) None) None
+        by_box true c there = sym (ap (λ b. cond b (Some (padding_rect (shown_with tree size scrolls) n)) None) there)
         by_box false c there = absurd (let no : ⊥ = cc in no)
 
     pub no_bounds : has_box tree size n ≡ false → zero_rect ≡ scene.bounds (element_spot n)
-    no_bounds none = sym (ap (λ b. cond b (border_rect (world_with tree size scrolls) n) zero_rect) none)
+    no_bounds none = sym (ap (λ b. cond b (border_rect (shown_with tree size scrolls) n) zero_rect) none)
 
-    pub bounds_are : (rect : Rect) → has_box tree size n ≡ true → rect ≡ border_rect (world_with tree size scrolls) n → rect ≡ scene.bounds (element_spot n)
-    bounds_are rect there is = is ∙ sym (ap (λ b. cond b (border_rect (world_with tree size scrolls) n) zero_rect) there)
+    pub bounds_are : (rect : Rect) → has_box tree size n ≡ true → rect ≡ border_rect (shown_with tree size scrolls) n → rect ≡ scene.bounds (element_spot n)
+    bounds_are rect there is = is ∙ sym (ap (λ b. cond b (border_rect (shown_with tree size scrolls) n) zero_rect) there)
 
   pub view_container : (document : ℕ) (found : Option Spot) → found ≡ option_map element_spot (document_at tree document).frame → found ≡ scene.container (View document)
   view_container document found is = is ∙ by_frame (document_at tree document).frame

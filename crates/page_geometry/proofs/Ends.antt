@@ -6,15 +6,15 @@ use Rattle.page_model.specs.World.{Extent, Tree, Scrolls}
 use Rattle.page_model.specs.Lookups.{element_at, document_at}
 use Rattle.page_model.specs.Documents.{InElement, container_by, container_of, is_root_element, nodes_of, element_depth}
 use Rattle.page_model.specs.PageBoxes.{has_box}
+use Rattle.page_model.specs.Shown.{shown_with}
 use Rattle.page_documents.specs.Frames.{AreFramed}
 use Rattle.clip_chain.specs.declared.spot.Spot.{Spot}
 use Rattle.clip_chain.specs.declared.spot.Spot.TheVariants.{Node, View}
 use Rattle.clip_chain.specs.Scenes.{Scene}
 use Rattle.clip_chain.specs.Chains.{Leads}
 use Rattle.clip_chain.specs.Worlds.{element_spot, spot_of, scene_of}
-use Rattle.page_geometry.specs.Worlds.{world_with}
 use Rattle.page_geometry.specs.Ranks.{level_of, rank_of}
-use Rattle.page_geometry.proofs.Shown.{active, parent_boxed}
+use Rattle.page_geometry.proofs.Standing.{active, parent_boxed}
 use Rattle.page_geometry.proofs.Levels.{level_more, level_some, level_most}
 
 leads_on : (b : Bool) (o : Option Spot) (next : Spot) → cond b o None ≡ Some next → (b ≡ true) × (o ≡ Some next)
@@ -27,7 +27,7 @@ same_next a b is = cc
 module _ (tree : Tree) (size : Extent) (scrolls : Scrolls) (framed : AreFramed tree) (few : length tree.documents ≤ 64)
     (deep : (n : ℕ) → element_depth tree n ≤ 256) where
   abbrev scene : Scene
-  scene = scene_of (world_with tree size scrolls)
+  scene = scene_of (shown_with tree size scrolls)
 
   abbrev own : ℕ → ℕ
   own n = (element_at tree n).document

@@ -15,6 +15,7 @@ use Rattle.page_model.specs.FrameCallbacks.{frame_callbacks_of, frame_callback_s
 use Rattle.page_model.specs.Timers.{by_due_time, due_timers, timer_stands}
 use Rattle.page_model.specs.Tasks.{has_tasks, is_notifying}
 use Rattle.page_model.specs.Findings.{finding}
+use Rattle.page_model.specs.Shown.{shown_of}
 use Rattle.page_model.specs.Gathering.{sight_of, is_of, gathered_if, is_filled, has_active, has_skipped}
 use Rattle.page_model.specs.Runs.{Flow, Next, Thrown, Limited, Said, Turn, silent, say, follow, ◌followed_by◌, only_if, lifted, for_each, repeat, by_place, at_place, most_steps}
 use Rattle.page_model.specs.Callbacks.{Script, while_active, fire}
@@ -240,7 +241,7 @@ updated-quiet world quiet =
     let watching = places_from 0 (λ (observer : IntersectionObserver). is_rooted_in (world.tree) 0 (observer.root)) in
     let now =
     record world {
-      intersection_observers = settling (world.clock) (finding world) (watchers (world.tree) 0 (world.intersection_observers))
+      intersection_observers = settling (world.clock) (finding (shown_of world)) (watchers (world.tree) 0 (world.intersection_observers))
           (world.intersection_observers);
     } in
     let still : IsQuiet now = record {
@@ -250,7 +251,7 @@ updated-quiet world quiet =
       pending = quiet.pending;
       noted = quiet.noted;
       resize_observers = quiet.resize_observers;
-      intersection_observers = ap (λ these. change_each (settled_observer (world.clock) (finding world)) (watching these) these) (quiet.intersection_observers);
+      intersection_observers = ap (λ these. change_each (settled_observer (world.clock) (finding (shown_of world))) (watching these) these) (quiet.intersection_observers);
       queries = quiet.queries;
       frame_callbacks = quiet.frame_callbacks;
       timers = quiet.timers;

@@ -7,6 +7,7 @@ ghost use Rattle.page_model.specs.Callbacks.{handler_names};
 ghost use Rattle.page_model.specs.Commands.{begun_in, does};
 ghost use Rattle.page_model.specs.Outcome.{opening_world};
 ghost use Rattle.page_model.specs.PageBoxes.{viewport_of};
+ghost use Rattle.page_model.specs.Shown.{shown_of, shown_with};
 ghost use Rattle.page_model.specs.Ticks.{time_set};
 ghost use Rattle.page_boxes.specs.Kept.{AreKept, FillsOnly, IsExact, is_due, due_count};
 ghost use Rattle.page_boxes.specs.Pages.{seen_size};
@@ -25,7 +26,7 @@ use element_tree::NodeId;
 use event_tables::{FrameCallbacks, Listeners, Tasks, Timers};
 use intersection_observer::{WatcherId, Watchers};
 use page_boxes::viewport_of;
-use page_geometry::PageGeometry;
+use page_geometry::Shown;
 use page_layout::LaidTree;
 use page_tree::Container;
 use px_units::Size;
@@ -291,21 +292,13 @@ impl Page {
         self.laid.boxes()
     }
 
-    /// The containers, clips and boxes of the page as they are now (Intersection Observer, 3.2.7), in units of 1/64 pixel and in the
-    /// coordinates of the viewport of `top`. No box may be due; `refresh_boxes` sees to that. No memory.
-    pub fn geometry(&self) -> PageGeometry<'_>
+    /// What is shown of the page as it is now: boxes, places, containers and clips (Intersection Observer, 3.2.7), in units of 1/64
+    /// pixel. No box may be due; `refresh_boxes` sees to that. No memory.
+    pub fn shown(&self) -> Shown<'_>
         requires { (n : ℕ) → is_due self.now.world.tree self.now.world.viewports.size self.now.kept n ≡ false }
-        ensures tree { result.page.now.tree ≡ self.now.world.tree }
-        ensures boxes { result.boxes.now ≡ self.now.kept }
-        ensures scrolls { result.scrolls.now ≡ self.now.world.scrolls }
-        ensures viewport { seen_size result.viewport ≡ self.now.world.viewports.size }
+        ensures { result ≡ shown_of self.now.world }
     {
-        PageGeometry::new(
-            self.laid.page(),
-            self.laid.boxes(),
-            &self.scrolls,
-            self.size,
-        )
+        shown_now(&self.laid, &self.scrolls, self.size)
     }
 
     pub(crate) fn document_name(&self, document: u32) -> Name
@@ -355,4 +348,13 @@ pub(crate) fn viewport_now<L: Ledger>(
 {
     laid.refresh_for(size, Container::Document(document), steps);
     viewport_of(laid.page(), laid.boxes(), size, document)
+}
+
+// What is shown of a page of whose boxes none is due.
+pub(crate) fn shown_now<'a>(laid: &'a LaidTree, scrolls: &'a Scrolls, size: Size) -> Shown<'a>
+    requires natural { IsNatural size }
+    requires done { (n : ℕ) → is_due laid.now.elements.tree (seen_size size) laid.now.kept n ≡ false }
+    ensures { result ≡ shown_with laid.now.elements.tree (seen_size size) scrolls.now }
+{
+    Shown::new(laid.page(), laid.boxes(), scrolls, size)
 }

@@ -15,9 +15,8 @@ ghost use Rattle.page_state.specs.Things.{present_of, IsSubject};
 ghost use Rattle.page_state.specs.Labels.{IsIn};
 
 use crate::answers::{Effect, PageFault};
-use crate::page::Page;
+use crate::page::{Page, shown_now};
 use element_tree::NodeId;
-use page_boxes::read;
 use page_tree::Container;
 use script_syntax::Operand;
 use std::sync::ledger::Ledger;
@@ -52,13 +51,7 @@ impl Page {
     {
         let target = self.container_name(container);
         self.laid.refresh(self.size, steps);
-        let shown = read(
-            self.laid.page(),
-            self.laid.boxes(),
-            &self.scrolls,
-            self.size,
-            container,
-        );
+        let shown = shown_now(&self.laid, &self.scrolls, self.size).read(container);
         TraceLine::Read {
             target,
             rect: shown.rect,

@@ -20,9 +20,9 @@ ghost use Rattle.page_state.specs.Labels.{IsIn};
 ghost use Rattle.page_state.specs.Things.{present_of, IsSubject};
 
 use crate::answers::{Effect, PageFault};
-use crate::page::Page;
+use crate::page::{Page, shown_now};
 use element_tree::NodeId;
-use page_boxes::{is_scroller, offset_of, range_of};
+use page_boxes::is_scroller;
 use page_tree::Container;
 use px_units::{Point, Size};
 use script_syntax::Operand;
@@ -123,11 +123,10 @@ impl Page {
         ensures boxes { Computes self.old.world self.old.kept self.new.kept steps.old steps.new }
     {
         self.laid.refresh(self.size, steps);
-        let page = self.laid.page();
-        let boxes = self.laid.boxes();
+        let shown = shown_now(&self.laid, &self.scrolls, self.size);
         Reach {
-            offset: offset_of(page, boxes, &self.scrolls, self.size, target),
-            range: range_of(page, boxes, self.size, target),
+            offset: shown.offset_of(target),
+            range: shown.range_of(target),
         }
     }
 

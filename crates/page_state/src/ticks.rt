@@ -11,7 +11,7 @@ ghost use Rattle.page_model.specs.Viewports.{noted_size, with_noted, differs_fro
 ghost use Rattle.intersection_update.specs.Watching.{AreWritten, watcher_numbers};
 ghost use Rattle.page_state.specs.Boxes.{Computes};
 
-use crate::page::{Page, viewport_now};
+use crate::page::{Page, shown_now, viewport_now};
 use event_tables::Task;
 use intersection_observer::{EntryList, WatcherId};
 use intersection_update::{update, watchers_of};
@@ -74,15 +74,8 @@ impl Page {
         ensures boxes { Computes self.old.world self.old.kept self.new.kept steps.old steps.new }
     {
         self.laid.refresh(self.size, steps);
-        let queued = update(
-            self.laid.page(),
-            self.laid.boxes(),
-            &self.scrolls,
-            self.size,
-            &mut self.watchers,
-            document,
-            self.clock,
-        )?;
+        let shown = shown_now(&self.laid, &self.scrolls, self.size);
+        let queued = update(&shown, &mut self.watchers, document, self.clock)?;
         if !queued || self.notifying.get(document, false) {
             return Ok(());
         }
