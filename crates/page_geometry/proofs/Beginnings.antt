@@ -62,7 +62,7 @@ module _ (shown : Shown) where
         → origin_up count shown document ≡ origin_up 65536 shown document
     same_framed count document frame counted is false none = sym (up_boxless count document frame is none) ∙ up_boxless 65536 document frame is none
     same_framed count document frame counted is true there =
-        let found = count_is (shown.tree) framed (around frame) (active (shown.tree) (shown.size) frame there) count counted in
+        let found = count_is (shown.tree) framed (around frame) (active (shown.tree) (shown.screen) frame there) count counted in
         let few : found.0 ≤ 65535 = omega (arith, framed.few, counted, found.1) in
         ap (λ h. origin_up h shown document) found.1
         ∙ framed_by found.0 document frame is

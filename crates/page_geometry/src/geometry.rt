@@ -53,7 +53,7 @@ impl Geometry for Shown<'_> {
 
     ghost scene = { scene_of };
 
-    ghost rank = { λ it. rank_of it.tree it.size };
+    ghost rank = { λ it. rank_of it.tree it.screen };
 
     fn container(&self, of: Spot) -> Option<Spot> {
         // It tells that chains end.

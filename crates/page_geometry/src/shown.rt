@@ -19,12 +19,12 @@ ghost use Rattle.block_layout.specs.Seen.{as_size, as_point};
 ghost use Rattle.page_tree.specs.Items.{IsNatural};
 ghost use Rattle.page_tree.specs.Steps.{seen_container};
 ghost use Rattle.page_boxes.specs.Fresh.{IsFresh};
-ghost use Rattle.page_boxes.specs.Pages.{seen_size, text_in};
+ghost use Rattle.page_boxes.specs.Pages.{seen_screen, text_in};
 ghost use Rattle.page_boxes.specs.Ranges.{IsOffset, IsSpan, IsPlace, IsEdge, AreEdges};
 
 use element_tree::NodeId;
 use kept_layout::Kept;
-use page_boxes::Reading;
+use page_boxes::{Reading, Screen};
 use page_tree::{Container, PageTree};
 use px_units::{BoxKind, Point, Rect, Size};
 use scrolling::{ScrollTarget, Scrolls};
@@ -37,7 +37,7 @@ pub struct Shown<'a> {
     page: &'a PageTree,
     boxes: &'a Kept,
     scrolls: &'a Scrolls,
-    viewport: Size,
+    screen: Screen,
 }
 
 impl<'a> Model for Shown<'a> {
@@ -47,11 +47,11 @@ impl<'a> Model for Shown<'a> {
 
     ghost use Rattle.page_tree.specs.Items.{IsNatural};
     ghost use Rattle.page_boxes.specs.Fresh.{IsFresh};
-    ghost use Rattle.page_boxes.specs.Pages.{seen_size};
+    ghost use Rattle.page_boxes.specs.Pages.{seen_screen};
 
-    ghost view = { λ s. record { tree = s.page.now.tree; size = seen_size s.viewport; scrolls = s.scrolls.now } };
+    ghost view = { λ s. record { tree = s.page.now.tree; screen = seen_screen s.screen; scrolls = s.scrolls.now } };
 
-    ghost invariant = { λ s. IsNatural s.viewport × IsFresh s.page.now.tree (seen_size s.viewport) s.boxes.now };
+    ghost invariant = { λ s. IsNatural s.screen.size × IsFresh s.page.now.tree (seen_screen s.screen) s.boxes.now };
 }
 
 impl<'a> Shown<'a> {
@@ -60,17 +60,17 @@ impl<'a> Shown<'a> {
         page: &'a PageTree,
         boxes: &'a Kept,
         scrolls: &'a Scrolls,
-        viewport: Size,
+        screen: Screen,
     ) -> Shown<'a>
-        requires natural { IsNatural viewport }
-        requires fresh { IsFresh page.now.tree (seen_size viewport) boxes.now }
-        ensures { result ≡ record { tree = page.now.tree; size = seen_size viewport; scrolls = scrolls.now } }
+        requires natural { IsNatural screen.size }
+        requires fresh { IsFresh page.now.tree (seen_screen screen) boxes.now }
+        ensures { result ≡ record { tree = page.now.tree; screen = seen_screen screen; scrolls = scrolls.now } }
     {
         Shown {
             page,
             boxes,
             scrolls,
-            viewport,
+            screen,
         }
     }
 
@@ -125,7 +125,7 @@ impl<'a> Shown<'a> {
         ensures value { result ≡ as_size (pair_of (viewport_of self.now document)) }
         ensures range { IsNatural result }
     {
-        page_boxes::viewport_of(self.page, self.boxes, self.viewport, document)
+        page_boxes::viewport_of(self.page, self.boxes, self.screen, document)
     }
 
     /// The size of an element's content box or border box (CSS 2.2, 8.1), 0 by 0 without a box.
@@ -152,7 +152,7 @@ impl<'a> Shown<'a> {
         ensures left { IsPlace result.left }
         ensures top { IsPlace result.top }
     {
-        page_boxes::place_of(self.page, self.boxes, self.scrolls, self.viewport, node)
+        page_boxes::place_of(self.page, self.boxes, self.scrolls, self.screen, node)
     }
 
     /// The border box of an element in the viewport of its document, all zeros without a box.
@@ -162,7 +162,7 @@ impl<'a> Shown<'a> {
         ensures width { IsSpan (result.right -ℤ result.left) }
         ensures height { IsSpan (result.bottom -ℤ result.top) }
     {
-        page_boxes::border_rect(self.page, self.boxes, self.scrolls, self.viewport, node)
+        page_boxes::border_rect(self.page, self.boxes, self.scrolls, self.screen, node)
     }
 
     /// The padding box of an element in the viewport of its document, all zeros without a box.
@@ -172,7 +172,7 @@ impl<'a> Shown<'a> {
         ensures width { IsSpan (result.right -ℤ result.left) }
         ensures height { IsSpan (result.bottom -ℤ result.top) }
     {
-        page_boxes::padding_rect(self.page, self.boxes, self.scrolls, self.viewport, node)
+        page_boxes::padding_rect(self.page, self.boxes, self.scrolls, self.screen, node)
     }
 
     /// The corner of the content box of an element in the viewport of its document, zeros without a box.
@@ -181,7 +181,7 @@ impl<'a> Shown<'a> {
         ensures left { IsEdge result.left }
         ensures top { IsEdge result.top }
     {
-        page_boxes::content_origin(self.page, self.boxes, self.scrolls, self.viewport, node)
+        page_boxes::content_origin(self.page, self.boxes, self.scrolls, self.screen, node)
     }
 
     /// How far an element or the viewport of a document can be scrolled (CSS Overflow 3, 2.2).
@@ -189,7 +189,7 @@ impl<'a> Shown<'a> {
         ensures value { result ≡ as_size (pair_of (scroll_range self.now (seen_target target))) }
         ensures range { IsRange result }
     {
-        page_boxes::range_of(self.page, self.boxes, self.viewport, target)
+        page_boxes::range_of(self.page, self.boxes, self.screen, target)
     }
 
     /// The scroll offset in force of an element or of a document's viewport (CSSOM View, 4 to 6).
@@ -197,12 +197,12 @@ impl<'a> Shown<'a> {
         ensures value { result ≡ as_point (pair_of (scroll_offset self.now (seen_target target))) }
         ensures range { IsOffset result }
     {
-        page_boxes::offset_of(self.page, self.boxes, self.scrolls, self.viewport, target)
+        page_boxes::offset_of(self.page, self.boxes, self.scrolls, self.screen, target)
     }
 
     /// What the command `read` shows.
     pub fn read(&self, container: Container) -> Reading
-        ensures value { (names : List Name) → reading_of names self.now.tree self.now.size self.now.scrolls (seen_container container)
+        ensures value { (names : List Name) → reading_of names self.now.tree self.now.screen self.now.scrolls (seen_container container)
             ≡ ReadLine (text_in names (seen_container container)) result.rect result.scroll }
         ensures edges { RectInReach result.rect }
         ensures width { InReach (result.rect.right -ℤ result.rect.left) }
@@ -213,7 +213,7 @@ impl<'a> Shown<'a> {
             self.page,
             self.boxes,
             self.scrolls,
-            self.viewport,
+            self.screen,
             container,
         )
     }

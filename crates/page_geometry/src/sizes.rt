@@ -8,7 +8,7 @@ use px_units::{BoxKind, Point, Size};
 impl Sizes for Shown<'_> {
     ghost use Rattle.page_model.specs.Gathering.{sight_in};
 
-    ghost sight = { λ it. sight_in it.tree it.size };
+    ghost sight = { λ it. sight_in it.tree it.screen };
 
     fn size_now(&self, node: NodeId, kind: BoxKind) -> Size {
         self.size_of(node, kind)

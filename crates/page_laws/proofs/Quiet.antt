@@ -84,10 +84,10 @@ at-top world quiet = ap (λ documents. unwrap_or (slice_get documents 0) no_docu
 others-inactive : (world : World) → IsQuiet world → (n : ℕ) → is_active (world.tree) (suc n) ≡ false
 others-inactive world quiet n = ap (λ documents. is_active_state (unwrap_or (slice_get documents (suc n)) no_document).state) (quiet.alone)
 
-own-viewport : (world : World) → IsQuiet world → viewport_of (world.tree) (world.viewports.size) 0 ≡ world.viewports.size
+own-viewport : (world : World) → IsQuiet world → viewport_of (world.tree) (world.viewports.screen) 0 ≡ world.viewports.screen.size
 unfolding viewport_of
 own-viewport world quiet =
-    ap (λ frame. extent_of (unwrap_or (framed_size (world.tree) (world.viewports.size) (view_of (world.tree) (world.viewports.size)) frame) (0, 0)))
+    ap (λ frame. extent_of (unwrap_or (framed_size (world.tree) (world.viewports.screen) (view_of (world.tree) (world.viewports.screen)) frame) (0, 0)))
     (ap (λ (it : Document). it.frame) (at-top world quiet) ∙ quiet.frame)
 
 active-hushed : (document : ℕ) (part : ℕ → World → Said World) → ((world : World) → IsQuiet world → IsHushed (part 0 world)) → (world : World) →
@@ -107,15 +107,15 @@ put-first : (value : Option Extent) (noted : List (Option Extent)) → entry_or 
 put-first value [] = refl
 put-first value (x ∷ xs) = refl
 
-noted-quiet : (world : World) (size : Extent) → size ≡ world.viewports.size → IsQuiet world →
+noted-quiet : (world : World) (size : Extent) → size ≡ world.viewports.screen.size → IsQuiet world →
     IsQuiet (record world { viewports = with_noted 0 size (world.viewports) })
 noted-quiet world size is quiet = record {
   top = quiet.top;
   alone = quiet.alone;
   frame = quiet.frame;
   pending = quiet.pending;
-  noted = ap (differs_from (world.viewports.size)) (put-first (Some size) (world.viewports.noted)) ∙ subst
-      (λ it. differs_from (world.viewports.size) (Some it) ≡ false) (sym is) (ap not (same-size (world.viewports.size)));
+  noted = ap (differs_from (world.viewports.screen.size)) (put-first (Some size) (world.viewports.noted)) ∙ subst
+      (λ it. differs_from (world.viewports.screen.size) (Some it) ≡ false) (sym is) (ap not (same-size (world.viewports.screen.size)));
   resize_observers = quiet.resize_observers;
   intersection_observers = quiet.intersection_observers;
   queries = quiet.queries;
@@ -155,7 +155,7 @@ timers-hushed script world quiet =
 resize-hushed : (script : Script) (world : World) → IsQuiet world → IsHushed (resize_steps script 0 world)
 unfolding resize_steps
 resize-hushed script world quiet =
-    let size = viewport_of (world.tree) (world.viewports.size) 0 in
+    let size = viewport_of (world.tree) (world.viewports.screen) 0 in
     only_if-not (fire script (FiredResize (document_text (world.names) 0)) (WindowTarget 0) events.Resize)
     (record world { viewports = with_noted 0 size (world.viewports) })
     (differs_from size (noted_size 0 (world.viewports)))

@@ -7,10 +7,11 @@ use Rattle.px_units.specs.declared.Point.{Point}
 use Rattle.px_units.specs.Rects.{has_points, overlap, shifted}
 use Rattle.layout_model.specs.Boxes.{Box, padding_size, padding_corner, inner_corner}
 use Rattle.layout_model.specs.Clips.{clips}
+use Rattle.layout_model.specs.Nodes.{holder}
 use Rattle.script_model.specs.Margins.{MarginPart, MarginPixels, MarginPercentage, Margins}
 use Rattle.page_model.specs.World.{Tree, Root, ImplicitRoot, DocumentRoot, ElementRoot}
 use Rattle.page_model.specs.Lookups.{element_at, document_at}
-use Rattle.page_model.specs.Documents.{frame_levels, Container, InElement, InDocument, container_of, nodes_of}
+use Rattle.page_model.specs.Documents.{frame_levels, Container, InElement, InDocument, container_by, is_root_element, nodes_of}
 use Rattle.page_model.specs.PageBoxes.{extent_of}
 use Rattle.page_model.specs.PageBoxes as boxes
 use Rattle.page_model.specs.Shown.{Shown, viewport_of, has_box, box_of, size_of, place_of}
@@ -82,9 +83,13 @@ padding_rect shown element = moved_by (origin_of_element shown element) (padding
 abbrev pub clips_in : Shown → ℕ → Bool
 clips_in shown element = clips (nodes_of (shown.tree) element)
 
--- what a container stands in: a document in its frame
+-- what an element's box is held by: the element that is its holder, or the document whose root element it is
+abbrev pub holding : Tree → ℕ → Option Container
+holding tree element = container_by (holder (nodes_of tree element)) (is_root_element tree element) (element_at tree element).document
+
+-- what lies beyond a container: what holds an element, and the frame of a document
 abbrev pub container_beyond : Tree → Container → Option Container
-container_beyond tree (InElement element) = container_of tree element
+container_beyond tree (InElement element) = holding tree element
 container_beyond tree (InDocument document) = option_map InElement (document_at tree document).frame
 
 abbrev pub containers_by : (Container → List Container) → Option Container → List Container
@@ -100,9 +105,9 @@ containers_from (suc most) tree container =
 abbrev pub most_containers : ℕ
 most_containers = 65536
 
--- all containers of an element, from its parent up to the top document
+-- all containers of an element, from what holds it up to the top document
 abbrev pub containers_of : Tree → ℕ → List Container
-containers_of tree element = containers_by (containers_from most_containers tree) (container_of tree element)
+containers_of tree element = containers_by (containers_from most_containers tree) (holding tree element)
 
 -- the implicit root is the top document
 abbrev pub is_root : Root → Container → Bool

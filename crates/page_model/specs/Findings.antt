@@ -4,9 +4,10 @@ use Rattle.std.specs.Prelude.{ℕ, ◌*◌, Bool, true, false, cond, not, ◌||�
 use Rattle.px_units.specs.declared.Rect.{Rect}
 use Rattle.px_units.specs.declared.Point.{Point}
 use Rattle.px_units.specs.Rects.{area}
+use Rattle.layout_model.specs.Nodes.{held, is_in_path}
 use Rattle.page_model.specs.World.{Tree, Root, ImplicitRoot, DocumentRoot, ElementRoot, Finding, IntersectionObserver}
 use Rattle.page_model.specs.Lookups.{element_at}
-use Rattle.page_model.specs.Documents.{is_inclusive_ancestor}
+use Rattle.page_model.specs.Documents.{nodes_of}
 use Rattle.page_model.specs.PageBoxes as boxes
 use Rattle.page_model.specs.Shown.{Shown, has_box}
 use Rattle.page_model.specs.Chains.{zero_point, zero_rect, moved_back, origin, origin_of_element, border_rect, clips_between, common_part, root_rect}
@@ -17,16 +18,17 @@ pub data Relation : Type 0 where
   Boxless : Relation
   Chained : Relation
 
-abbrev pub is_proper_ancestor : Tree → ℕ → ℕ → Bool
-is_proper_ancestor tree ancestor element = cond (ancestor == element) false (is_inclusive_ancestor tree ancestor element)
+-- whether an element lies on the chain of those that hold another one
+abbrev pub is_on_chain : Tree → ℕ → ℕ → Bool
+is_on_chain tree element target = cond (element == target) false (is_in_path (held (nodes_of tree)) element target)
 
--- apart from a root that isn't implicit is a target of another node document; and from an element also one that isn't a
--- descendant, or where one of the two has no box
+-- apart from a root that isn't implicit is a target of another node document; and from an element also one on whose chain it
+-- doesn't lie, or where one of the two has no box
 abbrev pub is_apart : Shown → Root → ℕ → Bool
 is_apart shown ImplicitRoot target = false
 is_apart shown (DocumentRoot root) target = not ((element_at (shown.tree) target).document == root)
 is_apart shown (ElementRoot root) target =
-    not ((element_at (shown.tree) target).document == (element_at (shown.tree) root).document) || not (is_proper_ancestor (shown.tree) root target) || not (has_box shown root) || not (has_box shown target)
+    not ((element_at (shown.tree) target).document == (element_at (shown.tree) root).document) || not (is_on_chain (shown.tree) root target) || not (has_box shown root) || not (has_box shown target)
 
 abbrev pub relation : Shown → Root → ℕ → Relation
 relation shown root target = cond (is_apart shown root target) Apart (cond (has_box shown target) Chained Boxless)
@@ -96,7 +98,7 @@ found shown observer target root Chained =
 -- the finding of a target by an observer; its rectangles are in the coordinates of the target's document, the root
 -- rectangle in those of the root's
 unfoldable pub finding : Shown → IntersectionObserver → ℕ → Finding
-unfolding root_rect clips_between common_part ratio_of origin border_rect boxes.has_box is_inclusive_ancestor
+unfolding root_rect clips_between common_part ratio_of origin border_rect boxes.has_box is_in_path
 finding shown observer target =
     found
     shown

@@ -44,14 +44,14 @@ impl Page {
     fn reading<L: Ledger>(&mut self, container: Container, steps: &mut Steps<L>) -> TraceLine
         requires { IsIn self.old.world container }
         ensures line { seen_line result
-            ≡ reading_of self.old.world.names self.old.world.tree self.old.world.viewports.size self.old.world.scrolls (seen_container container) }
+            ≡ reading_of self.old.world.names self.old.world.tree self.old.world.viewports.screen self.old.world.scrolls (seen_container container) }
         ensures same { self.new ≡ record self.old { kept = self.new.kept } }
         ensures boxes { Computes self.old.world self.old.kept self.new.kept steps.old steps.new }
         ensures reach { HasReach (seen_line result) }
     {
         let target = self.container_name(container);
-        self.laid.refresh(self.size, steps);
-        let shown = shown_now(&self.laid, &self.scrolls, self.size).read(container);
+        self.laid.refresh(self.screen, steps);
+        let shown = shown_now(&self.laid, &self.scrolls, self.screen).read(container);
         TraceLine::Read {
             target,
             rect: shown.rect,

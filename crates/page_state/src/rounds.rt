@@ -25,8 +25,8 @@ impl Page {
         ensures boxes { Computes self.old.world self.old.kept self.new.kept steps.old steps.new }
         ensures number { result ≡ active_count document self.new.world.resize_observers }
     {
-        self.laid.refresh(self.size, steps);
-        let sizes = shown_now(&self.laid, &self.scrolls, self.size);
+        self.laid.refresh(self.screen, steps);
+        let sizes = shown_now(&self.laid, &self.scrolls, self.screen);
         depth_gather::gather(&mut self.observers, &sizes, document, depth)
     }
 
@@ -51,8 +51,8 @@ impl Page {
         ensures lengths { IfOk result (λ next. IfSome next (λ it. AllByRecursion HasLengths it.entries)) }
         ensures same { OnErr result (self.new ≡ record self.old { kept = self.new.kept }) }
     {
-        self.laid.refresh(self.size, steps);
-        let sizes = shown_now(&self.laid, &self.scrolls, self.size);
+        self.laid.refresh(self.screen, steps);
+        let sizes = shown_now(&self.laid, &self.scrolls, self.screen);
         let alloc = *self.queries.allocator();
         depth_gather::next_delivery(alloc, &mut self.observers, &sizes, document, place)
     }

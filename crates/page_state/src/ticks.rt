@@ -38,14 +38,14 @@ impl Page {
     /// noted (CSSOM View, 13: run the resize steps). The first call only notes it. No memory.
     pub fn viewport_changed<L: Ledger>(&mut self, document: u32, steps: &mut Steps<L>) -> bool
         requires { document < length self.old.world.tree.documents }
-        ensures value { result ≡ differs_from (viewport_of self.old.world.tree self.old.world.viewports.size document) (noted_size document self.old.world.viewports) }
+        ensures value { result ≡ differs_from (viewport_of self.old.world.tree self.old.world.viewports.screen document) (noted_size document self.old.world.viewports) }
         ensures noted { self.new.world ≡ record (self.old.world) {
-          viewports = with_noted document (viewport_of (self.old.world.tree) (self.old.world.viewports.size) document) (self.old.world.viewports);
+          viewports = with_noted document (viewport_of (self.old.world.tree) (self.old.world.viewports.screen) document) (self.old.world.viewports);
         } }
         ensures begun { self.new.begun ≡ self.old.begun }
         ensures boxes { Computes self.old.world self.old.kept self.new.kept steps.old steps.new }
     {
-        let size = viewport_now(&mut self.laid, self.size, document, steps);
+        let size = viewport_now(&mut self.laid, self.screen, document, steps);
         // There are at most 64 documents.
         let _count = self.laid.page().document_count();
         let before = self.noted.get(document, None);
@@ -73,8 +73,8 @@ impl Page {
         ensures rest { OnErr result (self.new ≡ record self.old { world = record (self.old.world) { intersection_observers = self.new.world.intersection_observers }; kept = self.new.kept }) }
         ensures boxes { Computes self.old.world self.old.kept self.new.kept steps.old steps.new }
     {
-        self.laid.refresh(self.size, steps);
-        let shown = shown_now(&self.laid, &self.scrolls, self.size);
+        self.laid.refresh(self.screen, steps);
+        let shown = shown_now(&self.laid, &self.scrolls, self.screen);
         let queued = update(&shown, &mut self.watchers, document, self.clock)?;
         if !queued || self.notifying.get(document, false) {
             return Ok(());

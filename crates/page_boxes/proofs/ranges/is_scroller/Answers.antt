@@ -13,8 +13,8 @@ pub returns-then-has_box : goal.returns-then-has_box
 returns-then-has_box c size =
     c.is_scroll_container.ensures
     ∙ ap (λ at. is_scroll_container (at (c.args.node.0))) (sym c.tree.ensures.nodes)
-    ∙ sym (scroller_is c.args.page.now.tree size (c.args.node.0) (sym (c.has_box.ensures size) ∙ c.if-has_box.true))
+    ∙ sym (scroller_is c.args.page.now.tree screen (c.args.node.0) (sym (c.has_box.ensures size) ∙ c.if-has_box.true))
 
 pub returns-else-has_box : goal.returns-else-has_box
 returns-else-has_box c size =
-    c.if-has_box.false ∙ sym (no_scroller c.args.page.now.tree size (c.args.node.0) (sym (c.has_box.ensures size) ∙ c.if-has_box.false))
+    c.if-has_box.false ∙ sym (no_scroller c.args.page.now.tree screen (c.args.node.0) (sym (c.has_box.ensures size) ∙ c.if-has_box.false))

@@ -11,15 +11,15 @@ use Rattle.page_state.proofs.page.Page.reach.Goals as goal
 pub returns-clause-offset : goal.returns-clause-offset
 returns-clause-offset g c =
     c.offset_of.ensures.value
-    ∙ ap (λ (s : Shown). point_of (scroll_offset s.tree s.size s.scrolls (seen_target c.args.target))) c.shown_now-shown.ensures
-    ∙ ap (λ (v : PageView). point_of (scroll_offset v.world.tree v.world.viewports.size v.world.scrolls (seen_target c.args.target)))
+    ∙ ap (λ (s : Shown). point_of (scroll_offset s.tree s.screen s.scrolls (seen_target c.args.target))) c.shown_now-shown.ensures
+    ∙ ap (λ (v : PageView). point_of (scroll_offset v.world.tree v.world.viewports.screen v.world.scrolls (seen_target c.args.target)))
     (view_refreshed c.self.inside c.refresh.new.self c.refresh.ensures.same c.args.self.now c.self.view_is)
 
 pub returns-clause-range : goal.returns-clause-range
 returns-clause-range g c =
     ap seen_size c.range_of.ensures.value
-    ∙ ap (λ (s : Shown). scroll_range s.tree s.size (seen_target c.args.target)) c.shown_now-shown.ensures
-    ∙ ap (λ (v : PageView). scroll_range v.world.tree v.world.viewports.size (seen_target c.args.target))
+    ∙ ap (λ (s : Shown). scroll_range s.tree s.screen (seen_target c.args.target)) c.shown_now-shown.ensures
+    ∙ ap (λ (v : PageView). scroll_range v.world.tree v.world.viewports.screen (seen_target c.args.target))
     (view_refreshed c.self.inside c.refresh.new.self c.refresh.ensures.same c.args.self.now c.self.view_is)
 
 pub returns-clause-boxes : goal.returns-clause-boxes

@@ -12,8 +12,8 @@ pub returns-clause-line : goal.returns-clause-line
 returns-clause-line g c =
     ap (λ (it : List ℕ). ReadLine it c.read-shown.result.rect c.read-shown.result.scroll) c.container_name-target.ensures
     ∙ sym (c.read-shown.ensures.value c.args.self.now.world.names)
-    ∙ ap (λ (s : Shown). reading_of c.args.self.now.world.names s.tree s.size s.scrolls (seen_container c.args.container)) c.shown_now.ensures
-    ∙ ap (λ (page : PageView). reading_of c.args.self.now.world.names page.world.tree page.world.viewports.size page.world.scrolls (seen_container c.args.container))
+    ∙ ap (λ (s : Shown). reading_of c.args.self.now.world.names s.tree s.screen s.scrolls (seen_container c.args.container)) c.shown_now.ensures
+    ∙ ap (λ (page : PageView). reading_of c.args.self.now.world.names page.world.tree page.world.viewports.screen page.world.scrolls (seen_container c.args.container))
     (view_refreshed c.self.inside c.refresh.new.self c.refresh.ensures.same c.args.self.now c.self.view_is)
 
 pub returns-clause-boxes : goal.returns-clause-boxes

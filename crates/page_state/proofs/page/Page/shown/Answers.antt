@@ -7,7 +7,7 @@ use Rattle.page_state.proofs.page.Page.shown.Goals as goal
 
 pub shown_now-requires-clause-done : goal.shown_now-requires-clause-done
 shown_now-requires-clause-done c =
-    subst (λ (v : PageView). (n : ℕ) → is_due v.world.tree v.world.viewports.size v.kept n ≡ false) (sym c.self.view_is) c.requires
+    subst (λ (v : PageView). (n : ℕ) → is_due v.world.tree v.world.viewports.screen v.kept n ≡ false) (sym c.self.view_is) c.requires
 
 pub returns : goal.returns
 returns c = c.shown_now.ensures ∙ ap (λ (v : PageView). shown_of v.world) c.self.view_is
