@@ -5,4 +5,3 @@ pub mod Chains
 pub mod Scenes
 pub mod Numbers
 pub mod Codes
-pub mod Sample

@@ -10,8 +10,6 @@ mod between;
 mod clip;
 mod clips;
 mod pair;
-#[cfg(test)]
-mod tests;
 mod touches;
 
 pub use clip::Clip;
