@@ -11,8 +11,6 @@ mod clip;
 mod clips;
 mod laws;
 mod pair;
-#[cfg(test)]
-mod tests;
 mod touches;
 
 pub use clip::Clip;

@@ -1,0 +1,3 @@
+pub mod ChainSample
+pub mod ClipSample
+pub mod CandidateSample
