@@ -25,6 +25,7 @@ use crate::names::Thing;
 use crate::page::Page;
 use block_layout::ItemKind;
 use element_tree::NodeId;
+use page_boxes::Screen;
 use page_tree::{Container, PlaceFault};
 use px_units::{Px, Size};
 use script_syntax::{Axis, Operand};
