@@ -6,10 +6,10 @@ use Rattle.layout_model.specs.Nodes.{path_of, is_among, is_in_path}
 use Rattle.layout_model.proofs.Paths.{path_child, path_top, depth_child, depth_least}
 use Rattle.page_model.specs.World.{Screen, Tree, Scrolls, Root, ImplicitRoot, DocumentRoot, ElementRoot}
 use Rattle.page_model.specs.Lookups.{element_at, document_at}
-use Rattle.page_model.specs.Documents.{InElement, container_by, container_of, is_root_element, first_of_list, nodes_of, element_depth, is_inclusive_ancestor}
+use Rattle.page_model.specs.Documents.{InElement, container_by, container_of, is_root_element, first_of_list, nodes_of, element_depth}
 use Rattle.page_model.specs.PageBoxes.{has_box}
 use Rattle.page_model.specs.Shown.{shown_with}
-use Rattle.page_model.specs.Findings.{is_proper_ancestor, is_apart}
+use Rattle.page_model.specs.Findings.{is_on_chain, is_apart}
 use Rattle.page_documents.specs.Paths.{owner_of, way_above, way_down}
 use Rattle.page_documents.specs.Frames.{AreFramed}
 use Rattle.clip_chain.specs.declared.spot.Spot.{Spot}
@@ -117,9 +117,9 @@ module _ (tree : Tree) (screen : Screen) (scrolls : Scrolls) (framed : AreFramed
       view_step n boxed (λ p is. to_view most p (depth_falls most n p short is) (parent_boxed tree screen n boxed framed p is)) (element_at tree n).parent refl
 
   -- so is an element that is an ancestor
-  ancestor_step : (a n : ℕ) → is_inclusive_ancestor tree a n ≡ true → nat_eq a n ≡ false
-      → (parent : Option ℕ) → (element_at tree n).parent ≡ parent → (p : ℕ) × (parent ≡ Some p) × (is_inclusive_ancestor tree a p ≡ true)
-  unfolding is_inclusive_ancestor is_in_path is_among
+  ancestor_step : (a n : ℕ) → is_in_path (nodes_of tree) a n ≡ true → nat_eq a n ≡ false
+      → (parent : Option ℕ) → (element_at tree n).parent ≡ parent → (p : ℕ) × (parent ≡ Some p) × (is_in_path (nodes_of tree) a p ≡ true)
+  unfolding is_in_path is_among
   ancestor_step a n inside differs None is =
       let clash : true ≡ false =
       sym inside ∙ ap (is_among a) (path_top (nodes_of tree) n is) ∙ ap (λ b. b || false) differs in absurd (let no : ⊥ = cc in no)
@@ -130,8 +130,8 @@ module _ (tree : Tree) (screen : Screen) (scrolls : Scrolls) (framed : AreFramed
         ∙ sym (ap (is_among a) (path_child (nodes_of tree) n p is (framed.trees.shallow p))) ∙ inside,
   )
 
-  below_step : (a n : ℕ) → has_box tree screen n ≡ true → is_inclusive_ancestor tree a n ≡ true
-      → ((p : ℕ) → (element_at tree n).parent ≡ Some p → is_inclusive_ancestor tree a p ≡ true → (a ≡ p) ⊎ IsAbove scene (element_spot a) (element_spot p))
+  below_step : (a n : ℕ) → has_box tree screen n ≡ true → is_in_path (nodes_of tree) a n ≡ true
+      → ((p : ℕ) → (element_at tree n).parent ≡ Some p → is_in_path (nodes_of tree) a p ≡ true → (a ≡ p) ⊎ IsAbove scene (element_spot a) (element_spot p))
       → (same : Bool) → nat_eq a n ≡ same → (a ≡ n) ⊎ IsAbove scene (element_spot a) (element_spot n)
   below_step a n boxed inside up true same = inl (eqb-true a n same)
   below_step a n boxed inside up false differs =
@@ -146,7 +146,7 @@ module _ (tree : Tree) (screen : Screen) (scrolls : Scrolls) (framed : AreFramed
         ])
       ]
 
-  to_ancestor : (most a n : ℕ) → element_depth tree n ≤ most → has_box tree screen n ≡ true → is_inclusive_ancestor tree a n ≡ true
+  to_ancestor : (most a n : ℕ) → element_depth tree n ≤ most → has_box tree screen n ≡ true → is_in_path (nodes_of tree) a n ≡ true
       → (a ≡ n) ⊎ IsAbove scene (element_spot a) (element_spot n)
   to_ancestor zero a n short boxed inside = absurd (omega (arith, depth_some n))
   to_ancestor (suc most) a n short boxed inside =
@@ -193,8 +193,8 @@ module _ (tree : Tree) (screen : Screen) (scrolls : Scrolls) (framed : AreFramed
       subst (λ d. IsAbove scene (View d) (element_spot n)) (eqb-true (own n) document (not_false (own n == document) near))
       (to_view (element_depth tree n) n (omega arith) boxed)
   above (ElementRoot a) n boxed near =
-      let proper : is_proper_ancestor tree a n ≡ true = second_true (own n == own a) (is_proper_ancestor tree a n) (not (has_box tree screen a)) (not (has_box tree screen n)) near in
-      let kept = proper_is (a == n) (is_inclusive_ancestor tree a n) proper in
+      let proper : is_on_chain tree a n ≡ true = second_true (own n == own a) (is_on_chain tree a n) (not (has_box tree screen a)) (not (has_box tree screen n)) near in
+      let kept = proper_is (a == n) (is_in_path (nodes_of tree) a n) proper in
       elim (to_ancestor (element_depth tree n) a n (omega arith) boxed kept.1) [
         | inl same ↦ absurd (let clash : true ≡ false = sym (number_same a n same) ∙ kept.0 in let no : ⊥ = cc in no)
         | inr found ↦ found
