@@ -7,3 +7,4 @@ pub mod Adding
 pub mod Touching
 pub mod Agreeing
 pub mod Seeing
+pub mod Looking

@@ -97,6 +97,15 @@ exact_still of it before after added only root from between (Some c) numbered ex
     (ap (λ b. b && list_all (is_untouched it c.touches) chain) parts.0 ∙ all_tested of it c.touches chain aparts parts.1)
     ∙ ap common_clip (clips_before of before after only between between_apart)
 
+-- what stands after the touch stood before it
+pub stood : (of : Spot) (it : Touched) (computed : Option Computed) (chain : List Spot) → IsAdded it of → IsNumbered it.count computed → stands (touched of it) computed chain ≡ true → stands it computed chain ≡ true
+stood of it None chain added numbered current = current
+stood of it (Some c) chain added numbered current =
+    let parts = both (nat_lt c.touches last_number) (list_all (is_untouched (touched of it) c.touches) chain) current in
+    let below : c.touches < last_number = grind (arith, nat_tests, parts.0) in
+    ap (λ b. b && list_all (is_untouched it c.touches) chain) parts.0
+    ∙ all_tested of it c.touches chain (apart_all of it c.touches added numbered below chain parts.1) parts.1
+
 pub exact_touched : (of : Spot) (it : HeldClips) (before after : Scene) → IsAdded it.touches of → AreNumbered it → (number : ℕ) → IsExact before it number → DiffersOnlyAt of before after → IsExact after (record it { touches = touched of (it.touches) }) number
 exact_touched of it before after added numbers number exact only = λ between lead current.
     let pair = pair_of it number in
@@ -122,3 +131,6 @@ numbered_touched of it all =
           (numbered_up it.touches.count (min (suc it.touches.count) last_number) (pair_of it number).computed (raised it.touches.count last_number all.counted) (all.numbered number));
       counted = subst (λ n. n ≤ last_number) (sym e) (omega arith);
     }
+
+pub count_raised : (of : Spot) (it : Touched) → it.count ≤ last_number → it.count ≤ (touched of it).count
+count_raised of it counted = subst (λ n. it.count ≤ n) (sym (count_touched of it (min (suc it.count) last_number))) (raised it.count last_number counted)
