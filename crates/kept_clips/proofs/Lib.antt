@@ -8,3 +8,4 @@ pub mod Touching
 pub mod Agreeing
 pub mod Seeing
 pub mod Looking
+pub mod Along

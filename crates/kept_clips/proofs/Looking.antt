@@ -102,3 +102,6 @@ module _ (scene : Scene) where
     }
     | inr anew ↦ agrees_as_seen now spot scene anew.sighting
   ]
+
+  pub may_after : (before now : Seen) (was held : HeldClips) (spot : Spot) → Looked scene before now was held → MayBeSeen before was spot → MayBeSeen now held spot
+  may_after before now was held spot looked may = record { room = looked.room spot may.room; added = looked.added spot may.added }
