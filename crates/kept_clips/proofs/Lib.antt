@@ -1,6 +1,7 @@
 pub mod Coming
 pub mod Cutting
 pub mod Testing
+pub mod Spots
 pub mod Points
 pub mod Pairs
 pub mod Adding

@@ -15,7 +15,8 @@ use Rattle.kept_clips.specs.Scenes.{AgreesAt}
 use Rattle.kept_clips.specs.Seen.{Seen, sighting_of, scene_seen, sighting_in, with_sighting, HasRoom}
 use Rattle.kept_clips.specs.Looked.{IsLeft, IsSeenAnew, Looked, MayBeSeen}
 use Rattle.kept_clips.proofs.Touching.{untouched_there}
-use Rattle.kept_clips.proofs.Seeing.{seen_there, seen_here, same_or_apart, agrees_as_seen}
+use Rattle.kept_clips.proofs.Spots.{same_or_apart}
+use Rattle.kept_clips.proofs.Seeing.{seen_there, seen_here, agrees_as_seen}
 
 -- room stays
 room_seen : (it : Seen) (of spot : Spot) (s : Sighting) → HasRoom it spot → HasRoom (with_sighting of s it) spot

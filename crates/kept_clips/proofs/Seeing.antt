@@ -1,8 +1,7 @@
 -- A spot that is seen anew.
 use Rattle.std.proofs.Common.{◌≡◌, ◌∙◌, ℕ, zero, suc, ◌<◌, ◌≤◌, ◌≢◌, ◌-◌, Bool, true, false, ◌==◌, List, [], ◌∷◌, ◌++◌, length, get_or, Option, Some, None, option_map, unwrap_or, ap, refl, sym, subst, inl, inr, get_or-set_other, get_or-set_same}
 use Rattle.std.specs.Prelude.{◌⊎◌, option_and_then, replicate, slice_set}
-use Rattle.std.proofs.lemmas.Bool.{false≢true, cases_lt}
-use Rattle.std.proofs.lemmas.Bool.Decides.{Decides-eqb}
+use Rattle.std.proofs.lemmas.Bool.{cases_lt}
 use Rattle.std.proofs.lemmas.List.{get_or-replicate, get_or_past, get_or_append_left, length-replicate}
 use Rattle.std.proofs.Math.Seq.{get_or-append_right}
 use Rattle.page_model.specs.Chains.{zero_rect}
@@ -14,16 +13,7 @@ use Rattle.kept_clips.specs.Seen.{Seen, sighting_of, scene_seen, sighting_in, wi
 use Rattle.kept_clips.specs.Held.{HeldClips}
 use Rattle.kept_clips.specs.Chains.{IsExact}
 use Rattle.kept_clips.specs.Scenes.{AgreesAt, DiffersOnlyAt}
-
-abbrev number_in : Spot → ℕ
-number_in (Node node) = node.0
-number_in (View document) = document
-
-other_node : (a b : ℕ) → (¬ Node (record { 0 = a }) ≡ Node (record { 0 = b })) → a ≢ b
-other_node a b apart = λ e. apart (ap (λ n. Node (record { 0 = n })) e)
-
-other_view : (a b : ℕ) → (¬ View a ≡ View b) → a ≢ b
-other_view a b apart = λ e. apart (ap (λ n. View n) e)
+use Rattle.kept_clips.proofs.Spots.{other_node, other_view, same_or_apart}
 
 pub seen_there : (it : Seen) (of other : Spot) (s : Sighting) → (¬ other ≡ of) → sighting_of (with_sighting of s it) other ≡ sighting_of it other
 seen_there it (Node a) (Node b) s apart = get_or-set_other it.nodes a.0 b.0 (Some s) None (other_node b.0 a.0 apart)
@@ -65,27 +55,6 @@ agrees_as_seen it of now e = record {
   container = sym (ap (option_and_then (λ (each : Sighting). each.container)) e);
   clip = sym (ap (option_and_then (λ (each : Sighting). each.clip)) e);
 }
-
--- two spots are the same or not
-
-numbers_apart : (a b : ℕ) → (a ≡ b) ⊎ (a ≢ b)
-numbers_apart a b = by_test (a == b) refl
-  where
-    by_test : (t : Bool) → (a == b) ≡ t → (a ≡ b) ⊎ (a ≢ b)
-    by_test true e = inl ((Decides-eqb a b).0 e)
-    by_test false e = inr (λ same. false≢true (sym e ∙ (Decides-eqb a b).1 same))
-
-pub same_or_apart : (one other : Spot) → (other ≡ one) ⊎ (¬ other ≡ one)
-same_or_apart (Node a) (Node b) = elim (numbers_apart b.0 a.0) [
-  | inl e ↦ inl (ap (λ n. Node (record { 0 = n })) e)
-  | inr apart ↦ inr (λ e. apart (let same : Node b ≡ Node a = e in ap number_in same))
-]
-same_or_apart (Node a) (View d) = inr (λ e. let wrong : View d ≡ Node a = e in cc)
-same_or_apart (View d) (Node b) = inr (λ e. let wrong : Node b ≡ View d = e in cc)
-same_or_apart (View c) (View d) = elim (numbers_apart d c) [
-  | inl e ↦ inl (ap (λ n. View n) e)
-  | inr apart ↦ inr (λ e. apart (let same : View d ≡ View c = e in ap number_in same))
-]
 
 -- a spot that agreed does so still when another one is seen, and that one too
 pub agrees_still : (it : Seen) (of other : Spot) (now : Scene) → HasRoom it of → AgreesAt (scene_seen it) now other → AgreesAt (scene_seen (with_sighting of (sighting_in now of) it)) now other

@@ -9,6 +9,7 @@ ghost use Rattle.clip_chain.specs.Chains.{Leads, IsAbove};
 ghost use Rattle.kept_clips.specs.Clips.{clip_between, Contains, IsWithin};
 ghost use Rattle.kept_clips.specs.Touches.{is_added, IsAdded, with_spot, touched};
 ghost use Rattle.kept_clips.specs.Held.{pair_at, pair_of, spots_at, IsHeld, with_pair, without_pair, with_clip};
+ghost use Rattle.kept_clips.specs.Numbers.{AreNumbered};
 ghost use Rattle.kept_clips.specs.Chains.{chain_of, stands, standing_clip, is_current, IsExact};
 ghost use Rattle.kept_clips.specs.Scenes.{DiffersOnlyAt};
 
@@ -102,9 +103,11 @@ impl Clips {
         self.touches.touch(of);
     }
 
-    /// The pair of a number, None exactly where none is held.
+    /// The pair of a number, None exactly where none is held. No clip was computed, and no spot touched, at a number of touches that
+    /// didn't come yet.
     pub fn pair(&self, number: u64) -> Option<Pair>
-        ensures { result ≡ pair_at self.now number }
+        ensures value { result ≡ pair_at self.now number }
+        ensures numbered { AreNumbered self.now }
     {
         self.pairs.get(number)
     }

@@ -1,9 +1,17 @@
 use Rattle.std.proofs.Common.{◌≡◌, ◌≤◌, true, sym, subst}
 use Rattle.kept_clips.specs.Touches.{Touched, IsAdded, touched}
 use Rattle.kept_clips.specs.Held.{HeldClips, pair_of}
+use Rattle.kept_clips.specs.Numbers.{AreNumbered}
 use Rattle.kept_clips.specs.Chains.{stands, IsExact}
-use Rattle.kept_clips.proofs.Touching.{exact_touched, stood, count_raised}
+use Rattle.kept_clips.proofs.Touching.{exact_touched, numbered_touched, stood, count_raised}
 use Rattle.kept_clips.proofs.clips.Clips.touch.Goals as goal
+
+pub invariant_of-self : goal.invariant_of-self
+invariant_of-self c =
+    let it : HeldClips = record { touches = c.self.inside.touches; pairs = c.self.inside.pairs } in
+    let added = subst (λ (held : HeldClips). IsAdded held.touches c.args.of) (sym c.self.view_is) c.requires in
+    subst (λ (touches : Touched). AreNumbered (record { touches = touches; pairs = c.self.inside.pairs })) (sym c.touch.ensures)
+    (numbered_touched c.args.of it added c.self.invariant)
 
 pub returns-clause-exact : goal.returns-clause-exact
 returns-clause-exact c =
