@@ -125,9 +125,9 @@ numbered_touched of it added all =
           subst (λ n. last_touch (touched of it.touches) spot ≤ n) (sym e)
           (elim (same_or_apart of spot) [
             | inl same ↦ subst (λ (s : Spot). last_touch (touched of it.touches) s ≤ min (suc it.touches.count) last_number) (sym same)
-            (subst (λ n. n ≤ min (suc it.touches.count) last_number) (sym (touched_here of it.touches (min (suc it.touches.count) last_number) added)) (omega arith))
+                (subst (λ n. n ≤ min (suc it.touches.count) last_number) (sym (touched_here of it.touches (min (suc it.touches.count) last_number) added)) (omega arith))
             | inr apart ↦ subst (λ n. n ≤ min (suc it.touches.count) last_number) (sym (untouched_there of spot it.touches (min (suc it.touches.count) last_number) apart))
-            (let before = all.touched spot in let up = raised it.touches.count last_number all.counted in omega arith)
+                (let before = all.touched spot in let up = raised it.touches.count last_number all.counted in omega arith)
           ]);
       numbered = λ number.
           subst (λ n. IsNumbered n (pair_of it number).computed) (sym e)

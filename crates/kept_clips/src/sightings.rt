@@ -156,13 +156,7 @@ impl Sightings {
     /// Looks at each spot of a chain, from a spot outwards to a root, these two included. All of them are then seen as they are.
     ///
     /// Needs that the root is above the spot, as `clip_chain::reaches` tells. No memory.
-    pub fn look_along<G: Geometry>(
-        &mut self,
-        clips: &mut Clips,
-        geometry: &G,
-        root: Spot,
-        of: Spot,
-    )
+    pub fn look_along<G: Geometry>(&mut self, clips: &mut Clips, geometry: &G, root: Spot, of: Spot)
         requires above { IsAbove (G.scene geometry.now) root of }
         requires room { (between : List SpotOf) → Leads (G.scene geometry.now) of between root → AllByRecursion (MayBeSeen self.old clips.old) (of ∷ (between ++ root ∷ [])) }
         ensures looked { Looked (G.scene geometry.now) self.old self.new clips.old clips.new }
