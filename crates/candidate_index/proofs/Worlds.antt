@@ -26,7 +26,7 @@ by_box : (shown : Shown) (element : ℕ) (b : Bool) → element_root_bounds show
 by_box shown element true = refl
 by_box shown element false = refl
 
-same_bounds : (shown : Shown) (root : Root) → root_bounds (scene_of shown) (spot_of_root root) ≡ root_bounds_in shown root
+pub same_bounds : (shown : Shown) (root : Root) → root_bounds (scene_of shown) (spot_of_root root) ≡ root_bounds_in shown root
 same_bounds shown ImplicitRoot = refl
 same_bounds shown (DocumentRoot document) = refl
 same_bounds shown (ElementRoot element) =

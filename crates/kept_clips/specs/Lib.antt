@@ -6,3 +6,4 @@ pub mod Scenes
 pub mod Numbers
 pub mod Codes
 pub mod Seen
+pub mod Looked

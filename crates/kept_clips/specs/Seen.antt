@@ -1,16 +1,12 @@
 -- What was seen last of each spot: what it stood in, what it clipped to, and its box.
-use Rattle.std.specs.Prelude.{ℕ, ◌<◌, List, length, slice_set, Option, Some, None, option_and_then, option_map, unwrap_or}
+use Rattle.std.specs.Prelude.{ℕ, suc, ◌<◌, ◌-◌, Bool, nat_lt, List, ◌++◌, length, replicate, slice_set, Option, Some, None, option_and_then, option_map, unwrap_or}
 use Rattle.std.specs.List.{slice_index_or}
 use Rattle.px_units.specs.declared.Rect.{Rect}
 use Rattle.page_model.specs.Chains.{zero_rect}
 use Rattle.clip_chain.specs.declared.spot.Spot.{Spot}
 use Rattle.clip_chain.specs.declared.spot.Spot.TheVariants.{Node, View}
 use Rattle.clip_chain.specs.Scenes.{Scene}
-
-pub record Sighting : Type 0 where
-  pub container : Option Spot
-  pub clip : Option Rect
-  pub bounds : Rect
+use Rattle.kept_clips.specs.declared.sightings.Sighting.{Sighting}
 
 -- none where a spot wasn't seen yet
 pub record Seen : Type 0 where
@@ -41,3 +37,15 @@ with_sighting (View document) s it = record it { views = slice_set (it.views) do
 abbrev pub HasRoom : Seen → Spot → Type 0
 HasRoom it (Node node) = node.0 < length it.nodes
 HasRoom it (View document) = document < length it.views
+
+abbrev pub has_room : Seen → Spot → Bool
+has_room it (Node node) = nat_lt node.0 (length it.nodes)
+has_room it (View document) = nat_lt document (length it.views)
+
+abbrev pub up_to : ℕ → List (Option Sighting) → List (Option Sighting)
+up_to number sightings = sightings ++ replicate (suc number - length sightings) None
+
+-- with room for a spot and for all spots of its kind with lower numbers; what was seen stays as it is
+abbrev pub with_room : Spot → Seen → Seen
+with_room (Node node) it = record it { nodes = up_to (node.0) (it.nodes) }
+with_room (View document) it = record it { views = up_to document (it.views) }

@@ -8,7 +8,8 @@ ghost use Rattle.kept_clips.specs.Clips.{clip_between};
 ghost use Rattle.kept_clips.specs.Held.{HeldClips, pair_of, with_clip};
 ghost use Rattle.kept_clips.specs.Chains.{IsExact, AgreesAlong};
 ghost use Rattle.kept_clips.specs.Scenes.{AgreesAt, DiffersOnlyAt};
-ghost use Rattle.kept_clips.specs.Seen.{Seen as SeenSpots, HasRoom, Sighting, scene_seen, sighting_in, with_sighting};
+ghost use Rattle.kept_clips.specs.declared.sightings.Sighting.{Sighting};
+ghost use Rattle.kept_clips.specs.Seen.{Seen as SeenSpots, HasRoom, scene_seen, sighting_in, with_sighting};
 
 /// Where a scene that was seen before has the containers and clips of the present one along a pair's present chain, a clip that is exact
 /// of what was seen is so now; and once that pair's clip is computed, all clips are as exact of what was seen as before.

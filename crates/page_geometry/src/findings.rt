@@ -42,7 +42,7 @@ pub(crate) fn root_origin(shown: &Shown<'_>, root: Root) -> Point
 
 // The root rectangle before a margin moves it: the viewport of a document, the padding box of an element that clips, the border
 // box of another, zeros without a box.
-fn root_bounds(shown: &Shown<'_>, root: Root) -> Rect
+pub(crate) fn root_bounds(shown: &Shown<'_>, root: Root) -> Rect
     ensures value { result ≡ root_bounds shown.now (seen_root root) }
     ensures range { IsBounds result }
 {

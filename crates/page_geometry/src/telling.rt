@@ -5,9 +5,12 @@ ghost use Rattle.page_model.specs.World.{IntersectionObserver};
 ghost use Rattle.page_model.specs.Findings.{Relation, relation};
 ghost use Rattle.intersection_observer.specs.Seen.{seen_root, seen_finding};
 ghost use Rattle.candidate_index.specs.Worlds.{standing_in, told_box, told_cut, told};
+ghost use Rattle.candidate_index.specs.Ranges.{IsPlaced};
+ghost use Rattle.clip_chain.specs.Scenes.{root_bounds};
+ghost use Rattle.clip_chain.specs.Worlds.{scene_of, spot_of_root};
 ghost use Rattle.page_geometry.specs.Ranges.{IsOrigin, IsMoved, IsRectReached, IsReached};
 
-use crate::findings::root_origin;
+use crate::findings::{root_bounds, root_origin};
 use crate::origins::origin;
 use crate::rects::moved_back;
 use crate::shown::Shown;
@@ -40,16 +43,19 @@ fn told_cut(meets: bool, from: Point, cut: Rect) -> Rect
 }
 
 /// What was found of a target in the coordinates of the top document, told in those of the target's document, and the root rectangle in
-/// those of the root's. No memory.
+/// those of the root's. All edges, widths and heights lie between -2^50 and 2^50. No memory.
+///
+/// Needs that each edge of the root rectangle is as near to where it was before margins moved it as they reach, and that the target's
+/// box and what is seen of it are in the range of boxes, as `Index::recompute` finds them.
 pub fn told(shown: &Shown<'_>, root: Root, target: NodeId, found: Finding) -> Finding
-    requires root { IsMoved found.root }
-    requires target { IsMoved found.target }
-    requires cut { IsMoved found.cut }
+    requires { IsPlaced (root_bounds (scene_of shown.now) (spot_of_root (seen_root root))) (seen_finding found) }
     ensures value { (observer : IntersectionObserver) → observer.root ≡ seen_root root →
         seen_finding result ≡ told shown.now observer target.0 (relation shown.now (seen_root root) target.0) (seen_finding found) }
     ensures reach { IsReached (seen_finding result) }
 {
     let from = origin(shown, shown.document_of(target));
+    // It tells how far the root rectangle reached before margins moved it.
+    root_bounds(shown, root);
     Finding {
         root: moved_back(root_origin(shown, root), found.root),
         target: told_box(shown.standing(root, target), from, found.target),
