@@ -81,6 +81,7 @@ fn names_begin_with_a_letter(rt: HostRuntime) {
         ("", false),
         ("1a", false),
         ("-a", false),
+        ("_a", false),
         ("a.b", false),
         ("abcdefghijklmnopqrstuvwxyz012345", true),
         ("abcdefghijklmnopqrstuvwxyz0123456", false),
