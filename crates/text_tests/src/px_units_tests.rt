@@ -1,3 +1,5 @@
+//! Lengths as texts and against a basis, and rectangles.
+
 use px_units::{
     Length, LengthFault, Percent, Px, Rect, area, meet, print_px, read_percent, read_px, resolve,
     shift,

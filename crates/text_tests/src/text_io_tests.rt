@@ -1,3 +1,5 @@
+//! Texts read and written in pieces of any size with calls that fail, std's reader and writer, names and kinds.
+
 use crate::streams::{sink, source};
 use std::alloc::Global;
 use std::io;

@@ -1,3 +1,5 @@
+//! Words with what they come to, and digits of numbers.
+
 use std::test::Fail;
 use word_model::{
     is_decimal_with, is_name, length, number, percent, push_decimal, signed_length, signed_percent,
