@@ -601,8 +601,9 @@ fn see_element(
     boxes: &FreshBoxes,
     number: usize,
 ) -> Result<(), Fail> {
+    assert!(rt; number < 20);
     let node = NodeId(number as u32);
-    assert!(rt; tree.holds(node) && number < 20);
+    assert!(rt; tree.holds(node));
     let (_, _, declarations, wanted) = ELEMENTS[number];
     let line = report(alloc, tree, boxes, node)?;
     assert_eq!(rt; line.as_str(), wanted, "{declarations}");
@@ -637,6 +638,7 @@ fn see_reach(
     view: Size,
     wanted: (i64, i64),
 ) {
+    assert!(rt; tree.holds(ROOT));
     let reach = overflow_reach(tree, boxes, ROOT, Some(view));
     assert_eq!(rt; (reach.width, reach.height), wanted);
 }

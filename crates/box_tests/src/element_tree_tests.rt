@@ -169,8 +169,13 @@ fn see_making(rt: &impl Abort, small: &mut Tree<u32>) -> Result<(), Fail> {
 fn see_full(rt: &impl Abort, small: &mut Tree<u32>) {
     assert!(rt; matches!(small.reserve(), Err(TreeFault::NodeLimit)));
     assert!(rt; matches!(small.add(8), Err((TreeFault::NodeLimit, 8))));
+}
+
+fn see_payload(rt: &impl Abort, small: &mut Tree<u32>) {
     assert!(rt; small.holds(NodeId(0)));
-    *small.payload_mut(NodeId(0)) += 2;
+    let payload = small.payload_mut(NodeId(0));
+    *payload = payload.saturating_add(2);
+    assert!(rt; small.holds(NodeId(0)));
     assert_eq!(rt; *small.payload(NodeId(0)), 9);
 }
 
@@ -179,5 +184,6 @@ fn nodes_are_numbered_up_to_the_limit(rt: HostRuntime) -> Result<(), Fail> {
     let mut small = Tree::new(rt.alloc(), 1, 1);
     see_making(&rt, &mut small)?;
     see_full(&rt, &mut small);
+    see_payload(&rt, &mut small);
     Ok(())
 }
