@@ -2,42 +2,19 @@
 
 ghost use Rattle.std.specs.Prelude.{◌≡◌, ◌<◌, length};
 
+use crate::elements::{Element, SCREEN, styled};
 use block_layout::{
-    BoxOf, Boxes, FreshBoxes, Inputs, ItemKind, Styled, child_inputs, compute_box, fresh_box,
+    BoxOf, Boxes, FreshBoxes, Inputs, ItemKind, child_inputs, compute_box, fresh_box,
     overflow_reach,
 };
 use element_tree::{NodeId, Tree};
 use px_units::{BoxKind, Size};
-use std::alloc::Global;
+use std::alloc::{AllocError, Global};
 use std::marker::Brand;
 use std::process::Abort;
 use std::sync::ledger::{Blank, Ledger};
 use std::test::Fail;
 use step_count::Steps;
-use style_values::{Overflow, Style};
-
-#[derive(Drop)]
-struct Element {
-    style: Style,
-    kind: ItemKind,
-}
-
-impl Styled for Element {
-    ghost use Rattle.style_values.specs.Seen.{seen_style};
-    ghost use Rattle.block_layout.specs.Seen.{seen_kind};
-
-    ghost style = { λ e. seen_style e.style };
-
-    ghost kind = { λ e. seen_kind e.kind };
-
-    fn style(&self) -> &Style {
-        &self.style
-    }
-
-    fn kind(&self) -> ItemKind {
-        self.kind
-    }
-}
 
 /// The kind, the containing width and height, the sum of the heights inside and the declarations of a box. Wanted: the
 /// sizes of the content, padding and border box; the left and top margin, border and padding; the height of the margin
@@ -488,22 +465,6 @@ const ELEMENTS: [ElementRow; 20] = [
     ),
 ];
 
-fn styled_element(rt: &impl Abort, kind: ItemKind, declarations: &str) -> Element {
-    let mut style = Style::new();
-    for declaration in declarations.split_whitespace() {
-        match declaration.split_once(':') {
-            Some((property, value)) => {
-                assert!(rt;
-                    style.set(property.as_bytes(), value.as_bytes()) == Ok(()),
-                    "{declaration}"
-                );
-            }
-            None => assert!(rt; false, "{declaration}"),
-        }
-    }
-    Element { style, kind }
-}
-
 fn computed<L: Ledger>(blank: Blank, item: &Element, inputs: Inputs, inside: i64) -> BoxOf
     requires name { blank.name ≡ L.name }
     requires parts { blank.parts ≡ L.parts }
@@ -541,33 +502,39 @@ fn handed(alloc: Global, inner: Inputs) -> Result<String, Fail> {
     }
 }
 
-#[test]
-fn boxes_have_their_numbers(rt: HostRuntime) -> Result<(), Fail> {
-    for (kind, width, height, inside, declarations, wanted) in BOXES {
-        let item = styled_element(&rt, kind, declarations);
-        let inputs = Inputs { width, height };
-        let found = computed::<Brand>(Blank::new(1), &item, inputs, inside);
-        let sizes = sizes(rt.alloc(), &found)?;
-        let corners = corners(rt.alloc(), &found)?;
-        let handed = handed(rt.alloc(), child_inputs(&item, inputs))?;
-        let line = format!(in rt.alloc();
-            "{sizes} {corners} {} / {handed}",
-            found.margin_height()
-        )?;
-        assert_eq!(rt; line.as_str(), wanted, "{declarations}");
-    }
+// The line of a box at these inputs.
+fn line_of(alloc: Global, item: &Element, inputs: Inputs, found: &BoxOf) -> Result<String, Fail> {
+    let sizes = sizes(alloc, found)?;
+    let corners = corners(alloc, found)?;
+    let handed = handed(alloc, child_inputs(item, inputs))?;
+    let height = found.margin_height();
+    Ok(format!(in alloc; "{sizes} {corners} {height} / {handed}")?)
+}
+
+fn see_box(rt: &impl Abort, alloc: Global, row: BoxRow) -> Result<(), Fail> {
+    let (kind, width, height, inside, declarations, wanted) = row;
+    let item = styled(rt, kind, declarations);
+    let inputs = Inputs { width, height };
+    let found = computed::<Brand>(Blank::new(1), &item, inputs, inside);
+    let line = line_of(alloc, &item, inputs, &found)?;
+    assert_eq!(rt; line.as_str(), wanted, "{declarations}");
     Ok(())
 }
 
-const SCREEN: Inputs = Inputs {
-    width: 51200,
-    height: Some(38400),
-};
+#[test]
+fn boxes_have_their_numbers(rt: HostRuntime) -> Result<(), Fail> {
+    for row in BOXES {
+        see_box(&rt, rt.alloc(), row)?;
+    }
+    Ok(())
+}
 
 const VIEW: Size = Size {
     width: 51200,
     height: 38400,
 };
+
+const ROOT: NodeId = NodeId(0);
 
 fn place(rt: &impl Abort, tree: &mut Tree<Element>, parent: NodeId, item: Element) {
     match tree.add(item) {
@@ -581,24 +548,31 @@ fn place(rt: &impl Abort, tree: &mut Tree<Element>, parent: NodeId, item: Elemen
     }
 }
 
-fn fill_all<L: Ledger>(blank: Blank, boxes: &mut FreshBoxes, tree: &Tree<Element>)
+fn fill_for<L: Ledger>(blank: Blank, boxes: &mut FreshBoxes, tree: &Tree<Element>)
     requires name { blank.name ≡ L.name }
     requires parts { blank.parts ≡ L.parts }
     requires one_part { 0 < blank.parts }
     requires root { 0 < length tree.now.nodes }
 {
     let mut steps = Steps::<L>::new(blank);
-    boxes.fill(tree, NodeId(0), SCREEN, &mut steps);
+    boxes.fill(tree, ROOT, SCREEN, &mut steps);
 }
 
-fn measured<L: Ledger>(blank: Blank, tree: &Tree<Element>) -> BoxOf
-    requires name { blank.name ≡ L.name }
-    requires parts { blank.parts ≡ L.parts }
-    requires one_part { 0 < blank.parts }
-    requires root { 0 < length tree.now.nodes }
+// Computes all boxes of a tree.
+fn fill(rt: &impl Abort, boxes: &mut FreshBoxes, tree: &Tree<Element>) {
+    assert!(rt; tree.holds(ROOT));
+    fill_for::<Brand>(Blank::new(1), boxes, tree);
+}
+
+// How far the content of a scroll container reaches, and None of other elements.
+fn reach_of(tree: &Tree<Element>, boxes: &FreshBoxes, node: NodeId) -> Option<Size>
+    requires { node.0 < length tree.now.nodes }
 {
-    let mut steps = Steps::<L>::new(blank);
-    fresh_box(tree, NodeId(0), SCREEN, &mut steps)
+    if tree.payload(node).scrolls() && tree.parent(node).is_some() {
+        Some(overflow_reach(tree, boxes, node, None))
+    } else {
+        None
+    }
 }
 
 // The content size and, of a scroll container, how far it reaches.
@@ -607,134 +581,158 @@ fn report(
     tree: &Tree<Element>,
     boxes: &FreshBoxes,
     node: NodeId,
-) -> Result<String, Fail>
+) -> Result<String, AllocError>
     requires { node.0 < length tree.now.nodes }
 {
     let Some(found) = boxes.box_of(node) else {
-        return Ok(format!(in alloc; "-")?);
+        return format!(in alloc; "-");
     };
-    let content = found.size(BoxKind::Content);
-    let item = tree.payload(node);
-    let scrolls = matches!(
-        item.style.overflow,
-        Overflow::Hidden | Overflow::Scroll | Overflow::Auto
-    );
-    if !scrolls || item.kind != ItemKind::Block || tree.parent(node).is_none() {
-        return Ok(format!(in alloc; "{} {}", content.width, content.height)?);
+    let Size { width, height } = found.size(BoxKind::Content);
+    match reach_of(tree, boxes, node) {
+        Some(reach) => format!(in alloc; "{width} {height} {} {}", reach.width, reach.height),
+        None => format!(in alloc; "{width} {height}"),
     }
-    let reach = overflow_reach(tree, boxes, node, None);
-    Ok(format!(in alloc;
-        "{} {} {} {}",
-        content.width, content.height, reach.width, reach.height
-    )?)
+}
+
+fn see_element(
+    rt: &impl Abort,
+    alloc: Global,
+    tree: &Tree<Element>,
+    boxes: &FreshBoxes,
+    number: usize,
+) -> Result<(), Fail> {
+    assert!(rt; number < 20);
+    let node = NodeId(number as u32);
+    assert!(rt; tree.holds(node));
+    let (_, _, declarations, wanted) = ELEMENTS[number];
+    let line = report(alloc, tree, boxes, node)?;
+    assert_eq!(rt; line.as_str(), wanted, "{declarations}");
+    Ok(())
+}
+
+fn place_all(rt: &impl Abort, tree: &mut Tree<Element>) {
+    for (parent, kind, declarations, _) in ELEMENTS {
+        place(rt, tree, NodeId(parent), styled(rt, kind, declarations));
+    }
+}
+
+fn see_tree(
+    rt: &impl Abort,
+    alloc: Global,
+    tree: &Tree<Element>,
+    boxes: &mut FreshBoxes,
+) -> Result<(), Fail> {
+    boxes.add(NodeId(19))?;
+    fill(rt, boxes, tree);
+    for number in 0..20 {
+        see_element(rt, alloc, tree, boxes, number)?;
+    }
+    see_reach(rt, tree, boxes, VIEW, (55188, 56528));
+    Ok(())
+}
+
+fn see_reach(
+    rt: &impl Abort,
+    tree: &Tree<Element>,
+    boxes: &FreshBoxes,
+    view: Size,
+    wanted: (i64, i64),
+) {
+    assert!(rt; tree.holds(ROOT));
+    let reach = overflow_reach(tree, boxes, ROOT, Some(view));
+    assert_eq!(rt; (reach.width, reach.height), wanted);
+}
+
+// Takes the box of an element away, with those in it.
+fn hide(rt: &impl Abort, tree: &mut Tree<Element>, boxes: &mut FreshBoxes) {
+    assert!(rt; tree.holds(NodeId(3)));
+    let item = tree.payload_mut(NodeId(3));
+    assert!(rt; item.style.set(b"display", b"none") == Ok(()));
+    fill(rt, boxes, tree);
+    for number in 3..20 {
+        assert_eq!(rt; boxes.box_of(NodeId(number)), None);
+    }
+    assert!(rt; boxes.box_of(NodeId(2)).is_some());
 }
 
 #[test]
 fn trees_are_filled(rt: HostRuntime) -> Result<(), Fail> {
     let mut tree = Tree::new(rt.alloc(), 20, 256);
     let mut boxes = FreshBoxes::new(rt.alloc());
-    for (parent, kind, declarations, _) in ELEMENTS {
-        place(
-            &rt,
-            &mut tree,
-            NodeId(parent),
-            styled_element(&rt, kind, declarations),
-        );
+    place_all(&rt, &mut tree);
+    see_tree(&rt, rt.alloc(), &tree, &mut boxes)?;
+    hide(&rt, &mut tree, &mut boxes);
+    Ok(())
+}
+
+fn measured_for<L: Ledger>(blank: Blank, tree: &Tree<Element>) -> BoxOf
+    requires name { blank.name ≡ L.name }
+    requires parts { blank.parts ≡ L.parts }
+    requires one_part { 0 < blank.parts }
+    requires root { 0 < length tree.now.nodes }
+{
+    let mut steps = Steps::<L>::new(blank);
+    fresh_box(tree, ROOT, SCREEN, &mut steps)
+}
+
+// The box of the root element.
+fn measured(rt: &impl Abort, tree: &Tree<Element>) -> BoxOf {
+    assert!(rt; tree.holds(ROOT));
+    measured_for::<Brand>(Blank::new(1), tree)
+}
+
+fn see_content(rt: &impl Abort, found: &BoxOf, wanted: (i64, i64)) {
+    let content = found.size(BoxKind::Content);
+    assert_eq!(rt; (content.width, content.height), wanted);
+}
+
+// A root element with 19,999 lines.
+fn place_lines(rt: &impl Abort, tree: &mut Tree<Element>) {
+    place(rt, tree, ROOT, styled(rt, ItemKind::Block, "padding:1px"));
+    for _ in 1..20_000u32 {
+        place(rt, tree, ROOT, styled(rt, ItemKind::Block, "height:1px"));
     }
-    boxes.add(NodeId(19))?;
-    assert!(rt; tree.holds(NodeId(0)));
-    fill_all::<Brand>(Blank::new(1), &mut boxes, &tree);
-    for (number, (_, _, declarations, wanted)) in ELEMENTS.iter().enumerate() {
-        let node = NodeId(number as u32);
-        assert!(rt; tree.holds(node));
-        let line = report(rt.alloc(), &tree, &boxes, node)?;
-        assert_eq!(rt; line.as_str(), *wanted, "{declarations}");
+}
+
+#[test]
+fn many_elements_are_measured(rt: HostRuntime) {
+    let mut wide = Tree::new(rt.alloc(), 20_000, 256);
+    place_lines(&rt, &mut wide);
+    see_content(&rt, &measured(&rt, &wide), (51072, 1279936));
+}
+
+// A chain of 256 elements.
+fn place_chain(rt: &impl Abort, tree: &mut Tree<Element>) {
+    for number in 0..256u32 {
+        let parent = NodeId(number.saturating_sub(1));
+        place(rt, tree, parent, styled(rt, ItemKind::Block, "padding:1px"));
     }
-    let reach = overflow_reach(&tree, &boxes, NodeId(0), Some(VIEW));
-    assert_eq!(rt;
-        reach,
-        Size {
-            width: 55188,
-            height: 56528
-        }
-    );
-    assert!(rt; tree.holds(NodeId(3)));
-    assert!(rt; tree.payload_mut(NodeId(3)).style.set(b"display", b"none") == Ok(()));
-    assert!(rt; tree.holds(NodeId(0)));
-    fill_all::<Brand>(Blank::new(1), &mut boxes, &tree);
-    for number in 3..20 {
-        assert_eq!(rt; boxes.box_of(NodeId(number)), None);
+}
+
+fn see_chain(
+    rt: &impl Abort,
+    tree: &Tree<Element>,
+    boxes: &mut FreshBoxes,
+) -> Result<(), AllocError> {
+    boxes.add(NodeId(255))?;
+    fill(rt, boxes, tree);
+    match boxes.box_of(NodeId(255)) {
+        Some(inmost) => see_content(rt, &inmost, (18432, 0)),
+        None => assert!(rt; false, "no box"),
     }
-    assert!(rt; boxes.box_of(NodeId(2)).is_some());
+    let nothing = Size {
+        width: 0,
+        height: 0,
+    };
+    see_reach(rt, tree, boxes, nothing, (51200, 32768));
     Ok(())
 }
 
 #[test]
-fn many_elements_and_deep_trees_are_measured(rt: HostRuntime) -> Result<(), Fail> {
-    let line = styled_element(&rt, ItemKind::Block, "height:1px").style;
-    let ring = styled_element(&rt, ItemKind::Block, "padding:1px").style;
-    let mut wide = Tree::new(rt.alloc(), 20_000, 256);
-    for number in 0..20_000u32 {
-        let style = if number == 0 { ring } else { line };
-        place(
-            &rt,
-            &mut wide,
-            NodeId(0),
-            Element {
-                style,
-                kind: ItemKind::Block,
-            },
-        );
-    }
-    assert!(rt; wide.holds(NodeId(0)));
-    let found = measured::<Brand>(Blank::new(1), &wide);
-    assert_eq!(rt;
-        found.size(BoxKind::Content),
-        Size {
-            width: 51072,
-            height: 1279936
-        }
-    );
+fn deep_trees_are_measured(rt: HostRuntime) -> Result<(), Fail> {
     let mut deep = Tree::new(rt.alloc(), 256, 256);
     let mut boxes = FreshBoxes::new(rt.alloc());
-    for number in 0..256u32 {
-        let parent = NodeId(number.saturating_sub(1));
-        place(
-            &rt,
-            &mut deep,
-            parent,
-            Element {
-                style: ring,
-                kind: ItemKind::Block,
-            },
-        );
-    }
-    boxes.add(NodeId(255))?;
-    assert!(rt; deep.holds(NodeId(0)));
-    fill_all::<Brand>(Blank::new(1), &mut boxes, &deep);
-    let inmost = boxes.box_of(NodeId(255)).expect(&rt, "a box");
-    assert_eq!(rt;
-        inmost.size(BoxKind::Content),
-        Size {
-            width: 18432,
-            height: 0
-        }
-    );
-    let reach = overflow_reach(
-        &deep,
-        &boxes,
-        NodeId(0),
-        Some(Size {
-            width: 0,
-            height: 0,
-        }),
-    );
-    assert_eq!(rt;
-        reach,
-        Size {
-            width: 51200,
-            height: 32768
-        }
-    );
+    place_chain(&rt, &mut deep);
+    see_chain(&rt, &deep, &mut boxes)?;
     Ok(())
 }

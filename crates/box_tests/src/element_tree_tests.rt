@@ -41,76 +41,104 @@ fn apply(rt: &impl Abort, tree: &mut Tree<u32>, edit: Edit) -> &'static str {
     }
 }
 
-// The children of each node in order, each list ended by a bar.
-fn shape(rt: &impl Abort, alloc: Global, tree: &Tree<u32>) -> Result<String, Fail> {
-    let mut text = String::new(alloc);
-    for number in 0..10 {
-        let node = NodeId(number);
-        let mut previous = None;
-        let mut next = tree.first_child(node);
-        for _ in 0..10 {
-            let Some(child) = next else {
-                break;
-            };
-            assert_eq!(rt; tree.parent(child), Some(node));
-            assert_eq!(rt; tree.previous_sibling(child), previous);
-            text.push_str(format!(in alloc; "{}", child.0)?.as_str())?;
-            previous = next;
-            next = tree.next_sibling(child);
-        }
-        text.push('|')?;
+// Appends the children of a node in order, ended by a bar.
+fn push_children(
+    rt: &impl Abort,
+    text: &mut String,
+    alloc: Global,
+    tree: &Tree<u32>,
+    node: NodeId,
+) -> Result<(), Fail> {
+    let mut previous = None;
+    let mut next = tree.first_child(node);
+    for _ in 0..10 {
+        let Some(child) = next else {
+            break;
+        };
+        assert_eq!(rt; tree.parent(child), Some(node));
+        assert_eq!(rt; tree.previous_sibling(child), previous);
+        text.push_str(format!(in alloc; "{}", child.0)?.as_str())?;
+        previous = next;
+        next = tree.next_sibling(child);
     }
-    Ok(text)
+    text.push('|')?;
+    Ok(())
 }
 
-fn ten_nodes(rt: &impl Abort, alloc: Global) -> Result<Tree<u32>, Fail> {
-    let mut tree = Tree::new(alloc, 10, 4);
+fn push_shape(
+    rt: &impl Abort,
+    text: &mut String,
+    alloc: Global,
+    tree: &Tree<u32>,
+) -> Result<(), Fail> {
+    for number in 0..10 {
+        push_children(rt, text, alloc, tree, NodeId(number))?;
+    }
+    Ok(())
+}
+
+fn see_shape(rt: &impl Abort, alloc: Global, tree: &Tree<u32>, children: &str) -> Result<(), Fail> {
+    let mut shape = String::new(alloc);
+    push_shape(rt, &mut shape, alloc, tree)?;
+    assert_eq!(rt; shape.as_str(), children);
+    Ok(())
+}
+
+fn add_ten(rt: &impl Abort, tree: &mut Tree<u32>) {
     for number in 0..10 {
         match tree.add(100 + number) {
             Ok(node) => assert_eq!(rt; node, NodeId(number)),
-            Err((fault, _)) => return Err(Fail::from(fault)),
+            Err(_) => assert!(rt; false, "no node {number}"),
         }
     }
-    Ok(tree)
+}
+
+/// An edit, its answer, and the lists of children then, each ended by a bar.
+type Step = (Edit, &'static str, &'static str);
+
+const STEPS: [Step; 27] = [
+    (Edit::Append(0, 1), "Ok", "1||||||||||"),
+    (Edit::Append(0, 2), "Ok", "12||||||||||"),
+    (Edit::Before(0, 3, 1), "Ok", "312||||||||||"),
+    (Edit::Append(1, 4), "Ok", "312|4|||||||||"),
+    (Edit::Append(4, 0), "Hierarchy", "312|4|||||||||"),
+    (Edit::Append(1, 1), "Hierarchy", "312|4|||||||||"),
+    (Edit::Before(0, 5, 4), "NotAChild", "312|4|||||||||"),
+    (Edit::Before(4, 1, 9), "Hierarchy", "312|4|||||||||"),
+    (Edit::Append(4, 5), "Ok", "312|4|||5||||||"),
+    (Edit::Append(5, 6), "DepthLimit", "312|4|||5||||||"),
+    (Edit::Append(6, 7), "Ok", "312|4|||5||7||||"),
+    (Edit::Append(4, 6), "DepthLimit", "312|4|||5||7||||"),
+    (Edit::Before(4, 6, 5), "DepthLimit", "312|4|||5||7||||"),
+    (Edit::Append(2, 6), "Ok", "312|4|6||5||7||||"),
+    (Edit::Append(0, 1), "Ok", "321|4|6||5||7||||"),
+    (Edit::Before(0, 3, 3), "Ok", "321|4|6||5||7||||"),
+    (Edit::Before(0, 1, 1), "Ok", "321|4|6||5||7||||"),
+    (Edit::Before(0, 1, 2), "Ok", "312|4|6||5||7||||"),
+    (Edit::Before(0, 8, 2), "Ok", "3182|4|6||5||7||||"),
+    (Edit::Remove(1), "Ok", "382|4|6||5||7||||"),
+    (Edit::Remove(1), "Ok", "382|4|6||5||7||||"),
+    (Edit::Remove(3), "Ok", "82|4|6||5||7||||"),
+    (Edit::Remove(2), "Ok", "8|4|6||5||7||||"),
+    (Edit::Before(8, 9, 8), "NotAChild", "8|4|6||5||7||||"),
+    (Edit::Append(2, 1), "Ok", "8|4|61||5||7||||"),
+    (Edit::Append(6, 4), "Ok", "8||61||5||74||||"),
+    (Edit::Before(6, 4, 7), "Ok", "8||61||5||47||||"),
+];
+
+fn take_steps(rt: &impl Abort, alloc: Global, tree: &mut Tree<u32>) -> Result<(), Fail> {
+    for (edit, answered, children) in STEPS {
+        assert_eq!(rt; apply(rt, tree, edit), answered, "before {children}");
+        see_shape(rt, alloc, tree, children)?;
+    }
+    Ok(())
 }
 
 #[test]
 fn edits_give_the_lists_of_children(rt: HostRuntime) -> Result<(), Fail> {
-    let mut tree = ten_nodes(&rt, rt.alloc())?;
-    let steps = [
-        (Edit::Append(0, 1), "Ok", "1||||||||||"),
-        (Edit::Append(0, 2), "Ok", "12||||||||||"),
-        (Edit::Before(0, 3, 1), "Ok", "312||||||||||"),
-        (Edit::Append(1, 4), "Ok", "312|4|||||||||"),
-        (Edit::Append(4, 0), "Hierarchy", "312|4|||||||||"),
-        (Edit::Append(1, 1), "Hierarchy", "312|4|||||||||"),
-        (Edit::Before(0, 5, 4), "NotAChild", "312|4|||||||||"),
-        (Edit::Before(4, 1, 9), "Hierarchy", "312|4|||||||||"),
-        (Edit::Append(4, 5), "Ok", "312|4|||5||||||"),
-        (Edit::Append(5, 6), "DepthLimit", "312|4|||5||||||"),
-        (Edit::Append(6, 7), "Ok", "312|4|||5||7||||"),
-        (Edit::Append(4, 6), "DepthLimit", "312|4|||5||7||||"),
-        (Edit::Before(4, 6, 5), "DepthLimit", "312|4|||5||7||||"),
-        (Edit::Append(2, 6), "Ok", "312|4|6||5||7||||"),
-        (Edit::Append(0, 1), "Ok", "321|4|6||5||7||||"),
-        (Edit::Before(0, 3, 3), "Ok", "321|4|6||5||7||||"),
-        (Edit::Before(0, 1, 1), "Ok", "321|4|6||5||7||||"),
-        (Edit::Before(0, 1, 2), "Ok", "312|4|6||5||7||||"),
-        (Edit::Before(0, 8, 2), "Ok", "3182|4|6||5||7||||"),
-        (Edit::Remove(1), "Ok", "382|4|6||5||7||||"),
-        (Edit::Remove(1), "Ok", "382|4|6||5||7||||"),
-        (Edit::Remove(3), "Ok", "82|4|6||5||7||||"),
-        (Edit::Remove(2), "Ok", "8|4|6||5||7||||"),
-        (Edit::Before(8, 9, 8), "NotAChild", "8|4|6||5||7||||"),
-        (Edit::Append(2, 1), "Ok", "8|4|61||5||7||||"),
-        (Edit::Append(6, 4), "Ok", "8||61||5||74||||"),
-        (Edit::Before(6, 4, 7), "Ok", "8||61||5||47||||"),
-    ];
-    for (edit, answered, children) in steps {
-        assert_eq!(rt; apply(&rt, &mut tree, edit), answered, "before {children}");
-        let now = shape(&rt, rt.alloc(), &tree)?;
-        assert!(rt; now.as_bytes() == children.as_bytes(), "want {children}");
-    }
+    let mut tree = Tree::new(rt.alloc(), 10, 4);
+    add_ten(&rt, &mut tree);
+    take_steps(&rt, rt.alloc(), &mut tree)?;
     measures(&rt, &tree);
     Ok(())
 }
@@ -128,17 +156,34 @@ fn measures(rt: &impl Abort, tree: &Tree<u32>) {
     }
 }
 
-#[test]
-fn nodes_are_numbered_up_to_the_limit(rt: HostRuntime) -> Result<(), Fail> {
-    let mut small = Tree::new(rt.alloc(), 1, 1);
+// A tree for one node, before the node is made.
+fn see_making(rt: &impl Abort, small: &mut Tree<u32>) -> Result<(), Fail> {
     assert!(rt; !small.holds(NodeId(0)));
     assert_eq!(rt; small.reserve()?, NodeId(0));
     assert!(rt; !small.holds(NodeId(0)));
     assert!(rt; small.add(7).is_ok());
     assert!(rt; small.holds(NodeId(0)));
+    Ok(())
+}
+
+fn see_full(rt: &impl Abort, small: &mut Tree<u32>) {
     assert!(rt; matches!(small.reserve(), Err(TreeFault::NodeLimit)));
     assert!(rt; matches!(small.add(8), Err((TreeFault::NodeLimit, 8))));
-    *small.payload_mut(NodeId(0)) += 2;
+}
+
+fn see_payload(rt: &impl Abort, small: &mut Tree<u32>) {
+    assert!(rt; small.holds(NodeId(0)));
+    let payload = small.payload_mut(NodeId(0));
+    *payload = payload.saturating_add(2);
+    assert!(rt; small.holds(NodeId(0)));
     assert_eq!(rt; *small.payload(NodeId(0)), 9);
+}
+
+#[test]
+fn nodes_are_numbered_up_to_the_limit(rt: HostRuntime) -> Result<(), Fail> {
+    let mut small = Tree::new(rt.alloc(), 1, 1);
+    see_making(&rt, &mut small)?;
+    see_full(&rt, &mut small);
+    see_payload(&rt, &mut small);
     Ok(())
 }

@@ -3,27 +3,24 @@
 ghost use Rattle.std.specs.Prelude.{◌≡◌, ◌<◌, length, None};
 ghost use Rattle.element_tree.specs.Forest.{parent_of};
 
-use block_layout::{Boxes, FreshBoxes, Inputs, ItemKind, Styled};
+use crate::elements::{Element, SCREEN};
+use block_layout::{Boxes, FreshBoxes, Inputs, ItemKind};
 use element_tree::{NodeId, Tree};
 use kept_layout::{Kept, Offsets};
 use px_units::{BoxKind, Point, Size};
+use std::alloc::AllocError;
 use std::marker::Brand;
 use std::process::Abort;
 use std::sync::ledger::{Blank, Ledger};
 use std::test::Fail;
 use step_count::Steps;
-use style_values::{Overflow, Style};
+use style_values::Style;
 
 const ELEMENTS: u32 = 500;
 
 const EDITS: u32 = 2000;
 
 const ROOT: NodeId = NodeId(0);
-
-const SCREEN: Inputs = Inputs {
-    width: 51200,
-    height: Some(38400),
-};
 
 const NARROW: Inputs = Inputs {
     width: 20480,
@@ -56,29 +53,6 @@ const DECLARATIONS: [(&str, &str); 24] = [
     ("max-width", "200px"),
     ("min-height", "10px"),
 ];
-
-#[derive(Drop)]
-struct Element {
-    style: Style,
-    kind: ItemKind,
-}
-
-impl Styled for Element {
-    ghost use Rattle.style_values.specs.Seen.{seen_style};
-    ghost use Rattle.block_layout.specs.Seen.{seen_kind};
-
-    ghost style = { λ e. seen_style e.style };
-
-    ghost kind = { λ e. seen_kind e.kind };
-
-    fn style(&self) -> &Style {
-        &self.style
-    }
-
-    fn kind(&self) -> ItemKind {
-        self.kind
-    }
-}
 
 /// Each scroll container is scrolled by 1 and 2 pixels.
 #[derive(Drop)]
@@ -197,7 +171,7 @@ fn edit(rt: &impl Abort, random: &mut Random, tree: &mut Tree<Element>, kept: &m
     }
 }
 
-fn lay_out<L: Ledger>(
+fn lay_out_for<L: Ledger>(
     blank: Blank,
     kept: &mut Kept,
     fresh: &mut FreshBoxes,
@@ -213,6 +187,18 @@ fn lay_out<L: Ledger>(
     let mut steps = Steps::<L>::new(blank);
     kept.refresh(tree, ROOT, inputs, &mut steps);
     fresh.fill(tree, ROOT, inputs, &mut steps);
+}
+
+// Computes the kept boxes that are due, and all boxes anew.
+fn lay_out(
+    rt: &impl Abort,
+    kept: &mut Kept,
+    fresh: &mut FreshBoxes,
+    tree: &Tree<Element>,
+    inputs: Inputs,
+) {
+    assert!(rt; tree.holds(ROOT) && tree.parent(ROOT).is_none());
+    lay_out_for::<Brand>(Blank::new(1), kept, fresh, tree, inputs);
 }
 
 // The margin box heights of the earlier siblings of a node, one by one.
@@ -261,12 +247,7 @@ fn shift(tree: &Tree<Element>, boxes: &FreshBoxes, node: NodeId) -> Point {
 
 fn is_scrolled(rt: &impl Abort, tree: &Tree<Element>, node: NodeId) -> bool {
     assert!(rt; tree.holds(node));
-    let item = tree.payload(node);
-    let scrolls = matches!(
-        item.style.overflow,
-        Overflow::Hidden | Overflow::Scroll | Overflow::Auto
-    );
-    scrolls && item.kind == ItemKind::Block && node != ROOT
+    node != ROOT && tree.payload(node).scrolls()
 }
 
 // The place of a node by the definition's sum, from boxes computed anew.
@@ -338,27 +319,49 @@ fn plant(rt: &impl Abort, random: &mut Random, tree: &mut Tree<Element>) {
     }
 }
 
+fn make_room(kept: &mut Kept, fresh: &mut FreshBoxes) -> Result<(), AllocError> {
+    kept.add(NodeId(ELEMENTS - 1))?;
+    fresh.add(NodeId(ELEMENTS - 1))
+}
+
+// Compares all elements, and returns how many have a box.
+fn compare_all(rt: &impl Abort, tree: &Tree<Element>, kept: &Kept, fresh: &FreshBoxes) -> u64 {
+    let mut boxes: u64 = 0;
+    for number in 0..ELEMENTS {
+        if compare(rt, tree, kept, fresh, NodeId(number)) {
+            boxes = boxes.saturating_add(1);
+        }
+    }
+    boxes
+}
+
+// Edits the tree, and compares after each edit; returns how many boxes were compared.
+fn follow(
+    rt: &impl Abort,
+    random: &mut Random,
+    tree: &mut Tree<Element>,
+    kept: &mut Kept,
+    fresh: &mut FreshBoxes,
+) -> u64 {
+    let mut boxes: u64 = 0;
+    for round in 0..EDITS {
+        edit(rt, random, tree, kept);
+        let inputs = if round % 100 < 90 { SCREEN } else { NARROW };
+        lay_out(rt, kept, fresh, tree, inputs);
+        boxes = boxes.saturating_add(compare_all(rt, tree, kept, fresh));
+    }
+    boxes
+}
+
 #[test]
 fn kept_boxes_are_those_computed_anew(rt: HostRuntime) -> Result<(), Fail> {
     let mut random = Random { state: 20 };
     let mut tree = Tree::new(rt.alloc(), ELEMENTS, 256);
     let mut kept = Kept::new(rt.alloc());
     let mut fresh = FreshBoxes::new(rt.alloc());
+    make_room(&mut kept, &mut fresh)?;
     plant(&rt, &mut random, &mut tree);
-    kept.add(NodeId(ELEMENTS - 1))?;
-    fresh.add(NodeId(ELEMENTS - 1))?;
-    let mut boxes: u64 = 0;
-    for round in 0..EDITS {
-        edit(&rt, &mut random, &mut tree, &mut kept);
-        let inputs = if round % 100 < 90 { SCREEN } else { NARROW };
-        assert!(rt; tree.holds(ROOT) && tree.parent(ROOT).is_none());
-        lay_out::<Brand>(Blank::new(1), &mut kept, &mut fresh, &tree, inputs);
-        for number in 0..ELEMENTS {
-            if compare(&rt, &tree, &kept, &fresh, NodeId(number)) {
-                boxes = boxes.saturating_add(1);
-            }
-        }
-    }
+    let boxes = follow(&rt, &mut random, &mut tree, &mut kept, &mut fresh);
     assert!(rt; boxes > 20_000, "{boxes}");
     Ok(())
 }

@@ -1,3 +1,5 @@
+//! Lengths at the bound.
+
 use layout_model::capped;
 
 #[test]

@@ -1,3 +1,5 @@
+//! Numbers with their values, after insertions and removals.
+
 use number_map::NumberMap;
 use std::test::Fail;
 

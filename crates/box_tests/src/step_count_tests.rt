@@ -1,3 +1,5 @@
+//! A counter after two ticks.
+
 ghost use Rattle.std.specs.Prelude.{◌≡◌, ◌<◌};
 
 use std::marker::Brand;

@@ -1,4 +1,4 @@
-//! The tests of the crates of words, values, scripts and traces as texts, a module for each crate, over what they offer in public.
+//! The tests of the crates of texts, from `word_model` to `trace_summary`, a module for each, over what they offer in public.
 #![tactic(auto)]
 
 #[cfg(test)]
@@ -13,6 +13,10 @@ mod script_lexer_tests;
 mod script_print_tests;
 #[cfg(test)]
 mod script_syntax_tests;
+#[cfg(test)]
+mod scripts;
+#[cfg(test)]
+mod streams;
 #[cfg(test)]
 mod style_values_tests;
 #[cfg(test)]

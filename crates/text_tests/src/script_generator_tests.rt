@@ -1,6 +1,9 @@
-//! Generated texts by an independent program, and scripts that are made with ample memory.
+//! Generated scripts as they are printed, with texts and sizes by an independent program.
 
 use script_generator::make;
+use script_print::print;
+use std::alloc::Global;
+use std::process::Abort;
 use std::test::Fail;
 
 /// The text of 8000: one card, and the largest margin.
@@ -48,22 +51,31 @@ const SIZES: [(u64, usize, usize); 4] = [
 
 #[test]
 fn one_card_is_the_text_of_the_reference_program(rt: HostRuntime) -> Result<(), Fail> {
-    let text = text_of(rt.alloc(), 8000)?;
-    assert_eq!(&rt; text.as_slice(), ONE_CARD.as_bytes());
+    let script = make(rt.alloc(), 8000)?;
+    let text = print(rt.alloc(), &script)?;
+    assert_eq!(rt; text.as_slice(), ONE_CARD.as_bytes());
+    Ok(())
+}
+
+fn see_size(
+    rt: &impl Abort,
+    alloc: Global,
+    number: u64,
+    bytes: usize,
+    items: usize,
+) -> Result<(), Fail> {
+    let script = make(alloc, number)?;
+    let text = print(alloc, &script)?;
+    assert_eq!(rt; text.len(), bytes, "bytes of {number}");
+    assert_eq!(rt; script.items().len(), items, "items of {number}");
+    assert_eq!(rt; script.handlers(), 1);
     Ok(())
 }
 
 #[test]
 fn scripts_are_made(rt: HostRuntime) -> Result<(), Fail> {
     for (number, bytes, items) in SIZES {
-        assert_eq!(&rt;
-            text_of(rt.alloc(), number)?.len(),
-            bytes,
-            "bytes of {number}"
-        );
-        let script = make(rt.alloc(), number)?;
-        assert_eq!(&rt; script.items().len(), items, "items of {number}");
-        assert_eq!(&rt; script.handlers(), 1);
+        see_size(&rt, rt.alloc(), number, bytes, items)?;
     }
     Ok(())
 }

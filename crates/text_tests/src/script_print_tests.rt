@@ -1,7 +1,9 @@
-use script_lexer::Lexer;
+//! Scripts in free form with their texts.
+
+use crate::scripts::script_of;
 use script_print::print;
-use script_syntax::{ParseFault, Script, parse};
-use std::alloc::{AllocError, Global};
+use std::alloc::Global;
+use std::process::Abort;
 use std::test::Fail;
 
 /// Each kind of word that is printed in another form than it was written in, in one script.
@@ -54,30 +56,17 @@ const ROWS: [(&str, &str); 7] = [
     ),
 ];
 
-/// The script that a text is.
-fn parsed(alloc: Global, text: &[u8]) -> Result<Script, ParseFault> {
-    if text.len() > 10_000 {
-        return Err(ParseFault::Memory);
-    }
-    let mut lexer = Lexer::new(alloc, 4096);
-    lexer.feed(text)?;
-    let text = lexer.finish()?;
-    parse(alloc, &text)
-}
-
-/// The text of the script that a text is, and no bytes where it is none.
-fn printed(alloc: Global, text: &str) -> Result<Vec<u8>, AllocError> {
-    match parsed(alloc, text.as_bytes()) {
-        Ok(script) => print(alloc, &script),
-        Err(_) => Ok(Vec::new(alloc)),
-    }
+fn see_print(rt: &impl Abort, alloc: Global, text: &str, form: &str) -> Result<(), Fail> {
+    let script = script_of(rt, alloc, text)?;
+    let printed = print(alloc, &script)?;
+    assert_eq!(rt; printed.as_slice(), form.as_bytes(), "{text}");
+    Ok(())
 }
 
 #[test]
 fn scripts_are_printed_in_their_one_form(rt: HostRuntime) -> Result<(), Fail> {
     for (text, form) in ROWS {
-        let printed = printed(rt.alloc(), text)?;
-        assert_eq!(rt; printed.as_slice(), form.as_bytes(), "{text}");
+        see_print(&rt, rt.alloc(), text, form)?;
     }
     Ok(())
 }

@@ -1,6 +1,9 @@
-use script_lexer::Lexer;
-use script_syntax::{Item, ParseFault, Script, What, parse};
+//! Texts that are scripts, or have a first fault or limit, and the items of a script.
+
+use crate::scripts::script_of;
+use script_syntax::{Item, ParseFault, Script, What};
 use std::alloc::{AllocError, Global};
+use std::process::Abort;
 use std::test::Fail;
 use text_io::{LimitKind, Name};
 
@@ -84,7 +87,10 @@ each
 each
 ";
 
-const TEXTS: [(&str, Outcome); 26] = [
+/// A list of queries between words and a comment.
+const QUERIES: &str = "script 1\nmedia q top  all\t, print # both\n";
+
+const TEXTS: [(&str, Outcome); 25] = [
     ("", Syntax(1, 1)),
     ("# nothing\n\n", Syntax(3, 1)),
     ("script 1", Outcome::Script),
@@ -111,24 +117,12 @@ const TEXTS: [(&str, Outcome); 26] = [
     ),
     ("script 1\nsay a\x01\nsay 1\n", Syntax(2, 6)),
     ("script 1\nsay 1\nsay a\x01\n", Syntax(2, 5)),
-    ("script 1\r\nsay a\r\n", Outcome::Script),
     (EVERY_COMMAND, Outcome::Script),
     (NESTED, Limit(LimitKind::Nesting, 19)),
 ];
 
-/// The script that a text is.
-fn parsed(alloc: Global, text: &[u8]) -> Result<Script, ParseFault> {
-    if text.len() > 10_000 {
-        return Err(ParseFault::Memory);
-    }
-    let mut lexer = Lexer::new(alloc, 4096);
-    lexer.feed(text)?;
-    let text = lexer.finish()?;
-    parse(alloc, &text)
-}
-
-fn outcome_of(alloc: Global, text: &[u8]) -> Result<Outcome, AllocError> {
-    match parsed(alloc, text) {
+fn outcome_of(rt: &impl Abort, alloc: Global, text: &str) -> Result<Outcome, AllocError> {
+    match script_of(rt, alloc, text) {
         Ok(_) => Ok(Outcome::Script),
         Err(ParseFault::Syntax { line, column }) => Ok(Syntax(line, column)),
         Err(ParseFault::ScriptLimit { kind, line }) => Ok(Limit(kind, line)),
@@ -139,7 +133,8 @@ fn outcome_of(alloc: Global, text: &[u8]) -> Result<Outcome, AllocError> {
 #[test]
 fn texts_are_scripts_or_have_a_first_fault(rt: HostRuntime) -> Result<(), Fail> {
     for (text, want) in TEXTS {
-        assert_eq!(rt; outcome_of(rt.alloc(), text.as_bytes())?, want, "{text}");
+        let outcome = outcome_of(&rt, rt.alloc(), text)?;
+        assert_eq!(rt; outcome, want, "{text}");
     }
     Ok(())
 }
@@ -160,9 +155,7 @@ fn commands_of(item: &Item) -> usize {
     }
 }
 
-#[test]
-fn a_script_has_its_items_and_handlers(rt: HostRuntime) -> Result<(), Fail> {
-    let script = parsed(rt.alloc(), EVERY_COMMAND.as_bytes())?;
+fn see_items(rt: &impl Abort, script: &Script) {
     assert_eq!(rt; script.items().len(), 36);
     assert_eq!(rt; script.items().last().map(line_of), Some(46));
     assert_eq!(rt; script.handlers(), 2);
@@ -170,20 +163,42 @@ fn a_script_has_its_items_and_handlers(rt: HostRuntime) -> Result<(), Fail> {
     assert_eq!(rt; script.handler(0).map(commands_of), Some(1));
     assert_eq!(rt; script.handler(1).map(line_of), Some(46));
     assert_eq!(rt; script.handler(2).map(line_of), None);
-    for (name, number) in [("show", Some(0)), ("hide", Some(1)), ("end", None)] {
-        let name = Name::read(name.as_bytes()).ok_or("a name")?;
-        assert_eq!(rt; script.handler_named(name), number);
+}
+
+fn see_name(rt: &impl Abort, script: &Script, text: &str, number: Option<u32>) {
+    match Name::read(text.as_bytes()) {
+        Some(name) => assert_eq!(rt; script.handler_named(name), number, "{text}"),
+        None => assert!(rt; false, "{text}"),
+    }
+}
+
+#[test]
+fn a_script_has_its_items_and_handlers(rt: HostRuntime) -> Result<(), Fail> {
+    let script = script_of(&rt, rt.alloc(), EVERY_COMMAND)?;
+    see_items(&rt, &script);
+    see_name(&rt, &script, "show", Some(0));
+    see_name(&rt, &script, "hide", Some(1));
+    see_name(&rt, &script, "end", None);
+    Ok(())
+}
+
+/// Appends the list of queries of an item that has one.
+fn push_queries(item: &Item, out: &mut Vec<u8>) -> Result<(), AllocError> {
+    if let Item::Command(command) = item {
+        if let What::Media(_, _, query) = &command.what {
+            query.push_text(out)?;
+        }
     }
     Ok(())
 }
 
 #[test]
 fn a_query_has_its_place_in_the_line(rt: HostRuntime) -> Result<(), Fail> {
-    let script = parsed(rt.alloc(), b"script 1\nmedia q top  all\t, print # both\n")?;
-    let is_media = match script.items() {
-        [Item::Command(command)] => matches!(command.what, What::Media(..)),
-        _ => false,
-    };
-    assert!(rt; is_media);
+    let mut out = Vec::new(rt.alloc());
+    let script = script_of(&rt, rt.alloc(), QUERIES)?;
+    for item in script.items() {
+        push_queries(item, &mut out)?;
+    }
+    assert_eq!(rt; out.as_slice(), b"all,print".as_slice());
     Ok(())
 }

@@ -1,3 +1,5 @@
+//! Each property with a value that it has and one that it hasn't, and what declarations change.
+
 use px_units::{Length, Percent, Px};
 use style_values::{BoxSizing, Declaration, Display, Overflow, Sides, Style, StyleFault};
 

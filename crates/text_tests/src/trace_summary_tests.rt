@@ -1,8 +1,10 @@
 //! Traces with their counts, and writes that fail.
 
+use crate::streams::sink;
 use std::alloc::Global;
+use std::process::Abort;
 use std::test::Fail;
-use text_io::{MemorySink, write_all};
+use text_io::{TextFault, write_all};
 use trace_runs::RunFault;
 use trace_summary::{GatherSink, Summary};
 
@@ -44,59 +46,54 @@ limit 1
 syntax 1
 ";
 
-/// Texts that are no lines one after another.
-const NO_TRACES: [&str; 6] = [
-    "tick 0",
-    "tick 0\nsay a",
-    "tick 0\n\nsay a\n",
-    "\n",
-    "tick\n",
-    "tick 0\r\n",
-];
+/// Texts of several lines, one of which isn't any.
+const NO_TRACES: [&str; 2] = ["tick 0\nsay a", "tick 0\n\nsay a\n"];
 
-fn gathered(alloc: Global, text: &str) -> Result<GatherSink, Fail> {
-    let mut sink = GatherSink::new(alloc);
-    for line in text.as_bytes().chunks(5) {
-        write_all(&mut sink, line)?;
+fn gather(sink: &mut GatherSink, text: &str) -> Result<(), TextFault> {
+    for piece in text.as_bytes().chunks(5) {
+        write_all(sink, piece)?;
     }
-    Ok(sink)
+    Ok(())
+}
+
+fn see_summary(rt: &impl Abort, alloc: Global, trace: &[u8]) -> Result<(), Fail> {
+    let summary = Summary::of(trace)?;
+    let mut output = sink(alloc, 200, 7, None)?;
+    assert_eq!(rt; summary.write_to(alloc, &mut output), Ok(()));
+    assert_eq!(rt; output.taken(), SUMMARY.as_bytes());
+    Ok(())
 }
 
 #[test]
 fn lines_are_counted_by_their_kinds(rt: HostRuntime) -> Result<(), Fail> {
-    let sink = gathered(rt.alloc(), TRACE)?;
-    assert_eq!(&rt; sink.taken(), TRACE.as_bytes());
-    let summary = Summary::of(sink.taken())?;
-    let mut output = MemorySink::new(rt.alloc(), 200, 7, Vec::new(rt.alloc()))?;
-    assert_eq!(&rt; summary.write_to(rt.alloc(), &mut output), Ok(()));
-    assert_eq!(&rt; output.taken(), SUMMARY.as_bytes());
-    Ok(())
+    let mut sink = GatherSink::new(rt.alloc());
+    gather(&mut sink, TRACE)?;
+    assert_eq!(rt; sink.taken(), TRACE.as_bytes());
+    see_summary(&rt, rt.alloc(), sink.taken())
 }
 
 #[test]
 fn a_text_without_lines_has_none(rt: HostRuntime) -> Result<(), Fail> {
     let summary = Summary::of(b"")?;
-    assert_eq!(&rt; (summary.tick, summary.syntax), (0, 0));
+    assert_eq!(rt; (summary.tick, summary.syntax), (0, 0));
     Ok(())
 }
 
 #[test]
 fn other_texts_are_no_traces(rt: HostRuntime) {
     for text in NO_TRACES {
-        assert!(&rt; Summary::of(text.as_bytes()).is_err(), "of {text:?}");
+        assert!(rt; Summary::of(text.as_bytes()).is_err(), "of {text:?}");
     }
 }
 
 #[test]
 fn a_write_that_fails_ends_the_summary(rt: HostRuntime) -> Result<(), Fail> {
     let summary = Summary::of(b"tick 0\n")?;
-    let mut failing = Vec::new(rt.alloc());
-    failing.push(2)?;
-    let mut output = MemorySink::new(rt.alloc(), 200, 100, failing)?;
-    assert_eq!(&rt;
+    let mut output = sink(rt.alloc(), 200, 100, Some(2))?;
+    assert_eq!(rt;
         summary.write_to(rt.alloc(), &mut output),
         Err(RunFault::WriteFault)
     );
-    assert_eq!(&rt; output.taken(), b"tick 1\ntimer 0\n".as_slice());
+    assert_eq!(rt; output.taken(), b"tick 1\ntimer 0\n".as_slice());
     Ok(())
 }

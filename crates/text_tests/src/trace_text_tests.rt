@@ -1,3 +1,5 @@
+//! A line of every kind at its bounds, texts that are almost lines, and whole traces.
+
 use crate::traces::TRACES;
 use px_units::{Point, Rect, Size};
 use std::alloc::Global;
@@ -10,12 +12,13 @@ use trace_text::{EventLine, TraceFault, TraceLine, read_line, write_line};
 const REACH: i64 = 1125899906842624;
 
 // No byte of these texts can be left out or added.
-const NO_LINES: [&str; 36] = [
+const NO_LINES: [&str; 37] = [
     "",
     "\n",
     "tick\n",
     "tick 0",
     "tick 0 \n",
+    "tick 0\r\n",
     "tick 0\n\n",
     "tick  0\n",
     " tick 0\n",
@@ -57,11 +60,20 @@ fn comes_back(rt: &impl Abort, alloc: Global, text: &str) -> Result<(), Fail> {
     Ok(())
 }
 
+fn name(rt: &impl Abort, text: &str) -> Name {
+    Name::read(text.as_bytes()).expect(rt, "a name")
+}
+
+fn comes_as(rt: &impl Abort, alloc: Global, text: &str, line: &TraceLine) -> Result<(), Fail> {
+    assert!(rt; read_line(text.as_bytes())? == *line, "{text}");
+    comes_back(rt, alloc, text)
+}
+
 #[test]
 fn lines_come_back(rt: HostRuntime) -> Result<(), Fail> {
-    let top = Name::read(b"top").ok_or("top")?;
-    let a = Name::read(b"a-1_B").ok_or("a-1_B")?;
-    let long = Name::read(b"abcdefghijklmnopqrstuvwxyz012345").ok_or("long")?;
+    let top = name(&rt, "top");
+    let a = name(&rt, "a-1_B");
+    let long = name(&rt, "abcdefghijklmnopqrstuvwxyz012345");
     let rows = [
         ("tick 0\n", TraceLine::Tick(0)),
         ("tick 18446744073709551615\n", TraceLine::Tick(u64::MAX)),
@@ -108,36 +120,39 @@ fn lines_come_back(rt: HostRuntime) -> Result<(), Fail> {
         ),
         ("syntax 1 4294967295\n", TraceLine::Syntax(1, u32::MAX)),
     ];
-    for (text, line) in rows {
-        assert!(rt; read_line(text.as_bytes())? == line, "{text}");
-        comes_back(&rt, rt.alloc(), text)?;
+    for (text, line) in &rows {
+        comes_as(&rt, rt.alloc(), text, line)?;
     }
     Ok(())
 }
 
+/// The corners stand as far out as they may.
+const WIDEST: Rect = Rect {
+    left: -REACH,
+    top: 0,
+    right: 0,
+    bottom: REACH,
+};
+
+/// The right edge lies left of the left one, and the lower above the upper.
+const CROSSED: Rect = Rect {
+    left: 64,
+    top: -32,
+    right: 32,
+    bottom: -95,
+};
+
 #[test]
 fn boxes_come_back(rt: HostRuntime) -> Result<(), Fail> {
-    let a = Name::read(b"a").ok_or("a")?;
-    let o = Name::read(b"o").ok_or("o")?;
-    let widest = Rect {
-        left: -REACH,
-        top: 0,
-        right: 0,
-        bottom: REACH,
-    };
-    let crossed = Rect {
-        left: 64,
-        top: -32,
-        right: 32,
-        bottom: -95,
-    };
+    let a = name(&rt, "a");
+    let o = name(&rt, "o");
     let rows = [
         (
             "resize o a rect -17592186044416 0 17592186044416 17592186044416 border 0.984375 800\n",
             TraceLine::Resize {
                 observer: o,
                 target: a,
-                rect: widest,
+                rect: WIDEST,
                 border: Size {
                     width: 63,
                     height: 51200,
@@ -148,7 +163,7 @@ fn boxes_come_back(rt: HostRuntime) -> Result<(), Fail> {
             "read a 1 -0.5 -0.5 -0.984375 -17592186044416 17592186044416\n",
             TraceLine::Read {
                 target: a,
-                rect: crossed,
+                rect: CROSSED,
                 scroll: Point {
                     left: -REACH,
                     top: REACH,
@@ -164,15 +179,14 @@ fn boxes_come_back(rt: HostRuntime) -> Result<(), Fail> {
                 meets: true,
                 part: 0,
                 whole: u128::MAX,
-                root: crossed,
-                bounds: crossed,
-                cut: widest,
+                root: CROSSED,
+                bounds: CROSSED,
+                cut: WIDEST,
             },
         ),
     ];
-    for (text, line) in rows {
-        assert!(rt; read_line(text.as_bytes())? == line, "{text}");
-        comes_back(&rt, rt.alloc(), text)?;
+    for (text, line) in &rows {
+        comes_as(&rt, rt.alloc(), text, line)?;
     }
     Ok(())
 }
@@ -187,12 +201,17 @@ fn other_texts_are_no_lines(rt: HostRuntime) {
     }
 }
 
+fn trace_comes_back(rt: &impl Abort, alloc: Global, trace: &str) -> Result<(), Fail> {
+    for line in trace.split_inclusive('\n') {
+        comes_back(rt, alloc, line)?;
+    }
+    Ok(())
+}
+
 #[test]
 fn traces_come_back(rt: HostRuntime) -> Result<(), Fail> {
     for trace in TRACES {
-        for line in trace.split_inclusive('\n') {
-            comes_back(&rt, rt.alloc(), line)?;
-        }
+        trace_comes_back(&rt, rt.alloc(), trace)?;
     }
     Ok(())
 }

@@ -1,3 +1,5 @@
+//! Words with what they come to, and digits of numbers.
+
 use std::test::Fail;
 use word_model::{
     is_decimal_with, is_name, length, number, percent, push_decimal, signed_length, signed_percent,
@@ -81,6 +83,7 @@ fn names_begin_with_a_letter(rt: HostRuntime) {
         ("", false),
         ("1a", false),
         ("-a", false),
+        ("_a", false),
         ("a.b", false),
         ("abcdefghijklmnopqrstuvwxyz012345", true),
         ("abcdefghijklmnopqrstuvwxyz0123456", false),
