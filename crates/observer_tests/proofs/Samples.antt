@@ -8,11 +8,10 @@ use Rattle.clip_chain.specs.Chains.{Leads}
 use Rattle.intersection_observer.specs.Seen.{serial_numbers}
 use Rattle.intersection_observer.specs.declared.registration.RegistrationId.{RegistrationId}
 use Rattle.kept_clips.specs.Held.{HeldClips}
-use Rattle.observer_tests.specs.ClipSample.{Sides}
 use Rattle.candidate_index.specs.declared.scene.Standing.{Standing}
 use Rattle.candidate_index.specs.declared.scene.Standing.TheVariants.{Apart, NoBox, Chained}
 use Rattle.candidate_index.specs.Registrations.{IfChained}
-use Rattle.observer_tests.specs.CandidateSample.{sample, AreExact}
+use Rattle.observer_tests.specs.Sample.{Sides, sample, AreExact}
 
 -- clips don't hang on boxes
 

@@ -1,3 +1,2 @@
 pub mod ChainSample
-pub mod ClipSample
-pub mod CandidateSample
+pub mod Sample

@@ -2,24 +2,20 @@
 
 ghost use Rattle.std.specs.Prelude.{◌≡◌, ◌<◌, ◌+◌, length, IfOk, OnOk};
 ghost use Rattle.std.specs.List.{All};
-ghost use Rattle.clip_chain.specs.Ranges.{IsClip, IsBounds};
 ghost use Rattle.clip_chain.specs.Worlds.{element_spot, spot_of_root};
 ghost use Rattle.clip_chain.specs.declared.spot.Spot.{Spot as SpotOf};
-ghost use Rattle.clip_chain.specs.declared.spot.Spot.TheVariants.{View};
 ghost use Rattle.clip_chain.specs.Scenes.{Scene as SceneOf};
 ghost use Rattle.intersection_observer.specs.Places.{IsStanding};
 ghost use Rattle.intersection_observer.specs.Seen.{seen_root};
-ghost use Rattle.kept_clips.specs.Scenes.{DiffersOnlyAt};
-ghost use Rattle.observer_tests.specs.ClipSample.{rect_of};
 ghost use Rattle.candidate_index.specs.Registrations.{observer_of, target_of, serials_at, IsReady};
-ghost use Rattle.observer_tests.specs.CandidateSample.{sample, sample_standing, AreExact};
+ghost use Rattle.observer_tests.specs.Sample.{sample, sample_standing, AreExact};
 
-use candidate_index::{Index, Scene, Standing};
-use clip_chain::{Geometry, Spot, reaches};
+use crate::common::{Page, Sides, change_clip, change_view, node, rect};
+use candidate_index::{Index, Standing};
+use clip_chain::{Spot, reaches};
 use element_tree::NodeId;
 use intersection_observer::{Finding, RegistrationId, Root, WatcherId, Watchers};
 use kept_clips::Clips;
-use px_units::Rect;
 use std::alloc::Global;
 use std::marker::Brand;
 use std::process::Abort;
@@ -27,126 +23,6 @@ use std::sync::ledger::{Blank, Ledger};
 use std::test::Fail;
 use step_count::Steps;
 use thresholds::{Margins, Thresholds};
-
-// Left, top, width and height.
-type Sides = (u32, u32, u32, u32);
-
-// Element 0 stands in the viewport, 1 in it, 2 and 3 in 1, 4 and 5 in 2, 6 and 7 in 3.
-#[derive(Drop)]
-struct Page {
-    clips: [Option<Sides>; 8],
-    boxes: [Sides; 8],
-    standings: [Standing; 8],
-    view: Sides,
-}
-
-impl Geometry for Page {
-    ghost use Rattle.observer_tests.specs.ClipSample.{sample_rank};
-    ghost use Rattle.observer_tests.specs.CandidateSample.{sample};
-
-    ghost scene = { λ it. sample it.clips it.boxes it.view };
-
-    ghost rank = { λ it. sample_rank };
-
-    fn container(&self, of: Spot) -> Option<Spot> {
-        match of {
-            Spot::View(_) => None,
-            Spot::Node(NodeId(0)) => Some(Spot::View(0)),
-            Spot::Node(NodeId(number)) => Some(node(number / 2)),
-        }
-    }
-
-    fn clip(&self, of: Spot) -> Option<Rect> {
-        match of {
-            Spot::View(0) => Some(rect(self.view)),
-            Spot::View(_) => None,
-            Spot::Node(NodeId(number)) => match self.clips.get(number as usize) {
-                Some(Some(sides)) => Some(rect(*sides)),
-                _ => None,
-            },
-        }
-    }
-
-    fn bounds(&self, of: Spot) -> Rect {
-        match of {
-            Spot::View(_) => rect(self.view),
-            Spot::Node(NodeId(number)) => match self.boxes.get(number as usize) {
-                Some(sides) => rect(*sides),
-                None => rect((0, 0, 0, 0)),
-            },
-        }
-    }
-}
-
-impl Scene for Page {
-    ghost use Rattle.observer_tests.specs.CandidateSample.{sample_standing};
-
-    ghost standings = { λ it root. sample_standing it.standings };
-
-    fn standing(&self, _root: Root, target: NodeId) -> Standing {
-        match self.standings.get(target.0 as usize) {
-            Some(standing) => *standing,
-            None => Standing::Apart,
-        }
-    }
-}
-
-impl Page {
-    fn put_clip(&mut self, number: u32, sides: Option<Sides>)
-        ensures { DiffersOnlyAt (element_spot number) (sample self.old.clips self.old.boxes self.old.view) (sample self.new.clips self.new.boxes self.new.view) }
-    {
-        let place = number as usize;
-        if place < 8 {
-            self.clips[place] = sides;
-        }
-    }
-
-    fn put_view(&mut self, sides: Sides)
-        ensures { DiffersOnlyAt (View 0) (sample self.old.clips self.old.boxes self.old.view) (sample self.new.clips self.new.boxes self.new.view) }
-    {
-        self.view = sides;
-    }
-
-    fn put_box(&mut self, number: u32, sides: Sides)
-        ensures clips { self.new.clips ≡ self.old.clips }
-        ensures view { self.new.view ≡ self.old.view }
-    {
-        let place = number as usize;
-        if place < 8 {
-            self.boxes[place] = sides;
-        }
-    }
-
-    fn put_standing(&mut self, number: u32, standing: Standing)
-        ensures clips { self.new.clips ≡ self.old.clips }
-        ensures view { self.new.view ≡ self.old.view }
-    {
-        let place = number as usize;
-        if place < 8 {
-            self.standings[place] = standing;
-        }
-    }
-}
-
-fn rect(sides: Sides) -> Rect
-    ensures value { result ≡ rect_of sides }
-    ensures clip { IsClip result }
-    ensures range { IsBounds result }
-{
-    let (left, top, width, height) = sides;
-    Rect {
-        left: left as i64,
-        top: top as i64,
-        right: left as i64 + width as i64,
-        bottom: top as i64 + height as i64,
-    }
-}
-
-fn node(number: u32) -> Spot
-    ensures { result ≡ element_spot number }
-{
-    Spot::Node(NodeId(number))
-}
 
 const ALL_THREE: [i64; 3] = [0, 5_000, 10_000];
 
@@ -161,22 +37,6 @@ const REGISTRATIONS: [(u64, Spot, Spot); 3] = [
     (1, Spot::View(0), Spot::Node(NodeId(4))),
     (2, Spot::Node(NodeId(1)), Spot::Node(NodeId(6))),
 ];
-
-const PAGE: Page = Page {
-    clips: [None; 8],
-    boxes: [
-        (0, 0, 800, 600),
-        (0, 0, 400, 400),
-        (0, 0, 0, 0),
-        (0, 0, 0, 0),
-        (0, 0, 200, 100),
-        (0, 0, 0, 0),
-        (300, 300, 10, 10),
-        (100, 100, 100, 100),
-    ],
-    standings: [Standing::Chained; 8],
-    view: (64, 64, 800, 600),
-};
 
 // The root rectangle with its margins, and within a narrow viewport; the root of the second observer.
 const WIDE: Sides = (0, 0, 928, 728);
@@ -305,14 +165,6 @@ fn make_two(alloc: Global, watchers: &mut Watchers) -> Result<(), Fail>
     Ok(())
 }
 
-fn touch(rt: &impl Abort, clips: &mut Clips, of: Spot)
-    ensures { (before after : SceneOf) → AreExact before clips.old → DiffersOnlyAt of before after → AreExact after clips.new }
-{
-    assert!(rt; clips.is_added(of));
-    clips.touch(of);
-}
-
-// The spots of an observer's root and of a target.
 fn spot_of_root(root: Root) -> Spot
     ensures { result ≡ spot_of_root (seen_root root) }
 {
@@ -323,6 +175,7 @@ fn spot_of_root(root: Root) -> Spot
     }
 }
 
+// The spots of an observer's root and of a target.
 fn spots_of(watchers: &Watchers, registration: RegistrationId) -> (Spot, Spot)
     requires { IsStanding registration.0 watchers.now.part }
     ensures root { result.0 ≡ spot_of_root (observer_of watchers.now.part registration.0).root }
@@ -446,14 +299,8 @@ fn change(rt: &impl Abort, page: &mut Page, clips: &mut Clips, step: Step)
     ensures { AreExact (sample page.new.clips page.new.boxes page.new.view) clips.new }
 {
     match step {
-        Step::Clip(number, sides) => {
-            page.put_clip(number, sides);
-            touch(rt, clips, Spot::Node(NodeId(number)));
-        }
-        Step::View(sides) => {
-            page.put_view(sides);
-            touch(rt, clips, Spot::View(0));
-        }
+        Step::Clip(number, sides) => change_clip(rt, page, clips, number, sides),
+        Step::View(sides) => change_view(rt, page, clips, sides),
         Step::Box(number, sides) => page.put_box(number, sides),
         Step::Stand(number, standing) => page.put_standing(number, standing),
         _ => {}
@@ -554,8 +401,7 @@ fn see_page(
 {
     make_two(alloc, watchers)?;
     hold_pairs(rt, clips, index)?;
-    let mut page = PAGE;
-    follow(rt, &mut page, clips, index, watchers)
+    follow(rt, &mut Page::new(), clips, index, watchers)
 }
 
 #[test]

@@ -1,14 +1,16 @@
 //! Gathering and deliveries through the calls, as the standard's steps give them.
-ghost use Rattle.std.specs.Prelude.{◌≡◌, ◌≤◌, ◌<◌, ◌+◌, ◌^◌, IfOk};
+ghost use Rattle.std.specs.Prelude.{◌≡◌, ◌≤◌, ◌<◌, ◌+◌, ◌^◌, length};
 
+use crate::common::three_observers;
 use depth_gather::{
     Delivery, ResizeEntry, ResizeList, Sizes, end_delivery, gather, has_skipped, least_depth,
     next_delivery,
 };
 use element_tree::NodeId;
 use px_units::{BoxKind, Point, Size};
-use resize_observer::{ObserveFault, Observers};
-use std::alloc::Global;
+use resize_observer::Observers;
+use std::alloc::{AllocError, Global};
+use std::process::Abort;
 use std::test::Fail;
 
 // Each element is as wide, as high as its number, and as deep as its number.
@@ -139,102 +141,110 @@ fn apply(alloc: Global, observers: &mut Observers, step: Step) -> Result<String,
     }
 }
 
-// Of documents 0, 1 and 0.
-fn three_observers(alloc: Global) -> Result<Observers, ObserveFault>
-    ensures { IfOk result (λ observers. observers.part.given ≡ 0) }
-{
-    let mut observers = Observers::new(alloc, 3, 9);
-    observers.make(0, None)?;
-    observers.make(1, Some(4))?;
-    observers.make(0, Some(0))?;
-    Ok(observers)
-}
+// A step, and what it answers.
+const STEPS: [(Step, &'static str); 24] = [
+    (Step::Observe(0, 0, 1), "changed"),
+    (Step::Observe(0, 0, 3), "changed"),
+    (Step::Observe(0, 1, 2), "changed"),
+    (Step::Observe(1, 0, 5), "changed"),
+    (Step::Gather(0, 0, 64), "3 false"),
+    // A target of another document isn't gathered.
+    (Step::Deliver(1, 0, 64), "none"),
+    (
+        Step::Deliver(0, 0, 64),
+        "0 1:1,1:64x1:64x1@1 3:1,3:64x3:64x3@3 least 1 next 1",
+    ),
+    // The callback observes the target of the next observer anew: its old observation stays active, and is told
+    // with the size of now, which isn't that of the new one.
+    (Step::Observe(0, 1, 2), "changed"),
+    (
+        Step::Deliver(0, 1, 128),
+        "2 2:1,2:128x2:128x2@2 least 2 next 2",
+    ),
+    (Step::Deliver(0, 2, 128), "none"),
+    (Step::Gather(0, 1, 128), "2 true"),
+    (
+        Step::Deliver(0, 0, 128),
+        "0 3:1,3:128x3:128x3@3 least 3 next 1",
+    ),
+    // Unobserving leaves the active list as it is.
+    (Step::Unobserve(0, 1, 2), "changed"),
+    (
+        Step::Deliver(0, 1, 128),
+        "2 2:1,2:128x2:128x2@2 least 2 next 2",
+    ),
+    (Step::Gather(0, 2, 128), "0 true"),
+    (Step::Deliver(0, 0, 128), "none"),
+    // Nothing is deeper than all, and a target at the depth isn't deeper.
+    (Step::Gather(1, 5, 128), "0 true"),
+    (Step::Gather(1, 4, 128), "1 false"),
+    // Disconnecting empties the active list.
+    (Step::Disconnect(1, 0), "changed"),
+    (Step::Deliver(1, 0, 128), "none"),
+    (Step::Gather(0, 0, 128), "1 false"),
+    (
+        Step::Deliver(0, 0, 128),
+        "0 1:1,1:128x1:128x1@1 least 1 next 1",
+    ),
+    (Step::Gather(0, 0, 128), "0 false"),
+    (Step::Gather(2, 0, 128), "0 false"),
+];
 
-#[test]
-fn rounds_follow_the_steps_of_the_standard(rt: HostRuntime) -> Result<(), Fail> {
-    let alloc = rt.alloc();
-    let mut observers = three_observers(alloc)?;
-    let steps = [
-        (Step::Observe(0, 0, 1), "changed"),
-        (Step::Observe(0, 0, 3), "changed"),
-        (Step::Observe(0, 1, 2), "changed"),
-        (Step::Observe(1, 0, 5), "changed"),
-        (Step::Gather(0, 0, 64), "3 false"),
-        // A target of another document isn't gathered.
-        (Step::Deliver(1, 0, 64), "none"),
-        (
-            Step::Deliver(0, 0, 64),
-            "0 1:1,1:64x1:64x1@1 3:1,3:64x3:64x3@3 least 1 next 1",
-        ),
-        // The callback observes the target of the next observer anew: its old observation stays active, and is told
-        // with the size of now, which isn't that of the new one.
-        (Step::Observe(0, 1, 2), "changed"),
-        (
-            Step::Deliver(0, 1, 128),
-            "2 2:1,2:128x2:128x2@2 least 2 next 2",
-        ),
-        (Step::Deliver(0, 2, 128), "none"),
-        (Step::Gather(0, 1, 128), "2 true"),
-        (
-            Step::Deliver(0, 0, 128),
-            "0 3:1,3:128x3:128x3@3 least 3 next 1",
-        ),
-        // Unobserving leaves the active list as it is.
-        (Step::Unobserve(0, 1, 2), "changed"),
-        (
-            Step::Deliver(0, 1, 128),
-            "2 2:1,2:128x2:128x2@2 least 2 next 2",
-        ),
-        (Step::Gather(0, 2, 128), "0 true"),
-        (Step::Deliver(0, 0, 128), "none"),
-        // Nothing is deeper than all, and a target at the depth isn't deeper.
-        (Step::Gather(1, 5, 128), "0 true"),
-        (Step::Gather(1, 4, 128), "1 false"),
-        // Disconnecting empties the active list.
-        (Step::Disconnect(1, 0), "changed"),
-        (Step::Deliver(1, 0, 128), "none"),
-        (Step::Gather(0, 0, 128), "1 false"),
-        (
-            Step::Deliver(0, 0, 128),
-            "0 1:1,1:128x1:128x1@1 least 1 next 1",
-        ),
-        (Step::Gather(0, 0, 128), "0 false"),
-        (Step::Gather(2, 0, 128), "0 false"),
-    ];
-    for (step, want) in steps {
-        let said = apply(alloc, &mut observers, step)?;
+fn see_steps(rt: &impl Abort, alloc: Global, observers: &mut Observers) -> Result<(), Fail>
+    requires { observers.old.part.given ≡ 0 }
+{
+    for (step, want) in STEPS {
+        let said = apply(alloc, observers, step)?;
         assert!(rt; said.as_bytes() == want.as_bytes(), "{said}, want {want}");
     }
     Ok(())
 }
 
 #[test]
-fn the_least_depth_is_that_of_any_entry(rt: HostRuntime) -> Result<(), Fail> {
-    let alloc = rt.alloc();
-    let mut observers = three_observers(alloc)?;
-    let Some(observer) = observers.of_document(1, 0) else {
-        return Ok(());
-    };
-    let mut entries = Vec::new(alloc);
+fn rounds_follow_the_steps_of_the_standard(rt: HostRuntime) -> Result<(), Fail> {
+    let mut observers = three_observers(rt.alloc(), 9)?;
+    see_steps(&rt, rt.alloc(), &mut observers)
+}
+
+fn entry(depth: u32) -> ResizeEntry {
     let wide = Wide { width: 7 };
-    for depth in [4, 2, 9] {
-        entries.push(ResizeEntry {
-            target: NodeId(depth),
-            corner: wide.corner_now(NodeId(depth)),
-            content: wide.size_now(NodeId(depth), BoxKind::Content),
-            border: wide.size_now(NodeId(depth), BoxKind::Border),
-            depth,
-        })?;
+    ResizeEntry {
+        target: NodeId(depth),
+        corner: wide.corner_now(NodeId(depth)),
+        content: wide.size_now(NodeId(depth), BoxKind::Content),
+        border: wide.size_now(NodeId(depth), BoxKind::Border),
+        depth,
     }
-    let delivery = Delivery {
-        observer,
-        entries: ResizeList::new(entries),
-        place: 1,
-    };
+}
+
+fn three_entries(alloc: Global) -> Result<Vec<ResizeEntry>, AllocError> {
+    let mut entries = Vec::new(alloc);
+    entries.push(entry(4))?;
+    entries.push(entry(2))?;
+    entries.push(entry(9))?;
+    Ok(entries)
+}
+
+fn see_delivery(rt: &impl Abort, observers: &mut Observers, delivery: Delivery)
+    requires { delivery.observer.0 < length observers.old.part.made }
+{
     assert!(rt; delivery.entries.as_slice().len() == 3);
     assert_eq!(rt; least_depth(&delivery), 2);
-    end_delivery(&mut observers, delivery.observer);
+    end_delivery(observers, delivery.observer);
     let Delivery { entries, .. } = delivery;
     assert_eq!(rt; entries.into_entries().len(), 3);
+}
+
+#[test]
+fn the_least_depth_is_that_of_any_entry(rt: HostRuntime) -> Result<(), Fail> {
+    let mut observers = three_observers(rt.alloc(), 9)?;
+    let observer = observers.of_document(1, 0).expect(&rt, "an observer");
+    let entries = ResizeList::new(three_entries(rt.alloc())?);
+    let delivery = Delivery {
+        observer,
+        entries,
+        place: 1,
+    };
+    see_delivery(&rt, &mut observers, delivery);
     Ok(())
 }

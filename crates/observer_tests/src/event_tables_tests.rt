@@ -1,11 +1,12 @@
 //! The tables through calls, with answers from the rules.
-ghost use Rattle.std.specs.Prelude.{◌<◌, ◌≤◌, ◌+◌, ◌^◌};
+ghost use Rattle.std.specs.Prelude.{◌≡◌, ◌<◌, ◌≤◌, ◌+◌, ◌^◌};
 
 use element_tree::NodeId;
 use event_tables::{
     Batch, Dispatch, EventTarget, FrameCallbacks, HandlerId, Listeners, TableFault, Task, Tasks,
     Timers,
 };
+use std::process::Abort;
 use std::test::Fail;
 use text_io::{EventKind, Name};
 
@@ -35,6 +36,10 @@ fn found(there: bool) -> Outcome {
     } else {
         Outcome::Nothing
     }
+}
+
+fn name(rt: &impl Abort, word: &[u8]) -> Name {
+    Name::read(word).expect(rt, "a name")
 }
 
 fn called(handler: Option<HandlerId>) -> Outcome {
@@ -69,37 +74,52 @@ fn listen(listeners: &mut Listeners, dispatch: &mut Dispatch, step: Listening) -
     }
 }
 
-#[test]
-fn a_listener_that_is_made_anew_waits_for_the_next_event(rt: HostRuntime) -> Result<(), Fail> {
-    let mut listeners = Listeners::new(rt.alloc(), 3);
+fn add_three(listeners: &mut Listeners) -> Result<(), Fail>
+    requires { listeners.old.part.given < 2 ^ 32 }
+    ensures { listeners.new.part.given ≤ listeners.old.part.given + 3 }
+{
     listeners.add(WINDOW, EventKind::Resize, HandlerId(0))?;
     listeners.add(ELEMENT, EventKind::Resize, HandlerId(1))?;
     listeners.add(WINDOW, EventKind::Resize, HandlerId(2))?;
-    let mut dispatch = listeners.begin_dispatch(WINDOW, EventKind::Resize)?;
-    let steps = [
-        (
-            Listening::Add(WINDOW, EventKind::Resize, 2),
-            Outcome::Nothing,
-        ),
-        (
-            Listening::Add(WINDOW, EventKind::Scroll, 2),
-            Outcome::Refused(TableFault::Limit),
-        ),
-        (
-            Listening::Remove(WINDOW, EventKind::Resize, 0),
-            Outcome::Done,
-        ),
-        (
-            Listening::Remove(WINDOW, EventKind::Resize, 0),
-            Outcome::Nothing,
-        ),
-        (Listening::Add(WINDOW, EventKind::Resize, 0), Outcome::Done),
-        (Listening::Next, Outcome::Called(2)),
-        (Listening::Next, Outcome::Nothing),
-    ];
-    for (step, want) in steps {
-        assert_eq!(rt; listen(&mut listeners, &mut dispatch, step), want);
+    Ok(())
+}
+
+const LISTENING: [(Listening, Outcome); 7] = [
+    (
+        Listening::Add(WINDOW, EventKind::Resize, 2),
+        Outcome::Nothing,
+    ),
+    (
+        Listening::Add(WINDOW, EventKind::Scroll, 2),
+        Outcome::Refused(TableFault::Limit),
+    ),
+    (
+        Listening::Remove(WINDOW, EventKind::Resize, 0),
+        Outcome::Done,
+    ),
+    (
+        Listening::Remove(WINDOW, EventKind::Resize, 0),
+        Outcome::Nothing,
+    ),
+    (Listening::Add(WINDOW, EventKind::Resize, 0), Outcome::Done),
+    (Listening::Next, Outcome::Called(2)),
+    (Listening::Next, Outcome::Nothing),
+];
+
+fn see_listening(rt: &impl Abort, listeners: &mut Listeners, dispatch: &mut Dispatch)
+    requires { listeners.old.part.given ≤ 3 }
+{
+    for (step, want) in LISTENING {
+        assert_eq!(rt; listen(listeners, dispatch, step), want);
     }
+}
+
+#[test]
+fn a_listener_that_is_made_anew_waits_for_the_next_event(rt: HostRuntime) -> Result<(), Fail> {
+    let mut listeners = Listeners::new(rt.alloc(), 3);
+    add_three(&mut listeners)?;
+    let mut dispatch = listeners.begin_dispatch(WINDOW, EventKind::Resize)?;
+    see_listening(&rt, &mut listeners, &mut dispatch);
     Ok(())
 }
 
@@ -127,16 +147,37 @@ fn request(callbacks: &mut FrameCallbacks, batch: &mut Batch, step: Step) -> Out
     }
 }
 
+fn request_three(callbacks: &mut FrameCallbacks, x: Name, y: Name) -> Result<(), Fail>
+    requires { callbacks.old.part.given < 2 ^ 32 }
+    ensures { callbacks.new.part.given ≤ callbacks.old.part.given + 3 }
+{
+    callbacks.request(0, x, HandlerId(4))?;
+    callbacks.request(1, x, HandlerId(5))?;
+    callbacks.request(0, y, HandlerId(6))?;
+    Ok(())
+}
+
+fn see_requests(
+    rt: &impl Abort,
+    callbacks: &mut FrameCallbacks,
+    batch: &mut Batch,
+    steps: [(Step, Outcome); 7],
+)
+    requires { callbacks.old.part.given ≤ 3 }
+{
+    for (step, want) in steps {
+        assert_eq!(rt; request(callbacks, batch, step), want);
+    }
+}
+
 #[test]
 fn a_frame_callback_that_is_requested_anew_waits_for_the_next_update(
     rt: HostRuntime,
 ) -> Result<(), Fail> {
-    let x = Name::read(b"x").ok_or("x")?;
-    let y = Name::read(b"y").ok_or("y")?;
+    let x = name(&rt, b"x");
+    let y = name(&rt, b"y");
     let mut callbacks = FrameCallbacks::new(rt.alloc(), 3);
-    callbacks.request(0, x, HandlerId(4))?;
-    callbacks.request(1, x, HandlerId(5))?;
-    callbacks.request(0, y, HandlerId(6))?;
+    request_three(&mut callbacks, x, y)?;
     let mut batch = callbacks.begin(0)?;
     let steps = [
         (Step::Add(0, x, 5), Outcome::Refused(TableFault::Taken)),
@@ -147,9 +188,7 @@ fn a_frame_callback_that_is_requested_anew_waits_for_the_next_update(
         (Step::Add(0, y, 7), Outcome::Done),
         (Step::Next, Outcome::Nothing),
     ];
-    for (step, want) in steps {
-        assert_eq!(rt; request(&mut callbacks, &mut batch, step), want);
-    }
+    see_requests(&rt, &mut callbacks, &mut batch, steps);
     Ok(())
 }
 
@@ -170,15 +209,31 @@ fn set(timers: &mut Timers, batch: &mut Batch, step: Step) -> Outcome
     }
 }
 
-#[test]
-fn timers_run_by_due_time_and_then_by_making(rt: HostRuntime) -> Result<(), Fail> {
-    let x = Name::read(b"x").ok_or("x")?;
-    let y = Name::read(b"y").ok_or("y")?;
-    let mut timers = Timers::new(rt.alloc(), 4);
+fn add_four(timers: &mut Timers, x: Name, y: Name) -> Result<(), Fail>
+    requires { timers.old.part.given < 2 ^ 32 }
+    ensures { timers.new.part.given ≤ timers.old.part.given + 4 }
+{
     timers.add(0, x, 5, HandlerId(0))?;
     timers.add(1, x, 6, HandlerId(1))?;
     timers.add(0, y, 3, HandlerId(2))?;
     timers.add(1, y, 5, HandlerId(3))?;
+    Ok(())
+}
+
+fn see_timers(rt: &impl Abort, timers: &mut Timers, batch: &mut Batch, steps: [(Step, Outcome); 8])
+    requires { timers.old.part.given ≤ 4 }
+{
+    for (step, want) in steps {
+        assert_eq!(rt; set(timers, batch, step), want);
+    }
+}
+
+#[test]
+fn timers_run_by_due_time_and_then_by_making(rt: HostRuntime) -> Result<(), Fail> {
+    let x = name(&rt, b"x");
+    let y = name(&rt, b"y");
+    let mut timers = Timers::new(rt.alloc(), 4);
+    add_four(&mut timers, x, y)?;
     let mut batch = timers.take_due(5)?;
     let steps = [
         (Step::Add(0, x, 5), Outcome::Refused(TableFault::Taken)),
@@ -190,32 +245,40 @@ fn timers_run_by_due_time_and_then_by_making(rt: HostRuntime) -> Result<(), Fail
         (Step::Remove(1, y), Outcome::Nothing),
         (Step::Next, Outcome::Nothing),
     ];
-    for (step, want) in steps {
-        assert_eq!(rt; set(&mut timers, &mut batch, step), want);
+    see_timers(&rt, &mut timers, &mut batch, steps);
+    Ok(())
+}
+
+// A timer of each of so many documents, all of them due at 7.
+fn add_many(timers: &mut Timers, x: Name) -> Result<(), Fail>
+    requires { timers.old.part.given ≡ 0 }
+{
+    for document in 0..300u32 {
+        timers.add(document, x, 7, HandlerId(document))?;
     }
     Ok(())
+}
+
+fn see_many(rt: &impl Abort, timers: &mut Timers, batch: &mut Batch, x: Name) {
+    for document in 0..300u32 {
+        let called = timers.next(batch);
+        assert_eq!(rt; called, Some((document, x, HandlerId(document))));
+    }
+    assert_eq!(rt; timers.next(batch), None);
+    assert!(rt; !timers.is_there(0, x));
 }
 
 #[test]
 fn timers_that_are_due_at_once_run_in_order_of_setting(rt: HostRuntime) -> Result<(), Fail> {
-    let x = Name::read(b"x").ok_or("x")?;
+    let x = name(&rt, b"x");
     let mut timers = Timers::new(rt.alloc(), 300);
-    for document in 0..300u32 {
-        timers.add(document, x, 7, HandlerId(document))?;
-    }
+    add_many(&mut timers, x)?;
     let mut batch = timers.take_due(7)?;
-    for document in 0..300u32 {
-        let called = timers.next(&mut batch);
-        assert_eq!(rt; called, Some((document, x, HandlerId(document))));
-    }
-    assert_eq!(rt; timers.next(&mut batch), None);
-    assert!(rt; !timers.is_there(0, x));
+    see_many(&rt, &mut timers, &mut batch, x);
     Ok(())
 }
 
-#[test]
-fn a_notify_task_needs_no_room(rt: HostRuntime) -> Result<(), Fail> {
-    let mut tasks = Tasks::new(rt.alloc(), 1);
+fn see_tasks(rt: &impl Abort, tasks: &mut Tasks) -> Result<(), Fail> {
     let posted = Task::Posted(0, HandlerId(3));
     tasks.push(posted)?;
     assert_eq!(rt; tasks.push(posted), Err(TableFault::Limit));
@@ -226,4 +289,10 @@ fn a_notify_task_needs_no_room(rt: HostRuntime) -> Result<(), Fail> {
     assert_eq!(rt; tasks.pop(), Some(posted));
     assert_eq!(rt; tasks.pop(), None);
     Ok(())
+}
+
+#[test]
+fn a_notify_task_needs_no_room(rt: HostRuntime) -> Result<(), Fail> {
+    let mut tasks = Tasks::new(rt.alloc(), 1);
+    see_tasks(&rt, &mut tasks)
 }

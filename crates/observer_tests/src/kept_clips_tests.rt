@@ -1,94 +1,18 @@
 //! Clips of a small page, worked out by hand from its rectangles, and which of them are computed again once spots are touched.
 
-ghost use Rattle.std.specs.Prelude.{◌≡◌, ◌<◌, ℕ};
-ghost use Rattle.clip_chain.specs.Ranges.{IsClip};
-ghost use Rattle.clip_chain.specs.Worlds.{element_spot};
-ghost use Rattle.kept_clips.specs.Chains.{IsExact};
-ghost use Rattle.kept_clips.specs.Scenes.{DiffersOnlyAt};
-ghost use Rattle.observer_tests.specs.ClipSample.{rect_of, sample};
+ghost use Rattle.std.specs.Prelude.{◌≡◌, ◌<◌};
+ghost use Rattle.clip_chain.specs.Scenes.{Scene as SceneOf};
+ghost use Rattle.observer_tests.specs.Sample.{sample, AreExact};
 
-use clip_chain::{Geometry, Spot, reaches};
+use crate::common::{Page, Sides, change_clip, node, rect};
+use clip_chain::{Spot, reaches};
 use element_tree::NodeId;
 use kept_clips::{Clip, Clips};
-use px_units::Rect;
-use std::cell::Cell;
 use std::marker::Brand;
 use std::process::Abort;
 use std::sync::ledger::{Blank, Ledger};
 use std::test::Fail;
 use step_count::Steps;
-
-// Left, top, width and height.
-type Sides = (u32, u32, u32, u32);
-
-// Element 0 stands in the viewport, 1 in it, 2 and 3 in 1, 4 and 5 in 2, 6 and 7 in 3.
-#[derive(Drop)]
-struct Page {
-    clips: [Option<Sides>; 8],
-    // How often a clip was asked for.
-    asked: Cell<u32>,
-}
-
-impl Geometry for Page {
-    ghost use Rattle.observer_tests.specs.ClipSample.{sample, sample_rank};
-
-    ghost scene = { λ it. sample it.clips };
-
-    ghost rank = { λ it. sample_rank };
-
-    fn container(&self, of: Spot) -> Option<Spot> {
-        match of {
-            Spot::View(_) => None,
-            Spot::Node(NodeId(0)) => Some(Spot::View(0)),
-            Spot::Node(NodeId(number)) => Some(node(number / 2)),
-        }
-    }
-
-    fn clip(&self, of: Spot) -> Option<Rect> {
-        self.asked.set(self.asked.get().saturating_add(1));
-        match of {
-            Spot::View(_) => None,
-            Spot::Node(NodeId(number)) => match self.clips.get(number as usize) {
-                Some(Some(sides)) => Some(rect(*sides)),
-                _ => None,
-            },
-        }
-    }
-
-    fn bounds(&self, _of: Spot) -> Rect {
-        rect((0, 0, 0, 0))
-    }
-}
-
-impl Page {
-    fn put(&mut self, number: u32, sides: Option<Sides>)
-        ensures { DiffersOnlyAt (element_spot number) (sample self.old.clips) (sample self.new.clips) }
-    {
-        let place = number as usize;
-        if place < 8 {
-            self.clips[place] = sides;
-        }
-    }
-}
-
-fn rect(sides: Sides) -> Rect
-    ensures value { result ≡ rect_of sides }
-    ensures range { IsClip result }
-{
-    let (left, top, width, height) = sides;
-    Rect {
-        left: left as i64,
-        top: top as i64,
-        right: left as i64 + width as i64,
-        bottom: top as i64 + height as i64,
-    }
-}
-
-fn node(number: u32) -> Spot
-    ensures { result ≡ element_spot number }
-{
-    Spot::Node(NodeId(number))
-}
 
 #[derive(Clone, Copy, Debug)]
 enum Want {
@@ -159,16 +83,6 @@ fn wanted(want: Want) -> Clip {
     }
 }
 
-fn put(rt: &impl Abort, page: &mut Page, clips: &mut Clips, number: u32, sides: Option<Sides>)
-    requires { (pair : ℕ) → IsExact (sample page.old.clips) clips.old pair }
-    ensures { (pair : ℕ) → IsExact (sample page.new.clips) clips.new pair }
-{
-    let of = Spot::Node(NodeId(number));
-    page.put(number, sides);
-    assert!(rt; clips.is_added(of));
-    clips.touch(of);
-}
-
 fn ask<L: Ledger>(
     blank: Blank,
     rt: &impl Abort,
@@ -179,8 +93,8 @@ fn ask<L: Ledger>(
     requires name { blank.name ≡ L.name }
     requires parts { blank.parts ≡ L.parts }
     requires one_part { 0 < blank.parts }
-    requires exact { (pair : ℕ) → IsExact (sample page.now.clips) clips.old pair }
-    ensures { (pair : ℕ) → IsExact (sample page.now.clips) clips.new pair }
+    requires exact { AreExact (sample page.now.clips page.now.boxes page.now.view) clips.old }
+    ensures { AreExact (sample page.now.clips page.now.boxes page.now.view) clips.new }
 {
     let pair = clips.pair(number).expect(rt, "a pair");
     assert!(rt; reaches(page, pair.of, pair.root));
@@ -189,11 +103,11 @@ fn ask<L: Ledger>(
 }
 
 fn follow(rt: &impl Abort, page: &mut Page, clips: &mut Clips, step: Step)
-    requires { (pair : ℕ) → IsExact (sample page.old.clips) clips.old pair }
-    ensures { (pair : ℕ) → IsExact (sample page.new.clips) clips.new pair }
+    requires { AreExact (sample page.old.clips page.old.boxes page.old.view) clips.old }
+    ensures { AreExact (sample page.new.clips page.new.boxes page.new.view) clips.new }
 {
     match step {
-        Step::Put(number, sides) => put(rt, page, clips, number, sides),
+        Step::Put(number, sides) => change_clip(rt, page, clips, number, sides),
         Step::Ask(number, want, count) => {
             page.asked.set(0);
             let clip = ask::<Brand>(Blank::new(1), rt, page, clips, number);
@@ -202,37 +116,55 @@ fn follow(rt: &impl Abort, page: &mut Page, clips: &mut Clips, step: Step)
     }
 }
 
-#[test]
-fn clips_are_computed_again_where_their_chains_are_touched(rt: HostRuntime) -> Result<(), Fail> {
-    let mut page = Page {
-        clips: [None; 8],
-        asked: Cell::new(0),
-    };
-    let mut clips = Clips::new(rt.alloc());
+// Each step of a page whose clips are all exact.
+fn follow_all(rt: &impl Abort, page: &mut Page, clips: &mut Clips)
+    requires { AreExact (sample page.old.clips page.old.boxes page.old.view) clips.old }
+{
+    for step in STEPS {
+        follow(rt, page, clips, step);
+    }
+}
+
+fn hold_pairs(rt: &impl Abort, clips: &mut Clips) -> Result<(), Fail>
+    ensures { (scene : SceneOf) → AreExact scene clips.old → AreExact scene clips.new }
+{
     clips.add(node(7))?;
     for (number, root, of) in PAIRS {
         assert!(rt; clips.pair(number).is_none());
         clips.hold(number, root, of)?;
     }
-    for step in STEPS {
-        follow(&rt, &mut page, &mut clips, step);
-    }
+    Ok(())
+}
+
+#[test]
+fn clips_are_computed_again_where_their_chains_are_touched(rt: HostRuntime) -> Result<(), Fail> {
+    let mut clips = Clips::new(rt.alloc());
+    hold_pairs(&rt, &mut clips)?;
+    follow_all(&rt, &mut Page::new(), &mut clips);
+    Ok(())
+}
+
+fn see_adding(rt: &impl Abort, clips: &mut Clips) -> Result<(), Fail> {
+    assert!(rt; !clips.is_added(Spot::View(0)));
+    clips.add(Spot::View(1))?;
+    assert!(rt; clips.is_added(Spot::View(0)));
+    assert!(rt; !clips.is_added(node(1)));
+    clips.touch(Spot::View(0));
+    Ok(())
+}
+
+fn see_holding(rt: &impl Abort, clips: &mut Clips) -> Result<(), Fail> {
+    assert_eq!(rt; clips.pair(3), None);
+    clips.hold(3, Spot::View(0), node(1))?;
+    assert!(rt; clips.pair(3).is_some());
+    clips.release(3);
+    assert_eq!(rt; clips.pair(3), None);
     Ok(())
 }
 
 #[test]
 fn pairs_are_held_and_let_go(rt: HostRuntime) -> Result<(), Fail> {
-    let node = Spot::Node(NodeId(1));
     let mut clips = Clips::new(rt.alloc());
-    assert!(rt; !clips.is_added(Spot::View(0)));
-    clips.add(Spot::View(1))?;
-    assert!(rt; clips.is_added(Spot::View(0)));
-    assert!(rt; !clips.is_added(node));
-    clips.touch(Spot::View(0));
-    assert_eq!(rt; clips.pair(3), None);
-    clips.hold(3, Spot::View(0), node)?;
-    assert!(rt; clips.pair(3).is_some());
-    clips.release(3);
-    assert_eq!(rt; clips.pair(3), None);
-    Ok(())
+    see_adding(&rt, &mut clips)?;
+    see_holding(&rt, &mut clips)
 }

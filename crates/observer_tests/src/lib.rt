@@ -6,6 +6,8 @@ mod candidate_index_tests;
 #[cfg(test)]
 mod clip_chain_tests;
 #[cfg(test)]
+mod common;
+#[cfg(test)]
 mod depth_gather_tests;
 #[cfg(test)]
 mod event_tables_tests;

@@ -1,6 +1,7 @@
 //! The lists of observations through the calls, as the standard's steps give them.
-ghost use Rattle.std.specs.Prelude.{◌≡◌, ◌<◌, ◌≤◌, ◌+◌, ◌^◌, IfOk};
+ghost use Rattle.std.specs.Prelude.{◌≡◌, ◌<◌, ◌≤◌, ◌+◌, ◌^◌};
 
+use crate::common::three_observers;
 use element_tree::NodeId;
 use px_units::{BoxKind, Size};
 use resize_observer::{Observation, ObserveFault, Observers};
@@ -99,150 +100,169 @@ fn lists(
     Ok(format!(in alloc; "{targets} |{active} |{skipped}")?)
 }
 
-// Of documents 0, 1 and 0, as many as there may be.
-fn three_observers(alloc: Global) -> Result<Observers, ObserveFault>
-    ensures { IfOk result (λ observers. observers.part.given ≡ 0) }
+// Of a document and a place among its observers: the step, what it answers, and the lists then.
+type Row = (u32, usize, Step, &'static str, &'static str);
+
+const STEPS: [Row; 21] = [
+    (
+        0,
+        0,
+        Step::Observe(5, BoxKind::Content),
+        "Ok",
+        " 0:5=0x0 | |",
+    ),
+    (
+        0,
+        0,
+        Step::Observe(6, BoxKind::Border),
+        "Ok",
+        " 0:5=0x0 1:6b=0x0 | |",
+    ),
+    (
+        0,
+        0,
+        Step::Gathered(0, true),
+        "Ok",
+        " 0:5=0x0 1:6b=0x0 | 0:5=0x0 |",
+    ),
+    (
+        0,
+        0,
+        Step::Gathered(1, false),
+        "Ok",
+        " 0:5=0x0 1:6b=0x0 | 0:5=0x0 | 1:6b=0x0",
+    ),
+    (
+        0,
+        0,
+        Step::Observe(5, BoxKind::Border),
+        "Ok",
+        " 1:6b=0x0 2:5b=0x0 | 0:5=0x0 | 1:6b=0x0",
+    ),
+    (
+        0,
+        0,
+        Step::Report(0, 70, 80),
+        "Ok",
+        " 1:6b=0x0 2:5b=0x0 | 0:5=0x0 | 1:6b=0x0",
+    ),
+    (
+        0,
+        0,
+        Step::Report(1, 10, 20),
+        "Ok",
+        " 1:6b=10x20 2:5b=0x0 | 0:5=0x0 | 1:6b=0x0",
+    ),
+    (
+        1,
+        0,
+        Step::Observe(5, BoxKind::Content),
+        "Ok",
+        " 3:5=0x0 | |",
+    ),
+    (0, 1, Step::Observe(6, BoxKind::Content), "Limit", " | |"),
+    (
+        0,
+        0,
+        Step::Observe(6, BoxKind::Content),
+        "Ok",
+        " 2:5b=0x0 4:6=0x0 | 0:5=0x0 | 1:6b=0x0",
+    ),
+    (
+        0,
+        0,
+        Step::Unobserve(5),
+        "Ok",
+        " 4:6=0x0 | 0:5=0x0 | 1:6b=0x0",
+    ),
+    (
+        0,
+        0,
+        Step::Unobserve(9),
+        "Ok",
+        " 4:6=0x0 | 0:5=0x0 | 1:6b=0x0",
+    ),
+    (
+        0,
+        1,
+        Step::Observe(6, BoxKind::Content),
+        "Ok",
+        " 5:6=0x0 | |",
+    ),
+    (0, 1, Step::Gathered(0, true), "Ok", " 5:6=0x0 | 5:6=0x0 |"),
+    (0, 1, Step::ClearActive, "Ok", " 5:6=0x0 | |"),
+    (0, 0, Step::Disconnect, "Ok", " | | 1:6b=0x0"),
+    (
+        0,
+        0,
+        Step::Observe(7, BoxKind::Content),
+        "Ok",
+        " 6:7=0x0 | | 1:6b=0x0",
+    ),
+    (0, 0, Step::BeginGather, "Ok", " 6:7=0x0 | |"),
+    (0, 2, Step::Unobserve(7), "None", ""),
+    (1, 1, Step::Unobserve(7), "None", ""),
+    (2, 0, Step::Unobserve(7), "None", ""),
+];
+
+fn see_step(rt: &impl Abort, alloc: Global, observers: &mut Observers, row: Row) -> Result<(), Fail>
+    requires { observers.old.part.given < 2 ^ 32 }
+    ensures { observers.new.part.given ≤ observers.old.part.given + 1 }
 {
-    let mut observers = Observers::new(alloc, 3, 3);
-    observers.make(0, None)?;
-    observers.make(1, Some(4))?;
-    observers.make(0, Some(0))?;
-    Ok(observers)
+    let (document, place, step, answered, want) = row;
+    let said = apply(rt, observers, document, place, step);
+    assert_eq!(rt; said, answered, "before {want}");
+    let now = lists(alloc, observers, document, place)?;
+    assert!(rt; now.as_bytes() == want.as_bytes(), "want {want}");
+    Ok(())
 }
 
-#[test]
-fn steps_give_the_lists_of_observations(rt: HostRuntime) -> Result<(), Fail> {
-    let alloc = rt.alloc();
-    let mut observers = three_observers(alloc)?;
-    let steps = [
-        (
-            0,
-            0,
-            Step::Observe(5, BoxKind::Content),
-            "Ok",
-            " 0:5=0x0 | |",
-        ),
-        (
-            0,
-            0,
-            Step::Observe(6, BoxKind::Border),
-            "Ok",
-            " 0:5=0x0 1:6b=0x0 | |",
-        ),
-        (
-            0,
-            0,
-            Step::Gathered(0, true),
-            "Ok",
-            " 0:5=0x0 1:6b=0x0 | 0:5=0x0 |",
-        ),
-        (
-            0,
-            0,
-            Step::Gathered(1, false),
-            "Ok",
-            " 0:5=0x0 1:6b=0x0 | 0:5=0x0 | 1:6b=0x0",
-        ),
-        (
-            0,
-            0,
-            Step::Observe(5, BoxKind::Border),
-            "Ok",
-            " 1:6b=0x0 2:5b=0x0 | 0:5=0x0 | 1:6b=0x0",
-        ),
-        (
-            0,
-            0,
-            Step::Report(0, 70, 80),
-            "Ok",
-            " 1:6b=0x0 2:5b=0x0 | 0:5=0x0 | 1:6b=0x0",
-        ),
-        (
-            0,
-            0,
-            Step::Report(1, 10, 20),
-            "Ok",
-            " 1:6b=10x20 2:5b=0x0 | 0:5=0x0 | 1:6b=0x0",
-        ),
-        (
-            1,
-            0,
-            Step::Observe(5, BoxKind::Content),
-            "Ok",
-            " 3:5=0x0 | |",
-        ),
-        (0, 1, Step::Observe(6, BoxKind::Content), "Limit", " | |"),
-        (
-            0,
-            0,
-            Step::Observe(6, BoxKind::Content),
-            "Ok",
-            " 2:5b=0x0 4:6=0x0 | 0:5=0x0 | 1:6b=0x0",
-        ),
-        (
-            0,
-            0,
-            Step::Unobserve(5),
-            "Ok",
-            " 4:6=0x0 | 0:5=0x0 | 1:6b=0x0",
-        ),
-        (
-            0,
-            0,
-            Step::Unobserve(9),
-            "Ok",
-            " 4:6=0x0 | 0:5=0x0 | 1:6b=0x0",
-        ),
-        (
-            0,
-            1,
-            Step::Observe(6, BoxKind::Content),
-            "Ok",
-            " 5:6=0x0 | |",
-        ),
-        (0, 1, Step::Gathered(0, true), "Ok", " 5:6=0x0 | 5:6=0x0 |"),
-        (0, 1, Step::ClearActive, "Ok", " 5:6=0x0 | |"),
-        (0, 0, Step::Disconnect, "Ok", " | | 1:6b=0x0"),
-        (
-            0,
-            0,
-            Step::Observe(7, BoxKind::Content),
-            "Ok",
-            " 6:7=0x0 | | 1:6b=0x0",
-        ),
-        (0, 0, Step::BeginGather, "Ok", " 6:7=0x0 | |"),
-        (0, 2, Step::Unobserve(7), "None", ""),
-        (1, 1, Step::Unobserve(7), "None", ""),
-        (2, 0, Step::Unobserve(7), "None", ""),
-    ];
-    for (document, place, step, answered, want) in steps {
-        let said = apply(&rt, &mut observers, document, place, step);
-        assert_eq!(rt; said, answered, "before {want}");
-        let now = lists(alloc, &observers, document, place)?;
-        assert!(rt; now.as_bytes() == want.as_bytes(), "want {want}");
+fn see_steps(rt: &impl Abort, alloc: Global, observers: &mut Observers) -> Result<(), Fail>
+    requires { observers.old.part.given ≡ 0 }
+{
+    for row in STEPS {
+        see_step(rt, alloc, observers, row)?;
     }
     Ok(())
 }
 
 #[test]
+fn steps_give_the_lists_of_observations(rt: HostRuntime) -> Result<(), Fail> {
+    let mut observers = three_observers(rt.alloc(), 3)?;
+    see_steps(&rt, rt.alloc(), &mut observers)
+}
+
+// The observer of a document at a place, by its number and its handler.
+const PLACES: [(u32, usize, Option<(u32, Option<u32>)>); 6] = [
+    (0, 0, Some((0, None))),
+    (0, 1, Some((2, Some(0)))),
+    (0, 2, None),
+    (1, 0, Some((1, Some(4)))),
+    (1, 1, None),
+    (2, 0, None),
+];
+
+fn see_place(
+    rt: &impl Abort,
+    observers: &Observers,
+    document: u32,
+    place: usize,
+    want: Option<(u32, Option<u32>)>,
+) {
+    let Some(observer) = observers.of_document(document, place) else {
+        assert!(rt; want.is_none());
+        return;
+    };
+    assert_eq!(rt; Some((observer.0, observers.handler(observer))), want);
+    assert_eq!(rt; observers.document(observer), document);
+}
+
+#[test]
 fn observers_are_found_by_their_documents(rt: HostRuntime) -> Result<(), Fail> {
-    let mut observers = three_observers(rt.alloc())?;
-    assert_eq!(rt; observers.make(0, None), Err(ObserveFault::Limit));
-    let rows = [
-        (0, 0, Some((0, None))),
-        (0, 1, Some((2, Some(0)))),
-        (0, 2, None),
-        (1, 0, Some((1, Some(4)))),
-        (1, 1, None),
-        (2, 0, None),
-    ];
-    for (document, place, want) in rows {
-        let Some(observer) = observers.of_document(document, place) else {
-            assert!(rt; want.is_none());
-            continue;
-        };
-        assert_eq!(rt; Some((observer.0, observers.handler(observer))), want);
-        assert_eq!(rt; observers.document(observer), document);
+    let mut observers = three_observers(rt.alloc(), 3)?;
+    assert_eq!(&rt; observers.make(0, None), Err(ObserveFault::Limit));
+    for (document, place, want) in PLACES {
+        see_place(&rt, &observers, document, place, want);
     }
     Ok(())
 }

@@ -2,6 +2,8 @@
 #![tactic(auto)]
 
 #[cfg(test)]
+mod common;
+#[cfg(test)]
 mod intersection_update_tests;
 #[cfg(test)]
 mod page_boxes_tests;

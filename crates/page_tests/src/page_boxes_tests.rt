@@ -1,16 +1,16 @@
 //! Readings of a page with the numbers that an independent program for the same rules gives.
 
-ghost use Rattle.std.specs.Prelude.{◌≡◌, ◌==◌, ◌<◌, ◌≤◌, ℕ, IfOk, cond, length};
-ghost use Rattle.kept_layout.specs.Slots.{slot_in, no_slot};
+ghost use Rattle.std.specs.Prelude.{◌≡◌, ◌<◌};
 ghost use Rattle.page_tree.specs.Items.{IsKind, IsNatural};
 ghost use Rattle.page_boxes.specs.Kept.{AreKept};
 
+use crate::common::{all_boxes, any_name, empty_slots, make_elements, put, remove, set};
 use block_layout::ItemKind;
 use element_tree::NodeId;
 use kept_layout::Kept;
 use page_boxes::{
     Reading, border_rect, content_origin, corner_of, has_box, is_scroller, nothing_kept_fits,
-    offset_of, padding_rect, range_of, read, refresh, refresh_for, size_of,
+    offset_of, padding_rect, range_of, read, refresh_for, size_of,
 };
 use page_tree::{Container, PageTree};
 use px_units::{BoxKind, Point, Rect, Size};
@@ -21,8 +21,6 @@ use std::process::Abort;
 use std::sync::ledger::{Blank, Ledger};
 use std::test::Fail;
 use step_count::Steps;
-use style_values::Declaration;
-use text_io::Name;
 
 /// Parents with their children in order: the root element 0 has 1 to 3; the image 4 and the block 6 are in 3.
 const PLACES: [(u32, u32); 7] = [(0, 1), (0, 2), (0, 3), (3, 4), (4, 5), (3, 6), (6, 7)];
@@ -94,23 +92,6 @@ const STEPS: [Step; 26] = [
     Step::Read(7, (0, 0, 0, 0)),
 ];
 
-fn set(rt: &impl Abort, page: &mut PageTree, node: u32, property: &str, value: &str) {
-    assert!(rt; page.holds(NodeId(node)));
-    match Declaration::read(property.as_bytes(), value.as_bytes()) {
-        Ok(declaration) => page.set(NodeId(node), declaration),
-        Err(_) => assert!(rt; false, "{property}: {value}"),
-    }
-}
-
-fn put(rt: &impl Abort, page: &mut PageTree, container: Container, node: u32) {
-    assert!(rt; page.holds(NodeId(node)));
-    match container {
-        Container::Element(parent) => assert!(rt; page.holds(parent)),
-        Container::Document(document) => assert!(rt; document < page.document_count()),
-    }
-    assert!(rt; page.place(container, NodeId(node), None).is_ok());
-}
-
 fn kind_of(node: u32) -> ItemKind
     ensures { IsKind result }
 {
@@ -124,10 +105,12 @@ fn kind_of(node: u32) -> ItemKind
     }
 }
 
-fn make_elements(rt: &impl Abort, page: &mut PageTree) -> Result<(), Fail> {
-    let name = Name::read(b"a").expect(rt, "a name");
+fn make_with_image(rt: &impl Abort, page: &mut PageTree) -> Result<(), Fail> {
     for number in 0..8 {
-        assert_eq!(rt; page.make(0, name, kind_of(number))?, NodeId(number));
+        assert_eq!(rt;
+            page.make(0, any_name(rt), kind_of(number))?,
+            NodeId(number)
+        );
     }
     Ok(())
 }
@@ -146,42 +129,9 @@ fn place_and_style(rt: &impl Abort, page: &mut PageTree) {
 
 fn page_of(rt: &impl Abort, alloc: Global) -> Result<PageTree, Fail> {
     let mut page = PageTree::new(alloc)?;
-    make_elements(rt, &mut page)?;
+    make_with_image(rt, &mut page)?;
     place_and_style(rt, &mut page);
     Ok(page)
-}
-
-// A slot for each element of a page of 8, with nothing held.
-fn empty_slots(alloc: Global) -> Result<Kept, Fail>
-    ensures room { IfOk result (λ kept. 8 ≤ length kept) }
-    ensures empty { IfOk result (λ kept. (n : ℕ) → slot_in kept n ≡ no_slot) }
-{
-    let mut boxes = Kept::new(alloc);
-    boxes.add(NodeId(7))?;
-    Ok(boxes)
-}
-
-fn renew<L: Ledger>(blank: Blank, boxes: &mut Kept, page: &PageTree, viewport: Size)
-    requires name { blank.name ≡ L.name }
-    requires parts { blank.parts ≡ L.parts }
-    requires one_part { 0 < blank.parts }
-    requires kept { AreKept page.now.tree boxes.old }
-{
-    let mut steps = Steps::<L>::new(blank);
-    refresh(boxes, page, viewport, &mut steps);
-}
-
-fn all_boxes(
-    rt: &impl Abort,
-    alloc: Global,
-    page: &PageTree,
-    viewport: Size,
-) -> Result<Kept, Fail> {
-    assert!(rt; !page.holds(NodeId(8)));
-    let mut boxes = empty_slots(alloc)?;
-    nothing_kept_fits();
-    renew::<Brand>(Blank::new(1), &mut boxes, page, viewport);
-    Ok(boxes)
 }
 
 fn reading(edges: (i64, i64, i64, i64), scrolled: i64) -> Reading {
@@ -262,10 +212,7 @@ fn change(rt: &impl Abort, page: &mut PageTree, is_narrow: &mut bool, step: Step
     match step {
         Step::Narrow => *is_narrow = true,
         Step::Show(node) => set(rt, page, node, "display", "block"),
-        Step::Remove(node) => {
-            assert!(rt; page.holds(NodeId(node)));
-            page.remove(NodeId(node));
-        }
+        Step::Remove(node) => remove(rt, page, node),
         _ => {}
     }
 }
@@ -472,19 +419,6 @@ const INNER: ScrollTarget = ScrollTarget::Node(NodeId(5));
 /// The nested viewport.
 const OUTER: ScrollTarget = ScrollTarget::Document(1);
 
-fn make_nested(rt: &impl Abort, page: &mut PageTree) -> Result<(), Fail> {
-    let name = Name::read(b"a").expect(rt, "a name");
-    for number in 0..8 {
-        if number == 1 || number == 3 {
-            let made = page.make_frame(0, name)?;
-            assert_eq!(rt; made.0, NodeId(number));
-        } else {
-            assert_eq!(rt; page.make(0, name, ItemKind::Block)?, NodeId(number));
-        }
-    }
-    Ok(())
-}
-
 fn place_and_style_nested(rt: &impl Abort, page: &mut PageTree) {
     for (container, node) in NESTED {
         put(rt, page, container, node);
@@ -496,7 +430,7 @@ fn place_and_style_nested(rt: &impl Abort, page: &mut PageTree) {
 
 fn nested_page(rt: &impl Abort, alloc: Global) -> Result<PageTree, Fail> {
     let mut page = PageTree::new(alloc)?;
-    make_nested(rt, &mut page)?;
+    make_elements(rt, &mut page, 8, &[1, 3])?;
     place_and_style_nested(rt, &mut page);
     Ok(page)
 }
@@ -551,7 +485,7 @@ fn read_some(
 ) -> Result<Reading, Fail>
     requires { IsNatural viewport }
 {
-    assert!(rt; !page.holds(NodeId(8)));
+    assert!(rt; !page.holds(NodeId(9)));
     let container = Container::Element(NodeId(node));
     let mut some = empty_slots(alloc)?;
     nothing_kept_fits();

@@ -1,29 +1,22 @@
 //! Findings on a page with scrollers and a frame, with the numbers that an independent program for the same rules gives.
 
-ghost use Rattle.std.specs.Prelude.{◌≡◌, ◌<◌, ◌≤◌, length, IfOk};
+ghost use Rattle.std.specs.Prelude.{◌<◌, length};
 ghost use Rattle.page_boxes.specs.Fresh.{IsFresh};
-ghost use Rattle.page_boxes.specs.Kept.{AreKept};
 ghost use Rattle.page_boxes.specs.Pages.{seen_size};
 
-use block_layout::ItemKind;
+use crate::common::{SCREEN, all_boxes, make_elements, put, remove, set, watch};
 use clip_chain::{Spot, reaches};
 use element_tree::NodeId;
 use intersection_observer::{Finding, Root, WatcherId, Watchers};
 use kept_layout::Kept;
-use page_boxes::{nothing_kept_fits, range_of, refresh};
+use page_boxes::range_of;
 use page_geometry::{PageGeometry, find};
 use page_tree::{Container, PageTree};
-use px_units::{Point, Rect, Size};
+use px_units::{Point, Rect};
 use scrolling::{ScrollTarget, Scrolls};
 use std::alloc::Global;
-use std::marker::Brand;
 use std::process::Abort;
-use std::sync::ledger::{Blank, Ledger};
 use std::test::Fail;
-use step_count::Steps;
-use style_values::Declaration;
-use text_io::Name;
-use thresholds::{Margins, Thresholds};
 
 /// Where elements are put: 1 is the frame of document 1. All are made in `top`.
 const PLACES: [(Container, u32); 9] = [
@@ -74,6 +67,8 @@ const WATCHED: [(Root, &str); 6] = [
     (Root::Node(NodeId(2)), ""),
     (Root::Node(NodeId(0)), "-10%"),
 ];
+
+const THRESHOLDS: [i64; 4] = [0, 2500, 5000, 10000];
 
 /// The left, top, right and bottom edges.
 type Edges = (i64, i64, i64, i64);
@@ -361,36 +356,6 @@ const STEPS: [Step; 32] = [
     ),
 ];
 
-fn set(rt: &impl Abort, page: &mut PageTree, node: u32, property: &str, value: &str) {
-    assert!(rt; page.holds(NodeId(node)));
-    match Declaration::read(property.as_bytes(), value.as_bytes()) {
-        Ok(declaration) => page.set(NodeId(node), declaration),
-        Err(_) => assert!(rt; false, "{property}: {value}"),
-    }
-}
-
-fn put(rt: &impl Abort, page: &mut PageTree, container: Container, node: u32) {
-    assert!(rt; page.holds(NodeId(node)));
-    match container {
-        Container::Element(parent) => assert!(rt; page.holds(parent)),
-        Container::Document(document) => assert!(rt; document < page.document_count()),
-    }
-    assert!(rt; page.place(container, NodeId(node), None).is_ok());
-}
-
-fn make_elements(rt: &impl Abort, page: &mut PageTree) -> Result<(), Fail> {
-    let name = Name::read(b"a").expect(rt, "a name");
-    for number in 0..9 {
-        if number == 1 {
-            let made = page.make_frame(0, name)?;
-            assert_eq!(rt; made.0, NodeId(number));
-        } else {
-            assert_eq!(rt; page.make(0, name, ItemKind::Block)?, NodeId(number));
-        }
-    }
-    Ok(())
-}
-
 fn place_and_style(rt: &impl Abort, page: &mut PageTree) {
     for (container, node) in PLACES {
         put(rt, page, container, node);
@@ -403,21 +368,14 @@ fn place_and_style(rt: &impl Abort, page: &mut PageTree) {
 
 fn page_of(rt: &impl Abort, alloc: Global) -> Result<PageTree, Fail> {
     let mut page = PageTree::new(alloc)?;
-    make_elements(rt, &mut page)?;
+    make_elements(rt, &mut page, 9, &[1])?;
     place_and_style(rt, &mut page);
     Ok(page)
 }
 
-fn watch(alloc: Global, watchers: &mut Watchers, root: Root, margins: &str) -> Result<(), Fail> {
-    let margins = Margins::parse(margins.as_bytes())?;
-    let thresholds = Thresholds::new(alloc, &[0, 2500, 5000, 10000])?;
-    watchers.make(0, None, root, margins, thresholds)?;
-    Ok(())
-}
-
 fn watch_all(alloc: Global, watchers: &mut Watchers) -> Result<(), Fail> {
     for (root, margins) in WATCHED {
-        watch(alloc, watchers, root, margins)?;
+        watch(alloc, watchers, 0, root, margins, &THRESHOLDS)?;
     }
     Ok(())
 }
@@ -426,33 +384,6 @@ fn watchers_of(alloc: Global) -> Result<Watchers, Fail> {
     let mut watchers = Watchers::new(alloc, 6, 6);
     watch_all(alloc, &mut watchers)?;
     Ok(watchers)
-}
-
-const SCREEN: Size = Size {
-    width: 51200,
-    height: 38400,
-};
-
-fn renew<L: Ledger>(blank: Blank, boxes: &mut Kept, page: &PageTree, viewport: Size)
-    requires name { blank.name ≡ L.name }
-    requires parts { blank.parts ≡ L.parts }
-    requires one_part { 0 < blank.parts }
-    requires kept { AreKept page.now.tree boxes.old }
-    ensures { IsFresh page.now.tree (seen_size viewport) boxes.new }
-{
-    let mut steps = Steps::<L>::new(blank);
-    refresh(boxes, page, viewport, &mut steps);
-}
-
-fn all_boxes(rt: &impl Abort, alloc: Global, page: &PageTree, viewport: Size) -> Result<Kept, Fail>
-    ensures { IfOk result (λ boxes. IsFresh page.now.tree (seen_size viewport) boxes) }
-{
-    assert!(rt; !page.holds(NodeId(9)));
-    let mut boxes = Kept::new(alloc);
-    boxes.add(NodeId(8))?;
-    nothing_kept_fits();
-    renew::<Brand>(Blank::new(1), &mut boxes, page, viewport);
-    Ok(boxes)
 }
 
 fn scroll(
@@ -541,10 +472,7 @@ fn take_step(
     match step {
         Step::Scroll(node, down) => scroll(rt, alloc, page, scrolls, node, down)?,
         Step::Set(node, property, value) => set(rt, page, node, property, value),
-        Step::Remove(node) => {
-            assert!(rt; page.holds(NodeId(node)));
-            page.remove(NodeId(node));
-        }
+        Step::Remove(node) => remove(rt, page, node),
         Step::Find(watcher, target, counts, areas, edges) => {
             let it = found(rt, alloc, page, scrolls, watchers, watcher, target)?;
             compare(rt, it, counts, areas, edges);

@@ -4,20 +4,18 @@
 ghost use Rattle.std.specs.Prelude.{◌≡◌, ◌<◌};
 ghost use Rattle.page_tree.specs.Items.{IsKind, IsNatural};
 
+use crate::common::{any_name, declaration};
 use block_layout::ItemKind;
 use element_tree::NodeId;
 use page_boxes::size_of;
 use page_layout::LaidTree;
 use page_tree::{Axis, Container};
 use px_units::{BoxKind, Px, Size};
-use std::alloc::Global;
 use std::marker::Brand;
 use std::process::Abort;
 use std::sync::ledger::{Blank, Ledger};
 use std::test::Fail;
 use step_count::Steps;
-use style_values::Declaration;
-use text_io::Name;
 
 /// The image 2 is in the block 1, and the block 5 in the block 4, which is the root element of the document in the frame 3.
 const PLACES: [(Container, u32); 6] = [
@@ -343,10 +341,7 @@ fn kind_of(node: u32) -> ItemKind
 
 fn set(rt: &impl Abort, laid: &mut LaidTree, node: u32, property: &str, value: &str) {
     assert!(rt; laid.page().holds(NodeId(node)));
-    match Declaration::read(property.as_bytes(), value.as_bytes()) {
-        Ok(declaration) => laid.set(NodeId(node), declaration),
-        Err(_) => assert!(rt; false, "{property}: {value}"),
-    }
+    laid.set(NodeId(node), declaration(rt, property, value));
 }
 
 fn place(
@@ -367,23 +362,30 @@ fn place(
     assert!(rt; laid.place(container, NodeId(node), sibling).is_ok());
 }
 
-fn page_of(rt: &impl Abort, alloc: Global) -> Result<LaidTree, Fail> {
-    let mut laid = LaidTree::new(alloc)?;
-    let name = Name::read(b"a").expect(rt, "a name");
-    for number in 0..6 {
-        if number == 3 {
-            assert_eq!(rt; laid.make_frame(0, name)?, (NodeId(number), 1));
-        } else {
-            assert_eq!(rt; laid.make(0, name, kind_of(number))?, NodeId(number));
-        }
+fn make_one(rt: &impl Abort, laid: &mut LaidTree, number: u32) -> Result<(), Fail> {
+    let name = any_name(rt);
+    if number == 3 {
+        assert_eq!(rt; laid.make_frame(0, name)?, (NodeId(number), 1));
+    } else {
+        assert_eq!(rt; laid.make(0, name, kind_of(number))?, NodeId(number));
     }
+    Ok(())
+}
+
+fn make_six(rt: &impl Abort, laid: &mut LaidTree) -> Result<(), Fail> {
+    for number in 0..6 {
+        make_one(rt, laid, number)?;
+    }
+    Ok(())
+}
+
+fn place_and_style(rt: &impl Abort, laid: &mut LaidTree) {
     for (container, node) in PLACES {
-        place(rt, &mut laid, container, node, None);
+        place(rt, laid, container, node, None);
     }
     for (node, property, value) in STYLES {
-        set(rt, &mut laid, node, property, value);
+        set(rt, laid, node, property, value);
     }
-    Ok(laid)
 }
 
 fn apply(rt: &impl Abort, laid: &mut LaidTree, change: Change) {
@@ -437,21 +439,32 @@ fn check(rt: &impl Abort, laid: &LaidTree, node: u32, sides: (i64, i64)) {
     assert_eq!(rt; found, Size { width, height }, "{node}");
 }
 
-#[test]
-fn boxes_are_exact_after_each_change(rt: HostRuntime) -> Result<(), Fail> {
-    let mut laid = page_of(&rt, rt.alloc())?;
+// What a reading of one element rests on is computed first, and then all.
+fn see_sizes(rt: &impl Abort, laid: &mut LaidTree, viewport: Size, sizes: [(i64, i64); 6]) {
+    lay_out(laid, viewport, Some(4));
+    check(rt, laid, 4, sizes[4]);
+    lay_out(laid, viewport, None);
+    for node in 0..6u32 {
+        check(rt, laid, node, sizes[node as usize]);
+    }
+}
+
+fn see_changes(rt: &impl Abort, laid: &mut LaidTree) {
     let mut viewport = WIDE;
     for (change, sizes) in CHANGES {
         if let Change::Narrow = change {
             viewport = NARROW;
         }
-        apply(&rt, &mut laid, change);
-        lay_out(&mut laid, viewport, Some(4));
-        check(&rt, &laid, 4, sizes[4]);
-        lay_out(&mut laid, viewport, None);
-        for node in 0..6 {
-            check(&rt, &laid, node, sizes[node as usize]);
-        }
+        apply(rt, laid, change);
+        see_sizes(rt, laid, viewport, sizes);
     }
+}
+
+#[test]
+fn boxes_are_exact_after_each_change(rt: HostRuntime) -> Result<(), Fail> {
+    let mut laid = LaidTree::new(rt.alloc())?;
+    make_six(&rt, &mut laid)?;
+    place_and_style(&rt, &mut laid);
+    see_changes(&rt, &mut laid);
     Ok(())
 }

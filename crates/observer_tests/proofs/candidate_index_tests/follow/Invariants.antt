@@ -1,4 +1,4 @@
-use Rattle.observer_tests.specs.CandidateSample.{sample, AreExact}
+use Rattle.observer_tests.specs.Sample.{sample, AreExact}
 use Rattle.observer_tests.proofs.candidate_index_tests.follow.Given as goal
 
 -- a clip that is handed out as it is held is exact

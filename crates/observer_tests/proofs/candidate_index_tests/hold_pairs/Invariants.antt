@@ -1,5 +1,5 @@
 use Rattle.clip_chain.specs.Scenes.{Scene}
-use Rattle.observer_tests.specs.CandidateSample.{AreExact}
+use Rattle.observer_tests.specs.Sample.{AreExact}
 use Rattle.observer_tests.proofs.candidate_index_tests.hold_pairs.Given as goal
 
 -- no pair's clip is computed here

@@ -1,6 +1,6 @@
 use Rattle.std.proofs.Common.{◌<◌, ◌≤◌, length, arith}
 use Rattle.candidate_index.specs.Registrations.{serials_at, IsReady}
-use Rattle.observer_tests.specs.CandidateSample.{sample, sample_standing}
+use Rattle.observer_tests.specs.Sample.{sample, sample_standing}
 use Rattle.observer_tests.proofs.Samples.{one_more, all_of}
 use Rattle.observer_tests.proofs.candidate_index_tests.see_pairs.Goals as goal
 

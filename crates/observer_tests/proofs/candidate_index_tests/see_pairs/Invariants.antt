@@ -1,7 +1,7 @@
 use Rattle.std.proofs.Common.{ℕ, ◌<◌, get_or}
 use Rattle.intersection_observer.specs.declared.registration.RegistrationId.{RegistrationId}
 use Rattle.candidate_index.specs.Registrations.{IsReady}
-use Rattle.observer_tests.specs.CandidateSample.{sample, sample_standing}
+use Rattle.observer_tests.specs.Sample.{sample, sample_standing}
 use Rattle.observer_tests.proofs.candidate_index_tests.see_pairs.Given as goal
 
 -- those looked at so far have their pairs

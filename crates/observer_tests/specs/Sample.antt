@@ -1,15 +1,36 @@
--- A page to try registrations on, with the containers of the page that clips are tried on. It has the top document alone.
-use Rattle.std.specs.Prelude.{ℕ, cond, ◌==◌, List, Option, Some, None, option_map}
+-- A page to try clips and registrations on. It has the top document alone: its first element stands in the viewport, each other
+-- one in that of half its number.
+use Rattle.std.specs.Prelude.{ℕ, suc, ◌+◌, ◌/◌, cond, ◌==◌, pos, List, Option, Some, None, option_map}
 use Rattle.std.specs.List.{slice_index_or}
 use Rattle.px_units.specs.declared.Rect.{Rect}
 use Rattle.clip_chain.specs.declared.spot.Spot.{Spot}
 use Rattle.clip_chain.specs.declared.spot.Spot.TheVariants.{Node, View}
 use Rattle.clip_chain.specs.Scenes.{Scene}
-use Rattle.observer_tests.specs.ClipSample.{Sides, rect_of, sample_container}
+use Rattle.clip_chain.specs.Worlds.{element_spot}
 use Rattle.kept_clips.specs.Held.{HeldClips}
 use Rattle.kept_clips.specs.Chains.{IsExact}
 use Rattle.candidate_index.specs.declared.scene.Standing.{Standing}
 use Rattle.candidate_index.specs.declared.scene.Standing.TheVariants.{Apart}
+
+-- left, top, width and height
+abbrev pub Sides : Type 0
+Sides = ℕ × ℕ × ℕ × ℕ
+
+abbrev pub rect_of : Sides → Rect
+rect_of (left, top, width, height) = record {
+  left = pos left;
+  top = pos top;
+  right = pos (left + width);
+  bottom = pos (top + height);
+}
+
+abbrev pub sample_container : Spot → Option Spot
+sample_container (View document) = None
+sample_container (Node node) = cond (node.0 == 0) (Some (View 0)) (Some (element_spot (node.0 / 2)))
+
+abbrev pub sample_rank : Spot → ℕ
+sample_rank (View document) = 0
+sample_rank (Node node) = suc node.0
 
 abbrev pub sample_clip : List (Option Sides) → Sides → Spot → Option Rect
 sample_clip clips view (View document) = cond (document == 0) (Some (rect_of view)) None
