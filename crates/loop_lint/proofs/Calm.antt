@@ -88,7 +88,7 @@ more-calm : (document : ℕ) (counts : Counts) (tree after : Tree) (screen : Scr
     counts.documents ≡ length tree.documents → IsTreeIn counts tree → IsMore tree after → IsCalm document tree screen it after screen it
 more-calm document counts tree after screen it elements documents within more = record {
   elements = more.elements;
-  sizes = λ n is kind. size-same counts tree after elements documents within more size n (subst (λ (count : ℕ). n < count) (sym elements) is) kind;
+  sizes = λ n is kind. size-same counts tree after elements documents within more screen n (subst (λ (count : ℕ). n < count) (sym elements) is) kind;
   active = more.active document;
   targets = still-targets document it;
 }

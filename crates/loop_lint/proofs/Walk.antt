@@ -22,6 +22,7 @@ use Rattle.page_model.specs.FrameCallbacks.{frame_callbacks_of, frame_callback_s
 use Rattle.page_model.specs.Timers.{due_timers, timer_stands, timer_taken}
 use Rattle.page_model.specs.Tasks.{has_tasks, is_notifying, without_notifying}
 use Rattle.page_model.specs.IntersectionObserving.{without_queue}
+use Rattle.page_model.specs.Shown.{shown_of}
 use Rattle.page_model.specs.Findings.{finding}
 use Rattle.page_model.specs.Steps.{Step, Did, Threw, Met}
 use Rattle.page_model.specs.Operands.{NoEntry}

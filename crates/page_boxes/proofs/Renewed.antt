@@ -76,7 +76,7 @@ module _ (tree : Tree) (screen : Screen) where
 module _ (tree : Tree) (framed : AreFramed tree) (screen : Screen) (document : ℕ) (active : is_active tree document ≡ true)
     (found : Option (ℕ × ℕ)) (shown : found ≡ framed_size tree screen (view_of tree screen) (document_at tree document).frame) where
   view_here : view_of tree screen document ≡ view_with (document_at tree document).root found
-  view_here = view_is tree framed size document active ∙ ap (view_with (document_at tree document).root) (sym shown)
+  view_here = view_is tree framed screen document active ∙ ap (view_with (document_at tree document).root) (sym shown)
 
   pub rootless_here : (view_with (document_at tree document).root found).root ≡ None → (view_of tree screen document).root ≡ None
   rootless_here none = ap (λ (view : View). view.root) view_here ∙ none
@@ -103,7 +103,7 @@ module _ (tree : Tree) (framed : AreFramed tree) (screen : Screen) (document : �
   shown_view = view_with (Some root) (Some pair)
 
   pub view_shown : view_of tree screen document ≡ shown_view
-  view_shown = view_here tree framed size document active (Some pair) shown ∙ ap (λ found. view_with found (Some pair)) rooted
+  view_shown = view_here tree framed screen document active (Some pair) shown ∙ ap (λ found. view_with found (Some pair)) rooted
 
   module _ (inputs : Inputs) (from : inputs ≡ record { width = pair.0; height = Some (pair.1) }) where
     inputs_shown : (n : ℕ) → inputs_in at root inputs n ≡ inputs_in_view (nodes_of tree) (view_of tree screen document) n

@@ -113,7 +113,7 @@ module _ (tree : Tree) (framed : AreFramed tree) (screen : Screen) (kept : List 
   settled_in : (document n : ℕ) (inputs : Inputs) → inputs_in_view at (view_of tree screen document) n ≡ Some inputs → IsSettled (slot_in kept n) inputs
   settled_in document n inputs is =
       settled_so (slot_in kept n) inputs
-      (ap (λ found. is_due_at found (slot_in kept n)) (sym (in_own tree framed size document n inputs (ap (λ at. inputs_in_view at (view_of tree screen document) n) same ∙ is)))
+      (ap (λ found. is_due_at found (slot_in kept n)) (sym (in_own tree framed screen document n inputs (ap (λ at. inputs_in_view at (view_of tree screen document) n) same ∙ is)))
       ∙ none n)
 
   around : (document n : ℕ) (inputs : Inputs) → inputs_in_view at (view_of tree screen document) n ≡ Some inputs → (p : ℕ) → (at n).parent ≡ Some p → Around at (slot_in kept) p n inputs

@@ -2,7 +2,7 @@
 
 ghost use Rattle.std.specs.Prelude.{◌≡◌, ◌<◌, ◌≤◌, Some, None, IfSome, length, option_map};
 ghost use Rattle.element_tree.specs.Links.{number};
-ghost use Rattle.page_model.specs.World.{Screen};
+ghost use Rattle.page_model.specs.World.{Screen as WorldScreen};
 ghost use Rattle.page_model.specs.Lookups.{element_at, document_at};
 ghost use Rattle.page_model.specs.PageBoxes.{pair_of, view_up, view_with, view_of, framed_size, viewport_of, has_box, box_of};
 ghost use Rattle.block_layout.specs.Seen.{as_size};
@@ -28,7 +28,7 @@ const NO_SIZE: Size = Size {
 
 // The root element that a document shows, none where it isn't Active or its frame has no box. So many frames are looked at.
 fn shown_root(page: &PageTree, document: u32, high: u32) -> Option<NodeId>
-    ensures { (screen : Screen) → option_map number result ≡ (view_up high page.now.tree screen document).root }
+    ensures { (screen : WorldScreen) → option_map number result ≡ (view_up high page.now.tree screen document).root }
 {
     if high == 0 {
         return None;
@@ -53,7 +53,7 @@ fn shown_root(page: &PageTree, document: u32, high: u32) -> Option<NodeId>
 ///
 /// It calls itself once for each frame around the element.
 pub fn has_box(page: &PageTree, node: NodeId) -> bool
-    ensures { (screen : Screen) → result ≡ has_box page.now.tree screen node.0 }
+    ensures { (screen : WorldScreen) → result ≡ has_box page.now.tree screen node.0 }
 {
     if !page.holds(node) {
         return false;
@@ -64,7 +64,7 @@ pub fn has_box(page: &PageTree, node: NodeId) -> bool
 
 // The box of an element, none where it has none.
 pub(crate) fn own_box(page: &PageTree, boxes: &Kept, node: NodeId) -> Option<BoxOf>
-    ensures { (screen : Screen) → IsFreshIn page.now.tree screen boxes.now (element_at page.now.tree node.0).document →
+    ensures { (screen : WorldScreen) → IsFreshIn page.now.tree screen boxes.now (element_at page.now.tree node.0).document →
         result ≡ box_of page.now.tree screen node.0 }
 {
     if has_box(page, node) {
@@ -127,9 +127,9 @@ pub(crate) fn shown_in(
     }
 }
 
-/// The size of a document's viewport (CSSOM View, 4: `innerWidth`, `innerHeight`): for `top` the one that is handed in, and for
+/// The size of a document's viewport (CSSOM View, 4: `innerWidth`, `innerHeight`): for `top` that of its screen, and for
 /// another document the content box of its frame, 0 by 0 where that has no box. It is so where the boxes of the document around it
-/// are held as they are now with this size. No memory.
+/// are held as they are now with this screen. No memory.
 pub fn viewport_of(page: &PageTree, boxes: &Kept, screen: Screen, document: u32) -> Size
     requires { IsNatural screen.size }
     ensures value { IsFreshAbove page.now.tree (seen_screen screen) boxes.now document →

@@ -4,7 +4,7 @@
 ghost use Rattle.std.specs.Prelude.{◌≡◌, ◌<◌, ℕ, true, Some, None, IfSome, length, is_some};
 ghost use Rattle.layout_model.specs.Points.{IsWithin};
 ghost use Rattle.layout_model.specs.Reach.{View, inputs_in_view, offset_in_force, range_of_view};
-ghost use Rattle.page_model.specs.World.{Screen, ScrolledElement, ScrolledDocument};
+ghost use Rattle.page_model.specs.World.{Screen as WorldScreen, ScrolledElement, ScrolledDocument};
 ghost use Rattle.page_model.specs.Lookups.{element_at, no_extent};
 ghost use Rattle.page_model.specs.Scrolls.{position_of, lesser_extent};
 ghost use Rattle.page_model.specs.PageBoxes.{pair_of, extent_of, view_with, stored_in, scroll_offset};
@@ -85,7 +85,7 @@ pub(crate) fn boxed_offset<P: Styled>(
 
 // The scroll offset in force of an element.
 fn element_offset(page: &PageTree, boxes: &Kept, scrolls: &Scrolls, node: NodeId) -> Point
-    ensures value { (screen : Screen) → IsFreshIn page.now.tree screen boxes.now (element_at page.now.tree node.0).document →
+    ensures value { (screen : WorldScreen) → IsFreshIn page.now.tree screen boxes.now (element_at page.now.tree node.0).document →
         result ≡ as_point (pair_of (scroll_offset page.now.tree screen scrolls.now (ScrolledElement node.0))) }
     ensures range { IsOffset result }
 {
@@ -141,7 +141,7 @@ pub(crate) fn view_offset(
 
 /// The scroll offset in force of an element or of a document's viewport (CSSOM View, 4 to 6: `scrollTop`, `scrollY`): on each
 /// axis the lesser of the stored position and of how far it can be scrolled. It is so where the boxes of the page are held as
-/// they are now with this size of the viewport of `top`. No memory.
+/// they are now with this screen of `top`. No memory.
 pub fn offset_of(
     page: &PageTree,
     boxes: &Kept,

@@ -130,7 +130,7 @@ fn lay_out_up<L: Ledger>(
     }
 }
 
-/// Computes what is due of the page's boxes, with this size of the viewport of `top`: each box of the page is then held as it is
+/// Computes what is due of the page's boxes, with this screen of `top`: each box of the page is then held as it is
 /// now, and none is due. What is kept fits the page before, and afterwards. It takes at most one step for each box that was due,
 /// sets no mark, drops no box, and takes no memory.
 pub fn refresh<L: Ledger>(boxes: &mut Kept, page: &PageTree, screen: Screen, steps: &mut Steps<L>)
@@ -169,7 +169,7 @@ fn refresh_document<L: Ledger>(
     lay_out_up(boxes, page, screen, document, count, &mut laid_out, steps);
 }
 
-/// Computes what is due of the boxes that a reading of an element or a document rests on, with this size of the viewport of `top`:
+/// Computes what is due of the boxes that a reading of an element or a document rests on, with this screen of `top`:
 /// those of one document and of the documents around it are then held as they are now. What is kept fits the page before, and
 /// afterwards. It takes at most one step for each box that was due, and no memory.
 pub fn refresh_for<L: Ledger>(

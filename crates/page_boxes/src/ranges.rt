@@ -6,7 +6,7 @@ ghost use Rattle.layout_model.specs.Clips.{is_visible, is_clip, is_scroll_contai
 ghost use Rattle.layout_model.specs.Points.{minus, capped};
 ghost use Rattle.layout_model.specs.Reach.{View, inputs_in_view, range_of as range_in, range_of_view};
 ghost use Rattle.style_values.specs.Seen.{seen_style};
-ghost use Rattle.page_model.specs.World.{Screen, ScrolledElement, ScrolledDocument};
+ghost use Rattle.page_model.specs.World.{Screen as WorldScreen, ScrolledElement, ScrolledDocument};
 ghost use Rattle.page_model.specs.Lookups.{element_at};
 ghost use Rattle.page_model.specs.PageBoxes.{pair_of, view_with, is_scroller, scroll_range};
 ghost use Rattle.scrolling.specs.Ranges.{IsLength, IsRange};
@@ -60,7 +60,7 @@ pub(crate) fn is_scroll_container<P: Styled>(tree: &Tree<P>, node: NodeId) -> bo
 
 /// Whether an element is a scroll container with a box (CSS Overflow 3, 3.1). A root element is none.
 pub fn is_scroller(page: &PageTree, node: NodeId) -> bool
-    ensures { (screen : Screen) → result ≡ is_scroller page.now.tree screen node.0 }
+    ensures { (screen : WorldScreen) → result ≡ is_scroller page.now.tree screen node.0 }
 {
     has_box(page, node) && is_scroll_container(page.tree(), node)
 }
@@ -103,7 +103,7 @@ pub(crate) fn boxed_range<P: Styled>(tree: &Tree<P>, boxes: &Kept, node: NodeId)
 
 // The scrolling range of an element.
 fn element_range(page: &PageTree, boxes: &Kept, node: NodeId) -> Size
-    ensures value { (screen : Screen) → IsFreshIn page.now.tree screen boxes.now (element_at page.now.tree node.0).document →
+    ensures value { (screen : WorldScreen) → IsFreshIn page.now.tree screen boxes.now (element_at page.now.tree node.0).document →
         result ≡ as_size (pair_of (scroll_range page.now.tree screen (ScrolledElement node.0))) }
     ensures range { IsRange result }
 {
@@ -142,7 +142,7 @@ fn view_range(page: &PageTree, boxes: &Kept, screen: Screen, document: u32) -> S
 /// How far an element or the viewport of a document can be scrolled (CSS Overflow 3, 2.2; CSSOM View: scrolling area): how
 /// far its content reaches beyond its padding box, or beyond the viewport. It is 0 by 0 for an element that isn't a scroll
 /// container with a box, and for what isn't there. It is so where the boxes of the page are held as they are now with this
-/// size of the viewport of `top`. No memory.
+/// screen of `top`. No memory.
 ///
 /// It calls itself once a level of the tree below.
 pub fn range_of(page: &PageTree, boxes: &Kept, screen: Screen, target: ScrollTarget) -> Size

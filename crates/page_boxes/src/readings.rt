@@ -4,7 +4,7 @@ ghost use Rattle.std.specs.Prelude.{◌≡◌, List, ◌+ℤ◌, ◌-ℤ◌};
 ghost use Rattle.px_units.specs.Rects.{InReach, RectInReach};
 ghost use Rattle.px_units.specs.declared.BoxKind.TheVariants.{Border};
 ghost use Rattle.script_model.specs.TraceLines.{ReadLine};
-ghost use Rattle.page_model.specs.World.{Screen, Name};
+ghost use Rattle.page_model.specs.World.{Screen as WorldScreen, Name};
 ghost use Rattle.page_model.specs.Lookups.{element_at};
 ghost use Rattle.page_model.specs.Chains.{padding_box_at, content_corner_at};
 ghost use Rattle.page_model.specs.PageBoxes.{pair_of, box_of, size_of, corner_of, place_of};
@@ -52,7 +52,7 @@ const NO_SIZE: Size = Size {
 /// The size of an element's content box or border box (CSS 2.2, 8.1), 0 by 0 without a box. It is so where the boxes of
 /// its document are held as they are now. No memory.
 pub fn size_of(page: &PageTree, boxes: &Kept, node: NodeId, kind: BoxKind) -> Size
-    ensures value { (screen : Screen) → IsFreshIn page.now.tree screen boxes.now (element_at page.now.tree node.0).document →
+    ensures value { (screen : WorldScreen) → IsFreshIn page.now.tree screen boxes.now (element_at page.now.tree node.0).document →
         result ≡ as_size (pair_of (size_of page.now.tree screen node.0 kind)) }
     ensures width { IsSpan result.width }
     ensures height { IsSpan result.height }
@@ -66,7 +66,7 @@ pub fn size_of(page: &PageTree, boxes: &Kept, node: NodeId, kind: BoxKind) -> Si
 /// The corner of an element's content in its padding box, which is its left and top paddings (Resize Observer, 3.2:
 /// `contentRect`), zeros without a box. It is so where the boxes of its document are held as they are now. No memory.
 pub fn corner_of(page: &PageTree, boxes: &Kept, node: NodeId) -> Point
-    ensures value { (screen : Screen) → IsFreshIn page.now.tree screen boxes.now (element_at page.now.tree node.0).document →
+    ensures value { (screen : WorldScreen) → IsFreshIn page.now.tree screen boxes.now (element_at page.now.tree node.0).document →
         result ≡ point_at (corner_of page.now.tree screen node.0) }
     ensures left { IsSpan result.left }
     ensures top { IsSpan result.top }
@@ -78,7 +78,7 @@ pub fn corner_of(page: &PageTree, boxes: &Kept, node: NodeId) -> Point
 }
 
 /// The place of an element's border box in the viewport of its document (CSSOM View, 6: `getBoundingClientRect`), zeros
-/// without a box. It is so where the boxes of the page are held as they are now with this size of the viewport of `top`. No
+/// without a box. It is so where the boxes of the page are held as they are now with this screen of `top`. No
 /// memory.
 ///
 /// It goes up to the root by the boxes of the element and its ancestors alone, with the heights that are kept above each; what is
@@ -152,7 +152,7 @@ fn rect_at(corner: Point, size: Size) -> Rect
 }
 
 /// The border box of an element in the viewport of its document (CSSOM View, 6: `getBoundingClientRect`), all zeros without a
-/// box. It is so where the boxes of the page are held as they are now with this size of the viewport of `top`. No memory.
+/// box. It is so where the boxes of the page are held as they are now with this screen of `top`. No memory.
 pub fn border_rect(
     page: &PageTree,
     boxes: &Kept,
@@ -174,7 +174,7 @@ pub fn border_rect(
 }
 
 /// The padding box of an element in the viewport of its document (CSS 2.2, 8.1), all zeros without a box. It is so where the
-/// boxes of the page are held as they are now with this size of the viewport of `top`. No memory.
+/// boxes of the page are held as they are now with this screen of `top`. No memory.
 pub fn padding_rect(
     page: &PageTree,
     boxes: &Kept,
@@ -198,7 +198,7 @@ pub fn padding_rect(
 
 /// The corner of the content box of an element in the viewport of its document (CSS 2.2, 8.1), which for a frame is where the
 /// viewport of the document in it begins; zeros without a box. It is so where the boxes of the page are held as they are now
-/// with this size of the viewport of `top`. No memory.
+/// with this screen of `top`. No memory.
 pub fn content_origin(
     page: &PageTree,
     boxes: &Kept,
@@ -221,7 +221,7 @@ pub fn content_origin(
 
 /// What the command `read` shows: an element's border box in the viewport of its document, all zeros without a box, or the
 /// viewport of the document; and the scroll offset in force. It is so where the boxes of the page are held as they are now
-/// with this size of the viewport of `top`. No memory.
+/// with this screen of `top`. No memory.
 pub fn read(
     page: &PageTree,
     boxes: &Kept,

@@ -70,7 +70,7 @@ module _ (tree : Tree) (screen : Screen) where
           by_box : (b : Bool) → has_box tree screen frame ≡ b → has_box tree screen frame ≡ true
           by_box true there = there
           by_box false none = absurd (shows
-              (view_is tree framed size (element_at tree n).document active
+              (view_is tree framed screen (element_at tree n).document active
               ∙ ap (λ f. view_with (document_at tree (element_at tree n).document).root (framed_size tree screen (view_of tree screen) f)) is
               ∙ ap (λ (found : Option Inputs). view_with (document_at tree (element_at tree n).document).root (option_map (λ inputs. content_size (box_in (nodes_of tree) inputs frame)) found))
               (none_found (inputs_in_view (nodes_of tree) (view_of tree screen (element_at tree frame).document) frame) (sym (boxed_in frame) ∙ none))))

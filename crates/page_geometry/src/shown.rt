@@ -30,7 +30,7 @@ use px_units::{BoxKind, Point, Rect, Size};
 use scrolling::{ScrollTarget, Scrolls};
 use std::marker::Model;
 
-/// A page whose boxes are all held as they are now, with its scroll positions and the size of the viewport of `top`. A contract sees
+/// A page whose boxes are all held as they are now, with its scroll positions and the screen of `top`. A contract sees
 /// what boxes, places and findings are read from. All that is read takes no memory.
 #[derive(Drop)]
 pub struct Shown<'a> {
@@ -55,7 +55,7 @@ impl<'a> Model for Shown<'a> {
 }
 
 impl<'a> Shown<'a> {
-    /// What is shown of a page with its boxes, which are held as they are with this size of the viewport of `top`.
+    /// What is shown of a page with its boxes, which are held as they are with this screen of `top`.
     pub fn new(
         page: &'a PageTree,
         boxes: &'a Kept,

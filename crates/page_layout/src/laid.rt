@@ -5,7 +5,7 @@ ghost use Rattle.std.specs.Option.{ForSome};
 ghost use Rattle.style_values.specs.Ranges.{IsAllowed};
 ghost use Rattle.style_values.specs.Seen.{seen_declaration};
 ghost use Rattle.element_tree.specs.Links.{number};
-ghost use Rattle.page_model.specs.World.{Screen};
+ghost use Rattle.page_model.specs.World.{Screen as WorldScreen};
 ghost use Rattle.page_model.specs.Outcome.{opening_world};
 ghost use Rattle.page_model.specs.Documents.{nodes_of, removed};
 ghost use Rattle.page_model.specs.Steps.{Did, Threw};
@@ -84,12 +84,12 @@ impl LaidTree {
     }
 
     /// The boxes that are held by now. What is held for an element that has a box and isn't due is that box as it is now, whatever
-    /// size the viewport of `top` has; so where none is due, all boxes are held as they are now.
+    /// screen `top` is shown on; so where none is due, all boxes are held as they are now.
     pub fn boxes(&self) -> &Kept
         ensures value { result.now ≡ self.now.kept }
         ensures kept { AreKept self.now.elements.tree self.now.kept }
-        ensures exact { (screen : Screen) → IsExact self.now.elements.tree screen self.now.kept }
-        ensures fresh { (screen : Screen) → ((n : ℕ) → is_due self.now.elements.tree screen self.now.kept n ≡ false) →
+        ensures exact { (screen : WorldScreen) → IsExact self.now.elements.tree screen self.now.kept }
+        ensures fresh { (screen : WorldScreen) → ((n : ℕ) → is_due self.now.elements.tree screen self.now.kept n ≡ false) →
             IsFresh self.now.elements.tree screen self.now.kept }
     {
         undue_boxes_are_exact(&self.boxes, &self.page);
@@ -276,7 +276,7 @@ impl LaidTree {
         Ok(())
     }
 
-    /// Computes what is due of the boxes, with this size of the viewport of `top`: each box of the page is then held as it is now,
+    /// Computes what is due of the boxes, with this screen of `top`: each box of the page is then held as it is now,
     /// and none is due. It takes at most one step for each box that was due, sets no mark, drops no box, and takes no memory.
     pub fn refresh<L: Ledger>(&mut self, screen: Screen, steps: &mut Steps<L>)
         ensures fresh { IsFresh self.new.elements.tree (seen_screen screen) self.new.kept }
@@ -288,8 +288,8 @@ impl LaidTree {
         refresh(&mut self.boxes, &self.page, screen, steps);
     }
 
-    /// Computes what is due of the boxes that a reading of an element or a document rests on, with this size of the viewport of
-    /// `top`: those of one document and of the documents around it are then held as they are now. It takes at most one step for
+    /// Computes what is due of the boxes that a reading of an element or a document rests on, with this screen of `top`:
+    /// those of one document and of the documents around it are then held as they are now. It takes at most one step for
     /// each box that was due, and no memory.
     pub fn refresh_for<L: Ledger>(
         &mut self,
