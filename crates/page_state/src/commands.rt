@@ -25,7 +25,6 @@ use crate::names::Thing;
 use crate::page::Page;
 use block_layout::ItemKind;
 use element_tree::NodeId;
-use page_boxes::Screen;
 use page_tree::{Container, PlaceFault};
 use px_units::{Px, Size};
 use script_syntax::{Axis, Operand};
@@ -39,7 +38,7 @@ impl Page {
         ensures done { (present : Present) → Keeps self.old self.new result (λ handlers. does handlers self.old.world present (Viewport (unsigned_abs size.width) (unsigned_abs size.height))) }
         ensures boxes { self.new.kept ≡ self.old.kept }
     {
-        self.screen = Screen { size };
+        self.screen.size = size;
         Ok(Effect::Nothing)
     }
 

@@ -296,7 +296,7 @@ impl Page {
 
     /// What is shown of the page as it is now: boxes, places, containers and clips (Intersection Observer, 3.2.7), in units of 1/64
     /// pixel. No box may be due; `refresh_boxes` sees to that. No memory.
-    pub fn shown(&self) -> Shown<'_>
+    pub fn geometry(&self) -> Shown<'_>
         requires { (n : ℕ) → is_due self.now.world.tree self.now.world.viewports.screen self.now.kept n ≡ false }
         ensures { result ≡ shown_of self.now.world }
     {

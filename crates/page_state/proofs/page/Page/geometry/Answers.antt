@@ -3,7 +3,7 @@ use Rattle.std.proofs.Common.{◌≡◌, ℕ, false, ap, subst, sym, ◌∙◌}
 use Rattle.page_model.specs.Shown.{shown_of}
 use Rattle.page_boxes.specs.Kept.{is_due}
 use Rattle.page_state.specs.Views.{PageView}
-use Rattle.page_state.proofs.page.Page.shown.Goals as goal
+use Rattle.page_state.proofs.page.Page.geometry.Goals as goal
 
 pub shown_now-requires-clause-done : goal.shown_now-requires-clause-done
 shown_now-requires-clause-done c =
