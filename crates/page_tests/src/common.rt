@@ -5,13 +5,13 @@ ghost use Rattle.style_values.specs.Ranges.{IsAllowed};
 ghost use Rattle.kept_layout.specs.Slots.{slot_in, no_slot};
 ghost use Rattle.page_boxes.specs.Fresh.{IsFresh};
 ghost use Rattle.page_boxes.specs.Kept.{AreKept};
-ghost use Rattle.page_boxes.specs.Pages.{seen_size};
+ghost use Rattle.page_boxes.specs.Pages.{seen_screen};
 
 use block_layout::ItemKind;
 use element_tree::NodeId;
 use intersection_observer::{Root, Watchers};
 use kept_layout::Kept;
-use page_boxes::{nothing_kept_fits, refresh};
+use page_boxes::{Screen, nothing_kept_fits, refresh};
 use page_documents::DocumentState;
 use page_tree::{Container, PageTree, PlaceFault};
 use px_units::Size;
@@ -26,9 +26,11 @@ use text_io::Name;
 use thresholds::{Margins, Thresholds};
 
 /// 800 by 600 pixels.
-pub(crate) const SCREEN: Size = Size {
-    width: 51200,
-    height: 38400,
+pub(crate) const SCREEN: Screen = Screen {
+    size: Size {
+        width: 51200,
+        height: 38400,
+    },
 };
 
 pub(crate) fn any_name(rt: &impl Abort) -> Name {
@@ -109,15 +111,15 @@ pub(crate) fn empty_slots(alloc: Global) -> Result<Kept, Fail>
     Ok(boxes)
 }
 
-fn renew<L: Ledger>(blank: Blank, boxes: &mut Kept, page: &PageTree, viewport: Size)
+fn renew<L: Ledger>(blank: Blank, boxes: &mut Kept, page: &PageTree, screen: Screen)
     requires name { blank.name ≡ L.name }
     requires parts { blank.parts ≡ L.parts }
     requires one_part { 0 < blank.parts }
     requires kept { AreKept page.now.tree boxes.old }
-    ensures { IsFresh page.now.tree (seen_size viewport) boxes.new }
+    ensures { IsFresh page.now.tree (seen_screen screen) boxes.new }
 {
     let mut steps = Steps::<L>::new(blank);
-    refresh(boxes, page, viewport, &mut steps);
+    refresh(boxes, page, screen, &mut steps);
 }
 
 /// The boxes of a page of nine elements at most.
@@ -125,14 +127,14 @@ pub(crate) fn all_boxes(
     rt: &impl Abort,
     alloc: Global,
     page: &PageTree,
-    viewport: Size,
+    screen: Screen,
 ) -> Result<Kept, Fail>
-    ensures { IfOk result (λ boxes. IsFresh page.now.tree (seen_size viewport) boxes) }
+    ensures { IfOk result (λ boxes. IsFresh page.now.tree (seen_screen screen) boxes) }
 {
     assert!(rt; !page.holds(NodeId(9)));
     let mut boxes = empty_slots(alloc)?;
     nothing_kept_fits();
-    renew::<Brand>(Blank::new(1), &mut boxes, page, viewport);
+    renew::<Brand>(Blank::new(1), &mut boxes, page, screen);
     Ok(boxes)
 }
 

@@ -6,6 +6,7 @@ use crate::common::{SCREEN, all_boxes, make_elements, put, remove, set, watch};
 use element_tree::NodeId;
 use intersection_observer::{Entry, Root, WatcherId, Watchers};
 use intersection_update::{update, watchers_of};
+use page_geometry::Shown;
 use page_tree::{Container, PageTree};
 use scrolling::Scrolls;
 use std::alloc::Global;
@@ -134,7 +135,8 @@ fn update_once(
 ) -> Result<bool, Fail> {
     let scrolls = Scrolls::new(alloc);
     let boxes = all_boxes(rt, alloc, page, SCREEN)?;
-    Ok(update(page, &boxes, &scrolls, SCREEN, watchers, document, time)?)
+    let shown = Shown::new(page, &boxes, &scrolls, SCREEN);
+    Ok(update(&shown, watchers, document, time)?)
 }
 
 fn take_step(

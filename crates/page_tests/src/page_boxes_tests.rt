@@ -9,7 +9,7 @@ use block_layout::ItemKind;
 use element_tree::NodeId;
 use kept_layout::Kept;
 use page_boxes::{
-    Reading, border_rect, content_origin, corner_of, has_box, is_scroller, nothing_kept_fits,
+    Screen, Reading, border_rect, content_origin, corner_of, has_box, is_scroller, nothing_kept_fits,
     offset_of, padding_rect, range_of, read, refresh_for, size_of,
 };
 use page_tree::{Container, PageTree};
@@ -150,19 +150,16 @@ fn reading(edges: (i64, i64, i64, i64), scrolled: i64) -> Reading {
     }
 }
 
-fn screen(is_narrow: bool) -> Size
-    ensures { IsNatural result }
+fn screen_of(is_narrow: bool) -> Screen
+    ensures { IsNatural result.size }
 {
-    if is_narrow {
-        Size {
-            width: 20480,
-            height: 12800,
-        }
+    let (width, height) = if is_narrow {
+        (20480, 12800)
     } else {
-        Size {
-            width: 40960,
-            height: 30720,
-        }
+        (40960, 30720)
+    };
+    Screen {
+        size: Size { width, height },
     }
 }
 
@@ -186,21 +183,21 @@ fn see(
     page: &PageTree,
     boxes: &Kept,
     scrolls: &Scrolls,
-    viewport: Size,
+    screen: Screen,
     step: Step,
 )
-    requires { IsNatural viewport }
+    requires { IsNatural screen.size }
 {
     match step {
         Step::Read(node, edges) => {
             let at = Container::Element(NodeId(node));
-            let found = read(page, boxes, scrolls, viewport, at);
+            let found = read(page, boxes, scrolls, screen, at);
             assert_eq!(rt; found, reading(edges, 0), "{node}");
             assert_eq!(rt; has_box(page, NodeId(node)), edges.2 != 0, "{node}");
         }
         Step::Content(node, content) => see_content(rt, page, boxes, node, content),
         Step::Top(width, height) => {
-            let found = read(page, boxes, scrolls, viewport, Container::Document(0));
+            let found = read(page, boxes, scrolls, screen, Container::Document(0));
             assert_eq!(rt; found, reading((0, 0, width, height), 0));
         }
         _ => {}
@@ -225,9 +222,9 @@ fn take_step(
     is_narrow: &mut bool,
     step: Step,
 ) -> Result<(), Fail> {
-    let viewport = screen(*is_narrow);
-    let boxes = all_boxes(rt, alloc, page, viewport)?;
-    see(rt, page, &boxes, scrolls, viewport, step);
+    let screen = screen_of(*is_narrow);
+    let boxes = all_boxes(rt, alloc, page, screen)?;
+    see(rt, page, &boxes, scrolls, screen, step);
     change(rt, page, is_narrow, step);
     Ok(())
 }
@@ -439,7 +436,7 @@ fn renew_for<L: Ledger>(
     blank: Blank,
     boxes: &mut Kept,
     page: &PageTree,
-    viewport: Size,
+    screen: Screen,
     container: Container,
 )
     requires name { blank.name ≡ L.name }
@@ -448,7 +445,7 @@ fn renew_for<L: Ledger>(
     requires kept { AreKept page.now.tree boxes.old }
 {
     let mut steps = Steps::<L>::new(blank);
-    refresh_for(boxes, page, viewport, container, &mut steps);
+    refresh_for(boxes, page, screen, container, &mut steps);
 }
 
 // What is read of an element, and its border rectangle, from boxes that are all computed.
@@ -457,20 +454,20 @@ fn read_all(
     alloc: Global,
     page: &PageTree,
     scrolls: &Scrolls,
-    viewport: Size,
+    screen: Screen,
     node: u32,
 ) -> Result<(Reading, Rect), Fail>
-    requires { IsNatural viewport }
+    requires { IsNatural screen.size }
 {
-    let all = all_boxes(rt, alloc, page, viewport)?;
+    let all = all_boxes(rt, alloc, page, screen)?;
     let found = read(
         page,
         &all,
         scrolls,
-        viewport,
+        screen,
         Container::Element(NodeId(node)),
     );
-    let rect = border_rect(page, &all, scrolls, viewport, NodeId(node));
+    let rect = border_rect(page, &all, scrolls, screen, NodeId(node));
     Ok((found, rect))
 }
 
@@ -480,17 +477,17 @@ fn read_some(
     alloc: Global,
     page: &PageTree,
     scrolls: &Scrolls,
-    viewport: Size,
+    screen: Screen,
     node: u32,
 ) -> Result<Reading, Fail>
-    requires { IsNatural viewport }
+    requires { IsNatural screen.size }
 {
     assert!(rt; !page.holds(NodeId(9)));
     let container = Container::Element(NodeId(node));
     let mut some = empty_slots(alloc)?;
     nothing_kept_fits();
-    renew_for::<Brand>(Blank::new(1), &mut some, page, viewport, container);
-    Ok(read(page, &some, scrolls, viewport, container))
+    renew_for::<Brand>(Blank::new(1), &mut some, page, screen, container);
+    Ok(read(page, &some, scrolls, screen, container))
 }
 
 // What is read of an element, the same in both ways.
@@ -502,9 +499,9 @@ fn read_twice(
     is_narrow: bool,
     node: u32,
 ) -> Result<Reading, Fail> {
-    let viewport = screen(is_narrow);
-    let (found, rect) = read_all(rt, alloc, page, scrolls, viewport, node)?;
-    let again = read_some(rt, alloc, page, scrolls, viewport, node)?;
+    let screen = screen_of(is_narrow);
+    let (found, rect) = read_all(rt, alloc, page, scrolls, screen, node)?;
+    let again = read_some(rt, alloc, page, scrolls, screen, node)?;
     assert_eq!(rt; found, again);
     assert_eq!(rt; rect, found.rect);
     Ok(found)
@@ -518,10 +515,10 @@ fn read_viewport(
     is_narrow: bool,
     document: u32,
 ) -> Result<Reading, Fail> {
-    let viewport = screen(is_narrow);
-    let boxes = all_boxes(rt, alloc, page, viewport)?;
+    let screen = screen_of(is_narrow);
+    let boxes = all_boxes(rt, alloc, page, screen)?;
     let container = Container::Document(document);
-    Ok(read(page, &boxes, scrolls, viewport, container))
+    Ok(read(page, &boxes, scrolls, screen, container))
 }
 
 // Scrolls downwards to a position, as far as it goes.
@@ -530,19 +527,19 @@ fn scroll_over(
     page: &PageTree,
     boxes: &Kept,
     scrolls: &mut Scrolls,
-    viewport: Size,
+    screen: Screen,
     target: ScrollTarget,
     down: u16,
 ) -> Result<(), Fail>
-    requires { IsNatural viewport }
+    requires { IsNatural screen.size }
 {
-    let range = range_of(page, boxes, viewport, target);
+    let range = range_of(page, boxes, screen, target);
     let wanted = Point {
         left: 0,
         top: i64::from(down),
     };
     let _outcome = scrolls.scroll_to(0, target, wanted, range)?;
-    let offset = offset_of(page, boxes, scrolls, viewport, target);
+    let offset = offset_of(page, boxes, scrolls, screen, target);
     assert_eq!(rt; offset.top, i64::from(down).min(range.height));
     Ok(())
 }
@@ -556,9 +553,9 @@ fn scroll(
     target: ScrollTarget,
     down: u16,
 ) -> Result<(), Fail> {
-    let viewport = screen(is_narrow);
-    let boxes = all_boxes(rt, alloc, page, viewport)?;
-    scroll_over(rt, page, &boxes, scrolls, viewport, target, down)
+    let screen = screen_of(is_narrow);
+    let boxes = all_boxes(rt, alloc, page, screen)?;
+    scroll_over(rt, page, &boxes, scrolls, screen, target, down)
 }
 
 fn take_look(
@@ -631,11 +628,11 @@ const FRAMES: [Frame; 2] = [
 
 fn see_frame(rt: &impl Abort, page: &PageTree, boxes: &Kept, scrolls: &Scrolls, frame: Frame) {
     let (number, edges, (left, top)) = frame;
-    let viewport = screen(false);
+    let screen = screen_of(false);
     let node = NodeId(number);
-    let padding = padding_rect(page, boxes, scrolls, viewport, node);
+    let padding = padding_rect(page, boxes, scrolls, screen, node);
     assert_eq!(rt; padding, reading(edges, 0).rect, "{number}");
-    let corner = content_origin(page, boxes, scrolls, viewport, node);
+    let corner = content_origin(page, boxes, scrolls, screen, node);
     assert_eq!(rt; corner, Point { left, top }, "{number}");
     assert!(rt; !is_scroller(page, node), "{number}");
 }

@@ -2,7 +2,7 @@
 
 ghost use Rattle.std.specs.Prelude.{◌<◌, length};
 ghost use Rattle.page_boxes.specs.Fresh.{IsFresh};
-ghost use Rattle.page_boxes.specs.Pages.{seen_size};
+ghost use Rattle.page_boxes.specs.Pages.{seen_screen};
 
 use crate::common::{SCREEN, all_boxes, make_elements, put, remove, set, watch};
 use clip_chain::{Spot, reaches};
@@ -10,7 +10,7 @@ use element_tree::NodeId;
 use intersection_observer::{Finding, Root, WatcherId, Watchers};
 use kept_layout::Kept;
 use page_boxes::range_of;
-use page_geometry::{PageGeometry, find};
+use page_geometry::{Shown, find};
 use page_tree::{Container, PageTree};
 use px_units::{Point, Rect};
 use scrolling::{ScrollTarget, Scrolls};
@@ -415,12 +415,12 @@ fn find_over(
     target: NodeId,
 ) -> Finding
     requires watcher { watcher.0 < length watchers.now.part.made }
-    requires fresh { IsFresh page.now.tree (seen_size SCREEN) boxes.now }
+    requires fresh { IsFresh page.now.tree (seen_screen SCREEN) boxes.now }
 {
-    let geometry = PageGeometry::new(page, boxes, scrolls, SCREEN);
-    let is_shown = reaches(&geometry, Spot::Node(target), Spot::View(0));
-    let finding = find(page, boxes, scrolls, SCREEN, watchers, watcher, target);
-    assert!(rt; is_shown || !finding.meets);
+    let shown = Shown::new(page, boxes, scrolls, SCREEN);
+    let is_chained = reaches(&shown, Spot::Node(target), Spot::View(0));
+    let finding = find(&shown, watchers, watcher, target);
+    assert!(rt; is_chained || !finding.meets);
     finding
 }
 

@@ -7,7 +7,7 @@ ghost use Rattle.page_tree.specs.Items.{IsKind, IsNatural};
 use crate::common::{any_name, declaration};
 use block_layout::ItemKind;
 use element_tree::NodeId;
-use page_boxes::size_of;
+use page_boxes::{Screen, size_of};
 use page_layout::LaidTree;
 use page_tree::{Axis, Container};
 use px_units::{BoxKind, Px, Size};
@@ -39,14 +39,18 @@ const STYLES: [(u32, &str, &str); 9] = [
     (5, "width", "25%"),
 ];
 
-const WIDE: Size = Size {
-    width: 40960,
-    height: 30720,
+const WIDE: Screen = Screen {
+    size: Size {
+        width: 40960,
+        height: 30720,
+    },
 };
 
-const NARROW: Size = Size {
-    width: 20480,
-    height: 12800,
+const NARROW: Screen = Screen {
+    size: Size {
+        width: 20480,
+        height: 12800,
+    },
 };
 
 /// What is done to a page. A parent comes before its child, and the sibling last.
@@ -415,7 +419,7 @@ fn apply(rt: &impl Abort, laid: &mut LaidTree, change: Change) {
 }
 
 // What a reading of one element rests on, or all where none is named.
-fn renew<L: Ledger>(blank: Blank, laid: &mut LaidTree, viewport: Size, read: Option<u32>)
+fn renew<L: Ledger>(blank: Blank, laid: &mut LaidTree, screen: Screen, read: Option<u32>)
     requires name { blank.name ≡ L.name }
     requires parts { blank.parts ≡ L.parts }
     requires one_part { 0 < blank.parts }
@@ -423,14 +427,14 @@ fn renew<L: Ledger>(blank: Blank, laid: &mut LaidTree, viewport: Size, read: Opt
     let mut steps = Steps::<L>::new(blank);
     match read {
         Some(node) => {
-            laid.refresh_for(viewport, Container::Element(NodeId(node)), &mut steps);
+            laid.refresh_for(screen, Container::Element(NodeId(node)), &mut steps);
         }
-        None => laid.refresh(viewport, &mut steps),
+        None => laid.refresh(screen, &mut steps),
     }
 }
 
-fn lay_out(laid: &mut LaidTree, viewport: Size, read: Option<u32>) {
-    renew::<Brand>(Blank::new(1), laid, viewport, read);
+fn lay_out(laid: &mut LaidTree, screen: Screen, read: Option<u32>) {
+    renew::<Brand>(Blank::new(1), laid, screen, read);
 }
 
 fn check(rt: &impl Abort, laid: &LaidTree, node: u32, sides: (i64, i64)) {
@@ -440,23 +444,23 @@ fn check(rt: &impl Abort, laid: &LaidTree, node: u32, sides: (i64, i64)) {
 }
 
 // What a reading of one element rests on is computed first, and then all.
-fn see_sizes(rt: &impl Abort, laid: &mut LaidTree, viewport: Size, sizes: [(i64, i64); 6]) {
-    lay_out(laid, viewport, Some(4));
+fn see_sizes(rt: &impl Abort, laid: &mut LaidTree, screen: Screen, sizes: [(i64, i64); 6]) {
+    lay_out(laid, screen, Some(4));
     check(rt, laid, 4, sizes[4]);
-    lay_out(laid, viewport, None);
+    lay_out(laid, screen, None);
     for node in 0..6u32 {
         check(rt, laid, node, sizes[node as usize]);
     }
 }
 
 fn see_changes(rt: &impl Abort, laid: &mut LaidTree) {
-    let mut viewport = WIDE;
+    let mut screen = WIDE;
     for (change, sizes) in CHANGES {
         if let Change::Narrow = change {
-            viewport = NARROW;
+            screen = NARROW;
         }
         apply(rt, laid, change);
-        see_sizes(rt, laid, viewport, sizes);
+        see_sizes(rt, laid, screen, sizes);
     }
 }
 
