@@ -6,7 +6,7 @@ use Rattle.text_io.specs.declared.kinds.LimitKind.TheVariants as limits
 use Rattle.script_model.specs.Media.{matches}
 use Rattle.script_model.specs.Queries.{MediaQuery}
 use Rattle.script_model.specs.Syntax.{MakeQueryList}
-use Rattle.page_model.specs.World.{Extent, Screen, Name, QueryList as ModelQueryList, QueryListThing, World}
+use Rattle.page_model.specs.World.{Extent, Name, QueryList as ModelQueryList, QueryListThing, World}
 use Rattle.page_model.specs.Commands.{does, matches_in, matches_now}
 use Rattle.page_model.specs.Intersections.{is_same_bool}
 use Rattle.page_model.specs.Names.{with_name}
@@ -69,11 +69,11 @@ module _ (world : World) (query : ℕ) (list : ModelQueryList) (viewport : Exten
   pub matches_here : (answer : Bool) → answer ≡ matches_in list.query viewport → viewport ≡ viewport_of world.tree world.viewports.screen list.document
       → answer ≡ matches_now world (query_list_at world.queries query).document (query_list_at world.queries query).query
   unfolding matches_now viewport_of matches
-  matches_here answer is here = subst (λ (it : ModelQueryList). answer ≡ matches_now world it.document it.query) (sym at) (is ∙ ap (λ (screen : Screen). matches_in list.query size) here)
+  matches_here answer is here = subst (λ (it : ModelQueryList). answer ≡ matches_now world it.document it.query) (sym at) (is ∙ ap (λ (size : Extent). matches_in list.query size) here)
 
   module _ (document : ℕ) (changed : is_changed document viewport list ≡ true) (here : viewport ≡ viewport_of world.tree world.viewports.screen document) where
     state_now : not list.matched ≡ matches_in list.query (viewport_of world.tree world.viewports.screen document)
-    state_now = turned (list.document == document) (matches_in list.query viewport) list.matched changed ∙ ap (λ (screen : Screen). matches_in list.query size) here
+    state_now = turned (list.document == document) (matches_in list.query viewport) list.matched changed ∙ ap (λ (size : Extent). matches_in list.query size) here
 
     changed_matches : not list.matched ≡ matches_now world document (query_list_at world.queries query).query
     unfolding matches_now viewport_of matches
@@ -84,7 +84,7 @@ module _ (world : World) (query : ℕ) (list : ModelQueryList) (viewport : Exten
     evaluated place found =
         ap (λ (matched : Bool). record world { queries = with_state matched query (world.queries) })
         (subst (λ (it : ModelQueryList). not list.matched ≡ matches_in it.query (viewport_of world.tree world.viewports.screen document)) (sym at) state_now)
-        ∙ ap (λ (number : Option ℕ). once_evaluated document number world) (found ∙ ap (λ (screen : Screen). changed_from document place size world.queries) here)
+        ∙ ap (λ (number : Option ℕ). once_evaluated document number world) (found ∙ ap (λ (size : Extent). changed_from document place size world.queries) here)
 
 module _ (inside : Inside) (query : ℕ) (list : QueryList) (below : query < length inside.queries.items) (is : list ≡ slice_index_or inside.queries.items query list) where
   pub list_here : query_list_at (map seen_query_list inside.queries.items) query ≡ seen_query_list list
@@ -139,7 +139,7 @@ module _ (inside : Inside) (text : List ℕ) (query : List MediaQuery) (owner : 
 
   matches_first : matched ≡ matches_now (world_of inside) owner query
   unfolding matches_now viewport_of matches
-  matches_first = is ∙ ap (λ (asked : List MediaQuery). matches_in asked viewport) copied ∙ ap (λ (screen : Screen). matches_in query size) here
+  matches_first = is ∙ ap (λ (asked : List MediaQuery). matches_in asked viewport) copied ∙ ap (λ (size : Extent). matches_in query size) here
 
   list_made : map seen_query_list queries ≡ with_query_list owner query (matches_now (world_of inside) owner query) (map seen_query_list inside.queries.items)
   list_made =

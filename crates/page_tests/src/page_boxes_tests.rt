@@ -645,7 +645,7 @@ fn see_frames(
 ) -> Result<(), Fail> {
     assert!(rt; is_scroller(page, NodeId(5)));
     scroll(rt, alloc, page, scrolls, false, OUTER, 688)?;
-    let boxes = all_boxes(rt, alloc, page, screen(false))?;
+    let boxes = all_boxes(rt, alloc, page, screen_of(false))?;
     for frame in FRAMES {
         see_frame(rt, page, &boxes, scrolls, frame);
     }

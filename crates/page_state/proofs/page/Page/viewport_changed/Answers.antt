@@ -53,7 +53,7 @@ returns-clause-noted g c =
     let p = record (c.self.inside) { laid = c.viewport_now-size.new.laid } in
     let view_is = view_refreshed c.self.inside c.viewport_now-size.new.laid c.viewport_now-size.ensures.same c.args.self.now c.self.view_is in
     (λ i. world_of (record p { noted = c.set.ensures i }))
-    ∙ ap (λ (noted : List (Option Extent)). record (world_of p) { viewports = record { size = seen_screen p.screen; noted = noted } })
+    ∙ ap (λ (noted : List (Option Extent)). record (world_of p) { viewports = record { screen = seen_screen p.screen; noted = noted } })
     (map-put (option_map seen_size) None (Some c.viewport_now-size.result) c.args.document p.noted)
     ∙ ap (λ (now : Extent). record (world_of p) { viewports = with_noted c.args.document now ((world_of p).viewports) }) c.viewport_now-size.ensures.value
     ∙ ap (λ (v : PageView). record (v.world) { viewports = with_noted c.args.document (viewport_of (v.world.tree) (v.world.viewports.screen) c.args.document) (v.world.viewports) }) view_is
