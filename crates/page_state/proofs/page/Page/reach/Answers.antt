@@ -25,3 +25,6 @@ returns-clause-range g c =
 pub returns-clause-boxes : goal.returns-clause-boxes
 returns-clause-boxes g c =
     computed c.self.inside c.refresh.new.self c.refresh.ensures.same c.args.self.now c.self.view_is c.refresh.ensures.fills _ _ c.refresh.ensures.ticks
+
+pub shown_now-shown-requires-clause-done : goal.shown_now-shown-requires-clause-done
+shown_now-shown-requires-clause-done g c = c.refresh.ensures.done
