@@ -209,12 +209,6 @@ impl<'a> Shown<'a> {
         ensures height { InReach (result.rect.bottom -ℤ result.rect.top) }
         ensures scroll { IsOffset result.scroll }
     {
-        page_boxes::read(
-            self.page,
-            self.boxes,
-            self.scrolls,
-            self.screen,
-            container,
-        )
+        page_boxes::read(self.page, self.boxes, self.scrolls, self.screen, container)
     }
 }

@@ -9,8 +9,8 @@ use block_layout::ItemKind;
 use element_tree::NodeId;
 use kept_layout::Kept;
 use page_boxes::{
-    Screen, Reading, border_rect, content_origin, corner_of, has_box, is_scroller, nothing_kept_fits,
-    offset_of, padding_rect, range_of, read, refresh_for, size_of,
+    Reading, Screen, border_rect, content_origin, corner_of, has_box, is_scroller,
+    nothing_kept_fits, offset_of, padding_rect, range_of, read, refresh_for, size_of,
 };
 use page_tree::{Container, PageTree};
 use px_units::{BoxKind, Point, Rect, Size};
