@@ -1,4 +1,4 @@
-//! The five forms of words, with what they give, and other words.
+//! The six forms of words, with what they give, and other words.
 
 use crate::replay_run_scripts::{GROWING, PAGE};
 use crate::replay_run_tests::{Answer, WHOLE, replayed};
@@ -8,7 +8,7 @@ use std::process::Abort;
 use std::test::Fail;
 
 /// Words, the text of the source, and the status and the text that they give.
-const FORMS: [(&[&str], &str, Status, &str); 8] = [
+const FORMS: [(&[&str], &str, Status, &str); 12] = [
     (&["--check"], PAGE, Status::Done, "ok 5\n"),
     (&["--check"], "", Status::Syntax, "syntax 1 1\n"),
     (
@@ -17,6 +17,22 @@ const FORMS: [(&[&str], &str, Status, &str); 8] = [
         Status::Done,
         "ok 4\n",
     ),
+    (&["--lint"], PAGE, Status::Done, "steady\nquiet\n"),
+    // a handler makes a deeper element higher
+    (
+        &["--lint"],
+        "script 1\nhandler more\ngrow c height 1px\nend\nro o top more\n",
+        Status::Done,
+        "steady\nunquiet 3\n",
+    ),
+    // two handlers move each other's target
+    (
+        &["--lint"],
+        "script 1\nhandler ha\ngrow x height 1px\nremove y\nend\nhandler hb\nappend z y\nend\nro a top ha\nro b top hb\n",
+        Status::Done,
+        "unsteady 4\nunquiet 3\n",
+    ),
+    (&["--lint"], "script 1\nsay 5\n", Status::Syntax, "syntax 2 5\n"),
     (
         &["--summary"],
         "script 1\nsay tick\nsay throw\nremove say\n",
@@ -54,11 +70,13 @@ const GROWING_SUMMARY: &str =
     "tick 2\ntimer 0\nframe 0\ntask 0\nevent 2\nresize 6\nround 4\nintersect 0\ntake 0\nsay 0\nread 0\nthrow 0\nlimit 0\nsyntax 0\n";
 
 /// Words that are of none of the forms: in another order, with other numbers, too many.
-const OTHERS: [&[&str]; 16] = [
+const OTHERS: [&[&str]; 18] = [
     &[""],
     &["--check", "x"],
     &["--check", ""],
     &["--check", "--summary"],
+    &["--lint", "x"],
+    &["--Lint"],
     &["--summary", "1"],
     &["--Check"],
     &["--check "],
@@ -119,10 +137,11 @@ fn other_words_are_refused(rt: HostRuntime) -> Result<(), Fail> {
 }
 
 /// The words of a run, and whether a page is handed out.
-const PAGES: [(&[&str], bool); 4] = [
+const PAGES: [(&[&str], bool); 5] = [
     (&["--summary"], true),
     (&["--generate-run", "0"], true),
     (&["--check"], false),
+    (&["--lint"], false),
     (&["--generate", "0"], false),
 ];
 
