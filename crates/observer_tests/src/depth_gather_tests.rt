@@ -1,5 +1,5 @@
 //! Gathering and deliveries through the calls, as the standard's steps give them.
-ghost use Rattle.std.specs.Prelude.{◌≡◌, ◌≤◌, ◌<◌, ◌+◌, ◌^◌};
+ghost use Rattle.std.specs.Prelude.{◌≡◌, ◌≤◌, ◌<◌, ◌+◌, ◌^◌, length};
 
 use crate::common::three_observers;
 use depth_gather::{
@@ -225,7 +225,9 @@ fn three_entries(alloc: Global) -> Result<Vec<ResizeEntry>, AllocError> {
     Ok(entries)
 }
 
-fn see_delivery(rt: &impl Abort, observers: &mut Observers, delivery: Delivery) {
+fn see_delivery(rt: &impl Abort, observers: &mut Observers, delivery: Delivery)
+    requires { delivery.observer.0 < length observers.old.part.made }
+{
     assert!(rt; delivery.entries.as_slice().len() == 3);
     assert_eq!(rt; least_depth(&delivery), 2);
     end_delivery(observers, delivery.observer);

@@ -1,5 +1,7 @@
 //! Edits of a page of five elements, by the rules of DOM, lengths that grow, and the life of three documents in frames.
 
+ghost use Rattle.std.specs.Prelude.{◌<◌};
+
 use crate::common::{Edit, Life, any_name, apply, framed_page, live_all, make_elements};
 use block_layout::ItemKind;
 use element_tree::NodeId;

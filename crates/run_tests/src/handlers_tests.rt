@@ -3,11 +3,11 @@
 ghost use Rattle.std.specs.Prelude.{◌≡◌, ◌<◌};
 ghost use Rattle.script_syntax.specs.Allowed.{IsAllowed};
 
+use crate::common::{failing, script_of};
 use event_tables::HandlerId;
 use handlers::{Entries, run_command, run_handler};
 use page_state::Page;
-use script_lexer::Lexer;
-use script_syntax::{Command, Item, ParseFault, Script, What, parse};
+use script_syntax::{Command, Item, Script, What};
 use std::alloc::{AllocError, Global};
 use std::marker::Brand;
 use std::process::Abort;
@@ -25,6 +25,8 @@ const BLOCKS: &str =
 const OUTSIDE: &str =
     "say outside\nsay inside\nread r 0 0 800 0 0 0\nthrow 28 ReferenceError\nthrow 34 ReferenceError\nsay last\n";
 
+const CUT: &str = "say outside\nsay inside\n";
+
 const BLOCKS_TOLD: &str =
     "say outside\nsay inside\nread r 0 0 800 0 0 0\nthrow 28 ReferenceError\nthrow 34 ReferenceError\nsay last\nsay first\nsay detached\nsay attached\nthrow 16 ReferenceError\n";
 
@@ -39,26 +41,8 @@ const TAKES: &str =
 
 const TAKES_TOLD: &str = "take i 0\ntake i 0\nthrow 4 ReferenceError\n";
 
-// No script of a test is longer.
-const LONGEST: usize = 65536;
-
 // No trace of a test is longer.
 const ROOM: usize = 512;
-
-fn read(alloc: Global, text: &str) -> Result<Script, ParseFault> {
-    let mut lexer = Lexer::new(alloc, 4096);
-    let bytes = text.as_bytes();
-    if bytes.len() > LONGEST {
-        return Err(ParseFault::Memory);
-    }
-    let Ok(()) = lexer.feed(bytes) else {
-        return Err(ParseFault::Memory);
-    };
-    let Ok(text) = lexer.finish() else {
-        return Err(ParseFault::Memory);
-    };
-    parse(alloc, &text)
-}
 
 // A command, if it is no `tick`.
 #[tactic(auto, using(script_syntax::proofs::Inner::inner_unless_tick))]
@@ -108,24 +92,18 @@ fn run_text<L: Ledger>(
     )
 }
 
-// Runs a text over a sink that takes 64 bytes a call, of which one may fail, and compares.
+// Runs a text over a sink that takes 64 bytes a call, of which the one of this number fails, and compares.
 fn expect(
     rt: &impl Abort,
     alloc: Global,
     text: &str,
     document: u32,
-    failing: Option<u64>,
+    number: Option<u64>,
     ending: Result<(), RunFault>,
     told: &str,
 ) -> Result<(), Fail> {
-    let mut numbers = Vec::new(alloc);
-    if let Some(number) = failing {
-        numbers.push(number)?;
-    }
-    let mut sink = MemorySink::new(alloc, ROOM, 64, numbers)?;
-    let Ok(script) = read(alloc, text) else {
-        return Err(Fail::from(AllocError));
-    };
+    let mut sink = MemorySink::new(alloc, ROOM, 64, failing(alloc, number)?)?;
+    let script = script_of(alloc, text.as_bytes())?;
     let mut page = Page::new(alloc)?;
     let ran = run_text::<Brand>(
         Blank::new(1),
@@ -140,36 +118,49 @@ fn expect(
     Ok(())
 }
 
+// A text, the document that the handler is called for, the call of the sink that fails, the ending, and the lines.
+type Row = (
+    &'static str,
+    u32,
+    Option<u64>,
+    Result<(), RunFault>,
+    &'static str,
+);
+
+const RUNS: [Row; 5] = [
+    (BLOCKS, 0, None, Ok(()), BLOCKS_TOLD),
+    (GROWS, 0, None, Ok(()), GROWS_TOLD),
+    (TAKES, 0, None, Ok(()), TAKES_TOLD),
+    // A document that isn't Active.
+    (BLOCKS, 1, None, Ok(()), OUTSIDE),
+    (BLOCKS, 0, Some(2), Err(RunFault::WriteFault), CUT),
+];
+
 #[test]
 fn commands_and_handlers_give_their_lines(rt: HostRuntime) -> Result<(), Fail> {
-    let cut = "say outside\nsay inside\n";
-    for (text, document, failing, ending, told) in [
-        (BLOCKS, 0, None, Ok(()), BLOCKS_TOLD),
-        (GROWS, 0, None, Ok(()), GROWS_TOLD),
-        (TAKES, 0, None, Ok(()), TAKES_TOLD),
-        // A document that isn't Active.
-        (BLOCKS, 1, None, Ok(()), OUTSIDE),
-        (BLOCKS, 0, Some(2), Err(RunFault::WriteFault), cut),
-    ] {
-        expect(&rt, rt.alloc(), text, document, failing, ending, told)?;
+    for (text, document, number, ending, told) in RUNS {
+        expect(&rt, rt.alloc(), text, document, number, ending, told)?;
     }
     Ok(())
+}
+
+// A handler that appends to the 256th of the blocks in one another that stand outside it.
+fn push_deep(text: &mut String) -> Result<(), AllocError> {
+    text.push_str(
+        "script 1\nhandler h\nsay first\nwhen attached e0\nappend e255 e256\nend\nsay last\nend\nblock e0 top\nappend top e0\n",
+    )?;
+    for k in 0..255u32 {
+        let next = k + 1;
+        write!(text, "block e{next} top\nappend e{k} e{next}\n")?;
+    }
+    text.push_str("block e256 top\n")
 }
 
 // A limit in a handler has the line of the command that met it, and isn't written here.
 #[test]
 fn a_limit_ends_the_run(rt: HostRuntime) -> Result<(), Fail> {
-    let mut text = String::from_str(
-        rt.alloc(),
-        "script 1\nhandler h\nsay first\nwhen attached e0\nappend e255 e256\nend\nsay last\nend\nblock e0 top\nappend top e0\n",
-    )?;
-    for k in 0..256u32 {
-        let next = k + 1;
-        write!(text, "block e{next} top\n")?;
-        if k < 255 {
-            write!(text, "append e{k} e{next}\n")?;
-        }
-    }
+    let mut text = String::new(rt.alloc());
+    push_deep(&mut text)?;
     let met = Err(RunFault::Limit {
         kind: LimitKind::Depth,
         line: 5,

@@ -2,6 +2,8 @@
 #![tactic(auto)]
 
 #[cfg(test)]
+mod common;
+#[cfg(test)]
 mod handlers_tests;
 #[cfg(test)]
 mod loop_lint_tests;

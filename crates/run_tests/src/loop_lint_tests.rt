@@ -1,7 +1,9 @@
+//! Scripts with their verdicts, and the lines that are to blame.
+
+use crate::common::script_of;
 use loop_lint::{Law, Verdict, blame, lint};
-use script_lexer::Lexer;
-use script_syntax::{ParseFault, Script, parse};
 use std::alloc::Global;
+use std::process::Abort;
 use std::test::Fail;
 
 /// A script, and for each law the line that it is broken at.
@@ -55,32 +57,28 @@ const ROWS: [(&str, Option<u32>, Option<u32>); 8] = [
     ),
 ];
 
-/// The script that a text is.
-fn parsed(alloc: Global, text: &[u8]) -> Result<Script, ParseFault> {
-    if text.len() > 10_000 {
-        return Err(ParseFault::Memory);
-    }
-    let mut lexer = Lexer::new(alloc, 4096);
-    lexer.feed(text)?;
-    let text = lexer.finish()?;
-    parse(alloc, &text)
+fn see_row(
+    rt: &impl Abort,
+    alloc: Global,
+    text: &str,
+    steady: Option<u32>,
+    quiet: Option<u32>,
+) -> Result<(), Fail> {
+    let script = script_of(alloc, text.as_bytes())?;
+    assert_eq!(rt; blame(&script, Law::Steady), steady, "{text}");
+    assert_eq!(rt; blame(&script, Law::Quiet), quiet, "{text}");
+    let wanted = Verdict {
+        steady: steady.is_none(),
+        quiet: quiet.is_none(),
+    };
+    assert_eq!(rt; lint(&script), wanted, "{text}");
+    Ok(())
 }
 
 #[test]
 fn scripts_are_certified_by_their_loop_handlers(rt: HostRuntime) -> Result<(), Fail> {
     for (text, steady, quiet) in ROWS {
-        let script = parsed(rt.alloc(), text.as_bytes())?;
-        assert_eq!(rt; blame(&script, Law::Steady), steady, "{text}");
-        assert_eq!(rt; blame(&script, Law::Quiet), quiet, "{text}");
-        let verdict = lint(&script);
-        assert_eq!(rt;
-            verdict,
-            Verdict {
-                steady: steady.is_none(),
-                quiet: quiet.is_none()
-            },
-            "{text}"
-        );
+        see_row(&rt, rt.alloc(), text, steady, quiet)?;
     }
     Ok(())
 }

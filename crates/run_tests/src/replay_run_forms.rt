@@ -4,6 +4,7 @@ use crate::replay_run_scripts::{GROWING, PAGE};
 use crate::replay_run_tests::{Answer, WHOLE, replayed};
 use replay_run::Status;
 use std::alloc::{AllocError, Global};
+use std::process::Abort;
 use std::test::Fail;
 
 /// Words, the text of the source, and the status and the text that they give.
@@ -80,12 +81,24 @@ fn answered(alloc: Global, words: &[&str], text: &str) -> Result<Answer, AllocEr
     replayed(alloc, &owned, text.as_bytes(), WHOLE)
 }
 
+fn see_form(
+    rt: &impl Abort,
+    alloc: Global,
+    words: &[&str],
+    text: &str,
+    status: Status,
+    told: &str,
+) -> Result<(), Fail> {
+    let it = answered(alloc, words, text)?;
+    assert_eq!(rt; it.status, status, "{told}");
+    assert_eq!(rt; it.sink.taken(), told.as_bytes(), "{told}");
+    Ok(())
+}
+
 #[test]
 fn each_form_gives_its_text(rt: HostRuntime) -> Result<(), Fail> {
     for (words, text, status, told) in FORMS {
-        let it = answered(rt.alloc(), words, text)?;
-        assert_eq!(&rt; it.status, status, "{told}");
-        assert_eq!(&rt; it.sink.taken(), told.as_bytes(), "{told}");
+        see_form(&rt, rt.alloc(), words, text, status, told)?;
     }
     Ok(())
 }
@@ -93,31 +106,31 @@ fn each_form_gives_its_text(rt: HostRuntime) -> Result<(), Fail> {
 #[test]
 fn a_summary_counts_the_lines_of_the_trace(rt: HostRuntime) -> Result<(), Fail> {
     let (text, _told) = GROWING;
-    let it = answered(rt.alloc(), &["--summary"], text)?;
-    assert_eq!(&rt; it.status, Status::Done);
-    assert_eq!(&rt; it.sink.taken(), GROWING_SUMMARY.as_bytes());
-    Ok(())
+    let words = ["--summary"];
+    see_form(&rt, rt.alloc(), &words, text, Status::Done, GROWING_SUMMARY)
 }
 
 #[test]
 fn other_words_are_refused(rt: HostRuntime) -> Result<(), Fail> {
     for words in OTHERS {
-        let it = answered(rt.alloc(), words, PAGE)?;
-        assert_eq!(&rt; it.status, Status::Usage);
-        assert!(&rt; it.sink.taken().is_empty());
+        see_form(&rt, rt.alloc(), words, PAGE, Status::Usage, "")?;
     }
     Ok(())
 }
 
+/// The words of a run, and whether a page is handed out.
+const PAGES: [(&[&str], bool); 4] = [
+    (&["--summary"], true),
+    (&["--generate-run", "0"], true),
+    (&["--check"], false),
+    (&["--generate", "0"], false),
+];
+
 #[test]
 fn a_page_is_handed_out_where_a_script_was_run(rt: HostRuntime) -> Result<(), Fail> {
-    let it = answered(rt.alloc(), &["--summary"], PAGE)?;
-    assert!(&rt; it.has_page);
-    let it = answered(rt.alloc(), &["--generate-run", "0"], PAGE)?;
-    assert!(&rt; it.has_page);
-    let it = answered(rt.alloc(), &["--check"], PAGE)?;
-    assert!(&rt; !it.has_page);
-    let it = answered(rt.alloc(), &["--generate", "0"], PAGE)?;
-    assert!(&rt; !it.has_page);
+    for (words, has_page) in PAGES {
+        let it = answered(rt.alloc(), words, PAGE)?;
+        assert_eq!(&rt; it.has_page, has_page);
+    }
     Ok(())
 }

@@ -32,34 +32,43 @@ fn push_times(text: &mut String, line: &str, count: u32) -> Result<(), AllocErro
 }
 
 // Compares a text that goes on at its end.
-fn expect_on(rt: &impl Abort, alloc: Global, mut text: String) -> Result<(), Fail> {
+fn expect_on(rt: &impl Abort, alloc: Global, text: &mut String) -> Result<(), Fail> {
     text.push_str("say on\n")?;
-    expect(rt, alloc, &text, WHOLE, Status::Done, ON)
+    expect(rt, alloc, text, WHOLE, Status::Done, ON)
 }
 
-fn numbered(alloc: Global, it: &Numbered, count: u32) -> Result<String, AllocError> {
-    let mut text = String::from_str(alloc, "script 1\n")?;
+fn push_number(text: &mut String, it: &Numbered, count: u32) -> Result<(), AllocError> {
+    text.push_str("script 1\n")?;
     text.push_str(it.first)?;
-    push_numbered(&mut text, it.before, it.after, count)?;
-    Ok(text)
+    push_numbered(text, it.before, it.after, count)
+}
+
+fn see_most(rt: &impl Abort, alloc: Global, it: &Numbered) -> Result<(), Fail> {
+    let mut text = String::new(alloc);
+    push_number(&mut text, it, it.most)?;
+    expect_on(rt, alloc, &mut text)
+}
+
+fn see_too_many(rt: &impl Abort, alloc: Global, it: &Numbered) -> Result<(), Fail> {
+    let mut text = String::new(alloc);
+    push_number(&mut text, it, it.most.saturating_add(1))?;
+    expect(rt, alloc, &text, WHOLE, Status::Limit, it.told)
 }
 
 #[test]
 fn no_more_is_made_than_the_limits(rt: HostRuntime) -> Result<(), Fail> {
-    let alloc = rt.alloc();
     for it in &NUMBERED {
-        expect_on(&rt, alloc, numbered(alloc, it, it.most)?)?;
-        let text = numbered(alloc, it, it.most.saturating_add(1))?;
-        expect(&rt, alloc, &text, WHOLE, Status::Limit, it.told)?;
+        see_most(&rt, rt.alloc(), it)?;
+        see_too_many(&rt, rt.alloc(), it)?;
     }
     Ok(())
 }
 
 // Three observers, of which each observes all of 16,667 blocks, until there are so many observations.
-fn observed(alloc: Global, it: &Observing, count: u32) -> Result<String, AllocError> {
-    let mut text = String::from_str(alloc, "script 1\n")?;
-    push_numbered(&mut text, "block b", " top\n", 16_667)?;
-    push_numbered(&mut text, it.make, it.made, 3)?;
+fn push_observed(text: &mut String, it: &Observing, count: u32) -> Result<(), AllocError> {
+    text.push_str("script 1\n")?;
+    push_numbered(text, "block b", " top\n", 16_667)?;
+    push_numbered(text, it.make, it.made, 3)?;
     for k in 0..count {
         write!(
             text,
@@ -70,96 +79,156 @@ fn observed(alloc: Global, it: &Observing, count: u32) -> Result<String, AllocEr
             it.observed
         )?;
     }
-    Ok(text)
+    Ok(())
+}
+
+fn see_all_observed(rt: &impl Abort, alloc: Global, it: &Observing) -> Result<(), Fail> {
+    let mut text = String::new(alloc);
+    push_observed(&mut text, it, 50_000)?;
+    expect_on(rt, alloc, &mut text)
+}
+
+fn see_too_many_observed(rt: &impl Abort, alloc: Global, it: &Observing) -> Result<(), Fail> {
+    let mut text = String::new(alloc);
+    push_observed(&mut text, it, 50_001)?;
+    expect(rt, alloc, &text, WHOLE, Status::Limit, it.told)
 }
 
 #[test]
 fn no_more_is_observed_than_the_limits(rt: HostRuntime) -> Result<(), Fail> {
-    let alloc = rt.alloc();
     for it in &OBSERVING {
-        expect_on(&rt, alloc, observed(alloc, it, 50_000)?)?;
-        let text = observed(alloc, it, 50_001)?;
-        expect(&rt, alloc, &text, WHOLE, Status::Limit, it.told)?;
+        see_all_observed(&rt, rt.alloc(), it)?;
+        see_too_many_observed(&rt, rt.alloc(), it)?;
     }
     Ok(())
 }
 
-// All kinds of events at 1,024 blocks; there is one block more.
-fn listening(alloc: Global) -> Result<String, AllocError> {
-    let mut text = String::from_str(alloc, "script 1\nhandler h\nend\n")?;
-    push_numbered(&mut text, "block b", " top\n", 1025)?;
+// All kinds of events at 1,024 blocks, and then one line more; there is one block more.
+fn push_listening(text: &mut String, last: &str) -> Result<(), AllocError> {
+    text.push_str("script 1\nhandler h\nend\n")?;
+    push_numbered(text, "block b", " top\n", 1025)?;
     for kind in [" resize h\n", " scroll h\n", " error h\n", " change h\n"] {
-        push_numbered(&mut text, "listen b", kind, 1024)?;
+        push_numbered(text, "listen b", kind, 1024)?;
     }
-    Ok(text)
+    text.push_str(last)
 }
 
 // One that is there already isn't added.
+fn see_same_listened(rt: &impl Abort, alloc: Global) -> Result<(), Fail> {
+    let mut text = String::new(alloc);
+    push_listening(&mut text, "listen b1 scroll h\n")?;
+    expect_on(rt, alloc, &mut text)
+}
+
+fn see_too_many_listened(rt: &impl Abort, alloc: Global) -> Result<(), Fail> {
+    let mut text = String::new(alloc);
+    push_listening(&mut text, "listen b1024 resize h\n")?;
+    let told = "limit listeners 5125 4096\n";
+    expect(rt, alloc, &text, WHOLE, Status::Limit, told)
+}
+
 #[test]
 fn no_more_is_listened_than_the_limit(rt: HostRuntime) -> Result<(), Fail> {
-    let alloc = rt.alloc();
-    let mut text = listening(alloc)?;
-    text.push_str("listen b1 scroll h\n")?;
-    expect_on(&rt, alloc, text)?;
-    let mut text = listening(alloc)?;
-    text.push_str("listen b1024 resize h\n")?;
-    let told = "limit listeners 5125 4096\n";
-    expect(&rt, alloc, &text, WHOLE, Status::Limit, told)
+    see_same_listened(&rt, rt.alloc())?;
+    see_too_many_listened(&rt, rt.alloc())
 }
 
 // `top` is one of the documents.
-fn framed(alloc: Global, count: u32) -> Result<String, AllocError> {
-    let mut text = String::from_str(alloc, "script 1\n")?;
+fn push_framed(text: &mut String, count: u32) -> Result<(), AllocError> {
+    text.push_str("script 1\n")?;
     for k in 0..count {
         write!(text, "frame f{k} top d{k}\n")?;
     }
-    Ok(text)
+    Ok(())
+}
+
+fn see_all_framed(rt: &impl Abort, alloc: Global) -> Result<(), Fail> {
+    let mut text = String::new(alloc);
+    push_framed(&mut text, 63)?;
+    expect_on(rt, alloc, &mut text)
+}
+
+fn see_too_many_framed(rt: &impl Abort, alloc: Global) -> Result<(), Fail> {
+    let mut text = String::new(alloc);
+    push_framed(&mut text, 64)?;
+    let told = "limit documents 65 64\n";
+    expect(rt, alloc, &text, WHOLE, Status::Limit, told)
 }
 
 #[test]
 fn no_more_documents_are_made_than_the_limit(rt: HostRuntime) -> Result<(), Fail> {
-    let alloc = rt.alloc();
-    expect_on(&rt, alloc, framed(alloc, 63)?)?;
-    let told = "limit documents 65 64\n";
-    expect(&rt, alloc, &framed(alloc, 64)?, WHOLE, Status::Limit, told)
+    see_all_framed(&rt, rt.alloc())?;
+    see_too_many_framed(&rt, rt.alloc())
+}
+
+// A line so many times between what comes before and after it.
+fn push_around(
+    text: &mut String,
+    first: &str,
+    line: &str,
+    count: u32,
+    last: &str,
+) -> Result<(), AllocError> {
+    text.push_str(first)?;
+    push_times(text, line, count)?;
+    text.push_str(last)
+}
+
+fn see_nested(rt: &impl Abort, alloc: Global) -> Result<(), Fail> {
+    let mut text = String::new(alloc);
+    let first = "script 1\nblock b top\n";
+    push_around(&mut text, first, "when not attached b\n", 16, "say on\n")?;
+    push_times(&mut text, "end\n", 16)?;
+    expect(rt, alloc, &text, WHOLE, Status::Done, ON)
+}
+
+fn see_nested_too_deep(rt: &impl Abort, alloc: Global) -> Result<(), Fail> {
+    let mut text = String::new(alloc);
+    push_around(&mut text, "script 1\n", "when attached top\n", 17, "")?;
+    let told = "limit nesting 18 16\n";
+    expect(rt, alloc, &text, WHOLE, Status::Limit, told)
 }
 
 #[test]
 fn blocks_are_nested_up_to_the_limit(rt: HostRuntime) -> Result<(), Fail> {
-    let alloc = rt.alloc();
-    let mut text = String::from_str(alloc, "script 1\nblock b top\n")?;
-    push_times(&mut text, "when not attached b\n", 16)?;
-    text.push_str("say on\n")?;
-    push_times(&mut text, "end\n", 16)?;
-    expect(&rt, alloc, &text, WHOLE, Status::Done, ON)?;
-    let mut text = String::from_str(alloc, "script 1\n")?;
-    push_times(&mut text, "when attached top\n", 17)?;
-    let told = "limit nesting 18 16\n";
-    expect(&rt, alloc, &text, WHOLE, Status::Limit, told)
+    see_nested(&rt, rt.alloc())?;
+    see_nested_too_deep(&rt, rt.alloc())
+}
+
+fn see_longest_line(rt: &impl Abort, alloc: Global) -> Result<(), Fail> {
+    let mut text = String::new(alloc);
+    push_around(&mut text, "script 1\n", " ", 4096, "\n")?;
+    expect_on(rt, alloc, &mut text)
+}
+
+fn see_line_too_long(rt: &impl Abort, alloc: Global) -> Result<(), Fail> {
+    let mut text = String::new(alloc);
+    push_around(&mut text, "script 1\n", " ", 4097, "\n")?;
+    let told = "limit line 2 4096\n";
+    expect(rt, alloc, &text, WHOLE, Status::Limit, told)
 }
 
 #[test]
 fn lines_have_bytes_up_to_the_limit(rt: HostRuntime) -> Result<(), Fail> {
-    let alloc = rt.alloc();
-    let mut text = String::from_str(alloc, "script 1\n")?;
-    push_times(&mut text, " ", 4096)?;
-    text.push_str("\n")?;
-    expect_on(&rt, alloc, text)?;
-    let mut text = String::from_str(alloc, "script 1\n")?;
-    push_times(&mut text, " ", 4097)?;
-    text.push_str("\n")?;
-    let told = "limit line 2 4096\n";
-    expect(&rt, alloc, &text, WHOLE, Status::Limit, told)
+    see_longest_line(&rt, rt.alloc())?;
+    see_line_too_long(&rt, rt.alloc())
+}
+
+fn see_longest_script(rt: &impl Abort, alloc: Global) -> Result<(), Fail> {
+    let mut text = String::new(alloc);
+    push_around(&mut text, "script 1\nsay on\n", "\n", 16_777_200, "")?;
+    expect(rt, alloc, &text, WHOLE, Status::Done, ON)
+}
+
+fn see_script_too_long(rt: &impl Abort, alloc: Global) -> Result<(), Fail> {
+    let mut text = String::new(alloc);
+    push_times(&mut text, "\n", 16_777_217)?;
+    let told = "limit script 16777217 16777216\n";
+    expect(rt, alloc, &text, WHOLE, Status::Limit, told)
 }
 
 #[test]
 fn scripts_have_bytes_up_to_the_limit(rt: HostRuntime) -> Result<(), Fail> {
-    let alloc = rt.alloc();
-    let mut text = String::from_str(alloc, "script 1\nsay on\n")?;
-    push_times(&mut text, "\n", 16_777_200)?;
-    expect(&rt, alloc, &text, WHOLE, Status::Done, ON)?;
-    let mut text = String::new(alloc);
-    push_times(&mut text, "\n", 16_777_217)?;
-    let told = "limit script 16777217 16777216\n";
-    expect(&rt, alloc, &text, WHOLE, Status::Limit, told)
+    see_longest_script(&rt, rt.alloc())?;
+    see_script_too_long(&rt, rt.alloc())
 }

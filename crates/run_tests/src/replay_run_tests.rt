@@ -1,3 +1,6 @@
+//! Scripts with their traces, whole and in pieces, texts that are no scripts, and calls that fail.
+
+use crate::common::failing;
 use crate::replay_run_scripts::{ENDLESS, GROWING, PAGE, REFUSED, RUNS, TOLD};
 use replay_run::{Status, run_uncounted};
 use std::alloc::{AllocError, Global};
@@ -6,14 +9,6 @@ use std::process::Abort;
 use std::sync::ledger::Blank;
 use std::test::Fail;
 use text_io::{MemorySink, MemorySource};
-
-fn numbers(alloc: Global, number: Option<u64>) -> Result<Vec<u64>, AllocError> {
-    let mut numbers = Vec::new(alloc);
-    if let Some(number) = number {
-        numbers.push(number)?;
-    }
-    Ok(numbers)
-}
 
 // How a source gives and a sink takes: bytes a call, those that the sink has room for, and the number of the call that
 // fails, from 0.
@@ -51,10 +46,10 @@ pub(crate) fn replayed(
     streams: Streams,
 ) -> Result<Answer, AllocError> {
     let bytes = text.to_vec(alloc)?;
-    let failing = numbers(alloc, streams.failing_read)?;
-    let mut source = MemorySource::new(bytes, streams.piece, failing);
-    let failing = numbers(alloc, streams.failing_write)?;
-    let mut sink = MemorySink::new(alloc, streams.room, streams.piece, failing)?;
+    let reads = failing(alloc, streams.failing_read)?;
+    let mut source = MemorySource::new(bytes, streams.piece, reads);
+    let writes = failing(alloc, streams.failing_write)?;
+    let mut sink = MemorySink::new(alloc, streams.room, streams.piece, writes)?;
     let report = run_uncounted::<_, _, Brand>(Blank::new(1), alloc, words, &mut source, &mut sink);
     Ok(Answer {
         status: report.status,
@@ -83,10 +78,9 @@ pub(crate) fn expect(
 #[test]
 fn scripts_give_their_traces(rt: HostRuntime) -> Result<(), Fail> {
     for (text, told) in RUNS {
-        expect(&rt, rt.alloc(), text, WHOLE, Status::Done, told)?;
-        expect(&rt, rt.alloc(), text, in_pieces(1), Status::Done, told)?;
-        expect(&rt, rt.alloc(), text, in_pieces(2), Status::Done, told)?;
-        expect(&rt, rt.alloc(), text, in_pieces(3), Status::Done, told)?;
+        for streams in [WHOLE, in_pieces(1), in_pieces(2), in_pieces(3)] {
+            expect(&rt, rt.alloc(), text, streams, Status::Done, told)?;
+        }
     }
     Ok(())
 }
@@ -99,13 +93,9 @@ fn texts_that_are_no_scripts_are_refused(rt: HostRuntime) -> Result<(), Fail> {
     Ok(())
 }
 
-// Widths are capped, and the limit ends the run after the reading.
-#[test]
-fn a_chain_is_256_blocks_deep_at_most(rt: HostRuntime) -> Result<(), Fail> {
-    let mut text = String::from_str(
-        rt.alloc(),
-        "script 1\nblock e1 top\nset e1 width 10000%\nappend top e1\n",
-    )?;
+// Blocks in one another, and one more.
+fn push_chain(text: &mut String) -> Result<(), AllocError> {
+    text.push_str("script 1\nblock e1 top\nset e1 width 10000%\nappend top e1\n")?;
     for k in 1..256u32 {
         let next = k + 1;
         write!(
@@ -113,27 +103,34 @@ fn a_chain_is_256_blocks_deep_at_most(rt: HostRuntime) -> Result<(), Fail> {
             "block e{next} top\nset e{next} width 10000%\nappend e{k} e{next}\n"
         )?;
     }
-    text.push_str("read e256\nblock e257 top\nappend e256 e257\n")?;
+    text.push_str("read e256\nblock e257 top\nappend e256 e257\n")
+}
+
+// Widths are capped, and the limit ends the run after the reading.
+#[test]
+fn a_chain_is_256_blocks_deep_at_most(rt: HostRuntime) -> Result<(), Fail> {
+    let mut text = String::new(rt.alloc());
+    push_chain(&mut text)?;
     let told = "read e256 0 0 33554431.984375 0 0 0\nlimit depth 772 256\n";
     expect(&rt, rt.alloc(), &text, WHOLE, Status::Limit, told)
 }
 
 // What the endless script writes: three commands are run in each round, beside the fifteen outside handlers.
-fn endless_trace(alloc: Global) -> Result<String, AllocError> {
-    let mut told = String::from_str(alloc, "tick 0\n")?;
+fn push_endless(told: &mut String) -> Result<(), AllocError> {
+    told.push_str("tick 0\n")?;
     for height in 10..333_338u32 {
         write!(
             told,
             "resize a x rect 0 0 800 {height} border 800 {height}\nresize b y rect 0 0 0 0 border 0 0\nround top 1\n"
         )?;
     }
-    told.push_str("resize a x rect 0 0 800 333338 border 800 333338\nlimit commands 4 1000000\n")?;
-    Ok(told)
+    told.push_str("resize a x rect 0 0 800 333338 border 800 333338\nlimit commands 4 1000000\n")
 }
 
 #[test]
 fn a_loop_without_end_meets_the_limit_of_commands(rt: HostRuntime) -> Result<(), Fail> {
-    let told = endless_trace(rt.alloc())?;
+    let mut told = String::new(rt.alloc());
+    push_endless(&mut told)?;
     let streams = Streams {
         room: 40_000_000,
         ..WHOLE
@@ -149,21 +146,26 @@ fn a_loop_without_end_meets_the_limit_of_commands(rt: HostRuntime) -> Result<(),
 }
 
 // Each line is one call of the sink, so that the lines before it were written.
+fn see_write(rt: &impl Abort, alloc: Global, call: u64) -> Result<(), Fail> {
+    let (text, told) = GROWING;
+    let streams = Streams {
+        failing_write: Some(call),
+        ..WHOLE
+    };
+    let it = replayed(alloc, &[], text.as_bytes(), streams)?;
+    let taken = it.sink.taken();
+    let feeds = taken.iter().filter(|byte| **byte == b'\n').count();
+    assert_eq!(rt; it.status, Status::WriteFault);
+    assert!(rt; told.as_bytes().starts_with(taken));
+    assert_eq!(rt; feeds as u64, call);
+    assert_eq!(rt; taken.last().copied().unwrap_or(b'\n'), b'\n');
+    Ok(())
+}
+
 #[test]
 fn a_write_that_fails_ends_the_run(rt: HostRuntime) -> Result<(), Fail> {
-    let (text, told) = GROWING;
     for call in 0..14 {
-        let streams = Streams {
-            failing_write: Some(call),
-            ..WHOLE
-        };
-        let it = replayed(rt.alloc(), &[], text.as_bytes(), streams)?;
-        let taken = it.sink.taken();
-        let feeds = taken.iter().filter(|byte| **byte == b'\n').count();
-        assert_eq!(&rt; it.status, Status::WriteFault);
-        assert!(&rt; told.as_bytes().starts_with(taken));
-        assert_eq!(&rt; feeds as u64, call);
-        assert_eq!(&rt; taken.last().copied().unwrap_or(b'\n'), b'\n');
+        see_write(&rt, rt.alloc(), call)?;
     }
     Ok(())
 }
