@@ -37,7 +37,12 @@ fn certificates_of(alloc: Global, script: &Script) -> Result<Vec<u8>, AllocError
     ensures { IfOk result (λ text. text.items ≡ lint_text script.now) }
 {
     let mut text = Vec::new(alloc);
-    push_certificate(&mut text, b"steady", b"unsteady ", blame(script, Law::Steady))?;
+    push_certificate(
+        &mut text,
+        b"steady",
+        b"unsteady ",
+        blame(script, Law::Steady),
+    )?;
     push_certificate(&mut text, b"quiet", b"unquiet ", blame(script, Law::Quiet))?;
     Ok(text)
 }

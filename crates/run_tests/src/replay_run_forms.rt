@@ -32,7 +32,12 @@ const FORMS: [(&[&str], &str, Status, &str); 12] = [
         Status::Done,
         "unsteady 4\nunquiet 3\n",
     ),
-    (&["--lint"], "script 1\nsay 5\n", Status::Syntax, "syntax 2 5\n"),
+    (
+        &["--lint"],
+        "script 1\nsay 5\n",
+        Status::Syntax,
+        "syntax 2 5\n",
+    ),
     (
         &["--summary"],
         "script 1\nsay tick\nsay throw\nremove say\n",
