@@ -1,0 +1,12 @@
+//! A judge of recorded traces: whether a trace is the expected one, and where and how it first differs.
+#![tactic(auto)]
+
+mod comparison;
+mod judgement;
+mod laws;
+mod recording;
+
+pub use comparison::judge;
+pub use judgement::{How, Judgement};
+pub use laws::{equal_exactly_where_the_same, lines_make_the_text, what_a_trace_line_is};
+pub use recording::Recording;
