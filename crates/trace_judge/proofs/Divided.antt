@@ -1,5 +1,5 @@
 -- A source up to its first line `trace`.
-use Rattle.std.proofs.Common.{◌≡◌, ◌∙◌, refl, sym, ap, ℕ, suc, ◌+◌, ◌<◌, ◌≤◌, Bool, true, false, cond, not, List, [], ◌∷◌, ◌++◌, length, take, drop, arith, append_assoc, length-append}
+use Rattle.std.proofs.Common.{◌≡◌, ◌∙◌, refl, sym, ap, subst, ◌⊎◌, inl, inr, ℕ, suc, ◌+◌, ◌<◌, ◌≤◌, Bool, true, false, cond, not, List, [], ◌∷◌, ◌++◌, length, take, drop, arith, append_assoc, length-append}
 use Rattle.std.proofs.lemmas.List.{append-nil}
 use Rattle.std.proofs.Math.Seq.{take-append_seam}
 use Rattle.std.specs.List.{concat}
@@ -111,3 +111,45 @@ script_whole {source} {rest} {long} here none =
 
 pub trace_empty : {source rest : List ℕ} {long : ℕ} → Dividing source rest long → length rest ≤ 0 → [] ≡ trace_of source
 trace_empty {source} {rest} {long} here none = sym (here.trace ∙ ap trace_of (no_byte rest none) ∙ trace_none)
+
+-- ---- nothing of a source is lost
+
+abbrev Parts : List (List ℕ) → List (List ℕ) → List (List ℕ) → Type 0
+Parts before after lines =
+    ((concat before ≡ concat lines) × (concat after ≡ []))
+    ⊎ ((line : List ℕ) × (is_divider line ≡ true) × (concat before ++ (line ++ concat after) ≡ concat lines))
+
+parts-at : (test : Bool) (l : List ℕ) (ls : List (List ℕ)) → is_divider l ≡ test → Parts (take (script_lines ls) ls) (drop (script_lines ls + 1) ls) ls
+    → Parts (take (script_lines (l ∷ ls)) (l ∷ ls)) (drop (script_lines (l ∷ ls) + 1) (l ∷ ls)) (l ∷ ls)
+parts-at true l ls is later =
+    subst (λ (n : ℕ). Parts (take n (l ∷ ls)) (drop (n + 1) (l ∷ ls)) (l ∷ ls)) (sym (none_before l ls is)) (inr (l, is, refl))
+parts-at false l ls other later =
+    subst (λ (n : ℕ). Parts (take n (l ∷ ls)) (drop (n + 1) (l ∷ ls)) (l ∷ ls)) (sym (one_before l ls other)) (with_line later)
+  where
+    with_line : Parts (take (script_lines ls) ls) (drop (script_lines ls + 1) ls) ls
+        → Parts (l ∷ take (script_lines ls) ls) (drop (suc (script_lines ls) + 1) (l ∷ ls)) (l ∷ ls)
+    with_line (inl whole) = inl (ap (λ t. l ++ t) whole.0, ap (λ n. concat (drop n (l ∷ ls))) (let next : suc (script_lines ls) + 1 ≡ suc (script_lines ls + 1) = omega arith in next) ∙ whole.1)
+    with_line (inr cut) =
+        inr (
+          cut.0,
+          cut.1,
+          ap (λ n. (l ++ concat (take (script_lines ls) ls)) ++ (cut.0 ++ concat (drop n (l ∷ ls)))) (let next : suc (script_lines ls) + 1 ≡ suc (script_lines ls + 1) = omega arith in next)
+              ∙ append_assoc l (concat (take (script_lines ls) ls)) (cut.0 ++ concat (drop (script_lines ls + 1) ls))
+              ∙ ap (λ t. l ++ t) cut.2,
+        )
+
+parts_of : (lines : List (List ℕ)) → Parts (take (script_lines lines) lines) (drop (script_lines lines + 1) lines) lines
+parts_of [] = inl (refl, refl)
+parts_of (l ∷ ls) = parts-at (is_divider l) l ls refl (parts_of ls)
+
+pub source_parts : (source : List ℕ)
+    → ((script_of source ≡ source) × (trace_of source ≡ []))
+    ⊎ ((line : List ℕ) × (is_divider line ≡ true) × (script_of source ++ (line ++ trace_of source) ≡ source))
+unfolding script_of trace_of
+source_parts source = by_parts (parts_of (lines_of source))
+  where
+    by_parts : Parts (take (script_lines (lines_of source)) (lines_of source)) (drop (script_lines (lines_of source) + 1) (lines_of source)) (lines_of source)
+        → ((script_of source ≡ source) × (trace_of source ≡ []))
+        ⊎ ((line : List ℕ) × (is_divider line ≡ true) × (script_of source ++ (line ++ trace_of source) ≡ source))
+    by_parts (inl whole) = inl (whole.0 ∙ lines_make source, whole.1)
+    by_parts (inr cut) = inr (cut.0, cut.1, cut.2 ∙ lines_make source)

@@ -1,5 +1,5 @@
 -- Judgements, line by line.
-use Rattle.std.proofs.Common.{◌≡◌, ◌∙◌, refl, sym, ap, ℕ, zero, suc, ◌+◌, ◌<◌, ◌≤◌, Bool, true, false, cond, not, List, [], ◌∷◌, length, drop, arith}
+use Rattle.std.proofs.Common.{◌≡◌, ◌∙◌, refl, sym, ap, ℕ, zero, suc, ◌+◌, ◌-◌, ◌<◌, ◌≤◌, Bool, true, false, cond, not, List, [], ◌∷◌, length, get_or, take, drop, arith}
 use Rattle.std.specs.Prelude.{bytes_eq, nat_eq, ◌==◌}
 use Rattle.std.specs.List.{common_prefix_len, prefix_len, zip, concat}
 use Rattle.std.proofs.lemmas.Bool.{true≢false, false≢true}
@@ -248,3 +248,60 @@ pub same_equal : (expected recorded : List ℕ) (lines : ℕ) → (expected ≡ 
 unfolding judgement
 same_equal expected recorded lines same =
     ap (λ t. judged_lines (lines_of expected) (lines_of t)) (sym same.0) ∙ lists_same (lines_of expected) ∙ ap Equal (sym same.1)
+
+-- ---- where texts that aren't equal first differ
+
+line_in : Judgement → ℕ
+line_in (Equal lines) = 0
+line_in (Differs line how) = line
+
+behind_differs : (j : Judgement) (line : ℕ) (how : How) → behind 1 j ≡ Differs line how → (less : ℕ) × (there : How) × (j ≡ Differs less there) × (line ≡ 1 + less)
+unfolding line_in
+behind_differs (Equal lines) line how same = absurd (no_difference line (1 + lines) how (sym same))
+behind_differs (Differs less there) line how same = (less, there, refl, sym (ap line_in same))
+
+-- the first lines are the same, and one more isn't
+record FirstDiffers (es rs : List (List ℕ)) (line : ℕ) : Type 0 where
+  less : ℕ
+  next : line ≡ suc less
+  same : take less es ≡ take less rs
+  other : take (suc less) es ≡ take (suc less) rs → ⊥
+
+at_once : {es rs : List (List ℕ)} {line : ℕ} {here how : How} → Differs 1 here ≡ Differs line how → (take 1 es ≡ take 1 rs → ⊥) → FirstDiffers es rs line
+unfolding line_in
+at_once is other = record { less = 0; next = sym (ap line_in is); same = refl; other = other }
+
+line_differs : (e r : List ℕ) (es rs : List (List ℕ)) (line : ℕ) (how : How) (test : Bool) → bytes_eq e r ≡ test → judged_lines (e ∷ es) (r ∷ rs) ≡ Differs line how
+    → ((line : ℕ) (how : How) → judged_lines es rs ≡ Differs line how → FirstDiffers es rs line) → FirstDiffers (e ∷ es) (r ∷ rs) line
+line_differs e r es rs line how true same is later =
+    let equal : e ≡ r = (bytes_eq-Decides e r).0 same in
+    let moved = behind_differs (judged_lines es rs) line how (sym (ap (λ l. judged_lines (e ∷ es) (l ∷ rs)) (sym equal) ∙ equal_line e es rs) ∙ is) in
+    let others = later moved.0 moved.1 moved.2 in
+    let step = moved.3 in
+    let count = others.next in
+    record {
+      less = suc others.less;
+      next = omega arith;
+      same = ap (λ l. l ∷ take others.less es) equal ∙ ap (λ ls. r ∷ ls) others.same;
+      other = λ all. others.other (ap (drop 1) all);
+    }
+line_differs e r es rs line how false differ is later =
+    at_once (sym (other_line e r es rs differ) ∙ is) (λ all. true≢false (sym ((bytes_eq-Decides e r).1 (ap (λ ls. get_or ls 0 []) all)) ∙ differ))
+
+lists_differ : (es rs : List (List ℕ)) (line : ℕ) (how : How) → judged_lines es rs ≡ Differs line how → FirstDiffers es rs line
+lists_differ [] [] line how is = absurd (no_difference line 0 how (sym is ∙ no_lines))
+lists_differ [] (r ∷ rs) line how is = at_once (sym (extra_line r rs) ∙ is) (λ all. let long : 0 ≡ 1 = ap length all in omega arith)
+lists_differ (e ∷ es) [] line how is = at_once (sym (missing_line e es) ∙ is) (λ all. let long : 1 ≡ 0 = ap length all in omega arith)
+lists_differ (e ∷ es) (r ∷ rs) line how is = line_differs e r es rs line how (bytes_eq e r) refl is (lists_differ es rs)
+
+pub first_differs : (expected recorded : List ℕ) (line : ℕ) (how : How) → judgement expected recorded ≡ Differs line how
+    → (0 < line) × (take (line - 1) (lines_of expected) ≡ take (line - 1) (lines_of recorded)) × (take line (lines_of expected) ≡ take line (lines_of recorded) → ⊥)
+unfolding judgement
+first_differs expected recorded line how is =
+    let at = lists_differ (lines_of expected) (lines_of recorded) line how is in
+    let next = at.next in
+    let before : line - 1 ≡ at.less = omega arith in (
+      omega arith,
+      ap (λ n. take n (lines_of expected)) before ∙ at.same ∙ ap (λ n. take n (lines_of recorded)) (sym before),
+      λ same. at.other (ap (λ n. take n (lines_of expected)) (sym next) ∙ same ∙ ap (λ n. take n (lines_of recorded)) next),
+    )

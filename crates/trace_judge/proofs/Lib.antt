@@ -3,3 +3,4 @@ pub mod Lengths
 pub mod TraceLines
 pub mod Judged
 pub mod Divided
+pub mod Texts
