@@ -1,5 +1,5 @@
 -- Judgements, line by line.
-use Rattle.std.proofs.Common.{◌≡◌, ◌∙◌, refl, sym, ap, ℕ, zero, suc, ◌+◌, ◌-◌, ◌<◌, ◌≤◌, Bool, true, false, cond, not, List, [], ◌∷◌, length, get_or, take, drop, arith}
+use Rattle.std.proofs.Common.{◌≡◌, ◌∙◌, refl, sym, ap, ℕ, suc, ◌+◌, ◌-◌, ◌<◌, ◌≤◌, Bool, true, false, cond, not, List, [], ◌∷◌, length, get_or, take, drop, arith}
 use Rattle.std.specs.Prelude.{bytes_eq, nat_eq, ◌==◌}
 use Rattle.std.specs.List.{common_prefix_len, prefix_len, zip, concat}
 use Rattle.std.proofs.lemmas.Bool.{true≢false, false≢true}
@@ -7,12 +7,12 @@ use Rattle.std.proofs.lemmas.Slice.Eq.{bytes_eq-Decides}
 use Rattle.trace_summary.specs.Lines.{first_line, behind_line}
 use Rattle.trace_summary.proofs.Splits.{behind_shorter}
 use Rattle.trace_judge.specs.declared.judgement.How.{How}
-use Rattle.trace_judge.specs.declared.judgement.How.TheVariants.{Extra, Missing, NotALine, Text}
+use Rattle.trace_judge.specs.declared.judgement.How.TheVariants.{Extra, Missing}
 use Rattle.trace_judge.specs.declared.judgement.Judgement.{Judgement}
 use Rattle.trace_judge.specs.declared.judgement.Judgement.TheVariants.{Equal, Differs}
 use Rattle.trace_judge.specs.Lines.{lines_of}
 use Rattle.trace_judge.specs.Judging.{how_lines_differ, from_there, equal_lines, judged_lines, judgement}
-use Rattle.trace_judge.proofs.Splits.{lines_by_first, lines_make, first_some, first_none, no_byte}
+use Rattle.trace_judge.proofs.Splits.{lines_by_first, lines_make, first_some, first_none}
 use Rattle.trace_judge.proofs.TraceLines.{is_false}
 
 -- ---- bytes in common

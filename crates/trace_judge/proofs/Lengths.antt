@@ -1,9 +1,9 @@
 -- How long a line of a trace is at the most.
-use Rattle.std.proofs.Common.{◌≡◌, refl, sym, ap, ℕ, ℤ, zero, suc, ◌+◌, ◌-◌, ◌*◌, ◌/◌, ◌%◌, ◌<◌, ◌≤◌, Bool, true, false, cond, ◌&&◌, List, [], ◌∷◌, ◌++◌, length, arith, length-append}
+use Rattle.std.proofs.Common.{◌≡◌, refl, ap, ℕ, ℤ, zero, suc, ◌+◌, ◌*◌, ◌/◌, ◌%◌, ◌<◌, ◌≤◌, Bool, true, false, cond, ◌&&◌, List, [], ◌∷◌, ◌++◌, length, arith, length-append}
 use Rattle.std.specs.Prelude.{◌==◌, ◌-ℤ◌, nat_lt, nat_le, pos, int_lt, unsigned_abs, codes}
 use Rattle.std.specs.List.{join_with_byte, list_all}
 use Rattle.std.proofs.lemmas.Bool.{and_parts, leb-true}
-use Rattle.word_model.specs.Names.{is_letter, is_name_byte, is_name}
+use Rattle.word_model.specs.Names.{is_letter, is_name_byte}
 use Rattle.word_model.specs.Numbers.{decimal_on, decimal}
 use Rattle.px_units.specs.Texts.{digits_in, with_digit, without_final_zeros, rest_text, sign_text, pixel_text}
 use Rattle.px_units.specs.declared.Rect.{Rect}

@@ -1,7 +1,7 @@
 -- Which texts are lines of a trace, as the code reads them.
 use Rattle.std.proofs.Common.{◌≡◌, ◌∙◌, refl, sym, ap, subst, ℕ, ◌<◌, Bool, true, false, List, length, Option, Some, None}
 use Rattle.std.specs.Prelude.{Result, Ok, Err, is_some, is_ok, IfOk, OnErr}
-use Rattle.std.proofs.lemmas.Bool.{true≢false, false≢true}
+use Rattle.std.proofs.lemmas.Bool.{false≢true}
 use Rattle.script_model.specs.TraceLines.{TraceLine}
 use Rattle.script_model.specs.TraceText.{line_text}
 use Rattle.trace_text.specs.declared.TraceLine.{TraceLine as LineValue}

@@ -71,6 +71,7 @@ pub fn judge(expected: &[u8], recorded: &[u8]) -> Judgement
                 how: how_first_lines_differ(expected_line, recorded_line),
             };
         }
+        // both have ended: else a line isn't empty
         if expected_line.is_empty() {
             return Judgement::Equal { lines };
         }

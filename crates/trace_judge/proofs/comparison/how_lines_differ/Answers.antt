@@ -1,5 +1,4 @@
-use Rattle.std.proofs.Common.{◌+◌, ◌≡◌, ◌≤◌, ◌∙◌, refl, ap, cond, length, arith, nat_eq}
-use Rattle.std.specs.List.{common_prefix_len}
+use Rattle.std.proofs.Common.{◌+◌, ◌≡◌, ◌∙◌, refl, ap, cond, arith, nat_eq}
 use Rattle.std.proofs.lemmas.List.Sums.{common_prefix_len-le}
 use Rattle.trace_judge.specs.declared.judgement.How.TheVariants.{NotALine, Text}
 use Rattle.trace_judge.specs.Judging.{how_lines_differ, column_of}

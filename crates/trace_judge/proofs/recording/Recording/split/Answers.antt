@@ -1,6 +1,6 @@
 use Rattle.std.proofs.Common.{◌∙◌, ◌<◌, ◌≤◌, sym, ap, length, arith, rules}
 use Rattle.trace_summary.proofs.Splits.{behind_shorter}
-use Rattle.trace_judge.specs.Recordings.{is_divider, trace_of}
+use Rattle.trace_judge.specs.Recordings.{is_divider}
 use Rattle.trace_judge.proofs.Divided.{dividing_more, script_cut, trace_cut, script_whole, trace_empty}
 use Rattle.trace_judge.proofs.recording.Recording.split.Goals as goal
 
