@@ -5,8 +5,8 @@ ghost use Rattle.trace_runs.specs.Writes.{Wrote};
 ghost use Rattle.trace_judge.specs.Texts.{how_text, judgement_text};
 
 use std::alloc::{AllocError, Global};
-use text_io::Sink;
-use trace_runs::{RunFault, write_text};
+use text_io::{Sink, write_all};
+use trace_runs::RunFault;
 use word_model::push_decimal;
 
 /// How a recorded trace differs from the expected one, at the first line where it does.
@@ -81,13 +81,17 @@ impl Judgement {
     /// Writes the line that tells it: `equal N`, or `differs K` with `extra`, `missing`, `not-a-line` or `text COLUMN`.
     ///
     /// - `WriteFault` only where the sink's count of faults rose in this call; a first part of the line was written.
-    /// - `Memory` for want of memory. No other fault comes.
+    /// - `Memory` for want of memory, and nothing was written then. No other fault comes.
     pub fn write_to<K: Sink>(&self, alloc: Global, sink: &mut K) -> Result<(), RunFault>
-        ensures { Wrote result (K.taken sink.old) (K.taken sink.new) (K.faults sink.old) (K.faults sink.new) (judgement_text self.now) }
+        ensures wrote { Wrote result (K.taken sink.old) (K.taken sink.new) (K.faults sink.old) (K.faults sink.new) (judgement_text self.now) }
+        ensures memory { result ≡ Err RunFault.Memory → sink.new ≡ sink.old }
     {
-        match self.text(alloc) {
-            Ok(text) => write_text(sink, &text),
-            Err(_) => Err(RunFault::Memory),
+        let Ok(text) = self.text(alloc) else {
+            return Err(RunFault::Memory);
+        };
+        match write_all(sink, &text) {
+            Ok(()) => Ok(()),
+            Err(_) => Err(RunFault::WriteFault),
         }
     }
 }
