@@ -1,4 +1,4 @@
-//! The tests of the crates of texts, from `word_model` to `trace_summary`, a module for each, over what they offer in public.
+//! The tests of the crates of texts, from `word_model` to `trace_judge`, a module for each, over what they offer in public.
 #![tactic(auto)]
 
 #[cfg(test)]
@@ -21,6 +21,8 @@ mod streams;
 mod style_values_tests;
 #[cfg(test)]
 mod text_io_tests;
+#[cfg(test)]
+mod trace_judge_tests;
 #[cfg(test)]
 mod trace_runs_tests;
 #[cfg(test)]
