@@ -1,5 +1,5 @@
 -- Clips that are asked for once their chains were seen: exact of what was seen, and for the same spots.
-use Rattle.std.proofs.Common.{◌≡◌, ◌∙◌, ℕ, ◌<◌, Bool, true, false, cond, List, [], ◌∷◌, length, get_or, Option, Some, Result, Ok, Err, ap, refl, sym, subst}
+use Rattle.std.proofs.Common.{◌≡◌, ◌∙◌, ℕ, Bool, true, false, cond, List, [], ◌∷◌, get_or, Option, Some, Result, refl}
 use Rattle.std.specs.Prelude.{OnOk, OnErr}
 use Rattle.std.specs.FinMap.{FinMap}
 use Rattle.std.specs.Ordering.{nat_cmp}
@@ -8,14 +8,14 @@ use Rattle.std.proofs.lemmas.List.Elements.{All-head, All-tail}
 use Rattle.page_model.specs.World.{Root, IntersectionObservers}
 use Rattle.clip_chain.specs.declared.spot.Spot.{Spot}
 use Rattle.clip_chain.specs.Scenes.{Scene}
-use Rattle.clip_chain.specs.Chains.{Leads, IsAbove}
+use Rattle.clip_chain.specs.Chains.{Leads}
 use Rattle.clip_chain.specs.Worlds.{element_spot, spot_of_root}
 use Rattle.intersection_observer.specs.Places.{IsStanding}
 use Rattle.intersection_observer.specs.Seen.{serial_numbers}
 use Rattle.intersection_observer.specs.declared.registration.RegistrationId.{RegistrationId}
 use Rattle.kept_clips.specs.Clips.{clip_between}
-use Rattle.kept_clips.specs.Held.{HeldClips, pair_of, spots_at, with_clip}
-use Rattle.kept_clips.specs.Chains.{is_current, IsExact, AgreesAlong}
+use Rattle.kept_clips.specs.Held.{HeldClips, spots_at, with_clip}
+use Rattle.kept_clips.specs.Chains.{is_current, IsExact}
 use Rattle.kept_clips.specs.Scenes.{AgreesAt}
 use Rattle.kept_clips.specs.Seen.{Seen}
 use Rattle.kept_clips.proofs.Pairs.{either, spots_computed}

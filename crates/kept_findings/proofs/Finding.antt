@@ -1,7 +1,6 @@
 -- What is found of a registration, told and settled.
-use Rattle.std.proofs.Common.{◌≡◌, ◌∙◌, ℕ, true, List, Option, Some, None, unwrap_or, ap, refl, sym, subst}
+use Rattle.std.proofs.Common.{◌≡◌, ◌∙◌, ℕ, true, Option, Some, unwrap_or, ap, sym, subst}
 use Rattle.std.specs.Prelude.{IfSome}
-use Rattle.std.specs.Ordering.{nat_cmp}
 use Rattle.std.specs.FinMap.{insert, contains_key}
 use Rattle.page_model.specs.World.{Root, Finding, IntersectionObserver, IntersectionObservers}
 use Rattle.page_model.specs.Lookups.{intersection_observer_at}

@@ -1,10 +1,9 @@
 -- What is kept of registrations through one that is made and one that is taken out.
-use Rattle.std.proofs.Common.{◌≡◌, ◌∙◌, ℕ, zero, suc, ◌<◌, ◌≤◌, Bool, true, false, cond, not, ◌==◌, ◌&&◌, ◌||◌, List, [], ◌∷◌, ◌++◌, length, get_or, set, filter, Option, Some, None, option_map, is_some, unwrap_or, ap, refl, sym, subst, inl, inr, arith}
-use Rattle.std.specs.Prelude.{◌⊎◌}
-use Rattle.std.specs.Ordering.{nat_cmp, eq_by_cmp}
+use Rattle.std.proofs.Common.{◌≡◌, ◌∙◌, ℕ, zero, suc, ◌<◌, Bool, true, false, cond, not, ◌==◌, ◌&&◌, ◌||◌, List, [], ◌∷◌, ◌++◌, length, get_or, set, filter, Option, Some, None, option_map, is_some, unwrap_or, ap, refl, sym, subst, inl, inr, arith}
+use Rattle.std.specs.Ordering.{nat_cmp}
 use Rattle.std.specs.Cmp.{nat_cmp_total, unsigned_tied}
 use Rattle.std.specs.FinMap.{FinMap, get, insert, remove, contains_key, get-insert, get-remove}
-use Rattle.std.proofs.lemmas.Bool.{eqb-true, eq-eqb, false≢true}
+use Rattle.std.proofs.lemmas.Bool.{eq-eqb, false≢true}
 use Rattle.page_model.specs.World.{Finding, Registration, IntersectionObserver, IntersectionObservers}
 use Rattle.page_model.specs.Lookups.{entry_or, change_at, no_intersection_observer, intersection_observer_at}
 use Rattle.page_model.specs.IntersectionObserving.{is_registered, with_registration, without_registration}
@@ -14,7 +13,7 @@ use Rattle.clip_chain.specs.Worlds.{element_spot, spot_of_root}
 use Rattle.intersection_observer.specs.Places.{Standing as Place, standing_from, standing_of}
 use Rattle.intersection_observer.specs.Seen.{seen_finding}
 use Rattle.intersection_observer.specs.Serials.{HasSerials, registrations_at}
-use Rattle.intersection_observer.specs.Settling.{is_news_of, is_news_at, is_news_for}
+use Rattle.intersection_observer.specs.Settling.{is_news_of, is_news_at}
 use Rattle.intersection_observer.specs.Watchers.{serial_of, without_target}
 use Rattle.intersection_observer.proofs.Standing.{stands-registered}
 use Rattle.intersection_observer.proofs.Subjects.{IsSole, sole}
@@ -23,10 +22,10 @@ use Rattle.kept_clips.specs.declared.pair.Pair.{Pair}
 use Rattle.kept_clips.specs.Held.{new_pair, spots_of as spots_in, spots_at}
 use Rattle.candidate_index.specs.declared.index.Kept.{Kept}
 use Rattle.candidate_index.specs.Held.{kept_of, IsFound}
-use Rattle.candidate_index.proofs.Found.{kept_inserted, kept_removed}
+use Rattle.candidate_index.proofs.Found.{kept_removed}
 use Rattle.kept_findings.specs.Held.{HeldFindings, with_findings, without_findings}
-use Rattle.kept_findings.specs.Registered.{spots_of, spots_for, AreHeld, IsSettled, AreRegistered}
-use Rattle.kept_findings.proofs.Settled.{AreAlike, at_changed, changed_apart, changed_here, numbers_apart, apart_test, none_kept, kept_own, kept_other}
+use Rattle.kept_findings.specs.Registered.{spots_of, spots_for, IsSettled, AreRegistered}
+use Rattle.kept_findings.proofs.Settled.{AreAlike, at_changed, changed_apart, changed_here, numbers_apart, apart_test, kept_own, kept_other}
 
 -- a changed entry as one that is written
 

@@ -1,5 +1,5 @@
 -- What is kept through one more registration or one less, and through what is found of one.
-use Rattle.std.proofs.Common.{◌≡◌, ◌∙◌, ℕ, Bool, true, false, cond, ◌==◌, ◌<◌, ◌≤◌, ◌-◌, suc, List, ◌++◌, length, get_or, inl, inr, Result, Ok, Err, Option, Some, None, is_some, option_map, unwrap_or, ap, refl, sym, subst, arith, length-append}
+use Rattle.std.proofs.Common.{◌≡◌, ◌∙◌, ℕ, Bool, true, false, cond, ◌==◌, ◌<◌, ◌≤◌, ◌-◌, suc, List, ◌++◌, length, get_or, inl, inr, Result, Option, Some, None, is_some, option_map, unwrap_or, ap, refl, sym, subst, arith, length-append}
 use Rattle.std.proofs.lemmas.Bool.{eqb-true, eq-eqb, cases_lt}
 use Rattle.std.specs.Cmp.{nat_cmp_total, unsigned_tied}
 use Rattle.std.specs.FinMap.{FinMap, get, insert, remove, contains_key, get-insert, get-remove, get-empty, empty, same_map, nat_cmp-IsAntisymmetric}

@@ -22,12 +22,11 @@ use Rattle.intersection_observer.specs.Settling.{settled_if, settled_at, settled
 use Rattle.intersection_observer.proofs.Standing.{StandsAt, stands_at, stands-there, standing-made}
 use Rattle.intersection_observer.proofs.Subjects.{subjects_of, same-target_in, same-all, same-targets, settled-subjects}
 use Rattle.candidate_index.specs.declared.index.Kept.{Kept}
-use Rattle.candidate_index.specs.Registrations.{place_of, observer_of}
-use Rattle.candidate_index.specs.Held.{kept_of, IsFound, AreFound}
+use Rattle.candidate_index.specs.Held.{kept_of, IsFound}
 use Rattle.candidate_index.proofs.Found.{kept_inserted, found_inserted}
 use Rattle.kept_findings.specs.Held.{HeldFindings, with_expired}
 use Rattle.kept_findings.proofs.Registering.{there_still}
-use Rattle.kept_findings.specs.Registered.{spots_of, spots_for, AreHeld, IsSettled, AreRegistered}
+use Rattle.kept_findings.specs.Registered.{spots_of, AreHeld, IsSettled, AreRegistered}
 
 -- lists in which one entry is changed
 

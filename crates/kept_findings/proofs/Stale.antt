@@ -1,6 +1,6 @@
 -- The stale registrations of an observer settled one after the other: the same as all of them, since what isn't stale is no news.
-use Rattle.std.proofs.Common.{◌≡◌, ◌∙◌, ℕ, zero, suc, ◌<◌, Bool, true, false, cond, List, [], ◌∷◌, ◌++◌, length, get_or, take, filter, map, Option, Some, None, ap, refl, sym, subst, inl, inr, arith}
-use Rattle.std.specs.Prelude.{◌⊎◌, slice_get}
+use Rattle.std.proofs.Common.{◌≡◌, ◌∙◌, ℕ, zero, suc, ◌<◌, Bool, true, false, cond, List, [], ◌∷◌, length, take, filter, map, ap, refl, sym, inl, inr, arith}
+use Rattle.std.specs.Prelude.{slice_get}
 use Rattle.std.specs.List.{AllByRecursion}
 use Rattle.std.proofs.lemmas.Option.{same_Some}
 use Rattle.page_model.specs.World.{Finding, Registration, IntersectionObservers}

@@ -1,5 +1,5 @@
 -- The steps that clips take: none that is asked for makes another one take more.
-use Rattle.std.proofs.Common.{◌≡◌, ◌∙◌, ℕ, suc, ◌+◌, ◌<◌, ◌≤◌, Bool, true, false, cond, ◌==◌, ◌&&◌, nat_lt, nat_le, List, [], ◌∷◌, ◌++◌, length, Option, Some, None, ap, refl, sym, subst, inl, inr, arith}
+use Rattle.std.proofs.Common.{◌≡◌, ◌∙◌, ℕ, ◌<◌, ◌≤◌, Bool, true, false, cond, ◌&&◌, nat_lt, nat_le, List, [], ◌∷◌, length, ap, refl, sym, subst, inl, inr, arith}
 use Rattle.std.specs.Prelude.{sum_by}
 use Rattle.std.specs.List.{list_all}
 use Rattle.std.proofs.lemmas.Bool.{eq-eqb}
@@ -11,7 +11,7 @@ use Rattle.clip_chain.specs.Scenes.{Scene}
 use Rattle.kept_clips.specs.declared.clip.Clip.{Clip}
 use Rattle.kept_clips.specs.declared.pair.Pair.{Pair}
 use Rattle.kept_clips.specs.Clips.{clip_between}
-use Rattle.kept_clips.specs.Touches.{Touched, last_number, last_touch}
+use Rattle.kept_clips.specs.Touches.{last_number, last_touch}
 use Rattle.kept_clips.specs.Held.{HeldClips, pair_of, computed_now, with_clip}
 use Rattle.kept_clips.specs.Chains.{chain_of, is_untouched, stands, is_current}
 use Rattle.kept_clips.specs.Numbers.{AreNumbered}
@@ -19,7 +19,7 @@ use Rattle.kept_clips.proofs.Pairs.{of_inserted}
 use Rattle.candidate_index.specs.declared.scene.Standing.{Standing}
 use Rattle.candidate_index.specs.declared.scene.Standing.TheVariants.{Apart, NoBox, Chained}
 use Rattle.candidate_index.specs.Registrations.{standing_for}
-use Rattle.candidate_index.specs.Asked.{asked, asked_if, asked_for, all_asked, steps_asked, steps_if, steps_for, all_steps}
+use Rattle.candidate_index.specs.Asked.{asked_if, asked_for, steps_asked, steps_if, steps_for, all_steps}
 use Rattle.kept_findings.proofs.Settled.{numbers_apart, apart_test}
 
 at_most_all : (b : Bool) (n : ℕ) → cond b 0 n ≤ n

@@ -1,6 +1,6 @@
 -- The chains of registrations, and lists of registrations by their serial numbers.
 use Rattle.std.proofs.Common.{◌≡◌, ◌∙◌, ℕ, ◌<◌, List, [], ◌∷◌, ◌++◌, length, get_or, ap, refl, sym, subst}
-use Rattle.std.specs.List.{All, AllByRecursion}
+use Rattle.std.specs.List.{All}
 use Rattle.std.proofs.Math.ListN.{get_or-map}
 use Rattle.std.proofs.lemmas.List.{length-map}
 use Rattle.page_model.specs.World.{Root, IntersectionObservers}
@@ -18,7 +18,7 @@ use Rattle.kept_clips.proofs.Along.{all_weaker}
 use Rattle.kept_clips.proofs.Looking.{agrees_after, may_after}
 use Rattle.candidate_index.specs.declared.scene.Standing.{Standing}
 use Rattle.candidate_index.specs.declared.scene.Standing.TheVariants.{Apart, NoBox, Chained}
-use Rattle.candidate_index.specs.Registrations.{observer_of, target_of, serials_at, standing_for, IfChained, IsBetween}
+use Rattle.candidate_index.specs.Registrations.{observer_of, target_of, standing_for, IfChained, IsBetween}
 use Rattle.candidate_index.proofs.Keeping.{if_still}
 use Rattle.kept_findings.specs.Walks.{EachAlong, AreChained, AlongChain, MayBeWalked, IsWalked, between_by, spots_between}
 

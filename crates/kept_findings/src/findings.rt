@@ -10,6 +10,8 @@ ghost use Rattle.clip_chain.specs.Worlds.{element_spot, spot_of_root};
 ghost use Rattle.intersection_observer.specs.Places.{IsStanding, standing_of};
 ghost use Rattle.intersection_observer.specs.Seen.{seen_root, seen_finding, serial_numbers};
 ghost use Rattle.kept_clips.specs.Held.{pair_at};
+ghost use Rattle.kept_clips.specs.Chains.{IsExact};
+ghost use Rattle.kept_clips.specs.Seen.{scene_seen};
 ghost use Rattle.kept_clips.specs.Looked.{Looked, MayBeSeen};
 ghost use Rattle.candidate_index.specs.Ranges.{IsPlaced};
 ghost use Rattle.candidate_index.specs.Registrations.{observer_of, serials_at, basis_for, finding_for, IsBetween};
@@ -104,6 +106,21 @@ impl KeptFindings {
             clips: Clips::new(alloc),
             index: Index::new(alloc),
         }
+    }
+
+    /// The clips that are kept. One that is handed out as it is held is exact of what was seen last.
+    pub fn clips(&self) -> &Clips
+        ensures value { result.now ≡ self.now.clips }
+        ensures exact { (number : ℕ) → IsExact (scene_seen self.now.seen) self.now.clips number }
+    {
+        &self.clips
+    }
+
+    /// What was found of registrations last.
+    pub fn index(&self) -> &Index
+        ensures { result.now ≡ self.now.kept }
+    {
+        &self.index
     }
 
     /// Makes room for what is seen of a spot. Where memory is refused there may be room for more all the same; nothing else changes in

@@ -10,9 +10,7 @@ use Rattle.kept_clips.specs.Scenes.{AgreesAt}
 use Rattle.kept_clips.specs.Seen.{scene_seen}
 use Rattle.kept_clips.specs.Looked.{MayBeSeen}
 use Rattle.kept_clips.proofs.Looking.{looked_nowhere}
-use Rattle.candidate_index.specs.declared.scene.Standing.{Standing}
-use Rattle.candidate_index.specs.declared.scene.Standing.TheVariants.{Chained}
-use Rattle.candidate_index.specs.Registrations.{observer_of, target_of, standing_for, IfChained}
+use Rattle.candidate_index.specs.Registrations.{observer_of, target_of, IfChained}
 use Rattle.candidate_index.proofs.Places.{looked_up}
 use Rattle.candidate_index.proofs.Asking.{where_chained}
 use Rattle.kept_findings.specs.Walks.{EachAlong}

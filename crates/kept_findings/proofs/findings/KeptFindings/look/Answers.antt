@@ -1,4 +1,4 @@
-use Rattle.std.proofs.Common.{◌≡◌, ◌<◌, ℕ, length, get_or, arith, below_more, ap, subst}
+use Rattle.std.proofs.Common.{◌<◌, length, get_or, arith, below_more, ap, subst}
 use Rattle.std.proofs.lemmas.List.{get_or_default}
 use Rattle.intersection_observer.specs.declared.registration.RegistrationId.{RegistrationId}
 use Rattle.kept_clips.specs.Chains.{IsExact}

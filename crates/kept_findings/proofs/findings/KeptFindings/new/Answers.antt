@@ -1,6 +1,5 @@
-use Rattle.std.proofs.Common.{◌≡◌, sym, subst}
+use Rattle.std.proofs.Common.{sym, subst}
 use Rattle.candidate_index.specs.Held.{AreFound}
-use Rattle.kept_findings.specs.Held.{HeldFindings, no_findings}
 use Rattle.kept_findings.specs.Registered.{AreRegistered}
 use Rattle.kept_findings.proofs.Registering.{none_registered}
 use Rattle.kept_findings.proofs.findings.KeptFindings.new.Goals as goal

@@ -1,4 +1,4 @@
-use Rattle.std.proofs.Common.{◌≡◌, ◌∙◌, get_or, ap, sym, subst}
+use Rattle.std.proofs.Common.{◌∙◌, get_or, ap, sym, subst}
 use Rattle.std.specs.List.{All}
 use Rattle.kept_clips.specs.Seen.{scene_seen}
 use Rattle.candidate_index.specs.Registrations.{serials_at}
