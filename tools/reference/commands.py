@@ -6,8 +6,9 @@ and the values of its operands in order. CONDITIONS has one for each condition o
 """
 from . import intersection, trace
 from .forms import NONE
+from .grammar import Operand
 from .layout import BORDER
-from .lengths import AUTO, GREATEST_WRITTEN, px, read_margins
+from .lengths import AUTO, GREATEST_WRITTEN, bad_margin_part, read_margins
 from .media import matches
 from .refusals import Limit, Throw
 from .world import (FRESH, Callback, Document, Element, IntersectionObserver, Listener, Observation, QueryList, Registration,
@@ -162,8 +163,7 @@ def io(page, command, name, document, handler, root, margin, scroll_margin, thre
     scroll_margins = None if scroll_margin is None else _margins(command, 5, scroll_margin, 'scroll margin')
     for place, threshold in enumerate(thresholds):
         if not 0 <= threshold <= 10000:
-            raise Throw('RangeError', command.operands[6], 'threshold %d of %d lies outside 0 to 1' % (
-                place + 1, len(thresholds)))
+            raise Throw('RangeError', _word_of(command.operands[6], place), 'this threshold lies outside 0 to 1')
     _check_limit(page, 'intersection-observers', len(world.intersection_observers))
     observer = world.names[name] = IntersectionObserver(name, command.line, document, handler,
                                                         None if root == NONE else root, margins, scroll_margins,
@@ -174,8 +174,16 @@ def io(page, command, name, document, handler, root, margin, scroll_margin, thre
 def _margins(command, place, text, called):
     margins = read_margins(text)
     if margins is None:
-        raise Throw('SyntaxError', command.operands[place], '`%s` is no %s' % (text.decode('ascii'), called))
+        bad = bad_margin_part(text)
+        said = '`%s` is no part of a %s' % (text.split(b' ')[bad].decode('ascii'), called) if bad < 4 else (
+            'a %s has four parts at most' % called)
+        raise Throw('SyntaxError', _word_of(command.operands[place], bad), said)
     return margins
+
+
+def _word_of(operand, place):
+    """One of the words of an operand that has several."""
+    return Operand(operand.form, operand.value, operand.word + place)
 
 
 def io_observe(page, command, observer, node):

@@ -1,7 +1,7 @@
 """The proved program beside the reference over random scripts: what tools/compare does.
 
 A script that runs long is passed over for the next candidate of its seed: one that begins more than MOST_COMMANDS commands,
-writes more than MOST_LINES lines or takes the reference more than MOST_SECONDS.
+writes more than MOST_LINES lines or takes the reference more than MOST_SECONDS of the processor.
 """
 import contextlib
 import signal
@@ -14,6 +14,7 @@ from .page import Page
 MOST_COMMANDS = 20000
 MOST_LINES = 20000
 MOST_SECONDS = 20
+MOST_SECONDS_OF_THE_PROGRAM = 120
 
 
 class TooLong(Exception):
@@ -22,16 +23,17 @@ class TooLong(Exception):
 
 @contextlib.contextmanager
 def time_limit(seconds):
-    """Raises TooLong in what runs longer; for the main thread alone."""
+    """Raises TooLong in what takes the processor longer; for the main thread alone. What else runs on the machine plays no
+    part in it."""
     def give_up(number, frame):
         raise TooLong
-    before = signal.signal(signal.SIGALRM, give_up)
-    signal.setitimer(signal.ITIMER_REAL, seconds)
+    before = signal.signal(signal.SIGPROF, give_up)
+    signal.setitimer(signal.ITIMER_PROF, seconds)
     try:
         yield
     finally:
-        signal.setitimer(signal.ITIMER_REAL, 0)
-        signal.signal(signal.SIGALRM, before)
+        signal.setitimer(signal.ITIMER_PROF, 0)
+        signal.signal(signal.SIGPROF, before)
 
 
 class _ShortPage(Page):
@@ -95,7 +97,7 @@ def reference_answer(words, text, versions):
 def program_answer(command, words, text):
     try:
         done = subprocess.run(command + words, input=text, stdout=subprocess.PIPE, stderr=subprocess.DEVNULL,
-                              timeout=MOST_SECONDS)
+                              timeout=MOST_SECONDS_OF_THE_PROGRAM)
     except subprocess.TimeoutExpired as late:
         return Answer(late.stdout or b'', None)
     return Answer(done.stdout, done.returncode)

@@ -264,6 +264,19 @@ def read_command(words, version):
     return command
 
 
+def form_of(name, version):
+    """A command's form as docs/SCRIPT.md writes it; of `when` there is one for each condition."""
+    if name == 'when':
+        return [' '.join(['when [not] ' + asked] + [form.shown for form in operands]) for asked, operands in CONDITIONS.items()]
+    special = {'handler': 'handler NAME', 'end': 'end', 'script': 'script 1', 'set': 'set NODE PROPERTY VALUE',
+               'media': 'media NAME DOC QUERY',
+               'io': 'io NAME DOC HANDLER root NODE margin WORD* %sthreshold NUMBER*' % (
+                   '' if version == 1 else '[scroll WORD*] ')}
+    if name in special:
+        return [special[name]]
+    return [' '.join([name] + [form.shown for form in plain_commands(version)[name]])]
+
+
 def first_words(version):
     """The words with which a line behind the first may begin."""
     return sorted([*plain_commands(version), 'set', 'io', 'media', 'when', 'handler', 'end'])
@@ -296,17 +309,20 @@ class _Reader:
         elif first == b'end':
             self.end(words)
         elif first == b'tick' and self.open:
-            raise words.fault(Misplaced('A `tick` stands outside handlers and blocks only.'))
+            raise words.fault(Misplaced('A `tick` stands outside handlers and blocks only, and %s.' % self.open_said()))
         else:
             self.command(words)
 
+    def open_said(self):
+        return 'the %s of line %d has no `end` yet' % (self.open[-1].what, self.open[-1].line)
+
     def handler(self, words):
         if self.open:
-            raise words.fault(Misplaced('A handler stands in no other handler and in no block.'))
+            raise words.fault(Misplaced('A handler stands in no other handler and in no block, and %s.' % self.open_said()))
         words.at = 1
         handlers = self.script.handlers
         if words.next() is not None and read_name(words.next()) in handlers:
-            raise words.fault(Misplaced('The handler of this name is in line %d; names of handlers differ.'
+            raise words.fault(Misplaced('The handler of line %d has this name; the names of handlers differ.'
                                         % handlers[read_name(words.next())].line))
         name = words.take(HANDLER)
         words.end()

@@ -11,22 +11,22 @@ NOTHING = (0, 0, 0, 0)
 
 
 class Clip:
-    """A rectangle on the way from a target to its root: whose it is, and `border box`, `padding box` or `viewport`."""
+    """A rectangle on the way from a target to its root: whose it is, and `border box`, `padding box` or `viewport`. The root's
+    own is that before its margin moves it."""
 
-    def __init__(self, thing, box, rectangle):
-        self.thing, self.box, self.rectangle = thing, box, rectangle
+    def __init__(self, thing, box, rectangle, own=None):
+        self.thing, self.box, self.rectangle, self.own = thing, box, rectangle, own
 
 
 class Entry:
-    """What was found of a target, its rectangles as they are told; `before` is (index, meeting) of the last update, `apart`
-    says why target and root have nothing to do with one another, and `clips` are those passed, in the coordinates of `top`,
-    the target's own box first and the root's rectangle last."""
-    __slots__ = ('target', 'time', 'index', 'meets', 'before', 'part', 'whole', 'root', 'box', 'cut', 'apart', 'clips',
-                 'thresholds')
+    """What was found of a target, its rectangles as they are told. For explanations: `before` is (index, meeting) of the
+    last update; `unseen` says why nothing can be seen, where target and root have nothing to do with one another or the
+    target has no box; `clips` are those passed, the target's own box first and the root's rectangle last."""
+    __slots__ = ('target', 'time', 'index', 'meets', 'before', 'part', 'whole', 'root', 'box', 'cut', 'unseen', 'clips')
 
     def __init__(self, target, root):
         self.target, self.root = target, root
-        self.time, self.before, self.apart, self.clips, self.thresholds = 0, None, None, (), ()
+        self.time, self.before, self.unseen, self.clips = 0, None, None, ()
         self.box = self.cut = NOTHING
         self.part, self.whole, self.meets, self.index = 0, 1, False, 0
 
@@ -125,14 +125,15 @@ def find(world, observer, root, target):
     """What an observer with this root rectangle sees of a target now."""
     layout = world.layout
     entry = Entry(target, seen_from(root.origin, root.rectangle))
-    entry.apart = _why_apart(layout, observer.root, target)
-    if entry.apart is not None:
+    entry.unseen = _why_apart(layout, observer.root, target)
+    if entry.unseen is not None:
         return entry
-    if layout.has_box(target):
+    if not layout.has_box(target):
+        entry.unseen = 'the target `%s` has no box: %s' % (target.name, layout.why_no_box(target))
+    else:
         entry.clips = clips_between(layout, target, observer.root, observer.scroll_margins)
-        entry.clips.append(Clip(root.thing, root.box, root.rectangle))
+        entry.clips.append(Clip(root.thing, root.box, root.rectangle, root.own))
         _measure(layout, entry)
-    entry.thresholds = observer.thresholds
     entry.index = sum([1 for threshold in observer.thresholds if threshold * entry.whole <= entry.part * 10000])
     return entry
 

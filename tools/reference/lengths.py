@@ -122,6 +122,12 @@ def read_margins(text):
     return (top, right, bottom, left)
 
 
+def bad_margin_part(text):
+    """The number of the first word for which these are no margin; the fifth, from 0 on 4, is one too many."""
+    parts = [_margin_part(word) for word in text.split(b' ')][:4]
+    return parts.index(None) if None in parts else 4
+
+
 def dilated(rectangle, margins):
     """Moved outward by the margins; a percentage is of the rectangle's width, on all four sides."""
     left, top, right, bottom = rectangle

@@ -154,7 +154,8 @@ def shortest_ending(text):
         states, ending = waiting.popleft()
         if _END in states:
             return ending
-        for byte in sorted({byte for state in states for bytes_, _ in _AUTOMATON.steps[state] for byte in bytes_}):
+        known = {byte for state in states for bytes_, _ in _AUTOMATON.steps[state] for byte in bytes_}
+        for byte in sorted(known - set(b'\t')):
             reached = _after(states, byte)
             if reached not in seen:
                 seen.add(reached)

@@ -99,13 +99,14 @@ class Page:
             raise Throw('ReferenceError', operand, '`%s` names nothing' % name)
         if thing.what not in kinds:
             raise Throw('TypeError', operand, '`%s` is %s, and %s is wanted' % (
-                name, self.said_of(thing), ' or '.join([article(kind) for kind in kinds])))
+                name, self.said_of(thing), ', '.join([article(kind) for kind in kinds[:-2]]
+                                                     + [' or '.join([article(kind) for kind in kinds[-2:]])])))
         return thing
 
     @staticmethod
     def said_of(thing):
         if thing.line is None:
-            return "the page's document"
+            return "the page's document from the start"
         return '%s since line %d' % (article(getattr(thing, 'kind', thing.what)), thing.line)
 
     # --- commands -----------------------------------------------------------------------------------------------------------
