@@ -2,7 +2,7 @@
 from reference.layout import BORDER, CONTENT
 from reference.lengths import px
 from reference.page import Page
-from reference.world import Document, depth
+from reference.world import Document
 
 from .wording import size
 

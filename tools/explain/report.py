@@ -14,6 +14,7 @@ from .wording import counted, number
 WIDTH = 100
 NOT_BUILT = "The proved program isn't built; this is the reference's trace. bin/replay builds the program."
 MOST_EXPLAINED = 1000
+OUT_OF_TIME = 3
 SECONDS_OF_WATCHING = 20
 SECONDS_OF_EXPLAINING = 20
 
@@ -42,35 +43,42 @@ def explained(text):
         trace.notes.append(NOT_BUILT)
     written = [told.text for told in run.told] if proved is None else proved.lines
     trace.status = run.status if proved is None else proved.status
+    if trace.status is None:
+        trace.status = OUT_OF_TIME
     trusted = _trusted(trace, proved, run)
     _explain_lines(trace, written, run, trusted)
     return trace
 
 
 def _trusted(trace, proved, run):
-    """How many of the lines the reference explains; sentences say why not all."""
+    """How many of the lines the reference explains; notes say why not all."""
     if not run.ended:
-        trace.notes.append('The reference was stopped after %d seconds of the processor: explained are the first %s of the trace.' % (
-            runs.SECONDS_OF_THE_REFERENCE, counted(len(run.told), 'line')))
+        trace.notes.append('The reference was stopped after %d seconds of the processor: explained are the first %s of the '
+                           'trace.' % (runs.SECONDS_OF_THE_REFERENCE, counted(len(run.told), 'line')))
     if proved is None:
-        if trace.status is None:
-            trace.status = 3
         return len(run.told)
-    if proved.status is None:
-        trace.notes.append("The proved program didn't end within %d seconds: what follows is the beginning of its trace." % (
-            runs.SECONDS_OF_THE_PROGRAM))
-    wanted = [told.text for told in run.told]
-    got = proved.lines if run.ended and proved.status is not None else proved.lines[:len(wanted)]
-    if wanted[:len(got)] == got and (len(wanted) == len(got) or proved.status is None):
-        if not run.ended or proved.status in (None, run.status):
-            return min(len(got), len(wanted))
-        trace.notes.append('Nothing is explained: the proved program ended with status %d, and the reference with %d. That is a '
-                           'fault of one of them.' % (proved.status, run.status))
-        return 0
-    place, one, other = first_difference(got, wanted)
-    trace.notes.append('Nothing is explained: the reference gives another trace, and one of both is wrong. They differ in line '
-                       '%d: `%s` here, and there `%s`.' % (place, one or '(nothing more)', other or '(nothing more)'))
+    if proved.stopped:
+        trace.notes.append('What follows is the beginning of the trace: the proved program %s.' % (
+            "didn't end within %d seconds" % runs.SECONDS_OF_THE_PROGRAM if proved.status is None
+            else 'ended with status %d' % proved.status))
+    got, wanted = proved.lines, [told.text for told in run.told]
+    whole = run.ended and not proved.stopped
+    if not whole:
+        common = min(len(got), len(wanted))
+        got, wanted = got[:common], wanted[:common]
+    if got == wanted and (not whole or proved.status == run.status):
+        return len(got)
+    trace.notes.append(_why_not(proved, run, got, wanted))
     return 0
+
+
+def _why_not(proved, run, got, wanted):
+    said = 'Nothing is explained: the reference gives another answer, and one of both is wrong. '
+    if got == wanted:
+        return said + 'The proved program ended with status %d, and the reference with %d.' % (proved.status, run.status)
+    place, one, other = first_difference(got, wanted)
+    return said + 'They differ in line %d of the trace: the program has `%s`, the reference `%s`.' % (
+        place, one or '(nothing more)', other or '(nothing more)')
 
 
 class _Explainers:

@@ -16,7 +16,8 @@ SECONDS_OF_THE_REFERENCE = 30
 
 
 class Proved:
-    """The proved program's trace, as lines, and its status; a status of None says that it didn't end in time."""
+    """The proved program's trace, as lines, and its status, None where it didn't end in time; `stopped` says that the trace
+    may be a first part."""
 
     def __init__(self, text):
         with tempfile.TemporaryFile() as written:
@@ -28,6 +29,9 @@ class Proved:
                 self.status = None
             written.seek(0)
             self.lines = written.read().decode('ascii', 'replace').splitlines()
+        self.stopped = self.status not in (program.DONE, program.SYNTAX, program.LIMIT)
+        if self.stopped:
+            self.lines = self.lines[:-1]              # which may be cut
 
 
 def is_built():

@@ -76,10 +76,12 @@ KEY = _name('a key', None, 'KEY')
 WORD = _name('a word to be said', None)
 LENGTH = Form('LENGTH', read_length, 'a length', shape=LENGTH_SHAPE)
 SIGNED = Form('SIGNED', read_signed, 'a length, maybe with `-` before it', shape=LENGTH_SHAPE)
-PERCENT = Form('PERCENT', read_percent, 'a percentage', shape='It is up to 7 digits, maybe a point and one or two digits, then `%`; '
-               'up to 10000%.')
-WHOLE = Form('WHOLE', read_whole, 'a time in milliseconds', shape='It is `0`, or digits without a leading zero, up to 1000000000000.')
-NUMBER = Form('NUMBER', read_number, 'a threshold', shape='It is maybe `-`, up to 9 digits, maybe a point and up to four digits.')
+PERCENT = Form('PERCENT', read_percent, 'a percentage',
+               shape='It is up to 7 digits, maybe a point and one or two digits, then `%`; up to 10000%.')
+WHOLE = Form('WHOLE', read_whole, 'a time in milliseconds',
+             shape='It is `0`, or digits without a leading zero, up to 1000000000000.')
+NUMBER = Form('NUMBER', read_number, 'a threshold',
+              shape='It is maybe `-`, up to 9 digits, maybe a point and up to four digits.')
 EVENT = keywords(*EVENTS)
 BOX = keywords('content', 'border')
 BOX_OR_DEVICE = keywords('content', 'border', 'device')

@@ -249,14 +249,29 @@ def queues_between(build):
 
     def act():
         watch, target = build.chance.choice(watches), build.chance.choice(targets)
-        return build.one_of(
-            'remove ' + box, 'append %s %s' % (root, box), 'io-take ' + watch, 'io-disconnect ' + watch,
-            'io-unobserve %s %s' % (watch, target), 'io-observe %s %s' % (watch, target),
-            'set %s display %s' % (target, build.one_of('none', 'block')),
-            'scroll %s 0px %s' % (box, build.one_of('0px', '20px', '90px')), 'remove ' + (frame or target),
-            'each / when seen / io-unobserve %s $target / end / end' % watch, 'each / when not seen / say gone / end / end',
-            'each / read $target / append %s $target / end' % build.one_of(box, root),
-            'post %s %s' % (build.one_of('top', document), _handler(build, 'say posted')))
+        return _act_on_queues(build, watch, target, box, root, frame or target, document)
+    _make_watches(build, watches, targets, act, (box, root, document))
+    for _ in range(build.chance.randrange(1, 4)):
+        if build.happens(0.6):                        # a task before the notify task
+            build.line('post top ' + _handler(build, *_several(build, 1, 2, act)))
+        build.write_tick()
+        build.line(*_several(build, 1, 3, act))
+    build.write_tick()
+
+
+def _act_on_queues(build, watch, target, box, root, removed, document):
+    return build.one_of(
+        'remove ' + box, 'append %s %s' % (root, box), 'io-take ' + watch, 'io-disconnect ' + watch,
+        'io-unobserve %s %s' % (watch, target), 'io-observe %s %s' % (watch, target),
+        'set %s display %s' % (target, build.one_of('none', 'block')),
+        'scroll %s 0px %s' % (box, build.one_of('0px', '20px', '90px')), 'remove ' + removed,
+        'each / when seen / io-unobserve %s $target / end / end' % watch, 'each / when not seen / say gone / end / end',
+        'each / read $target / append %s $target / end' % build.one_of(box, root),
+        'post %s %s' % (build.one_of('top', document), _handler(build, 'say posted')))
+
+
+def _make_watches(build, watches, targets, act, places):
+    box, root, document = places
     for watch in watches:
         body = _several(build, 0, 2, act)
         build.line('io %s %s %s root %s margin %s threshold %s' % (
@@ -267,12 +282,6 @@ def queues_between(build):
     for watch in watches:
         for target in build.chance.sample(targets, build.chance.randrange(1, 4)):
             build.line('io-observe %s %s' % (watch, target))
-    for _ in range(build.chance.randrange(1, 4)):
-        if build.happens(0.6):                        # a task before the notify task
-            build.line('post top ' + _handler(build, *_several(build, 1, 2, act)))
-        build.write_tick()
-        build.line(*_several(build, 1, 3, act))
-    build.write_tick()
 
 
 def keys_that_come_back(build):
