@@ -28,13 +28,19 @@ def _show(fault, script, length, sentence):
 
 def _whole_form(fault, script):
     """The form of the command at fault, or its forms."""
-    first = script.command(fault.line).split(' ')[0]
-    if not isinstance(fault.cause, (grammar.Unfit, grammar.TooMany)) or first not in grammar.first_words(1):
+    first, version = script.command(fault.line).split(' ')[0], _version(script)
+    if not isinstance(fault.cause, (grammar.Unfit, grammar.TooMany)) or first not in grammar.first_words(version):
         return []
     if isinstance(fault.cause, grammar.Unfit) and _is_first_word(fault.cause):
         return []
-    known = grammar.form_of(first, 1)
+    known = grammar.form_of(first, version)
     return ['The form of the line:' if len(known) == 1 else 'The forms of the line:'] + ['  ' + form for form in known]
+
+
+def _version(script):
+    """Of the language, by the first line with words."""
+    first = next((line for _, line, _ in lexer.lines_of(script.text) if lexer.words_of(line)), b'')
+    return 2 if first.split()[1:2] == [b'2'] else 1
 
 
 def _is_first_word(cause):
@@ -73,7 +79,7 @@ def _unfit(fault, script):
         return explained + ['Wanted is %s.' % cause.wanted.said]
     explained = _show(fault, script, len(word), '`%s` stands here' % _short(word))
     if cause.wanted is None:
-        return explained + _unknown_command(word, cause.first_words)
+        return explained + _unknown_command(word, cause.first_words, _version(script))
     if _is_first_word(cause) or cause.wanted.keywords in (('1',), ('1', '2')):
         return explained + _first_line(word, cause)
     find = hints.wrong_with_value if cause.wanted.shown == 'VALUE' else hints.wrong_with
@@ -88,14 +94,14 @@ def _short(word):
     return word if len(word) <= 40 else word[:37] + '...'
 
 
-def _unknown_command(word, known):
+def _unknown_command(word, known, version):
     if word == 'script':
         return ['`script` stands in the first line alone.']
     near = hints.close(word, known)
     explained = ['No line begins with `%s`.' % _short(word)]
     if near:
         explained.append('Close to it:')
-        explained += ['  ' + form for name in near for form in grammar.form_of(name, 1)]
+        explained += ['  ' + form for name in near for form in grammar.form_of(name, version)]
     if hints.of_version_2(word):
         explained.append(hints.of_version_2(word))
     return explained + ['A line begins with one of: %s.' % ', '.join(known)]

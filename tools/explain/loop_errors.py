@@ -83,7 +83,7 @@ class Explainer:
         changes = self.changes[self.seen] if self.seen < len(self.changes) else {}
         self.seen += 1
         document = error.document.name
-        explained = ['The resize loop of `%s` came to the depth %d and left %s: behind a round only what stands deeper is '
+        explained = ['The resize loop of `%s` came to the depth %d and left %s: after a round only what stands deeper is '
                      'delivered in the same update.' % (document, error.depth_reached,
                                                        counted(len(error.skipped), 'observation'))]
         causes = []

@@ -54,7 +54,7 @@ def _whose(clip, entry):
         return 'root: %s of `%s`%s' % (clip.box, clip.thing.name, '' if clip.own == clip.rectangle else ', with its margin')
     if isinstance(clip.thing, Document):
         return 'viewport of `%s`' % clip.thing.name
-    return 'clip: padding box of `%s`' % clip.thing.name
+    return 'clip: padding box of `%s`%s' % (clip.thing.name, '' if clip.own == clip.rectangle else ', with the scroll margin')
 
 
 def _left(before, left, clip, is_clip):

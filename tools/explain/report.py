@@ -52,6 +52,9 @@ def explained(text):
 
 def _trusted(trace, proved, run):
     """How many of the lines the reference explains; notes say why not all."""
+    if run.failure:
+        trace.notes.append('Nothing is explained: the reference fails with %s, which is a fault of its own.' % run.failure)
+        return 0
     if not run.ended:
         trace.notes.append('The reference was stopped after %d seconds of the processor: explained are the first %s of the '
                            'trace.' % (runs.SECONDS_OF_THE_REFERENCE, counted(len(run.told), 'line')))

@@ -59,16 +59,19 @@ class CountingPage(Page):
 
 
 class Reference:
-    """The reference's trace with what its lines are about; `ended` says whether it came to its end in time."""
+    """The reference's trace with what its lines are about; `ended` says whether it came to its end in time, `failure` what
+    went wrong in it, if something did."""
 
     def __init__(self, text):
-        self.told, self.status, self.ended = [], None, True
+        self.told, self.status, self.ended, self.failure = [], None, True, None
         self.script, self.page = None, None
         try:
             with time_limit(SECONDS_OF_THE_REFERENCE):
                 self._run(text)
         except TooLong:
             self.ended = False
+        except Exception as fault:
+            self.failure = repr(fault)
 
     def _run(self, text):
         try:

@@ -55,7 +55,7 @@ class _ShortPage(Page):
 
 
 class Answer:
-    """What a program wrote and its status; a status of None says that it didn't end in time."""
+    """What a program wrote and its status; where it has none, words say why."""
 
     def __init__(self, text, status):
         self.text, self.status = text, status
@@ -83,7 +83,7 @@ def short_replay(text, versions):
 
 
 def reference_answer(words, text, versions):
-    """What the reference answers, or None where that takes long."""
+    """What the reference answers, or None where that takes long. That it fails is an answer too."""
     try:
         with time_limit(MOST_SECONDS):
             if words and words[0] in ('--pages', '--judge', '--lint', '--check'):
@@ -92,6 +92,8 @@ def reference_answer(words, text, versions):
             return _answer(lines, status) if not words else _answer(*program.answer(words, lambda: text, versions))
     except TooLong:
         return None
+    except Exception as fault:
+        return Answer(b'', 'it fails: %r' % fault)
 
 
 def program_answer(command, words, text):
@@ -99,7 +101,7 @@ def program_answer(command, words, text):
         done = subprocess.run(command + words, input=text, stdout=subprocess.PIPE, stderr=subprocess.DEVNULL,
                               timeout=MOST_SECONDS_OF_THE_PROGRAM)
     except subprocess.TimeoutExpired as late:
-        return Answer(late.stdout or b'', None)
+        return Answer(late.stdout or b'', "it didn't end in %d seconds" % MOST_SECONDS_OF_THE_PROGRAM)
     return Answer(done.stdout, done.returncode)
 
 

@@ -11,8 +11,8 @@ NOTHING = (0, 0, 0, 0)
 
 
 class Clip:
-    """A rectangle on the way from a target to its root: whose it is, and `border box`, `padding box` or `viewport`. The root's
-    own is that before its margin moves it."""
+    """A rectangle on the way from a target to its root: whose it is, and `border box`, `padding box` or `viewport`. Its own is
+    the one before a margin moves it."""
 
     def __init__(self, thing, box, rectangle, own=None):
         self.thing, self.box, self.rectangle, self.own = thing, box, rectangle, own
@@ -77,10 +77,10 @@ def clips_between(layout, target, root, scroll_margins=None):
             return clips
         else:
             if layout.clips(holder):
-                rectangle = layout.padding_rectangle(holder)
+                rectangle = own = layout.padding_rectangle(holder)
                 if scroll_margins is not None and layout.scrolls(holder):
-                    rectangle = dilated(rectangle, scroll_margins)
-                clips.append(Clip(holder, 'padding box', rectangle))
+                    rectangle = dilated(own, scroll_margins)
+                clips.append(Clip(holder, 'padding box', rectangle, own))
             at = holder
 
 

@@ -1,7 +1,9 @@
 """Cuts a script down to fewer lines of which something still holds: first many at a time, then one by one, blocks whole or
-opened; at last single words.
+opened; at last single words are left out, or give way to simpler ones, so that more lines can go.
 """
 
+_MOST_LINES_FOR_SIMPLER_WORDS = 60
+_SIMPLER_NAMES = 4
 
 def shrunk(text, holds):
     """`holds` says of the bytes of a script whether it is still of use; of `text` it must hold."""
@@ -9,7 +11,7 @@ def shrunk(text, holds):
     before = None
     while before != lines:
         before = lines
-        for cut in (_without_runs, _without_units, _without_words):
+        for cut in (_without_runs, _without_units, _without_words, _with_simpler_words):
             lines = cut(lines, lambda fewer: holds(b'\n'.join(fewer)))
     return b'\n'.join(lines)
 
@@ -74,4 +76,24 @@ def _without_words(lines, holds):
             changed = lines[:place] + [b' '.join(fewer)] + lines[place + 1:]
             if fewer and holds(changed):
                 words, lines = fewer, changed
+    return lines
+
+
+def _with_simpler_words(lines, holds):
+    """Each name exchanged for `-`, `top` or one of the names that are given first."""
+    if len(lines) > _MOST_LINES_FOR_SIMPLER_WORDS:
+        return lines
+    names = [b'-', b'top']
+    for words in [line.split() for line in lines]:
+        if len(words) > 1 and words[0] in (b'handler', b'block', b'image', b'frame', b'ro', b'io', b'media'):
+            names += [word for word in words[1:2] if word not in names]
+    for place in range(len(lines) - 1, -1, -1):
+        words = lines[place].split(b' ')
+        for at in range(1, len(words)):
+            for simpler in names[:names.index(words[at])][:_SIMPLER_NAMES] if words[at] in names else ():
+                changed = words[:at] + [simpler] + words[at + 1:]
+                exchanged = lines[:place] + [b' '.join(changed)] + lines[place + 1:]
+                if holds(exchanged):
+                    words, lines = changed, exchanged
+                    break
     return lines
