@@ -168,7 +168,8 @@ def _left_open(fault, script):
     lines = fault.cause.lines
     explained = ['The script ends in line %d, and %s no `end` yet:' % (fault.line - 1, 'this has' if len(lines) == 1
                                                                       else 'these have')]
-    return explained + ['  line %d: %s' % (line, script.command(line)) for line in lines]
+    explained += ['  line %d: %s' % (line, script.command(line)) for line in lines]
+    return explained + ['Each `handler`, `each` and `when` has an `end` of its own; an `end` closes what was opened last.']
 
 
 def _no_first_line(fault, script):

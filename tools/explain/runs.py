@@ -8,6 +8,7 @@ from reference import available, grammar, program
 from reference.comparing import TooLong, time_limit
 from reference.lexer import Fault, TextLimit
 from reference.page import Page
+from reference.resize_loop import ResizeEntry
 
 TOP = os.path.dirname(os.path.dirname(os.path.dirname(os.path.abspath(__file__))))
 PROGRAM = os.path.join(TOP, 'crates', 'replay', 'out', 'replay')
@@ -80,5 +81,10 @@ class Reference:
             self.told.append(Told(refused.text(), refused.line, refused))
             self.status = program.SYNTAX if isinstance(refused, Fault) else program.LIMIT
             return
-        self.page = CountingPage(self.script, lambda text, line, about: self.told.append(Told(text, line, about)))
+        self.page = CountingPage(self.script, self._keep)
         self.status = program.DONE if self.page.run() else program.LIMIT
+
+    def _keep(self, text, line, about):
+        """Resize entries aren't kept: nothing is said of their lines, and a long trace has many."""
+        is_resize = isinstance(about, tuple) and isinstance(about[1], ResizeEntry)
+        self.told.append(Told(text, line, None if is_resize else about))
