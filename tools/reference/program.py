@@ -171,7 +171,7 @@ def main():
         print(HELP, end='')
         return DONE
     try:
-        lines, status = answer(words, sys.stdin.buffer.read)
+        lines, status = answer(words, lambda: sys.stdin.buffer.read(judge.MOST_RECORDED + 1))
     except OSError:
         return READ_FAULT
     if status == USAGE:
