@@ -41,6 +41,17 @@ def explain(told, script, run):
     return explained + ['  ' + said for said in _by_lines(lines, script)]
 
 
+def beyond(text, script, run):
+    """The same for a last line to which the reference didn't come in its time: of `commands`, where those went that it ran."""
+    words = text.split(' ')
+    if words[:2] != ['limit', 'commands'] or run.page is None:
+        return []
+    line = int(words[2])
+    explained = ['line %d of the script: %s' % (line, script.command(line)), _SAID['commands'].format(number(int(words[3]))),
+                 'Where the first %s went, to which the reference came:' % number(run.page.world.begun)]
+    return explained + ['  ' + said for said in _by_lines(run.page.begun_by_line, script)]
+
+
 def _path(limit):
     names = [node.name for node in path(limit.parent)][::-1]
     if len(names) > 6:

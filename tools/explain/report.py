@@ -140,7 +140,8 @@ def _explain_lines(trace, written, run, trusted):
     count, left_out = 0, 0
     for place, text in enumerate(written):
         if place >= trusted:
-            trace.add(text)
+            is_last = trusted and place == len(written) - 1
+            trace.add(text, explanation=limits.beyond(text, trace.script, run) if is_last else ())
             continue
         told = run.told[place]
         if count >= MOST_EXPLAINED:
