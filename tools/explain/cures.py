@@ -1,0 +1,68 @@
+"""A script changed so that a loop error doesn't come: what a loop handler changes it asks for, in a posted task. It is tried.
+"""
+from reference import available, grammar, program
+from reference.comparing import TooLong, time_limit
+from reference.lexer import Fault, TextLimit
+from reference.page import Page
+from reference.resize_loop import LoopError
+
+SECONDS = 5
+_ASK = ('Cure: the handler makes no change of size in the loop; it asks for it, and the next update tells the new size in its '
+        'first round.')
+
+
+def cure(script, commands, document, causes, errors):
+    """Lines on how to change the script; `causes` are (line, text) of commands, a text being None where it is the line's."""
+    wanted = {}
+    for line, text in causes:
+        wanted.setdefault(line, set()).add(text or commands.text_of(line))
+    wanted = {line: texts for line, texts in wanted.items() if line in commands.handler_of}
+    if not wanted:
+        return []
+    if any(len(texts) > 1 or '$target' in text for texts in wanted.values() for text in texts):
+        return [_ASK, '  Post the handler of the change (`post`, `raf`), and name the elements there: `$target` is nothing in a '
+                      'task.']
+    changes = {line: next(iter(texts)) for line, texts in wanted.items()}
+    names = _fresh_names(commands, len(changes))
+    explained = [_ASK]
+    for (line, text), name in zip(sorted(changes.items()), names):
+        explained += ['  line %d becomes' % line, '    post %s %s' % (document, name), '  and a handler is added',
+                      '    handler %s' % name, '    %s' % text, '    end']
+    return explained + _tried(_changed(script, document, dict(zip(sorted(changes), names)), changes), errors)
+
+
+def _fresh_names(commands, count):
+    taken = set(commands.script.handlers)
+    names = (name for name in ['later'] + ['later%d' % number for number in range(2, len(taken) + count + 2)]
+             if name not in taken)
+    return [next(names) for _ in range(count)]
+
+
+def _changed(script, document, names, changes):
+    """The script's bytes with these lines posted."""
+    lines = script.text.split(b'\n')
+    for line, name in names.items():
+        lines[line - 1] = ('post %s %s' % (document, name)).encode()
+    while lines and not lines[-1].strip():
+        lines.pop()
+    for line, name in names.items():
+        lines += [b'handler ' + name.encode(), changes[line].encode(), b'end']
+    return b'\n'.join(lines) + b'\n'
+
+
+def _tried(text, errors):
+    """What the changed script does on the reference."""
+    told = []
+    try:
+        with time_limit(SECONDS):
+            page = Page(grammar.parse(text, available.VERSIONS), lambda text, line, about: told.append(about))
+            status = program.DONE if page.run() else program.LIMIT
+    except (Fault, TextLimit, TooLong):
+        return []
+    left = sum([isinstance(about, LoopError) for about in told])
+    if status != program.DONE:
+        return ['  Tried: so changed, the script meets a limit.']
+    if left == 0:
+        return ['  Tried: so changed, the script runs without this event; it had %d.' % errors]
+    return ['  Tried: so changed, the script has %d of these events in place of %d; the others have causes of their own.' % (
+        left, errors)]

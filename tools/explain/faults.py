@@ -1,0 +1,182 @@
+"""Lines `syntax`: what stands there, and what may stand there."""
+import re
+
+from reference import available, grammar, lexer, media
+
+from . import hints, source
+from .pointing import marked
+
+_QUERY_WORDS = ('all', 'screen', 'print', 'and', 'or', 'not', 'only', 'width', 'min-width', 'max-width', 'height', 'min-height',
+                'max-height', 'orientation', 'portrait', 'landscape')
+_QUERY_FORMS = ['The forms of a media query, of which commas part several:', '  [not|only] all|screen|print [and (FEATURE)]*',
+                '  (FEATURE) [and (FEATURE)]*', '  (FEATURE) [or (FEATURE)]*', '  not (FEATURE)',
+                'A FEATURE is `width: LENGTH` or `height: LENGTH`, either maybe with `min-` or `max-` before it, or '
+                '`orientation: portrait` or `orientation: landscape`.']
+
+
+def explain(fault, script):
+    """The lines of the explanation; `fault` is the reference's."""
+    explained = _BY_CAUSE[type(fault.cause)](fault, script)
+    return explained + _whole_form(fault, script)
+
+
+def _show(fault, script, length, sentence):
+    line = script.line(fault.line)
+    return ['line %d, column %d:' % (fault.line, fault.column)] + ['  ' + shown for shown in marked(
+        b'' if line is None else line, fault.column, length, sentence)]
+
+
+def _whole_form(fault, script):
+    """The form of the command at fault, or its forms."""
+    first, version = script.command(fault.line).split(' ')[0], _version(script)
+    if not isinstance(fault.cause, (grammar.Unfit, grammar.TooMany)) or first not in grammar.first_words(version):
+        return []
+    if isinstance(fault.cause, grammar.Unfit) and _is_first_word(fault.cause):
+        return []
+    known = grammar.form_of(first, version)
+    return ['The form of the line:' if len(known) == 1 else 'The forms of the line:'] + ['  ' + form for form in known]
+
+
+def _version(script):
+    """Of the language, by the first line with words."""
+    first = next((line for _, line, _ in lexer.lines_of(script.text) if lexer.words_of(line)), b'')
+    return 2 if first.split()[1:2] == [b'2'] else 1
+
+
+def _is_first_word(cause):
+    """Whether `script` is wanted, as the first word of the script."""
+    return cause.wanted is not None and cause.wanted.keywords == ('script',)
+
+
+def _bad_byte(fault, script):
+    byte = fault.cause.byte
+    place = _place(script.text, fault)
+    if byte == 13:
+        said = 'a carriage return, which may stand directly before a line feed only'
+    elif byte > 126:
+        said = 'the byte %02X' % byte if byte == 127 else 'the byte %02X, %s' % (byte, source.letter_said(script.text, place))
+    else:
+        said = 'the byte %02X, a control character' % byte
+    explained = _show(fault, script, 1, said)
+    explained.append('A line holds printable ASCII, tabs, and a carriage return directly before its line feed; that goes for '
+                     'comments too.')
+    return explained
+
+
+def _place(text, fault):
+    """The place of the fault in the text."""
+    start = 0
+    for _ in range(fault.line - 1):
+        start = text.index(b'\n', start) + 1
+    return start + fault.column - 1
+
+
+def _unfit(fault, script):
+    cause = fault.cause
+    word = None if cause.word is None else cause.word.decode('ascii')
+    if word is None:
+        explained = _show(fault, script, 1, 'a word is missing')
+        return explained + ['Wanted is %s.' % cause.wanted.said]
+    explained = _show(fault, script, len(word), '`%s` stands here' % _short(word))
+    if cause.wanted is None:
+        return explained + _unknown_command(word, cause.first_words, _version(script))
+    if _is_first_word(cause) or cause.wanted.keywords in (('1',), ('1', '2')):
+        return explained + _first_line(word, cause)
+    find = hints.wrong_with_value if cause.wanted.shown == 'VALUE' else hints.wrong_with
+    found = find(word, cause.wanted)
+    if cause.wanted.shown == 'PROPERTY':
+        return explained + ['No style property is called so.', found or 'There are: %s.' % ', '.join(cause.wanted.keywords)]
+    explained.append('Wanted is %s.%s' % (cause.wanted.said, ' ' + cause.wanted.shape if cause.wanted.shape else ''))
+    return explained + ([found] if found else [])
+
+
+def _short(word):
+    return word if len(word) <= 40 else word[:37] + '...'
+
+
+def _unknown_command(word, known, version):
+    if word == 'script':
+        return ['`script` stands in the first line alone.']
+    near = hints.close(word, known)
+    explained = ['No line begins with `%s`.' % _short(word)]
+    if near:
+        explained.append('Close to it:')
+        explained += ['  ' + form for name in near for form in grammar.form_of(name, version)]
+    if hints.of_version_2(word):
+        explained.append(hints.of_version_2(word))
+    return explained + ['A line begins with one of: %s.' % ', '.join(known)]
+
+
+def _first_line(word, cause):
+    if _is_first_word(cause):
+        return ['The first line with words is `script 1`; comments and empty lines may stand before it.']
+    versions = ' or '.join(['`%d`' % version for version in available.VERSIONS])
+    explained = ['Wanted is a version of the language: %s.' % versions]
+    if word == '2':
+        explained.append('The reference program reads version 2 already: tools/reference/replay.')
+    return explained
+
+
+def _too_many(fault, script):
+    word = fault.cause.word.decode('ascii')
+    explained = _show(fault, script, len(word), '`%s` stands here' % _short(word)) + [
+        'The line is complete before this word. A comment begins with `#`.']
+    words = script.command(fault.line).split(' ')
+    if words[0] == 'set' and words[2] in ('margin', 'padding', 'border'):
+        explained.append('`%s` takes one value, for all four sides; `%s-top` and the like take one for a side.' % (
+            words[2], words[2]))
+    return explained
+
+
+def _misplaced(fault, script):
+    line = script.line(fault.line)
+    length = next(len(word) for column, word in lexer.words_of(line) if column == fault.column)
+    return _show(fault, script, length, '') + [fault.cause.sentence]
+
+
+def _bad_query(fault, script):
+    text = fault.cause.text
+    bad = fault.cause.column
+    if bad > len(text):
+        explained = _show(fault, script, 1, 'something is missing')
+    else:
+        explained = _show(fault, script, 1, '`%s` stands here' % chr(text[bad - 1]))
+    begun = text[:bad - 1].rstrip(b' \t')
+    ending = media.shortest_ending(begun)
+    if begun and not ending:
+        explained.append('Up to here it is one, `%s`, and this does not go on with it.' % begun.decode('ascii'))
+    elif begun:
+        explained.append('Up to here it begins one: `%s`, for example.' % (begun + ending).decode('ascii'))
+    if text[bad - 1:bad].isdigit() and text[bad - 2:bad - 1].isdigit():
+        explained.append('A length is at most 1000000px, of up to 7 digits before the point and 2 behind it.')
+    near = _close_in_query(text, bad)
+    if near:
+        explained.append('Close to it: %s.' % ', '.join(['`%s`' % word for word in near]))
+    return explained + _QUERY_FORMS
+
+
+def _close_in_query(text, bad):
+    """Words that are close to the one in which the bad byte stands."""
+    for found in re.finditer(rb'[A-Za-z-]+', text):
+        if found.start() < bad <= found.end() + 1:
+            word = found.group().decode('ascii')
+            return [] if word in _QUERY_WORDS else hints.close(word, _QUERY_WORDS)
+    return []
+
+
+def _left_open(fault, script):
+    lines = fault.cause.lines
+    explained = ['The script ends in line %d, and %s no `end` yet:' % (fault.line - 1, 'this has' if len(lines) == 1
+                                                                      else 'these have')]
+    explained += ['  line %d: %s' % (line, script.command(line)) for line in lines]
+    return explained + ['Each `handler`, `each` and `when` has an `end` of its own; an `end` closes what was opened last.']
+
+
+def _no_first_line(fault, script):
+    return ['The script has no line with words. The first one is `script 1`.']
+
+
+_BY_CAUSE = {
+    lexer.BadByte: _bad_byte, grammar.Unfit: _unfit, grammar.TooMany: _too_many, grammar.Misplaced: _misplaced,
+    grammar.BadQuery: _bad_query, grammar.LeftOpen: _left_open, grammar.NoFirstLine: _no_first_line,
+}

@@ -1,0 +1,101 @@
+"""Words that are close, and what is wrong with a word of a form."""
+import difflib
+import re
+
+from reference import available, forms, styles
+
+
+def close(word, words, most=3):
+    """The words that are close to this one, the closest first."""
+    exact = [known for known in words if known.lower() == word.lower()]
+    return exact or difflib.get_close_matches(word, words, most, 0.6)
+
+
+def of_version_2(word):
+    """A sentence on a word of version 2, or None."""
+    if word not in ('ratio', 'device') and word not in set(styles.known(2)) - set(styles.known(1)):
+        return None
+    if 2 in available.VERSIONS:
+        return '`%s` is of version 2 of the language; such a script begins with `script 2`.' % word
+    return "`%s` is of version 2 of the language, which the proved program doesn't have yet." % word
+
+
+def wrong_with(word, form):
+    """A sentence on why a word isn't of its form, or None where the form says enough."""
+    if of_version_2(word) and form.keywords:
+        return of_version_2(word)
+    if form.keywords:
+        near = close(word, form.keywords)
+        return 'Close to it: %s.' % ', '.join(['`%s`' % known for known in near]) if near else None
+    if form.shown == 'LENGTH' or form.shown == 'SIGNED':
+        return _wrong_with_length(word, form)
+    if form.shown in ('WHOLE', 'NUMBER'):
+        return _wrong_with_number(word, form)
+    if form.shown in ('NAME', 'DOC', 'NODE', 'HANDLER', 'KEY', 'TARGET'):
+        return _wrong_with_name(word, form)
+    return None
+
+
+def wrong_with_value(word, form):
+    """The same for a property's value, which may be a keyword, a length or a percentage."""
+    near = close(word, form.keywords)
+    if near:
+        return 'Close to it: %s.' % ', '.join(['`%s`' % known for known in near])
+    if 'LENGTH' not in form.said:
+        return None
+    if word.endswith('%') and 'PERCENT' not in form.said:
+        return 'A percentage may not stand here.'
+    return _wrong_with_length(word, forms.LENGTH)
+
+
+def _wrong_with_length(word, form):
+    if re.fullmatch(r'-?[0-9]+(\.[0-9]+)?', word):
+        return 'The unit is missing: `%spx`.' % word
+    if re.fullmatch(r'-.*px', word) and form is forms.LENGTH:
+        return 'No length is negative here.'
+    if re.fullmatch(r'-?\.[0-9]+px', word):
+        return 'A digit stands before the point: `%s`.' % word.replace('.', '0.')
+    if re.fullmatch(r'-?[0-9]+\.[0-9]{3,}px', word):
+        return 'At most two digits stand behind the point.'
+    if re.fullmatch(r'-?[0-9]+(\.[0-9]*)?(px|PX|Px)', word):
+        if not word.endswith('px'):
+            return 'The unit is `px`.'
+        return 'The greatest length is 1000000px, of up to 7 digits.'
+    if re.fullmatch(r'-?[0-9.]+%', word):
+        return 'No percentage stands here.'
+    if re.fullmatch(r'-?[0-9.]+[a-zA-Z]+', word):
+        return 'The one unit of lengths is `px`.'
+    return None
+
+
+def _wrong_with_number(word, form):
+    if form is forms.WHOLE:
+        if re.fullmatch(r'0[0-9]+', word):
+            return 'No zero stands before another digit: `%s`.' % (word.lstrip('0') or '0')
+        if re.fullmatch(r'[0-9]+(ms|s)', word):
+            return 'Milliseconds have no unit: `%s`.' % word.rstrip('ms')
+        if word.startswith('-'):
+            return 'No time is negative.'
+        return 'The greatest is 1000000000000.' if word.isdigit() else None
+    if re.fullmatch(r'[0-9.]+%', word):
+        return 'A threshold is a part of 1, and no percentage: half is `0.5`.'
+    if re.fullmatch(r'-?\.[0-9]+', word):
+        return 'A digit stands before the point: `%s`.' % word.replace('.', '0.')
+    return None
+
+
+def _wrong_with_name(word, form):
+    if word == '-':
+        return '`-` for none may stand only behind `ro NAME DOC`, `io NAME DOC` and `root`.'
+    if word == '@':
+        return "A document's name stands directly behind it: `@top`."
+    if word.startswith('@'):
+        return 'A window, `@` and a document, is an operand of `listen` and `unlisten` alone.'
+    if word.startswith('$'):
+        return 'The one name with `$` is `$target`, and it stands for an element.'
+    if len(word) > 32:
+        return 'This one has %d bytes.' % len(word)
+    if not word[0].isalpha():
+        return 'A name begins with a letter.'
+    odd = [letter for letter in word if not (letter.isalnum() or letter in '_-')]
+    return 'There is no `%s` in a name.' % odd[0] if odd else None

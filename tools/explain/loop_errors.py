@@ -1,0 +1,156 @@
+"""Lines `event error`: each observation that a resize loop left, what changed its size, what would cure it, and the line that
+`--lint` names beforehand.
+
+What changed a size is found by a second run of the reference, which looks at the sizes of those targets after each command
+of a loop handler.
+"""
+from reference import lint
+from reference.page import Page
+from reference.resize_loop import LoopError, ResizeEntry
+
+from . import cures
+from .wording import counted, size
+
+MOST_ERRORS = 100
+
+
+class Change:
+    """A command in a loop handler that changed the size of an observed target; `text` has the name for `$target`."""
+
+    def __init__(self, line, text, before, after):
+        self.line, self.text, self.before, self.after = line, text, before, after
+
+
+class WatchingPage(Page):
+    """A page that notes which commands change the sizes of some observations between their report and a loop error."""
+
+    def __init__(self, parsed, script, watched):
+        Page.__init__(self, parsed, self.note)
+        self.source, self.watched = script, watched      # (observer's name, target's name) pairs
+        self.sizes, self.changes, self.found = {}, {}, []
+
+    def note(self, text, line, about):
+        if isinstance(about, tuple) and isinstance(about[1], ResizeEntry):
+            self._start(about[0], about[1].target)
+        elif isinstance(about, LoopError):
+            self.found.append({(left.observer.name, left.observation.target.name):
+                               self.changes.get(left.observation.number, []) for left in about.skipped})
+
+    def _start(self, observer, target):
+        """A target was reported: what changed it before doesn't count any more."""
+        observation = observer.observations.get(target)
+        if observation is not None and (observer.name, target.name) in self.watched:
+            self.sizes[observation.number] = observation.last_reported
+            self.changes[observation.number] = []
+
+    def do(self, command):
+        Page.do(self, command)
+        if self.entries and isinstance(self.entries[0], ResizeEntry) and command.name in lint.VERDICTS[1][1]:
+            for observer_name, target_name in self.watched:
+                self._look(command, observer_name, target_name)
+
+    def _look(self, command, observer_name, target_name):
+        observer, target = self.world.names.get(observer_name), self.world.names.get(target_name)
+        observation = observer.observations.get(target) if observer is not None and target is not None else None
+        if observation is None:
+            return
+        now = self.world.layout.size(target, observation.box)
+        before = self.sizes.get(observation.number)
+        self.sizes[observation.number] = now
+        if before is not None and now != before:
+            text = self.source.command(command.line)
+            if self.entry is not None:
+                text = text.replace('$target', self.entry.target.name)
+            self.changes.setdefault(observation.number, []).append(Change(command.line, text, before, now))
+
+
+class Explainer:
+    """Explains the loop errors of one run."""
+
+    def __init__(self, script, commands, told):
+        self.script, self.commands, self.seen = script, commands, 0
+        self.cured = {}                   # what brought an error -> the number of the trace's line that has its cure
+        errors = [line.about for line in told if isinstance(line.about, LoopError)][:MOST_ERRORS]
+        self.count = sum([isinstance(line.about, LoopError) for line in told])
+        watched = {(left.observer.name, left.observation.target.name) for error in errors for left in error.skipped}
+        page = WatchingPage(commands.script, script, sorted(watched))
+        page.run()
+        self.changes = page.found
+
+    def explain(self, told, place):
+        """The lines of the explanation; `place` is the number of the trace's line."""
+        error = told.about
+        changes = self.changes[self.seen] if self.seen < len(self.changes) else {}
+        self.seen += 1
+        document = error.document.name
+        explained = ['The resize loop of `%s` came to the depth %d and left %s: after a round only what stands deeper is '
+                     'delivered in the same update.' % (document, error.depth_reached,
+                                                       counted(len(error.skipped), 'observation'))]
+        causes = []
+        for left in error.skipped:
+            found = changes.get((left.observer.name, left.observation.target.name), [])
+            explained += self._left(left, found, error.depth_reached)
+            causes += self._causes(left, found)
+        return explained + self._cure(document, causes, place)
+
+    def _cure(self, document, causes, place):
+        """What cures it and what foresaw it, or where both stand already."""
+        key = (document, frozenset(causes))
+        if key in self.cured:
+            return ['Cure: as in line %d of this trace.' % self.cured[key]]
+        self.cured[key] = place
+        return (cures.cure(self.script, self.commands, document, causes, self.count)
+                + self._foreseen({line for line, _ in causes}))
+
+    def _left(self, left, changes, reached):
+        target = left.observation.target
+        explained = ['Left: `%s` observes the %s box of `%s`.' % (left.observer.name, left.observation.box, target.name),
+                     '  depth:      %d, and the loop had come to %d' % (left.depth, reached),
+                     '  told last:  %s' % (size(left.last_reported) if left.told else
+                                           'nothing; a new observation has reported 0 by 0'),
+                     '  size now:   %s' % size(left.size)]
+        if not left.told:
+            explained.append('  observed:   in the loop, by line %d, `%s`%s' % (
+                left.observation.line, self.commands.text_of(left.observation.line), self._of(left.observation.line)))
+        for line, text, times in _by_lines(changes):
+            again = '' if times == 1 else ', %d times' % times
+            explained.append('  changed by: line %d, `%s`%s%s' % (line, text, self._of(line), again))
+            explained += self._how(line, target)
+        return explained
+
+    def _of(self, line):
+        handler = self.commands.handler_of.get(line)
+        return '' if handler is None else ', in the handler `%s`' % handler.name
+
+    def _how(self, line, target):
+        """Why a command on another element changes this one's size."""
+        command = self.commands.by_line[line]
+        named = [operand.value for operand in command.operands if operand.form.shown == 'NODE']
+        if command.name in ('set', 'grow', 'load') and named[0] not in (target.name, '$target'):
+            return ['              (the size of `%s` follows from that of `%s`, by an automatic size or a percentage)' % (
+                target.name, named[0])]
+        return []
+
+    @staticmethod
+    def _causes(left, changes):
+        """(line, text) of each command that is to be made later."""
+        if not left.told:
+            return [(left.observation.line, None)]
+        return [(change.line, change.text) for change in changes]
+
+    def _foreseen(self, lines):
+        blamed = lint.blamed(self.commands.script, lint.VERDICTS[1][1])
+        if not blamed:
+            return []
+        here = blamed[0] in lines
+        return ['`tools/reference/replay --lint` foresees it: `unquiet %d`%s (docs/LOOPS.md).' % (
+            blamed[0], ', this line' if here else ', the first of %s of loop handlers that may bring it'
+            % counted(len(blamed), 'command'))]
+
+
+def _by_lines(changes):
+    """(line, text, how often), in the order in which they come first."""
+    counted_ = {}
+    for change in changes:
+        counted_[change.line, change.text] = counted_.get((change.line, change.text), 0) + 1
+    return [(line, text, times) for (line, text), times in counted_.items()]

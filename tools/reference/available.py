@@ -1,0 +1,9 @@
+"""What the proved program has today; the rest of this package is ahead of it.
+
+A change to the proved program that adds a version of the language or a word of the command line adds it here too: then
+tools/compare compares it and bin/explain explains it.
+"""
+
+VERSIONS = (1,)
+WORDS = ('--check', '--lint', '--summary', '--generate', '--generate-run')
+WORDS_OF_THE_REFERENCE_ALONE = ('--inspect', '--hit', '--judge', '--pages')

@@ -1,0 +1,139 @@
+"""The proved program beside the reference over random scripts: what tools/compare does.
+
+A script that runs long is passed over for the next candidate of its seed: one that begins more than MOST_COMMANDS commands,
+writes more than MOST_LINES lines or takes the reference more than MOST_SECONDS of the processor.
+"""
+import contextlib
+import signal
+import subprocess
+
+from . import grammar, program, random_scripts
+from .lexer import Fault, TextLimit
+from .page import Page
+
+MOST_COMMANDS = 20000
+MOST_LINES = 20000
+MOST_SECONDS = 20
+MOST_SECONDS_OF_THE_PROGRAM = 120
+
+
+class TooLong(Exception):
+    """A run is given up."""
+
+
+@contextlib.contextmanager
+def time_limit(seconds):
+    """Raises TooLong in what takes the processor longer; for the main thread alone. What else runs on the machine plays no
+    part in it."""
+    def give_up(number, frame):
+        raise TooLong
+    before = signal.signal(signal.SIGPROF, give_up)
+    signal.setitimer(signal.ITIMER_PROF, seconds)
+    try:
+        yield
+    finally:
+        signal.setitimer(signal.ITIMER_PROF, 0)
+        signal.signal(signal.SIGPROF, before)
+
+
+class _ShortPage(Page):
+    """A page whose runs are given up where they are long."""
+
+    def __init__(self, script, lines):
+        Page.__init__(self, script, self.keep)
+        self.lines = lines
+
+    def keep(self, text, line, about):
+        if len(self.lines) >= MOST_LINES:
+            raise TooLong
+        self.lines.append(text)
+
+    def begin(self, command):
+        if self.world.begun >= MOST_COMMANDS:
+            raise TooLong
+        Page.begin(self, command)
+
+
+class Answer:
+    """What a program wrote and its status; where it has none, words say why."""
+
+    def __init__(self, text, status):
+        self.text, self.status = text, status
+
+    def __eq__(self, other):
+        return (self.text, self.status) == (other.text, other.status)
+
+    def lines(self):
+        return self.text.decode('ascii', 'replace').splitlines()
+
+
+def _answer(lines, status):
+    return Answer(''.join([line + '\n' for line in lines]).encode(), status)
+
+
+def short_replay(text, versions):
+    """The reference's trace of a script; raises TooLong."""
+    try:
+        script = grammar.parse(text, versions)
+    except (Fault, TextLimit) as refused:
+        return [refused.text()], program.SYNTAX if isinstance(refused, Fault) else program.LIMIT
+    lines = []
+    page = _ShortPage(script, lines)
+    return lines, program.DONE if page.run() else program.LIMIT
+
+
+def reference_answer(words, text, versions):
+    """What the reference answers, or None where that takes long. That it fails is an answer too."""
+    try:
+        with time_limit(MOST_SECONDS):
+            if words and words[0] in ('--pages', '--judge', '--lint', '--check'):
+                return _answer(*program.answer(words, lambda: text, versions))
+            lines, status = short_replay(text, versions)
+            return _answer(lines, status) if not words else _answer(*program.answer(words, lambda: text, versions))
+    except TooLong:
+        return None
+    except Exception as fault:
+        return Answer(b'', 'it fails: %r' % fault)
+
+
+def program_answer(command, words, text):
+    try:
+        done = subprocess.run(command + words, input=text, stdout=subprocess.PIPE, stderr=subprocess.DEVNULL,
+                              timeout=MOST_SECONDS_OF_THE_PROGRAM)
+    except subprocess.TimeoutExpired as late:
+        return Answer(late.stdout or b'', "it didn't end in %d seconds" % MOST_SECONDS_OF_THE_PROGRAM)
+    return Answer(done.stdout, done.returncode)
+
+
+class Case:
+    """A random script with the words it is run with, and what the reference answers."""
+
+    def __init__(self, kind, seed, version, versions):
+        self.kind, self.seed, self.version, self.versions = kind, seed, version, versions
+        for self.words, self.text in random_scripts.candidates(kind, seed, version, self._trace):
+            self.wanted = reference_answer(self.words, self.text, versions)
+            if self.wanted is not None:
+                return
+        raise ValueError('%s %d: no candidate ends soon' % (kind, seed))
+
+    def _trace(self, text):
+        try:
+            with time_limit(MOST_SECONDS):
+                return short_replay(text, self.versions)[0]
+        except TooLong:
+            return None
+
+    def differs(self, command):
+        return program_answer(command, self.words, self.text) != self.wanted
+
+    def still_differs(self, command, text):
+        wanted = reference_answer(self.words, text, self.versions)
+        return wanted is not None and program_answer(command, self.words, text) != wanted
+
+
+def first_difference(one, other):
+    """(number of the first line that differs, the one line, the other); a line is None behind the end."""
+    place = 0
+    while place < len(one) and place < len(other) and one[place] == other[place]:
+        place += 1
+    return place + 1, one[place] if place < len(one) else None, other[place] if place < len(other) else None

@@ -1,0 +1,371 @@
+"""The lines of a script: commands, handlers and blocks (docs/SCRIPT.md, 'Commands' and 'Limits and faults').
+
+`parse` answers a Script, or raises the first Fault or TextLimit in the order of the lines; in one line the bytes come first,
+then its words, then the limits `nesting` and `handlers`.
+"""
+from . import forms, media
+from .forms import (ANY_NODE, AXIS, BOX, BOX_OR_DEVICE, DOC, ELEMENT_NODE, EVENT, HANDLER, HANDLER_OR_NONE, IO, KEY, LENGTH,
+                    LISTENED, NEW, PERCENT, QUERIES, RO, ROOT, SIGNED, WHOLE, WORD)
+from .lengths import read_name
+from .lexer import Fault, TextLimit, check_bytes, check_size, line_count, lines_of, words_of
+
+MOST_HANDLERS = 4096
+MOST_NESTING = 16
+
+PLAIN_COMMANDS = {
+    'viewport': (LENGTH, LENGTH),
+    'block': (NEW, DOC),
+    'image': (NEW, DOC, LENGTH, LENGTH),
+    'frame': (NEW, DOC, NEW),
+    'append': (ANY_NODE, ELEMENT_NODE),
+    'before': (ANY_NODE, ELEMENT_NODE, ELEMENT_NODE),
+    'remove': (ELEMENT_NODE,),
+    'grow': (ELEMENT_NODE, AXIS, SIGNED),
+    'load': (ELEMENT_NODE, LENGTH, LENGTH),
+    'ro': (NEW, DOC, HANDLER_OR_NONE),
+    'ro-observe': (RO, ELEMENT_NODE, BOX),
+    'ro-unobserve': (RO, ELEMENT_NODE),
+    'ro-disconnect': (RO,),
+    'io-observe': (IO, ELEMENT_NODE),
+    'io-unobserve': (IO, ELEMENT_NODE),
+    'io-disconnect': (IO,),
+    'io-take': (IO,),
+    'listen': (LISTENED, EVENT, HANDLER),
+    'unlisten': (LISTENED, EVENT, HANDLER),
+    'scroll': (ANY_NODE, SIGNED, SIGNED),
+    'scroll-by': (ANY_NODE, SIGNED, SIGNED),
+    'raf': (DOC, KEY, HANDLER),
+    'cancel-raf': (DOC, KEY),
+    'timer': (DOC, KEY, WHOLE, HANDLER),
+    'clear-timer': (DOC, KEY),
+    'post': (DOC, HANDLER),
+    'say': (WORD,),
+    'read': (ANY_NODE,),
+    'each': (),
+    'tick': (WHOLE,),
+}
+PLAIN_COMMANDS_OF_VERSION_2 = dict(PLAIN_COMMANDS, ratio=(PERCENT,))
+PLAIN_COMMANDS_OF_VERSION_2['ro-observe'] = (RO, ELEMENT_NODE, BOX_OR_DEVICE)
+
+CONDITIONS = {
+    'wider': (ELEMENT_NODE, LENGTH),
+    'taller': (ELEMENT_NODE, LENGTH),
+    'matches': (QUERIES,),
+    'attached': (ELEMENT_NODE,),
+    'seen': (),
+}
+
+
+def plain_commands(version):
+    return PLAIN_COMMANDS if version == 1 else PLAIN_COMMANDS_OF_VERSION_2
+
+
+class Operand:
+    """A word that was read: its form, its value and which word of the line it is, the command's name being word 0."""
+    __slots__ = ('form', 'value', 'word')
+
+    def __init__(self, form, value, word):
+        self.form, self.value, self.word = form, value, word
+
+
+class Command:
+    """A command with its operands; `each` and `when` have a body, and `when` a condition that `not` may turn round."""
+    __slots__ = ('line', 'name', 'operands', 'body', 'condition', 'turned')
+
+    def __init__(self, line, name, operands):
+        self.line, self.name, self.operands = line, name, operands
+        self.body, self.condition, self.turned = None, None, False
+
+
+class Handler:
+    __slots__ = ('line', 'name', 'commands')
+
+    def __init__(self, line, name):
+        self.line, self.name, self.commands = line, name, []
+
+
+class Script:
+    def __init__(self):
+        self.version = 0
+        self.commands = []                # outside handlers, in order
+        self.handlers = {}                # by name, in the order of their lines
+        self.count = 0                    # of all commands
+
+
+def every_command(commands):
+    """These commands and those in their blocks."""
+    for command in commands:
+        yield command
+        if command.body:
+            yield from every_command(command.body)
+
+
+# --- causes of faults -------------------------------------------------------------------------------------------------------
+
+class Unfit:
+    """A word that fits none of the forms that may stand there, or none where one must stand."""
+
+    def __init__(self, word, wanted, first_words=()):
+        self.word, self.wanted, self.first_words = word, wanted, first_words
+
+
+class TooMany:
+    """A word behind the last one of its line's form."""
+
+    def __init__(self, word):
+        self.word = word
+
+
+class Misplaced:
+    """A line that may not stand there; the sentence says why."""
+
+    def __init__(self, sentence):
+        self.sentence = sentence
+
+
+class BadQuery:
+    """A text that is no media query; the column counts in the text."""
+
+    def __init__(self, text, column):
+        self.text, self.column = text, column
+
+
+class LeftOpen:
+    """The script ends with these lines open."""
+
+    def __init__(self, lines):
+        self.lines = lines
+
+
+class NoFirstLine:
+    """The script ends before a line with words."""
+
+
+# --- words from left to right -----------------------------------------------------------------------------------------------
+
+class Words:
+    """The words of one line, taken from left to right."""
+
+    def __init__(self, number, line):
+        self.number, self.line, self.words, self.at = number, line, words_of(line), 0
+
+    def next(self):
+        """The next word, or None."""
+        return self.words[self.at][1] if self.at < len(self.words) else None
+
+    def column(self):
+        """Of the next word, or where it is missing the one behind the last word."""
+        if self.at < len(self.words):
+            return self.words[self.at][0]
+        column, word = self.words[-1]
+        return column + len(word)
+
+    def fault(self, cause):
+        return Fault(self.number, self.column(), cause)
+
+    def take(self, form):
+        """The value of the next word, which must be of this form."""
+        word = self.next()
+        value = None if word is None else form.read(word)
+        if value is None:
+            raise self.fault(Unfit(word, form))
+        self.at += 1
+        return value
+
+    def operand(self, form):
+        place = self.at
+        return Operand(form, self.take(form), place)
+
+    def end(self):
+        if self.next() is not None:
+            raise self.fault(TooMany(self.next()))
+
+
+def _read_set(words, version):
+    node = words.operand(ELEMENT_NODE)
+    property_ = words.operand(forms.property_form(version))
+    return (node, property_, words.operand(forms.value_form(property_.value)))
+
+
+def _words_until(words, stops, form):
+    """The words before the next of these, joined by one space."""
+    place, taken = words.at, []
+    while words.next() is not None and words.next() not in stops:
+        taken.append(words.next())
+        words.at += 1
+    return Operand(form, b' '.join(taken), place)
+
+
+def _read_intersection_observer(words, version):
+    operands = [words.operand(NEW), words.operand(DOC), words.operand(HANDLER_OR_NONE)]
+    words.take(forms.keywords('root'))
+    operands.append(words.operand(ROOT))
+    words.take(forms.keywords('margin'))
+    stops = (b'threshold',) if version == 1 else (b'threshold', b'scroll')
+    operands.append(_words_until(words, stops, forms.MARGIN))
+    if words.next() == b'scroll':
+        words.at += 1
+        operands.append(_words_until(words, stops, forms.SCROLL_MARGIN))
+    else:
+        operands.append(Operand(forms.SCROLL_MARGIN, None, words.at))
+    words.take(forms.keywords('threshold'))
+    place, thresholds = words.at, []
+    while words.next() is not None:
+        thresholds.append(words.take(forms.NUMBER))
+    operands.append(Operand(forms.THRESHOLDS, thresholds, place))
+    return tuple(operands)
+
+
+def _read_media(words):
+    operands = [words.operand(NEW), words.operand(DOC)]
+    if words.next() is None:
+        raise words.fault(Unfit(None, forms.QUERY))
+    start, place = words.column(), words.at
+    last, word = words.words[-1]
+    text = words.line[start - 1:last - 1 + len(word)]
+    bad = media.bad_column(text)
+    if bad is not None:
+        raise Fault(words.number, start + bad - 1, BadQuery(text, bad))
+    words.at = len(words.words)
+    operands.append(Operand(forms.QUERY, media.parse(text), place))
+    return tuple(operands)
+
+
+def _read_condition(words):
+    """(turned round, the condition's name, its operands)."""
+    turned = words.next() == b'not'
+    if turned:
+        words.at += 1
+    asked = words.take(forms.keywords(*CONDITIONS) if turned else forms.keywords('not', *CONDITIONS))
+    return turned, asked, tuple([words.operand(form) for form in CONDITIONS[asked]])
+
+
+def read_command(words, version):
+    """The command of a line whose first word is looked at next."""
+    name = words.next().decode('ascii')
+    words.at = 1
+    if name == 'when':
+        turned, asked, operands = _read_condition(words)
+        command = Command(words.number, name, operands)
+        command.turned, command.condition = turned, asked
+    elif name == 'set':
+        command = Command(words.number, name, _read_set(words, version))
+    elif name == 'io':
+        command = Command(words.number, name, _read_intersection_observer(words, version))
+    elif name == 'media':
+        command = Command(words.number, name, _read_media(words))
+    elif name in plain_commands(version):
+        operands = tuple([words.operand(form) for form in plain_commands(version)[name]])
+        command = Command(words.number, name, operands)
+    else:
+        words.at = 0
+        raise words.fault(Unfit(words.next(), None, first_words(version)))
+    words.end()
+    return command
+
+
+def form_of(name, version):
+    """A command's form as docs/SCRIPT.md writes it; of `when` there is one for each condition."""
+    if name == 'when':
+        return [' '.join(['when [not] ' + asked] + [form.shown for form in operands]) for asked, operands in CONDITIONS.items()]
+    special = {'handler': 'handler NAME', 'end': 'end', 'script': 'script 1', 'set': 'set NODE PROPERTY VALUE',
+               'media': 'media NAME DOC QUERY',
+               'io': 'io NAME DOC HANDLER root NODE margin WORD* %sthreshold NUMBER*' % (
+                   '' if version == 1 else '[scroll WORD*] ')}
+    if name in special:
+        return [special[name]]
+    return [' '.join([name] + [form.shown for form in plain_commands(version)[name]])]
+
+
+def first_words(version):
+    """The words with which a line behind the first may begin."""
+    return sorted([*plain_commands(version), 'set', 'io', 'media', 'when', 'handler', 'end'])
+
+
+# --- the script -------------------------------------------------------------------------------------------------------------
+
+class _Open:
+    """A handler or a block that no `end` has closed yet."""
+
+    def __init__(self, what, line, commands):
+        self.what, self.line, self.commands = what, line, commands
+
+
+class _Reader:
+    """Takes the lines with words in order."""
+
+    def __init__(self, versions):
+        self.versions, self.script, self.open = versions, Script(), []
+
+    def first_line(self, words):
+        words.take(forms.keywords('script'))
+        self.script.version = int(words.take(forms.keywords(*[str(version) for version in self.versions])))
+        words.end()
+
+    def line(self, words):
+        first = words.next()
+        if first == b'handler':
+            self.handler(words)
+        elif first == b'end':
+            self.end(words)
+        elif first == b'tick' and self.open:
+            raise words.fault(Misplaced('A `tick` stands outside handlers and blocks only, and %s.' % self.open_said()))
+        else:
+            self.command(words)
+
+    def open_said(self):
+        return 'the %s of line %d has no `end` yet' % (self.open[-1].what, self.open[-1].line)
+
+    def handler(self, words):
+        if self.open:
+            raise words.fault(Misplaced('A handler stands in no other handler and in no block, and %s.' % self.open_said()))
+        words.at = 1
+        handlers = self.script.handlers
+        if words.next() is not None and read_name(words.next()) in handlers:
+            raise words.fault(Misplaced('The handler of line %d has this name; the names of handlers differ.'
+                                        % handlers[read_name(words.next())].line))
+        name = words.take(HANDLER)
+        words.end()
+        if len(handlers) >= MOST_HANDLERS:
+            raise TextLimit('handlers', words.number, MOST_HANDLERS, [handler.line for handler in handlers.values()])
+        handlers[name] = Handler(words.number, name)
+        self.open.append(_Open('handler', words.number, handlers[name].commands))
+
+    def end(self, words):
+        if not self.open:
+            raise words.fault(Misplaced('Nothing is open that this `end` could close.'))
+        words.at = 1
+        words.end()
+        self.open.pop()
+
+    def command(self, words):
+        command = read_command(words, self.script.version)
+        commands = self.open[-1].commands if self.open else self.script.commands
+        commands.append(command)
+        self.script.count += 1
+        if command.name in ('each', 'when'):
+            blocks = [opened.line for opened in self.open if opened.what == 'block']
+            if len(blocks) >= MOST_NESTING:
+                raise TextLimit('nesting', words.number, MOST_NESTING, blocks)
+            command.body = []
+            self.open.append(_Open('block', words.number, command.body))
+
+
+def parse(text, versions=(1, 2)):
+    """The script of these bytes, in one of these versions of the language."""
+    check_size(text)
+    reader = _Reader(versions)
+    for number, line, ended in lines_of(text):
+        check_bytes(number, line, ended)
+        words = Words(number, line)
+        if words.next() is None:
+            continue
+        if reader.script.version:
+            reader.line(words)
+        else:
+            reader.first_line(words)
+    if not reader.script.version:
+        raise Fault(line_count(text) + 1, 1, NoFirstLine())
+    if reader.open:
+        raise Fault(line_count(text) + 1, 1, LeftOpen([opened.line for opened in reader.open]))
+    return reader.script

@@ -1,0 +1,184 @@
+"""The words of the command line and the statuses (docs/TRACE.md, 'Words' and 'Statuses').
+
+A word's job is given the bytes of the source and the versions of the language that it knows, and answers the lines to be
+written, and the status. The whole answer is made before anything is written.
+"""
+import os
+import sys
+
+from . import generator, grammar, inspector, judge, lengths, lint, streams, trace
+from .lexer import Fault, TextLimit
+from .page import Page
+
+DONE, SYNTAX, LIMIT, NO_MEMORY, READ_FAULT, WRITE_FAULT, USAGE, DIFFERS = range(8)
+
+HELP = '''tools/reference/replay [WORDS] < SCRIPT
+
+The rules of docs/ as a second, plain program. It writes what the proved program writes, with the same status:
+
+  (none)             replays the script, and writes its trace
+  --check            writes ok and how many commands the script has
+  --lint             says whether the resize loops are steady and quiet, or the first line that may spoil it (docs/LOOPS.md)
+  --summary          replays the script, and writes how many lines of each kind its trace has
+  --generate N       writes the script of a number, 0 to 1000000: a list of lazily loaded cards
+  --generate-run N   replays the script of a number, and writes its summary
+
+These words the proved program doesn't have yet, nor version 2 of the language (a first line `script 2`):
+
+  --inspect K        writes each box as the K-th tick ends, and what is seen of it
+  --hit K X Y        writes what lies below a point of the viewport as the K-th tick ends, the uppermost first
+  --judge            compares a trace that was recorded, behind a line `trace`, with the script's
+  --pages            runs several scripts of one stream, in which a line `page NAME` says whose the next lines are
+'''
+
+
+class Refused(Exception):
+    """A text that is no script, or meets a limit of texts; or one line to be written in place of the answer."""
+
+    def __init__(self, status, line):
+        Exception.__init__(self, status, line)
+        self.status, self.line = status, line
+
+
+def read_script(text, versions):
+    try:
+        return grammar.parse(text, versions)
+    except Fault as fault:
+        raise Refused(SYNTAX, fault.text()) from fault
+    except TextLimit as limit:
+        raise Refused(LIMIT, limit.text()) from limit
+
+
+def replay(text, versions):
+    """The trace of a script."""
+    lines = []
+    page = Page(read_script(text, versions), lambda line, script_line, about: lines.append(line))
+    return lines, DONE if page.run() else LIMIT
+
+
+def check(text, versions):
+    return ['ok %d' % read_script(text, versions).count], DONE
+
+
+def summary(text, versions):
+    read_script(text, versions)
+    lines, status = replay(text, versions)
+    counts = dict.fromkeys(trace.KINDS, 0)
+    for line in lines:
+        counts[line.split(' ', 1)[0]] += 1
+    return ['%s %d' % (kind, counts[kind]) for kind in trace.KINDS], status
+
+
+def lint_script(text, versions):
+    return lint.verdicts(read_script(text, versions)), DONE
+
+
+def _page_after(text, versions, ticks):
+    """The page as the tick of this number ends."""
+    lines = []
+    script = read_script(text, versions)
+    page = Page(script, lambda line, script_line, about: lines.append(line))
+    seen = 0
+    for command in script.commands:
+        if not page.run_outside(command):
+            raise Refused(LIMIT, lines[-1])
+        seen += command.name == 'tick'
+        if seen == ticks:
+            return page
+    raise Refused(DONE, 'ticks %d' % seen)
+
+
+def inspect(text, versions, ticks):
+    return inspector.boxes(_page_after(text, versions, ticks).world), DONE
+
+
+def hit(text, versions, ticks, left, top):
+    return inspector.hits(_page_after(text, versions, ticks).world, left, top), DONE
+
+
+def judge_trace(text, versions):
+    if len(text) > judge.MOST_RECORDED:
+        return ['limit recorded %d %d' % (1 + text.count(b'\n', 0, judge.MOST_RECORDED), judge.MOST_RECORDED)], LIMIT
+    script, recorded = judge.parts(text)
+    try:
+        expected = replay(script, versions)[0]
+    except Refused as refused:
+        expected = [refused.line]
+    answer = judge.verdict([line.encode() + b'\n' for line in expected], judge.split_after_line_feeds(recorded))
+    return [answer], DONE if answer.startswith('equal') else DIFFERS
+
+
+def pages(text, versions):
+    try:
+        lines, endings = streams.run(text, versions)
+    except streams.Refused as refused:
+        return [refused.line], SYNTAX if refused.line.startswith('syntax') else LIMIT
+    return lines, SYNTAX if 'syntax' in endings else LIMIT if 'limit' in endings else DONE
+
+
+# --- the table of words -----------------------------------------------------------------------------------------------------
+
+_WORDS_ALONE = {'--check': check, '--summary': summary, '--lint': lint_script, '--judge': judge_trace, '--pages': pages}
+
+
+def _whole(word, least, most):
+    number = lengths.read_whole(word.encode(), most)
+    return None if number is None or number < least else number
+
+
+def plan(words):
+    """(whether the source is read, the job on its bytes), or None for words of none of the forms."""
+    if not words:
+        return True, replay
+    if len(words) == 1 and words[0] in _WORDS_ALONE:
+        return True, _WORDS_ALONE[words[0]]
+    if len(words) == 2 and words[0] in ('--generate', '--generate-run'):
+        return _plan_generated(words[0], _whole(words[1], 0, generator.MOST))
+    if len(words) == 2 and words[0] == '--inspect':
+        ticks = _whole(words[1], 1, 1000000)
+        return None if ticks is None else (True, lambda text, versions: inspect(text, versions, ticks))
+    if len(words) == 4 and words[0] == '--hit':
+        ticks = _whole(words[1], 1, 1000000)
+        left, top = lengths.read_signed(words[2].encode()), lengths.read_signed(words[3].encode())
+        if None not in (ticks, left, top):
+            return True, lambda text, versions: hit(text, versions, ticks, left, top)
+    return None
+
+
+def _plan_generated(word, number):
+    if number is None:
+        return None
+    if word == '--generate':
+        return False, lambda text, versions: (generator.script(number).decode().splitlines(), DONE)
+    return False, lambda text, versions: summary(generator.script(number), versions)
+
+
+def answer(words, read, versions=(1, 2)):
+    """(lines, status); `read` gives the bytes of the source."""
+    planned = plan(words)
+    if planned is None:
+        return [], USAGE
+    reads, job = planned
+    try:
+        return job(read() if reads else b'', versions)
+    except Refused as refused:
+        return [refused.line], refused.status
+
+
+def main():
+    words = [os.fsencode(word).decode('ascii', 'replace') for word in sys.argv[1:]]
+    if words == ['--help']:
+        print(HELP, end='')
+        return DONE
+    try:
+        lines, status = answer(words, lambda: sys.stdin.buffer.read(judge.MOST_RECORDED + 1))
+    except OSError:
+        return READ_FAULT
+    if status == USAGE:
+        sys.stderr.write(HELP)
+    try:
+        sys.stdout.buffer.write(''.join([line + '\n' for line in lines]).encode())
+        sys.stdout.buffer.flush()
+    except OSError:
+        os._exit(WRITE_FAULT)
+    return status

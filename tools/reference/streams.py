@@ -1,0 +1,71 @@
+"""Several pages in one stream, each apart from the others (`--pages`). The proved program doesn't have this word yet.
+
+A line `page NAME` says whose the lines behind it are, up to the next one.
+"""
+import re
+
+from . import grammar
+from .lexer import MOST_SCRIPT, Fault, TextLimit
+from .judge import split_after_line_feeds
+from .page import Page
+
+MOST_PAGES = 8
+
+_PAGE = re.compile(rb'page ([A-Za-z][A-Za-z0-9_-]{0,31})\Z')
+
+
+class Refused(Exception):
+    """The stream is none; the line says why."""
+
+    def __init__(self, line):
+        Exception.__init__(self, line)
+        self.line = line
+
+
+def _without_ending(line):
+    if not line.endswith(b'\n'):
+        return line
+    return line[:-2] if line.endswith(b'\r\n') else line[:-1]
+
+
+def split(text):
+    """Each page's name with its lines, and for each of these the number of the stream's line."""
+    if len(text) > MOST_SCRIPT:
+        raise Refused('limit script %d %d' % (1 + text.count(b'\n', 0, MOST_SCRIPT), MOST_SCRIPT))
+    pages, current = {}, None
+    for number, line in enumerate(split_after_line_feeds(text), 1):
+        named = _PAGE.match(_without_ending(line))
+        if named:
+            current = named.group(1).decode()
+            if current not in pages and len(pages) >= MOST_PAGES:
+                raise Refused('limit pages %d %d' % (number, MOST_PAGES))
+            pages.setdefault(current, [])
+        elif current is None:
+            raise Refused('syntax 1 1')
+        else:
+            pages[current].append((number, line))
+    if current is None:
+        raise Refused('syntax 1 1')
+    return pages
+
+
+def run(text, versions):
+    """The lines written, each with its page's name before it, and whether a page was no script or met a limit."""
+    written, endings, waiting = [], set(), []
+    for name, lines in split(text).items():
+        def write(line, script_line=0, about=None, name=name):
+            written.append('%s %s' % (name, line))
+        try:
+            script = grammar.parse(b''.join([line for _, line in lines]), versions)
+        except (Fault, TextLimit) as refused:
+            write(refused.text())
+            endings.add('syntax' if isinstance(refused, Fault) else 'limit')
+            continue
+        page = Page(script, write)
+        waiting.extend([(lines[command.line - 1][0], page, command) for command in script.commands])
+    ended = set()
+    for _, page, command in sorted(waiting, key=lambda item: item[0]):
+        if page not in ended and not page.run_outside(command):
+            ended.add(page)
+            endings.add('limit')
+    return written, endings
