@@ -20,7 +20,7 @@ WIDEST = 10000000     # pixels that a viewport may have here
 LONGEST = 180         # seconds for an answer of a browser that was started
 STARTING = 60         # seconds for its start
 NO_FRAME = "a viewport that changes, with frames and an implicit root, is shown by 'tools/browser/run --in chromium' alone"
-ATTEMPTS = 8          # of a script in a live browser, where updates came that no tick asked for
+ATTEMPTS = 12         # of a script in a live browser, where updates came that no tick asked for
 BUSY = 'updates came that no tick asked for, in each of %d attempts' % ATTEMPTS
 
 

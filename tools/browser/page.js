@@ -12,7 +12,7 @@ function observersRun(script, window, setting) {
   const timers = [];
   const due = [];                  // posted tasks that wait for the update
   const listeners = new Map();     // for each target one function per kind and handler, so that the browser sees doubles
-  let clock = 0, inUpdate = false, waiting = 0, round = null, next = 0, watch = null;
+  let clock = 0, inUpdate = false, waiting = 0, round = null, next = 0;
 
   class Thrown extends Error { constructor(kind) { super(kind); this.kind = kind; } }
   class NotShown extends Error {}
@@ -83,6 +83,7 @@ function observersRun(script, window, setting) {
     }
   }
   function fired(doc, event) {
+    noteUpdate();
     endRound();
     if (event.type === 'resize' && event.target === doc.window) write(`event resize @${doc.name}`);
     else if (event.type === 'scroll') write(`event scroll ${nameOf(event.target)}`);
@@ -154,6 +155,7 @@ function observersRun(script, window, setting) {
     return ended;
   }
   function resized(o, entries) {
+    noteUpdate();
     const at = observers.indexOf(o);
     const same = round && round.doc === o.doc && at > round.at && entries.some(e => round.all.has(o.name + ' ' + nameOf(e.target)));
     if (!same) {
@@ -172,6 +174,7 @@ function observersRun(script, window, setting) {
     call(o.handler, { kind: 'resize', entries });
   }
   function intersected(o, entries) {
+    noteEntries(o, entries);
     endRound();
     for (const e of entries) write(intersectLine(o, e));
     call(o.handler, { kind: 'intersect', entries });
@@ -351,6 +354,7 @@ function observersRun(script, window, setting) {
     'io-disconnect'([name]) { named(name, 'io').real.disconnect(); },
     'io-take'([name]) {
       const o = named(name, 'io'), records = o.real.takeRecords();
+      noteEntries(o, records);
       write(`take ${name} ${records.length}`);
       for (const e of records) write(intersectLine(o, e));
     },
@@ -360,7 +364,7 @@ function observersRun(script, window, setting) {
       fresh(name);
       const home = shown(named(doc, 'doc')), list = home.window.matchMedia(query);
       names.set(name, { what: 'query', name, list, doc: home });
-      list.addEventListener('change', e => { endRound(); write(`event change ${name} ${e.matches}`); });
+      list.addEventListener('change', e => { noteUpdate(); endRound(); write(`event change ${name} ${e.matches}`); });
     },
     scroll([target, x, y], entry) { scroller(target, entry).scrollTo(parseFloat(x), parseFloat(y)); },
     'scroll-by'([target, x, y], entry) { scroller(target, entry).scrollBy(parseFloat(x), parseFloat(y)); },
@@ -369,6 +373,7 @@ function observersRun(script, window, setting) {
       shown(d).frames = d.frames || new Map();
       if (d.frames.has(key)) throw new Thrown('TypeError');
       d.frames.set(key, d.window.requestAnimationFrame(d.made(() => {
+        noteUpdate();
         d.frames.delete(key);
         write(`frame ${doc} ${key}`);
         call(commandsTo, null);
@@ -415,7 +420,7 @@ function observersRun(script, window, setting) {
     if (time < clock) { write(`throw ${c.line} RangeError`); return false; }
     clock = time;
     api.updated = false;
-    if (watch) window.cancelAnimationFrame(watch);
+    nextUpdate();
     write('tick ' + time);
     const list = timers.filter(t => t.at <= clock).sort((a, b) => a.at - b.at);
     for (const t of list) {
@@ -430,12 +435,39 @@ function observersRun(script, window, setting) {
     api.update = new Promise(done => window.requestAnimationFrame(() => {
       for (const task of due.splice(0)) post(task);
       inUpdate = api.updated = true;
-      // An update that the browser makes before the next tick began is none of the script's.
-      if (setting.live) watch = window.requestAnimationFrame(() => { api.disturbed = true; });
+      if (setting.live) ourUpdate();
       done();
     }));
     return true;
   }
+
+  // ---- updates that no tick asked for: they do no harm where they tell nothing, and the run is disturbed where they do ----
+  let ours = null, seen = [], watch = null, extra = Infinity;
+  const frameTime = () => document.timeline.currentTime;
+  // Called in each callback of an update: whether it is the tick's own one is known once the tick's frame callback has come.
+  function noteUpdate() {
+    if (!setting.live) return;
+    if (ours === null) seen.push(frameTime());
+    else if (Math.abs(frameTime() - ours) > 1) api.disturbed = true;
+  }
+  function ourUpdate() {
+    ours = frameTime();
+    // An engine may tell the time of day until its frame callbacks come; another update is a sixtieth of a second away.
+    if (seen.some(time => Math.abs(time - ours) > 14)) api.disturbed = true;
+    extra = Infinity;
+    watch = window.requestAnimationFrame(() => { extra = frameTime(); });
+  }
+  function nextUpdate() {
+    if (watch !== null) window.cancelAnimationFrame(watch);
+    ours = null;
+    seen = [];
+  }
+  function noteEntries(o, entries) {
+    if (!setting.live) return;
+    const shift = o.doc.window.performance.timeOrigin - window.performance.timeOrigin;
+    if (entries.some(e => e.time + shift > extra - 1)) api.disturbed = true;
+  }
+
   // Waits until no task is left.
   async function quiet() {
     for (let turns = 0; turns < 2 && !api.stopped;) {
