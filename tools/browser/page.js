@@ -27,7 +27,8 @@ function observersRun(script, window, setting) {
     if (whole === 0 && rest === 0) return '0';
     return sign + whole + (rest ? '.' + String(rest).padStart(6, '0').replace(/0+$/, '') : '');
   }
-  const rect = r => r ? [r.left, r.top, r.width, r.height].map(px).join(' ') : 'null';
+  // `left` is the lesser end of a rectangle that crosses itself; some engines don't have `x`.
+  const rect = r => r ? ['x' in r ? r.x : r.left, 'y' in r ? r.y : r.top, r.width, r.height].map(px).join(' ') : 'null';
   const area = r => BigInt(Math.round(r.width * UNITS)) * BigInt(Math.round(r.height * UNITS));
   function share(entry) {
     const whole = area(entry.boundingClientRect), part = area(entry.intersectionRect);
