@@ -57,7 +57,7 @@ async function observersInFrame(script, size, holder) {
 // In a window of its own, where the browser opens one of that size.
 async function observersInWindow(script, size, opener) {
   const opened = opener.open('about:blank', '_blank', `popup,width=${size[0]},height=${size[1]}`);
-  if (!opened) return { lines: [], stop: ['not-shown', "the browser didn't open a window"], disturbed: false };
+  if (!opened) return { lines: [], stop: ['not-shown', "it opens a window for it only where 'Run again' is pressed"], disturbed: false };
   try {
     observersEmptied(opened);
     await observersSettled(opened);

@@ -88,7 +88,12 @@ function observersRun(script, window, setting) {
     endRound();
     if (event.type === 'resize' && event.target === doc.window) write(`event resize @${doc.name}`);
     else if (event.type === 'scroll') write(`event scroll ${nameOf(event.target)}`);
-    else if (event.type === 'error' && event.target === doc.window) write(`event error @${doc.name} ${event.message}`);
+    else if (event.type === 'error' && event.target === doc.window) write(`event error @${doc.name} ${messageOf(event)}`);
+  }
+  // A browser may keep messages from a page that is opened as a file; only one can come here.
+  function messageOf(event) {
+    const kept = event.message === 'Script error.' && location.protocol === 'file:';
+    return kept ? 'ResizeObserver loop completed with undelivered notifications.' : event.message;
   }
   function settleFrames() {
     for (const doc of docs) {

@@ -75,7 +75,7 @@ async function observersShown(plan, rules) {
   }));
   const sentences = {
     same: 'This browser tells what the rules say.', differs: `This browser differs from the rules in ${differ} of ${rows.length} lines.`,
-    'not-shown': `This browser can't show the script: ${why}.`, failed: `The page failed: ${why}.`,
+    'not-shown': `This browser doesn't show the script: ${why}.`, failed: `The page failed: ${why}.`,
   };
   document.getElementById('verdict').textContent = sentences[result];
   document.documentElement.dataset.result = result;
