@@ -74,7 +74,8 @@ def found(name, given, package, *places):
 class Process:
     """A program that was started, with a folder of its own; both go as it is closed."""
 
-    def __init__(self, words, **more):
+    def __init__(self, words, folder=None, **more):
+        self.folder = folder
         try:
             self.popen = subprocess.Popen(words, stdin=subprocess.DEVNULL, stderr=subprocess.DEVNULL,
                                           **dict({'stdout': subprocess.DEVNULL}, **more))
@@ -88,6 +89,8 @@ class Process:
         except subprocess.TimeoutExpired:
             self.popen.kill()
             self.popen.wait()
+        if self.folder:
+            shutil.rmtree(self.folder, ignore_errors=True)
 
 
 class Pipe:
@@ -96,7 +99,7 @@ class Pipe:
     def __init__(self, program, flags):
         to_read, self.to_write = os.pipe()
         self.from_read, from_write = os.pipe()
-        self.profile = tempfile.mkdtemp()
+        profile = tempfile.mkdtemp()
 
         def pipes():
             # The browser reads its commands at 3 and writes its answers at 4.
@@ -105,8 +108,8 @@ class Pipe:
             os.dup2(spare[0], 3)
             os.dup2(spare[1], 4)
 
-        self.process = Process([program] + flags + ['--remote-debugging-pipe', '--user-data-dir=' + self.profile],
-                               close_fds=False, preexec_fn=pipes)
+        self.process = Process([program] + flags + ['--remote-debugging-pipe', '--user-data-dir=' + profile],
+                               folder=profile, close_fds=False, preexec_fn=pipes)
         os.close(to_read)
         os.close(from_write)
         self.number, self.rest, self.session = 0, b'', None
@@ -115,7 +118,6 @@ class Pipe:
         for end in (self.to_write, self.from_read):
             os.close(end)
         self.process.close()
-        shutil.rmtree(self.profile, ignore_errors=True)
 
     def message(self):
         while b'\0' not in self.rest:
@@ -173,7 +175,11 @@ class Stepped:
         self.pipe = Pipe(found('chromium-headless-shell', program, 'chromium-headless-shell'), CHROMIUM_FLAGS + BEGIN_FRAME_FLAGS)
         self.page = part('page.js')
         self.time = 1000.0
-        self.pipe.attach(enableBeginFrameControl=True)
+        try:
+            self.pipe.attach(enableBeginFrameControl=True)
+        except NoBrowser:
+            self.close()
+            raise
 
     def close(self):
         self.pipe.close()
@@ -306,12 +312,24 @@ def in_json(value):
 class Live:
     """A browser that makes its updates by itself: it is told a page and a size, and the page sends its trace."""
 
-    def __init__(self):
-        self.server = Loopback()
+    def __init__(self, program=None):
         self.parts = {'page': part('page.js'), 'live': part('live.js')}
+        self.held = []
+        try:
+            self.start(program)
+            self.server = self.hold(Loopback())
+        except BaseException:
+            self.close()
+            raise
+
+    def hold(self, thing):
+        """What goes as the browser is closed, the last one first."""
+        self.held.append(thing)
+        return thing
 
     def close(self):
-        self.server.close()
+        while self.held:
+            self.held.pop().close()
 
     def trace(self, text):
         plan = planned(read_script(text))
@@ -339,14 +357,9 @@ class Live:
 
 
 class LiveChromium(Live):
-    def __init__(self, program=None):
-        self.pipe = Pipe(found('chromium-headless-shell', program, 'chromium-headless-shell'), CHROMIUM_FLAGS)
-        super().__init__()
+    def start(self, program):
+        self.pipe = self.hold(Pipe(found('chromium-headless-shell', program, 'chromium-headless-shell'), CHROMIUM_FLAGS))
         self.pipe.attach()
-
-    def close(self):
-        super().close()
-        self.pipe.close()
 
     def size(self, width, height):
         self.pipe.size(width, height)
@@ -372,17 +385,16 @@ for (const limit of ['', 'min-', 'max-']) {
 class Firefox(Live):
     """Firefox over Marionette: messages of JSON with their length before them."""
 
-    def __init__(self, program=None):
+    def start(self, program):
         program = found('firefox-esr', program, 'firefox-esr')
         self.profile = tempfile.mkdtemp()
         with open(os.path.join(self.profile, 'user.js'), 'w') as file:
             for name, value in FIREFOX_PREFERENCES.items():
                 file.write('user_pref(%s, %s);\n' % (json.dumps(name), json.dumps(value)))
-        self.process = Process([program, '--headless', '--no-remote', '--marionette', '--remote-allow-system-access',
-                                '--profile', self.profile])
-        super().__init__()
+        self.process = self.hold(Process([program, '--headless', '--no-remote', '--marionette', '--remote-allow-system-access',
+                                          '--profile', self.profile], folder=self.profile))
         self.number = 0
-        self.socket = self.connected()
+        self.socket = self.hold(self.connected())
         self.reads = self.socket.makefile('rb')
         self.message()
         self.ask('WebDriver:NewSession', capabilities={'pageLoadStrategy': 'none'})
@@ -395,20 +407,17 @@ class Firefox(Live):
             time.sleep(0.05)
         raise NoBrowser("firefox-esr doesn't answer")
 
-    def close(self):
-        super().close()
-        self.socket.close()
-        self.process.close()
-        shutil.rmtree(self.profile, ignore_errors=True)
-
     def message(self):
         length = b''
-        while not length.endswith(b':'):
-            more = self.reads.read(1)
-            if not more:
-                raise NoBrowser('the browser ended')
-            length += more
-        return json.loads(self.reads.read(int(length[:-1])))
+        try:
+            while not length.endswith(b':'):
+                more = self.reads.read(1)
+                if not more:
+                    raise NoBrowser('the browser ended')
+                length += more
+            return json.loads(self.reads.read(int(length[:-1])))
+        except OSError:
+            raise NoBrowser('the browser gave no answer in %d seconds' % LONGEST)
 
     def ask(self, method, **params):
         self.number += 1
@@ -433,16 +442,17 @@ MINI_BROWSER = '/usr/lib/x86_64-linux-gnu/webkit2gtk-4.1/MiniBrowser'
 
 class WebKit(Live):
     """WebKitGTK's small browser over its driver, on a display that nobody sees."""
+    session = None
 
-    def __init__(self, program=None):
+    def start(self, program):
         driver = found('WebKitWebDriver', None, 'webkit2gtk-driver')
         program = found('MiniBrowser', program, 'libwebkit2gtk-4.1-0', MINI_BROWSER)
-        self.display = Process([found('Xvfb', None, 'xvfb'), '-displayfd', '1', '-screen', '0', '3000x3000x24', '-nolisten', 'tcp'],
-                               stdout=subprocess.PIPE)
-        number = self.display.popen.stdout.readline().decode().strip()
+        display = self.hold(Process([found('Xvfb', None, 'xvfb'), '-displayfd', '1', '-screen', '0', '3000x3000x24', '-nolisten', 'tcp'],
+                                    stdout=subprocess.PIPE))
+        number = display.popen.stdout.readline().decode().strip()
         self.port = free_port()
-        self.process = Process([driver, '--port=%d' % self.port], env=dict(os.environ, DISPLAY=':' + number, GDK_BACKEND='x11'))
-        super().__init__()
+        self.process = self.hold(Process([driver, '--port=%d' % self.port],
+                                         env=dict(os.environ, DISPLAY=':' + number, GDK_BACKEND='x11')))
         self.started()
         session = self.ask('POST', '', {'capabilities': {'alwaysMatch': {
             'pageLoadStrategy': 'none', 'webkitgtk:browserOptions': {'binary': program, 'args': ['--automation']}}}})
@@ -470,13 +480,12 @@ class WebKit(Live):
         raise NoBrowser("the browser's window doesn't take a size")
 
     def close(self):
-        super().close()
         try:
-            self.ask('DELETE', self.session)
-        except (NoBrowser, OSError):
+            if self.session:
+                self.ask('DELETE', self.session)
+        except NoBrowser:
             pass
-        self.process.close()
-        self.display.close()
+        super().close()
 
     def ask(self, method, path, body=None):
         connection = http.client.HTTPConnection('127.0.0.1', self.port, timeout=LONGEST)
