@@ -47,7 +47,7 @@ def by_rules(path, command=None):
         return trace_of([PROGRAM], path)
     kept = stored(path)
     if kept is None:
-        raise NoRules("the program isn't built and no trace stands beside the script: bin/replay builds it, and --rules names another command")
+        raise NoRules("the program isn't built and no trace stands beside the script: bin/build builds it, --rules names another command")
     return kept
 
 

@@ -5,4 +5,4 @@ pub mod Keeping
 pub mod Looking
 pub mod Same
 pub mod Worlds
-pub mod Samples
+pub mod Found

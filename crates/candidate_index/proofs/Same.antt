@@ -1,6 +1,8 @@
 -- Bases that are told to be the same are equal, and what is found from them too.
-use Rattle.std.proofs.Common.{◌≡◌, ◌↔◌, ◌∙◌, ℕ, ℤ, Bool, true, false, ◌&&◌, not, List, Some, ap, refl, sym}
-use Rattle.std.specs.Ordering.{int_eq}
+use Rattle.std.proofs.Common.{◌≡◌, ◌↔◌, ◌∙◌, ℕ, ℤ, Bool, true, false, ◌&&◌, not, List, Option, Some, None, ap, refl, sym}
+use Rattle.std.specs.Prelude.{IsSome, IfSome}
+use Rattle.std.specs.FinMap.{FinMap}
+use Rattle.std.specs.Ordering.{nat_cmp, int_eq}
 use Rattle.std.proofs.lemmas.Bool.Decides.{Decides-int_eq}
 use Rattle.px_units.specs.declared.Rect.{Rect}
 use Rattle.page_model.specs.World.{Root, IntersectionObservers}
@@ -18,7 +20,7 @@ use Rattle.candidate_index.specs.declared.index.Kept.{Kept}
 use Rattle.candidate_index.specs.Bases.{is_same_rect, is_same_clip, is_same_sight, is_same_basis}
 use Rattle.candidate_index.specs.Findings.{found_from}
 use Rattle.candidate_index.specs.Registrations.{observer_of, target_of, standing_for, basis_for, finding_for}
-use Rattle.candidate_index.specs.Held.{is_stale}
+use Rattle.candidate_index.specs.Held.{kept_of, is_stale, is_stale_now, IsFound, AreFound}
 use Rattle.candidate_index.proofs.Leaving.{found_is}
 
 all_four : (a b c d : Bool) → a ≡ true → b ≡ true → c ≡ true → d ≡ true → ((a && b) && c) && d ≡ true
@@ -100,9 +102,20 @@ not_stale : (kept : Kept) (now : Basis) (b : Bool) → is_same_basis kept.basis 
 not_stale kept now true e stale = e
 not_stale kept now false e stale = let wrong : true ≡ false = stale in absurd (let no : ⊥ = cc in no)
 
-pub still_found : (scene : Scene) (standings : Root → ℕ → Standing) (it : IntersectionObservers) (serial : ℕ) (between : List Spot) (kept : Kept) → seen_finding kept.finding ≡ found_from (observer_of it serial).thresholds kept.basis → is_stale (Some kept) (basis_for scene standings it serial between) ≡ false → seen_finding kept.finding ≡ finding_for scene standings it serial between
+still_found : (scene : Scene) (standings : Root → ℕ → Standing) (it : IntersectionObservers) (serial : ℕ) (between : List Spot) (kept : Kept) → seen_finding kept.finding ≡ found_from (observer_of it serial).thresholds kept.basis → is_stale (Some kept) (basis_for scene standings it serial between) ≡ false → seen_finding kept.finding ≡ finding_for scene standings it serial between
 still_found scene standings it serial between kept found fresh =
     let now = basis_for scene standings it serial between in
     let same = same_basis kept.basis now (not_stale kept now (is_same_basis kept.basis now) refl fresh) in
     found ∙ ap (found_from (observer_of it serial).thresholds) same
     ∙ found_is scene (standing_for standings it serial) (observer_of it serial) (target_of it serial) between
+
+of_last : (scene : Scene) (standings : Root → ℕ → Standing) (it : IntersectionObservers) (serial : ℕ) (between : List Spot) (last : Option Kept)
+    → IsFound (observer_of it serial).thresholds last → is_stale last (basis_for scene standings it serial between) ≡ false
+    → IsSome last × IfSome last (λ (kept : Kept). seen_finding kept.finding ≡ finding_for scene standings it serial between)
+of_last scene standings it serial between None found fresh = never (sym fresh)
+of_last scene standings it serial between (Some kept) found fresh = (refl, still_found scene standings it serial between kept found fresh)
+
+pub still_kept : (scene : Scene) (standings : Root → ℕ → Standing) (it : IntersectionObservers) (between : ℕ → List Spot) (kept : FinMap nat_cmp (Option Kept)) (serial : ℕ)
+    → AreFound it kept → is_stale_now scene standings it between kept serial ≡ false
+    → IsSome (kept_of kept serial) × IfSome (kept_of kept serial) (λ (last : Kept). seen_finding last.finding ≡ finding_for scene standings it serial (between serial))
+still_kept scene standings it between kept serial found fresh = of_last scene standings it serial (between serial) (kept_of kept serial) (found.found serial) fresh

@@ -2,8 +2,9 @@
 use Rattle.std.proofs.Common.{◌≡◌, ◌∙◌, ℕ, Bool, true, false, cond, List, ◌∷◌, Option, Some, None, ap, refl, sym, unwrap_or, option_map, is_some}
 use Rattle.px_units.specs.declared.Point.{Point}
 use Rattle.px_units.specs.declared.Rect.{Rect}
-use Rattle.page_model.specs.World.{World, Root, ImplicitRoot, DocumentRoot, ElementRoot, IntersectionObserver}
-use Rattle.page_model.specs.PageBoxes.{has_box}
+use Rattle.page_model.specs.Shown.{Shown}
+use Rattle.page_model.specs.World.{Root, ImplicitRoot, DocumentRoot, ElementRoot, IntersectionObserver}
+use Rattle.page_model.specs.Shown.{has_box}
 use Rattle.page_model.specs.Chains.{zero_rect, moved_back, moved_out, origin_of_element, border_rect, padding_rect, clips_in, clips_between, common_part, element_root_bounds, root_bounds as root_bounds_in, root_rect}
 use Rattle.page_model.specs.Findings.{Relation, Apart, Boxless, Chained, is_apart, relation, unseen, seen_at, found, finding, root_origin}
 use Rattle.clip_chain.specs.declared.spot.Spot.{Spot}
@@ -21,20 +22,20 @@ element_bounds true true padding border = refl
 element_bounds true false padding border = refl
 element_bounds false c padding border = refl
 
-by_box : (world : World) (element : ℕ) (b : Bool) → element_root_bounds world element b ≡ cond b (cond (clips_in world element) (padding_rect world element) (border_rect world element)) zero_rect
-by_box world element true = refl
-by_box world element false = refl
+by_box : (shown : Shown) (element : ℕ) (b : Bool) → element_root_bounds shown element b ≡ cond b (cond (clips_in shown element) (padding_rect shown element) (border_rect shown element)) zero_rect
+by_box shown element true = refl
+by_box shown element false = refl
 
-same_bounds : (world : World) (root : Root) → root_bounds (scene_of world) (spot_of_root root) ≡ root_bounds_in world root
-same_bounds world ImplicitRoot = refl
-same_bounds world (DocumentRoot document) = refl
-same_bounds world (ElementRoot element) =
-    element_bounds (has_box (world.tree) (world.viewports.size) element) (clips_in world element) (padding_rect world element) (border_rect world element)
-    ∙ sym (by_box world element (has_box (world.tree) (world.viewports.size) element))
+pub same_bounds : (shown : Shown) (root : Root) → root_bounds (scene_of shown) (spot_of_root root) ≡ root_bounds_in shown root
+same_bounds shown ImplicitRoot = refl
+same_bounds shown (DocumentRoot document) = refl
+same_bounds shown (ElementRoot element) =
+    element_bounds (has_box shown element) (clips_in shown element) (padding_rect shown element) (border_rect shown element)
+    ∙ sym (by_box shown element (has_box shown element))
 
-same_limits : (world : World) (observer : IntersectionObserver) → limits_of (scene_of world) observer ≡ root_rect world observer.root observer.margins
+same_limits : (shown : Shown) (observer : IntersectionObserver) → limits_of (scene_of shown) observer ≡ root_rect shown observer.root observer.margins
 unfolding root_rect
-same_limits world observer = ap (moved_out observer.margins) (same_bounds world observer.root)
+same_limits shown observer = ap (moved_out observer.margins) (same_bounds shown observer.root)
 
 -- what is seen, moved
 cut_moved : (from : Point) (cut : Option Rect) → unwrap_or (option_map (moved_back from) cut) zero_rect ≡ told_cut (is_some cut) from (unwrap_or cut zero_rect)
@@ -50,25 +51,25 @@ moved_whole : (thresholds : List ℕ) (at : Point) (root box : Rect) (cut : Opti
 moved_whole thresholds at root box cut =
     ap (λ (part : Rect). record (seen thresholds box cut root) { bounds = moved_back at box; cut = part }) (cut_moved at cut)
 
-by_case : (world : World) (observer : IntersectionObserver) (target : ℕ) (between : List Spot) (r : Relation) → (r ≡ Chained → has_box (world.tree) (world.viewports.size) target ≡ true) → IfChained (standing_in r) (IsChain world observer.root target between)
-    → found world observer target (moved_back (root_origin world observer.root) (root_rect world observer.root observer.margins)) r ≡ told world observer target r (finding_over (scene_of world) (standing_in r) observer target between)
-by_case world observer target between Apart boxed chain =
-    ap (λ (limits : Rect). unseen 0 (moved_back (root_origin world observer.root) limits)) (sym (same_limits world observer))
-by_case world observer target between Boxless boxed chain =
-    ap (λ (limits : Rect). found world observer target (moved_back (root_origin world observer.root) limits) Boxless) (sym (same_limits world observer))
-by_case world observer target between Chained boxed chain =
-    let from = origin_of_element world target in
-    let limits = root_rect world observer.root observer.margins in
-    let bounds : (scene_of world).bounds (element_spot target) ≡ border_rect world target = ap (λ b. cond b (border_rect world target) zero_rect) (boxed refl) in
-    let part : part_between (scene_of world) (element_spot target) between (limits_of (scene_of world) observer) ≡ common_part (border_rect world target) (limits ∷ clips_between world observer.root target) =
-    part_is world observer.root target between (limits_of (scene_of world) observer) chain.0 chain.1
-    ∙ ap (λ (r : Rect). common_part (border_rect world target) (r ∷ clips_between world observer.root target)) (same_limits world observer) in
-    moved_whole observer.thresholds from (moved_back (root_origin world observer.root) limits) (border_rect world target) (common_part (border_rect world target) (limits ∷ clips_between world observer.root target))
-    ∙ sym (λ i. told world observer target Chained (seen observer.thresholds (bounds i) (part i) (same_limits world observer i)))
+by_case : (shown : Shown) (observer : IntersectionObserver) (target : ℕ) (between : List Spot) (r : Relation) → (r ≡ Chained → has_box shown target ≡ true) → IfChained (standing_in r) (IsChain shown observer.root target between)
+    → found shown observer target (moved_back (root_origin shown observer.root) (root_rect shown observer.root observer.margins)) r ≡ told shown observer target r (finding_over (scene_of shown) (standing_in r) observer target between)
+by_case shown observer target between Apart boxed chain =
+    ap (λ (limits : Rect). unseen 0 (moved_back (root_origin shown observer.root) limits)) (sym (same_limits shown observer))
+by_case shown observer target between Boxless boxed chain =
+    ap (λ (limits : Rect). found shown observer target (moved_back (root_origin shown observer.root) limits) Boxless) (sym (same_limits shown observer))
+by_case shown observer target between Chained boxed chain =
+    let from = origin_of_element shown target in
+    let limits = root_rect shown observer.root observer.margins in
+    let bounds : (scene_of shown).bounds (element_spot target) ≡ border_rect shown target = ap (λ b. cond b (border_rect shown target) zero_rect) (boxed refl) in
+    let part : part_between (scene_of shown) (element_spot target) between (limits_of (scene_of shown) observer) ≡ common_part (border_rect shown target) (limits ∷ clips_between shown observer.root target) =
+    part_is shown observer.root target between (limits_of (scene_of shown) observer) chain.0 chain.1
+    ∙ ap (λ (r : Rect). common_part (border_rect shown target) (r ∷ clips_between shown observer.root target)) (same_limits shown observer) in
+    moved_whole observer.thresholds from (moved_back (root_origin shown observer.root) limits) (border_rect shown target) (common_part (border_rect shown target) (limits ∷ clips_between shown observer.root target))
+    ∙ sym (λ i. told shown observer target Chained (seen observer.thresholds (bounds i) (part i) (same_limits shown observer i)))
 
-pub world_finding : (world : World) (observer : IntersectionObserver) (target : ℕ) (between : List Spot) → IfChained (standing_in (relation world observer.root target)) (IsChain world observer.root target between)
-    → finding world observer target ≡ told world observer target (relation world observer.root target) (finding_over (scene_of world) (standing_in (relation world observer.root target)) observer target between)
+pub world_finding : (shown : Shown) (observer : IntersectionObserver) (target : ℕ) (between : List Spot) → IfChained (standing_in (relation shown observer.root target)) (IsChain shown observer.root target between)
+    → finding shown observer target ≡ told shown observer target (relation shown observer.root target) (finding_over (scene_of shown) (standing_in (relation shown observer.root target)) observer target between)
 unfolding finding
-world_finding world observer target between chain =
-    by_case world observer target between (relation world observer.root target)
-    (by_relation (is_apart world observer.root target) (has_box (world.tree) (world.viewports.size) target)) chain
+world_finding shown observer target between chain =
+    by_case shown observer target between (relation shown observer.root target)
+    (by_relation (is_apart shown observer.root target) (has_box shown target)) chain

@@ -6,4 +6,3 @@ pub mod Asked
 pub mod Held
 pub mod Codes
 pub mod Worlds
-pub mod Sample

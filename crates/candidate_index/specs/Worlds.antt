@@ -3,7 +3,8 @@
 use Rattle.std.specs.Prelude.{ℕ, ◌≤◌, Bool, true, false, List, length}
 use Rattle.px_units.specs.declared.Point.{Point}
 use Rattle.px_units.specs.declared.Rect.{Rect}
-use Rattle.page_model.specs.World.{World, Root, Finding, IntersectionObserver}
+use Rattle.page_model.specs.Shown.{Shown}
+use Rattle.page_model.specs.World.{Root, Finding, IntersectionObserver}
 use Rattle.page_model.specs.Chains.{moved_back, origin_of_element, most_containers}
 use Rattle.page_model.specs.Findings.{Relation, Apart, Boxless, Chained, root_origin}
 use Rattle.clip_chain.specs.declared.spot.Spot.{Spot}
@@ -26,13 +27,13 @@ told_box Apart from box = box
 told_box Boxless from box = box
 told_box Chained from box = moved_back from box
 
-abbrev pub told : World → IntersectionObserver → ℕ → Relation → Finding → Finding
-told world observer target relation it = record it {
-  root = moved_back (root_origin world observer.root) (it.root);
-  bounds = told_box relation (origin_of_element world target) (it.bounds);
-  cut = told_cut (it.meets) (origin_of_element world target) (it.cut);
+abbrev pub told : Shown → IntersectionObserver → ℕ → Relation → Finding → Finding
+told shown observer target relation it = record it {
+  root = moved_back (root_origin shown observer.root) (it.root);
+  bounds = told_box relation (origin_of_element shown target) (it.bounds);
+  cut = told_cut (it.meets) (origin_of_element shown target) (it.cut);
 }
 
 -- a chain from a target to a root, no longer than a world's definitions look along
-abbrev pub IsChain : World → Root → ℕ → List Spot → Type 0
-IsChain world root target between = Leads (scene_of world) (element_spot target) between (spot_of_root root) × (length between ≤ most_containers)
+abbrev pub IsChain : Shown → Root → ℕ → List Spot → Type 0
+IsChain shown root target between = Leads (scene_of shown) (element_spot target) between (spot_of_root root) × (length between ≤ most_containers)

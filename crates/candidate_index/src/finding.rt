@@ -15,7 +15,8 @@ ghost use Rattle.kept_clips.specs.Chains.{IsExact};
 ghost use Rattle.thresholds.specs.Areas.{LiesIn};
 ghost use Rattle.candidate_index.specs.Ranges.{HasBoundsIn, HasBounds};
 ghost use Rattle.candidate_index.specs.Findings.{cut_to, seen, found_from, sight_over};
-ghost use Rattle.candidate_index.specs.Registrations.{basis_for, IfChained, HasClip, IsReady, IsBetween};
+ghost use Rattle.thresholds.specs.Roots.{IsNear};
+ghost use Rattle.candidate_index.specs.Registrations.{observer_of, basis_for, IfChained, HasClip, IsReady, IsBetween};
 ghost use Rattle.candidate_index.specs.Asked.{asked_if, steps_if, asked_for, steps_for};
 
 use crate::{Basis, Scene, Sight, Standing};
@@ -48,7 +49,8 @@ pub(crate) fn spot_of_root(root: Root) -> Spot
 
 // The root rectangle, moved by the margins.
 fn limits_of<G: Geometry>(scene: &G, root: Root, margins: &Margins) -> Rect
-    ensures { result ≡ moved_out margins.now (root_bounds (G.scene scene.now) (spot_of_root (seen_root root))) }
+    ensures value { result ≡ moved_out margins.now (root_bounds (G.scene scene.now) (spot_of_root (seen_root root))) }
+    ensures near { IsNear (root_bounds (G.scene scene.now) (spot_of_root (seen_root root))) result }
 {
     margins.dilate(root_rect(scene, spot_of_root(root)))
 }
@@ -102,6 +104,7 @@ pub(crate) fn basis_of<S: Scene, L: Ledger>(
     ensures ready { (other : ℕ) → IsReady (S.scene scene.now) (S.standings scene.now) watchers.now.part clips.old other → IsReady (S.scene scene.now) (S.standings scene.now) watchers.now.part clips.new other }
     ensures exact { (other : ℕ) → IsExact (S.scene scene.now) clips.old other → IsExact (S.scene scene.now) clips.new other }
     ensures range { HasBounds result }
+    ensures near { IsNear (root_bounds (S.scene scene.now) (spot_of_root (observer_of watchers.now.part registration.0).root)) result.limits }
 {
     let watcher = watchers.watcher_of(registration);
     let target = watchers.target_of(registration);
@@ -114,7 +117,9 @@ pub(crate) fn basis_of<S: Scene, L: Ledger>(
 
 // What limits and a clip leave of a box.
 fn cut_to(bounds: Rect, limits: Rect, clip: Clip) -> Option<Rect>
+    requires { IsBounds bounds }
     ensures value { result ≡ cut_to bounds limits clip }
+    ensures range { IfSome result IsBounds }
     ensures inside { IfSome result (LiesIn bounds) }
 {
     let within = meet(bounds, limits)?;
@@ -129,7 +134,11 @@ fn cut_to(bounds: Rect, limits: Rect, clip: Clip) -> Option<Rect>
 fn seen(thresholds: &Thresholds, bounds: Rect, cut: Option<Rect>, limits: Rect) -> Finding
     requires bounds { IsBounds bounds }
     requires inside { IfSome cut (LiesIn bounds) }
-    ensures { seen_finding result ≡ seen thresholds.now bounds cut limits }
+    requires cut { IfSome cut IsBounds }
+    ensures value { seen_finding result ≡ seen thresholds.now bounds cut limits }
+    ensures bounds { IsBounds result.target }
+    ensures cut { IsBounds result.cut }
+    ensures root { result.root ≡ limits }
 {
     let ratio = ratio_of(bounds, cut);
     Finding {
@@ -144,7 +153,10 @@ fn seen(thresholds: &Thresholds, bounds: Rect, cut: Option<Rect>, limits: Rect) 
 
 // What is found of a target that isn't in the root, or has no box.
 fn unseen(index: u32, limits: Rect) -> Finding
-    ensures { seen_finding result ≡ unseen index limits }
+    ensures value { seen_finding result ≡ unseen index limits }
+    ensures bounds { IsBounds result.target }
+    ensures cut { IsBounds result.cut }
+    ensures root { result.root ≡ limits }
 {
     Finding {
         index,
@@ -159,7 +171,10 @@ fn unseen(index: u32, limits: Rect) -> Finding
 // What is found from a basis, by the thresholds.
 pub(crate) fn find(thresholds: &Thresholds, basis: &Basis) -> Finding
     requires { HasBounds basis.now }
-    ensures { seen_finding result ≡ found_from thresholds.now basis.now }
+    ensures value { seen_finding result ≡ found_from thresholds.now basis.now }
+    ensures bounds { IsBounds result.target }
+    ensures cut { IsBounds result.cut }
+    ensures root { result.root ≡ basis.now.limits }
 {
     match basis.sight {
         Sight::Apart => unseen(0, basis.limits),

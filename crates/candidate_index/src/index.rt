@@ -7,9 +7,13 @@ ghost use Rattle.clip_chain.specs.declared.spot.Spot.{Spot as SpotOf};
 ghost use Rattle.intersection_observer.specs.Places.{IsStanding};
 ghost use Rattle.intersection_observer.specs.Seen.{seen_finding, serial_numbers};
 ghost use Rattle.kept_clips.specs.Chains.{IsExact};
-ghost use Rattle.candidate_index.specs.Registrations.{serials_at, basis_for, finding_for, IsReady, IsBetween};
+ghost use Rattle.candidate_index.specs.Registrations.{observer_of, serials_at, basis_for, finding_for, IsReady, IsBetween};
 ghost use Rattle.candidate_index.specs.Asked.{asked_for, steps_for, all_asked, all_steps};
-ghost use Rattle.candidate_index.specs.Held.{kept_of, IsAdded, is_stale, is_stale_now};
+ghost use Rattle.candidate_index.specs.Held.{kept_of, IsAdded, is_stale, is_stale_now, AreFound};
+ghost use Rattle.candidate_index.specs.Ranges.{IsPlaced};
+ghost use Rattle.clip_chain.specs.Scenes.{root_bounds};
+ghost use Rattle.clip_chain.specs.Worlds.{spot_of_root};
+ghost use Rattle.page_model.specs.World.{IntersectionObservers};
 
 use crate::finding::{basis_of, find};
 use crate::{Basis, Scene};
@@ -34,6 +38,8 @@ pub struct Kept {
 ///
 /// The pair of a registration in `Clips` has the registration's serial number. Its two spots are that of its observer's root,
 /// which for the implicit root is `View(0)`, and that of its target.
+///
+/// What is kept of a registration was found from its basis by its observer's thresholds (`AreFound`), which each call keeps so.
 #[derive(Drop)]
 pub struct Index {
     alloc: Global,
@@ -58,7 +64,8 @@ impl Model for Index {
 impl Index {
     /// No registrations, which take no memory yet.
     pub fn new(alloc: Global) -> Index
-        ensures { result ≡ finite.empty }
+        ensures empty { result ≡ finite.empty }
+        ensures found { (watchers : IntersectionObservers) → AreFound watchers result }
     {
         Index {
             alloc,
@@ -86,13 +93,15 @@ impl Index {
         ensures added { OnOk result (self.new ≡ finite.insert self.old registration.0 None) }
         ensures same { OnErr result (self.new ≡ self.old) }
         ensures there { finite.contains_key self.old registration.0 ≡ true → IsOk result }
+        ensures found { (watchers : IntersectionObservers) → AreFound watchers self.old → AreFound watchers self.new }
     {
         self.kept.insert(registration.0, None)
     }
 
     /// Forgets a registration. No memory.
     pub fn forget(&mut self, registration: RegistrationId)
-        ensures { self.new ≡ finite.remove self.old registration.0 }
+        ensures forgotten { self.new ≡ finite.remove self.old registration.0 }
+        ensures found { (watchers : IntersectionObservers) → AreFound watchers self.old → AreFound watchers self.new }
     {
         self.kept.remove(registration.0);
     }
@@ -100,7 +109,8 @@ impl Index {
     /// Lets a registration count as never computed. No memory.
     pub fn expire(&mut self, registration: RegistrationId)
         requires { IsAdded self.old registration.0 }
-        ensures { self.new ≡ finite.insert self.old registration.0 None }
+        ensures expired { self.new ≡ finite.insert self.old registration.0 None }
+        ensures found { (watchers : IntersectionObservers) → AreFound watchers self.old → AreFound watchers self.new }
     {
         self.kept.insert(registration.0, None).unwrap();
     }
@@ -186,7 +196,8 @@ impl Index {
     /// Finds what there is to find of a registration's target now, and keeps it with what it was found from (Intersection
     /// Observer, 3.2.10). All rectangles are in the coordinates of the top document's viewport.
     ///
-    /// It takes one step, and those of `clip_of` where the chain leads to the root. No memory.
+    /// It takes one step, and those of `clip_of` where the chain leads to the root. No memory. Each edge of the root rectangle is moved
+    /// by at most 100 of its widths; the target's box and what is seen of it are in the range of boxes.
     pub fn recompute<S: Scene, L: Ledger>(
         &mut self,
         scene: &S,
@@ -208,6 +219,8 @@ impl Index {
             steps.new ≡ steps.old + steps_for (S.scene scene.now) (S.standings scene.now) watchers.now.part between registration.0 clips.old + 1 }
         ensures ready { (other : ℕ) → IsReady (S.scene scene.now) (S.standings scene.now) watchers.now.part clips.old other → IsReady (S.scene scene.now) (S.standings scene.now) watchers.now.part clips.new other }
         ensures exact { (other : ℕ) → IsExact (S.scene scene.now) clips.old other → IsExact (S.scene scene.now) clips.new other }
+        ensures found { AreFound watchers.now.part self.old → AreFound watchers.now.part self.new }
+        ensures placed { IsPlaced (root_bounds (S.scene scene.now) (spot_of_root (observer_of watchers.now.part registration.0).root)) (seen_finding result) }
     {
         let basis = basis_of(scene, clips, watchers, registration, steps);
         let finding = find(

@@ -1,8 +1,11 @@
 //! What findings over a scene are in a world, and what it means that a registration isn't stale: each law is the clause of a
 //! function that does nothing.
 
-ghost use Rattle.std.specs.Prelude.{◌≡◌, ◌↔◌, ℕ, List, Some, true, false};
-ghost use Rattle.page_model.specs.World.{World, Root, IntersectionObserver, IntersectionObservers};
+ghost use Rattle.std.specs.Prelude.{◌≡◌, ◌↔◌, ℕ, List, Option, IsSome, IfSome, true, false};
+ghost use Rattle.std.specs.Ordering.{nat_cmp};
+ghost use Rattle.std.specs.FinMap.{FinMap};
+ghost use Rattle.page_model.specs.Shown.{Shown};
+ghost use Rattle.page_model.specs.World.{Root, IntersectionObserver, IntersectionObservers};
 ghost use Rattle.page_model.specs.Findings.{relation, finding};
 ghost use Rattle.clip_chain.specs.Worlds.{scene_of};
 ghost use Rattle.clip_chain.specs.declared.spot.Spot.{Spot as SpotOf};
@@ -12,25 +15,25 @@ ghost use Rattle.candidate_index.specs.declared.scene.Standing.{Standing as Stan
 ghost use Rattle.candidate_index.specs.declared.basis.Basis.{Basis as BasisOf};
 ghost use Rattle.candidate_index.specs.declared.index.Kept.{Kept as KeptOf};
 ghost use Rattle.candidate_index.specs.Bases.{is_same_basis};
-ghost use Rattle.candidate_index.specs.Findings.{finding_over, found_from};
-ghost use Rattle.candidate_index.specs.Registrations.{observer_of, basis_for, finding_for, IfChained};
-ghost use Rattle.candidate_index.specs.Held.{is_stale};
+ghost use Rattle.candidate_index.specs.Findings.{finding_over};
+ghost use Rattle.candidate_index.specs.Registrations.{finding_for, IfChained};
+ghost use Rattle.candidate_index.specs.Held.{kept_of, is_stale_now, AreFound};
 ghost use Rattle.candidate_index.specs.Worlds.{standing_in, told, IsChain};
 
-/// Two bases are told to be the same exactly where they are equal. Where a registration isn't stale, and its finding was found
-/// from its basis by its observer's thresholds, as `recompute` keeps them, that is what is found of it now.
+/// Two bases are told to be the same exactly where they are equal. Where a registration isn't stale, something is kept of it, and that
+/// is what is found of it now.
 pub fn what_is_not_stale_is_found_as_it_was()
     ensures same { (one other : BasisOf) → (is_same_basis one other ≡ true) ↔ (one ≡ other) }
-    ensures found { (scene : SceneOf) (standings : Root → ℕ → StandingOf) (it : IntersectionObservers) (serial : ℕ) (between : List SpotOf) (kept : KeptOf) →
-        seen_finding kept.finding ≡ found_from (observer_of it serial).thresholds kept.basis → is_stale (Some kept) (basis_for scene standings it serial between) ≡ false →
-        seen_finding kept.finding ≡ finding_for scene standings it serial between }
+    ensures found { (scene : SceneOf) (standings : Root → ℕ → StandingOf) (it : IntersectionObservers) (between : ℕ → List SpotOf) (kept : FinMap nat_cmp (Option KeptOf)) (serial : ℕ) →
+        AreFound it kept → is_stale_now scene standings it between kept serial ≡ false →
+        IsSome (kept_of kept serial) × IfSome (kept_of kept serial) (λ last. seen_finding last.finding ≡ finding_for scene standings it serial (between serial)) }
 {}
 
 /// In any world, what is found over its containers, clips and boxes by how the target lies to the root is the world's finding, once
 /// the target's box and what is seen of it are told in the coordinates of the target's document, and the root rectangle in those
 /// of the root's.
 pub fn findings_are_those_of_any_world()
-    ensures { (world : World) (observer : IntersectionObserver) (target : ℕ) (between : List SpotOf) →
-        IfChained (standing_in (relation world observer.root target)) (IsChain world observer.root target between) →
-        finding world observer target ≡ told world observer target (relation world observer.root target) (finding_over (scene_of world) (standing_in (relation world observer.root target)) observer target between) }
+    ensures { (shown : Shown) (observer : IntersectionObserver) (target : ℕ) (between : List SpotOf) →
+        IfChained (standing_in (relation shown observer.root target)) (IsChain shown observer.root target between) →
+        finding shown observer target ≡ told shown observer target (relation shown observer.root target) (finding_over (scene_of shown) (standing_in (relation shown observer.root target)) observer target between) }
 {}

@@ -10,8 +10,6 @@ mod finding;
 mod index;
 mod laws;
 mod scene;
-#[cfg(test)]
-mod tests;
 
 pub use basis::{Basis, Sight};
 pub use index::{Index, Kept};

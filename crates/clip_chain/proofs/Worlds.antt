@@ -5,8 +5,9 @@ use Rattle.std.specs.List.{cons_option}
 use Rattle.std.proofs.lemmas.List.Sums.{take_while-cons}
 use Rattle.std.proofs.lemmas.Bool.{eqb-true}
 use Rattle.px_units.specs.declared.Rect.{Rect}
-use Rattle.page_model.specs.World.{World, Root, ImplicitRoot, DocumentRoot, ElementRoot}
+use Rattle.page_model.specs.World.{Root, ImplicitRoot, DocumentRoot, ElementRoot}
 use Rattle.page_model.specs.Documents.{Container, InElement, InDocument}
+use Rattle.page_model.specs.Shown.{Shown}
 use Rattle.page_model.specs.Chains.{containers_by, containers_from, container_beyond, most_containers, is_root, clip_of, clips_between, border_rect, zero_rect, common_part}
 use Rattle.clip_chain.specs.declared.spot.Spot.{Spot}
 use Rattle.clip_chain.specs.declared.spot.Spot.TheVariants.{Node, View}
@@ -28,11 +29,11 @@ back (InElement element) = refl
 back (InDocument document) = refl
 
 -- what a container of the scene is in the world
-beyond : (world : World) (container : Container) (next : Spot) → (scene_of world).container (spot_of container) ≡ Some next → (has_box_at world (spot_of container) ≡ true) × ((outer : Container) × (container_beyond (world.tree) container ≡ Some outer) × (spot_of outer ≡ next))
-beyond world container next h =
-    let met = boxed (has_box_at world (spot_of container)) (option_map spot_of (container_beyond (world.tree) (container_at (spot_of container)))) next h in
-    let outer = named (container_beyond (world.tree) (container_at (spot_of container))) next met.1 in
-    (met.0, (outer.0, ap (container_beyond (world.tree)) (sym (back container)) ∙ outer.1, outer.2))
+beyond : (shown : Shown) (container : Container) (next : Spot) → (scene_of shown).container (spot_of container) ≡ Some next → (has_box_at shown (spot_of container) ≡ true) × ((outer : Container) × (container_beyond (shown.tree) container ≡ Some outer) × (spot_of outer ≡ next))
+beyond shown container next h =
+    let met = boxed (has_box_at shown (spot_of container)) (option_map spot_of (container_beyond (shown.tree) (container_at (spot_of container)))) next h in
+    let outer = named (container_beyond (shown.tree) (container_at (spot_of container))) next met.1 in
+    (met.0, (outer.0, ap (container_beyond (shown.tree)) (sym (back container)) ∙ outer.1, outer.2))
 
 same_number : (a b : ℕ) → a ≡ b → (a == b) ≡ true
 same_number a b e = grind arith
@@ -79,55 +80,55 @@ before_more root container others e =
     ∙ ap (λ b. cond (not b) (container ∷ before root others) []) e
 
 -- the containers of a container in the world, up to so many
-abbrev outwards : World → ℕ → Container → List Container
-outwards world most container = containers_by (containers_from most (world.tree)) (container_beyond (world.tree) container)
+abbrev outwards : Shown → ℕ → Container → List Container
+outwards shown most container = containers_by (containers_from most (shown.tree)) (container_beyond (shown.tree) container)
 
-abbrev clips_before : World → Root → List Container → List Rect
-clips_before world root containers = filter_map (clip_of world) (before root containers)
+abbrev clips_before : Shown → Root → List Container → List Rect
+clips_before shown root containers = filter_map (clip_of shown) (before root containers)
 
-last_by : (world : World) (root : Root) (most : ℕ) (outer : Container) → is_root root outer ≡ true → [] ≡ clips_before world root (containers_from most (world.tree) outer)
+last_by : (shown : Shown) (root : Root) (most : ℕ) (outer : Container) → is_root root outer ≡ true → [] ≡ clips_before shown root (containers_from most (shown.tree) outer)
 unfolding containers_from
-last_by world root zero outer e = refl
-last_by world root (suc most) outer e = sym (ap (filter_map (clip_of world)) (before_root root outer (outwards world most outer) e))
+last_by shown root zero outer e = refl
+last_by shown root (suc most) outer e = sym (ap (filter_map (clip_of shown)) (before_root root outer (outwards shown most outer) e))
 
-next_by : (world : World) (root : Root) (most : ℕ) (outer : Container) → is_root root outer ≡ false → clips_before world root (containers_from (suc most) (world.tree) outer) ≡ cons_option (clip_of world outer) (clips_before world root (outwards world most outer))
+next_by : (shown : Shown) (root : Root) (most : ℕ) (outer : Container) → is_root root outer ≡ false → clips_before shown root (containers_from (suc most) (shown.tree) outer) ≡ cons_option (clip_of shown outer) (clips_before shown root (outwards shown most outer))
 unfolding containers_from
-next_by world root most outer e = ap (filter_map (clip_of world)) (before_more root outer (outwards world most outer) e)
+next_by shown root most outer e = ap (filter_map (clip_of shown)) (before_more root outer (outwards shown most outer) e)
 
 -- a spot that a chain goes on from clips as in the world
-clips_as : (world : World) (outer : Container) → has_box_at world (spot_of outer) ≡ true → (scene_of world).clip (spot_of outer) ≡ clip_of world outer
-clips_as world outer e =
-    ap (λ b. cond b (clip_of world (container_at (spot_of outer))) None) e
-    ∙ ap (clip_of world) (back outer)
+clips_as : (shown : Shown) (outer : Container) → has_box_at shown (spot_of outer) ≡ true → (scene_of shown).clip (spot_of outer) ≡ clip_of shown outer
+clips_as shown outer e =
+    ap (λ b. cond b (clip_of shown (container_at (spot_of outer))) None) e
+    ∙ ap (clip_of shown) (back outer)
 
-goes_on : (world : World) (root : Spot) (from : Container) (between : List Spot) → Leads (scene_of world) (spot_of from) between root → has_box_at world (spot_of from) ≡ true
-goes_on world root from [] h = (beyond world from root h).0
-goes_on world root from (next ∷ others) h = (beyond world from next h.0).0
+goes_on : (shown : Shown) (root : Spot) (from : Container) (between : List Spot) → Leads (scene_of shown) (spot_of from) between root → has_box_at shown (spot_of from) ≡ true
+goes_on shown root from [] h = (beyond shown from root h).0
+goes_on shown root from (next ∷ others) h = (beyond shown from next h.0).0
 
-along : (world : World) (root : Root) (most : ℕ) (from : Container) (between : List Spot) → Leads (scene_of world) (spot_of from) between (spot_of_root root) → length between ≤ most → filter_map (scene_of world).clip between ≡ clips_before world root (outwards world most from)
-along world root most from [] h few =
-    let there = beyond world from (spot_of_root root) h in
+along : (shown : Shown) (root : Root) (most : ℕ) (from : Container) (between : List Spot) → Leads (scene_of shown) (spot_of from) between (spot_of_root root) → length between ≤ most → filter_map (scene_of shown).clip between ≡ clips_before shown root (outwards shown most from)
+along shown root most from [] h few =
+    let there = beyond shown from (spot_of_root root) h in
     let outer = there.1.0 in
-    last_by world root most outer (root_found root outer there.1.2)
-    ∙ ap (λ o. clips_before world root (containers_by (containers_from most (world.tree)) o)) (sym there.1.1)
-along world root zero from (next ∷ others) h few = absurd (let no : ⊥ = omega (arith, few) in no)
-along world root (suc most) from (next ∷ others) h few =
-    let there = beyond world from next h.0 in
+    last_by shown root most outer (root_found root outer there.1.2)
+    ∙ ap (λ o. clips_before shown root (containers_by (containers_from most (shown.tree)) o)) (sym there.1.1)
+along shown root zero from (next ∷ others) h few = absurd (let no : ⊥ = omega (arith, few) in no)
+along shown root (suc most) from (next ∷ others) h few =
+    let there = beyond shown from next h.0 in
     let outer = there.1.0 in
     let same : spot_of outer ≡ next = there.1.2 in
-    let rest = subst (λ (spot : Spot). Leads (scene_of world) spot others (spot_of_root root)) (sym same) h.2 in
+    let rest = subst (λ (spot : Spot). Leads (scene_of shown) spot others (spot_of_root root)) (sym same) h.2 in
     let apart : ¬ spot_of outer ≡ spot_of_root root = λ e. h.1 (sym same ∙ e) in
-    ap (λ spot. cons_option ((scene_of world).clip spot) (filter_map (scene_of world).clip others)) (sym same)
-    ∙ ap (λ o. cons_option o (filter_map (scene_of world).clip others)) (clips_as world outer (goes_on world (spot_of_root root) outer others rest))
-    ∙ ap (cons_option (clip_of world outer)) (along world root most outer others rest (omega (arith, few)))
-    ∙ sym (next_by world root most outer (root_missed root outer apart))
-    ∙ ap (λ o. clips_before world root (containers_by (containers_from (suc most) (world.tree)) o)) (sym there.1.1)
+    ap (λ spot. cons_option ((scene_of shown).clip spot) (filter_map (scene_of shown).clip others)) (sym same)
+    ∙ ap (λ o. cons_option o (filter_map (scene_of shown).clip others)) (clips_as shown outer (goes_on shown (spot_of_root root) outer others rest))
+    ∙ ap (cons_option (clip_of shown outer)) (along shown root most outer others rest (omega (arith, few)))
+    ∙ sym (next_by shown root most outer (root_missed root outer apart))
+    ∙ ap (λ o. clips_before shown root (containers_by (containers_from (suc most) (shown.tree)) o)) (sym there.1.1)
 
-pub clips_are : (world : World) (root : Root) (target : ℕ) (between : List Spot) → Leads (scene_of world) (element_spot target) between (spot_of_root root) → length between ≤ most_containers → filter_map (scene_of world).clip between ≡ clips_between world root target
+pub clips_are : (shown : Shown) (root : Root) (target : ℕ) (between : List Spot) → Leads (scene_of shown) (element_spot target) between (spot_of_root root) → length between ≤ most_containers → filter_map (scene_of shown).clip between ≡ clips_between shown root target
 unfolding clips_between
-clips_are world root target between h few = along world root most_containers (InElement target) between h few
+clips_are shown root target between h few = along shown root most_containers (InElement target) between h few
 
-pub part_is : (world : World) (root : Root) (target : ℕ) (between : List Spot) (limits : Rect) → Leads (scene_of world) (element_spot target) between (spot_of_root root) → length between ≤ most_containers → part_between (scene_of world) (element_spot target) between limits ≡ common_part (border_rect world target) (limits ∷ clips_between world root target)
-part_is world root target between limits h few =
-    ap (λ b. common_part (cond b (border_rect world target) zero_rect) (limits ∷ filter_map (scene_of world).clip between)) (goes_on world (spot_of_root root) (InElement target) between h)
-    ∙ ap (λ clips. common_part (border_rect world target) (limits ∷ clips)) (clips_are world root target between h few)
+pub part_is : (shown : Shown) (root : Root) (target : ℕ) (between : List Spot) (limits : Rect) → Leads (scene_of shown) (element_spot target) between (spot_of_root root) → length between ≤ most_containers → part_between (scene_of shown) (element_spot target) between limits ≡ common_part (border_rect shown target) (limits ∷ clips_between shown root target)
+part_is shown root target between limits h few =
+    ap (λ b. common_part (cond b (border_rect shown target) zero_rect) (limits ∷ filter_map (scene_of shown).clip between)) (goes_on shown (spot_of_root root) (InElement target) between h)
+    ∙ ap (λ clips. common_part (border_rect shown target) (limits ∷ clips)) (clips_are shown root target between h few)

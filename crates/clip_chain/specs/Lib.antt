@@ -3,4 +3,3 @@ pub mod Scenes
 pub mod Chains
 pub mod Visible
 pub mod Worlds
-pub mod Sample

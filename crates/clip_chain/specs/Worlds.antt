@@ -1,9 +1,9 @@
 -- The spots of a page: what the definitions of a world tell of them (Intersection Observer, 3.2.7).
 use Rattle.std.specs.Prelude.{ℕ, Bool, true, cond, None, option_map}
 use Rattle.px_units.specs.declared.Rect.{Rect}
-use Rattle.page_model.specs.World.{World, Root, ImplicitRoot, DocumentRoot, ElementRoot}
+use Rattle.page_model.specs.World.{Root, ImplicitRoot, DocumentRoot, ElementRoot}
 use Rattle.page_model.specs.Documents.{Container, InElement, InDocument}
-use Rattle.page_model.specs.PageBoxes.{has_box}
+use Rattle.page_model.specs.Shown.{Shown, has_box}
 use Rattle.page_model.specs.Chains.{zero_rect, viewport_rect, border_rect, clip_of, container_beyond}
 use Rattle.clip_chain.specs.declared.spot.Spot.{Spot}
 use Rattle.clip_chain.specs.declared.spot.Spot.TheVariants.{Node, View}
@@ -26,18 +26,18 @@ spot_of_root ImplicitRoot = View 0
 spot_of_root (DocumentRoot document) = View document
 spot_of_root (ElementRoot element) = element_spot element
 
-abbrev pub has_box_at : World → Spot → Bool
-has_box_at world (Node node) = has_box (world.tree) (world.viewports.size) (node.0)
-has_box_at world (View document) = true
+abbrev pub has_box_at : Shown → Spot → Bool
+has_box_at shown (Node node) = has_box shown (node.0)
+has_box_at shown (View document) = true
 
-abbrev pub bounds_at : World → Spot → Rect
-bounds_at world (Node node) = cond (has_box_at world (Node node)) (border_rect world (node.0)) zero_rect
-bounds_at world (View document) = viewport_rect world document
+abbrev pub bounds_at : Shown → Spot → Rect
+bounds_at shown (Node node) = cond (has_box_at shown (Node node)) (border_rect shown (node.0)) zero_rect
+bounds_at shown (View document) = viewport_rect shown document
 
 -- an element without a box stands in nothing and clips nothing, and its box is zero
-abbrev pub scene_of : World → Scene
-scene_of world = record {
-  container = λ of. cond (has_box_at world of) (option_map spot_of (container_beyond (world.tree) (container_at of))) None;
-  clip = λ of. cond (has_box_at world of) (clip_of world (container_at of)) None;
-  bounds = bounds_at world;
+abbrev pub scene_of : Shown → Scene
+scene_of shown = record {
+  container = λ of. cond (has_box_at shown of) (option_map spot_of (container_beyond (shown.tree) (container_at of))) None;
+  clip = λ of. cond (has_box_at shown of) (clip_of shown (container_at of)) None;
+  bounds = bounds_at shown;
 }

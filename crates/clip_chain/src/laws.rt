@@ -3,7 +3,8 @@
 ghost use Rattle.std.specs.Prelude.{◌≡◌, ◌↔◌, ◌+◌, ◌≤◌, ℕ, List, [], ◌∷◌, ◌++◌, length, filter_map, Some};
 ghost use Rattle.std.specs.List.{slice_index_or, Contains};
 ghost use Rattle.px_units.specs.declared.Rect.{Rect};
-ghost use Rattle.page_model.specs.World.{World, Root};
+ghost use Rattle.page_model.specs.World.{Root};
+ghost use Rattle.page_model.specs.Shown.{Shown};
 ghost use Rattle.page_model.specs.Chains.{most_containers, border_rect, clips_between, common_part, root_bounds as root_bounds_in};
 ghost use Rattle.clip_chain.specs.declared.spot.Spot.{Spot as SpotOf};
 ghost use Rattle.clip_chain.specs.Scenes.{Scene, root_bounds};
@@ -30,12 +31,12 @@ pub fn a_chain_is_the_only_one()
 /// seen of the target is the common part which its finding cuts to. The root rectangle before a margin moves it is the
 /// world's too. A chain is no longer than that definition looks.
 pub fn chains_are_those_of_any_world()
-    ensures clips { (world : World) (root : Root) (target : ℕ) (between : List SpotOf) →
-        Leads (scene_of world) (element_spot target) between (spot_of_root root) → length between ≤ most_containers →
-        filter_map (scene_of world).clip between ≡ clips_between world root target }
-    ensures part { (world : World) (root : Root) (target : ℕ) (between : List SpotOf) (limits : Rect) →
-        Leads (scene_of world) (element_spot target) between (spot_of_root root) → length between ≤ most_containers →
-        part_between (scene_of world) (element_spot target) between limits
-        ≡ common_part (border_rect world target) (limits ∷ clips_between world root target) }
-    ensures root { (world : World) (root : Root) → root_bounds (scene_of world) (spot_of_root root) ≡ root_bounds_in world root }
+    ensures clips { (shown : Shown) (root : Root) (target : ℕ) (between : List SpotOf) →
+        Leads (scene_of shown) (element_spot target) between (spot_of_root root) → length between ≤ most_containers →
+        filter_map (scene_of shown).clip between ≡ clips_between shown root target }
+    ensures part { (shown : Shown) (root : Root) (target : ℕ) (between : List SpotOf) (limits : Rect) →
+        Leads (scene_of shown) (element_spot target) between (spot_of_root root) → length between ≤ most_containers →
+        part_between (scene_of shown) (element_spot target) between limits
+        ≡ common_part (border_rect shown target) (limits ∷ clips_between shown root target) }
+    ensures root { (shown : Shown) (root : Root) → root_bounds (scene_of shown) (spot_of_root root) ≡ root_bounds_in shown root }
 {}

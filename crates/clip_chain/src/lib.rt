@@ -9,8 +9,6 @@ mod chains;
 mod geometry;
 mod laws;
 mod spot;
-#[cfg(test)]
-mod tests;
 
 pub use chains::{reaches, root_rect, visible_rect};
 pub use geometry::Geometry;

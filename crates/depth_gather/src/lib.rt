@@ -12,8 +12,6 @@ mod gathering;
 mod laws;
 mod observation;
 mod sizes;
-#[cfg(test)]
-mod tests;
 mod turns;
 
 pub use deliveries::{Delivery, end_delivery, least_depth, next_delivery};

@@ -8,7 +8,7 @@ use Rattle.layout_model.specs.Boxes.{Inputs, child_inputs, inputs_if_block, if_s
 use Rattle.layout_model.specs.Reach.{View, view_inputs, inputs_in_view}
 use Rattle.layout_model.proofs.Inputs.{inputs_child, inputs_top}
 use Rattle.layout_model.proofs.Paths.{depth_least}
-use Rattle.page_model.specs.World.{Extent, Tree}
+use Rattle.page_model.specs.World.{Screen, Tree}
 use Rattle.page_model.specs.Lookups.{element_at, document_at}
 use Rattle.page_model.specs.Documents.{Container, InElement, InDocument, nodes_of, root_of, is_number, is_root_element, container_by, container_of, tree_document, is_active, stands_in_active, element_depth}
 use Rattle.page_model.specs.PageBoxes.{framed_size, view_with, view_up, view_of, has_box}
@@ -78,25 +78,25 @@ module _ (tree : Tree) (levels : IsWithinLevels tree) where
       (sym (ap is_some (inputs_child at root viewport k p up (levels.framed.trees.shallow p))) ∙ some))))
       n
 
-  module _ (size : Extent) (n : ℕ) (boxed : has_box tree size n ≡ true) where
+  module _ (screen : Screen) (n : ℕ) (boxed : has_box tree screen n ≡ true) where
     abbrev own : ℕ
     own = (element_at tree n).document
 
     active : is_active tree own ≡ true
-    active = boxed_active tree size n boxed
+    active = boxed_active tree screen n boxed
 
-    in_view : Viewed at (view_of tree size own) n
-    in_view = viewed at (view_of tree size own) n (sym (boxed_in tree size n) ∙ boxed)
+    in_view : Viewed at (view_of tree screen own) n
+    in_view = viewed at (view_of tree screen own) n (sym (boxed_in tree screen n) ∙ boxed)
 
     rooted : (document_at tree own).root ≡ Some (in_view.root)
     rooted =
-        root_shown ((document_at tree own).root) (framed_size tree size (view_up 65535 tree size) (document_at tree own).frame) (in_view.root)
-        (sym (ap (λ (view : View). view.root) (view_whole tree size own ∙ lively tree size 65535 own active)) ∙ in_view.is)
+        root_shown ((document_at tree own).root) (framed_size tree screen (view_up 65535 tree screen) (document_at tree own).frame) (in_view.root)
+        (sym (ap (λ (view : View). view.root) (view_whole tree screen own ∙ lively tree screen 65535 own active)) ∙ in_view.is)
 
     below_root : tree_document tree n ≡ Some own
     unfolding tree_document
     below_root =
-        ap (λ r. cond (is_root_element tree r) (Some own) None) (in_tree (in_view.root) (view_inputs (view_of tree size own)) n (in_view.some))
+        ap (λ r. cond (is_root_element tree r) (Some own) None) (in_tree (in_view.root) (view_inputs (view_of tree screen own)) n (in_view.some))
         ∙ ap (λ b. cond b (Some own) None)
         (ap (λ d. is_number (document_at tree d).root (in_view.root)) (levels.framed.owners.roots own (in_view.root) rooted).owner
         ∙ its_number ((document_at tree own).root) (in_view.root) rooted)

@@ -20,6 +20,7 @@ use Rattle.page_model.specs.Timers.{due_timers, timer_stands, timer_taken}
 use Rattle.page_model.specs.Tasks.{has_tasks, is_notifying, without_notifying}
 use Rattle.page_model.specs.IntersectionObserving.{without_queue}
 use Rattle.page_model.specs.Findings.{finding}
+use Rattle.page_model.specs.Shown.{shown_of}
 use Rattle.page_model.specs.Gathering.{sight_of, size_entry, has_active, has_skipped, with_reported, without_active, due_at}
 use Rattle.page_model.specs.Operands.{Present, ResizeEntry, IntersectionEntry}
 use Rattle.page_model.specs.Commands.{matches_now}
@@ -52,7 +53,7 @@ update-tree : (document : ℕ) (world : World) → (update_intersections documen
 unfolding update_intersections
 update-tree document world =
     let observers = watchers (world.tree) document (world.intersection_observers) in
-    let settled_ones = settling (world.clock) (finding world) observers (world.intersection_observers) in
+    let settled_ones = settling (world.clock) (finding (shown_of world)) observers (world.intersection_observers) in
     by_test (record world { intersection_observers = settled_ones }) refl (list_any (has_queued (world.intersection_observers) settled_ones) observers)
   where
     by_test : (now : World) → now.tree ≡ world.tree → (test : Bool) →
@@ -238,7 +239,7 @@ module _ (script : Script) (P : ℕ → World → Type 0) (In : ℕ → Present 
     size-keeps : (document : ℕ) (world : World) → is_active (world.tree) document ≡ true → P k world → P k (resize_steps script document world).state
     unfolding resize_steps
     size-keeps document world is here =
-        let size = viewport_of (world.tree) (world.viewports.size) document in
+        let size = viewport_of (world.tree) (world.viewports.screen) document in
         let now = record world { viewports = with_noted document size (world.viewports) } in
         only_if-keeps (P k) (fire script (FiredResize (document_text (world.names) document)) (WindowTarget document) events.Resize) now
         (differs_from size (noted_size document (world.viewports)))

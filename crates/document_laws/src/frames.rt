@@ -1,9 +1,10 @@
 //! Laws of the bounds that the definitions give their recursions over frames.
 
 ghost use Rattle.std.specs.Prelude.{◌≡◌, ◌≤◌, ℕ, List, true};
-ghost use Rattle.page_model.specs.World.{Extent, Tree, World};
+ghost use Rattle.page_model.specs.World.{Screen, Tree, World};
 ghost use Rattle.page_model.specs.Documents.{frame_levels, container_of, is_active_state, is_fresh_state, stands_in_active, frames_in, led_to, documents_inside, shown};
 ghost use Rattle.page_model.specs.PageBoxes.{view_up, view_of, has_box};
+ghost use Rattle.page_model.specs.Shown.{shown_of};
 ghost use Rattle.page_model.specs.Chains.{origin_up, origin, containers_by, containers_from, containers_of};
 ghost use Rattle.document_laws.specs.Levels.{IsWithinLevels};
 
@@ -12,10 +13,10 @@ ghost use Rattle.document_laws.specs.Levels.{IsWithinLevels};
 /// element are asked for where it is shown in the tree of an Active document, and leave a tree within its levels: there they are the same
 /// with any bound from 64 on. So the bound that the definitions give them, 65,536, is never reached.
 pub fn frames_are_never_cut_off()
-    ensures views { (tree : Tree) → IsWithinLevels tree → (most : ℕ) (size : Extent) (document : ℕ) → 64 ≤ most →
-        view_up most tree size document ≡ view_of tree size document }
+    ensures views { (tree : Tree) → IsWithinLevels tree → (most : ℕ) (screen : Screen) (document : ℕ) → 64 ≤ most →
+        view_up most tree screen document ≡ view_of tree screen document }
     ensures origins { (world : World) → IsWithinLevels world.tree → (most document : ℕ) → 65 ≤ most →
-        origin_up most world document ≡ origin world document }
+        origin_up most (shown_of world) document ≡ origin (shown_of world) document }
     ensures active { (tree : Tree) → IsWithinLevels tree → (most : ℕ) (documents : List ℕ) → 64 ≤ most →
         led_to most is_active_state tree documents ≡ led_to frame_levels is_active_state tree documents }
     ensures fresh { (tree : Tree) (n : ℕ) → IsWithinLevels (shown tree n) → stands_in_active tree n ≡ true → (most : ℕ) → 64 ≤ most →
@@ -26,7 +27,7 @@ pub fn frames_are_never_cut_off()
 /// from 16,448 on. The clips of a target are asked for where it has a box, so the bound that the definition gives the chain, 65,536, is never
 /// reached.
 pub fn containers_are_never_cut_off()
-    ensures boxes { (tree : Tree) → IsWithinLevels tree → (size : Extent) (n : ℕ) → has_box tree size n ≡ true → stands_in_active tree n ≡ true }
+    ensures boxes { (tree : Tree) → IsWithinLevels tree → (screen : Screen) (n : ℕ) → has_box tree screen n ≡ true → stands_in_active tree n ≡ true }
     ensures containers { (tree : Tree) → IsWithinLevels tree → (most n : ℕ) → stands_in_active tree n ≡ true → 16448 ≤ most →
         containers_by (containers_from most tree) (container_of tree n) ≡ containers_of tree n }
 {}

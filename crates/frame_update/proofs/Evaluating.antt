@@ -67,10 +67,10 @@ module _ (script : Script) (document : ℕ) where
 
 module _ (script : Script) (document : ℕ) (world : World) where
   abbrev changes : QueryList → Bool
-  changes = is_changed document (viewport_of (world.tree) (world.viewports.size) document)
+  changes = is_changed document (viewport_of (world.tree) (world.viewports.screen) document)
 
   abbrev state_now : ℕ → Bool
-  state_now query = matches_in (query_list_at (world.queries) query).query (viewport_of (world.tree) (world.viewports.size) document)
+  state_now query = matches_in (query_list_at (world.queries) query).query (viewport_of (world.tree) (world.viewports.screen) document)
 
   quiet-turn : (query : ℕ) → changes (query_list_at (world.queries) query) ≡ false → evaluate script document query world ≡ silent world
   unfolding matches_now

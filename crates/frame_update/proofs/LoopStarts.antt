@@ -85,7 +85,7 @@ module _ (script : Script) where
   resized-within : (document : ℕ) (world : World) → is_active (world.tree) document ≡ true → IsWithinLimits world → IsWithinLimits (resize_steps script document world).state
   unfolding resize_steps
   resized-within document world is within =
-      let size = viewport_of (world.tree) (world.viewports.size) document in
+      let size = viewport_of (world.tree) (world.viewports.screen) document in
       only_if-keeps IsWithinLimits (fire script (FiredResize (document_text (world.names) document)) (WindowTarget document) events.Resize)
       (record world { viewports = with_noted document size (world.viewports) }) (differs_from size (noted_size document (world.viewports)))
       (fired-within (FiredResize (document_text (world.names) document)) (WindowTarget document) events.Resize)

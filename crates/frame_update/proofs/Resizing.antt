@@ -18,7 +18,7 @@ use Rattle.frame_update.proofs.Ready.{ready_next}
 
 -- the world once the size of a document's viewport is noted
 abbrev once_noted : ℕ → World → World
-once_noted document world = record world { viewports = with_noted document (viewport_of (world.tree) (world.viewports.size) document) (world.viewports) }
+once_noted document world = record world { viewports = with_noted document (viewport_of (world.tree) (world.viewports.screen) document) (world.viewports) }
 
 module _ (document : ℕ) (world now : World) (noted : now ≡ once_noted document world) where
   module _ (script : Script) where
@@ -26,13 +26,13 @@ module _ (document : ℕ) (world now : World) (noted : now ≡ once_noted docume
     resized name state = fire script (FiredResize name) (WindowTarget document) events.Resize state
 
     -- it is the size noted before
-    pub noted_again : false ≡ differs_from (viewport_of (world.tree) (world.viewports.size) document) (noted_size document (world.viewports)) → silent now ≡ resize_steps script document world
+    pub noted_again : false ≡ differs_from (viewport_of (world.tree) (world.viewports.screen) document) (noted_size document (world.viewports)) → silent now ≡ resize_steps script document world
     unfolding resize_steps
     noted_again same = ap (λ (state : World). silent state) noted ∙ sym (only_if_false (resized (document_text (world.names) document)) (once_noted document world) (sym same))
 
     -- it is another one
     pub noted_anew : (name : List ℕ) → name ≡ document_text now.names document →
-        true ≡ differs_from (viewport_of (world.tree) (world.viewports.size) document) (noted_size document (world.viewports)) → resized name now ≡ resize_steps script document world
+        true ≡ differs_from (viewport_of (world.tree) (world.viewports.screen) document) (noted_size document (world.viewports)) → resized name now ≡ resize_steps script document world
     unfolding resize_steps
     noted_anew name named differs =
         ap (λ it. resized it now) named

@@ -4,7 +4,8 @@ use Rattle.std.specs.Prelude.{List, [], ◌∷◌, ◌++◌, slice_get, Option, 
 use Rattle.std.proofs.lemmas.Option.{same_Some}
 use Rattle.px_units.specs.declared.Rect.{Rect}
 use Rattle.script_model.specs.Margins.{Margins}
-use Rattle.page_model.specs.World.{World, Root, Finding, Registration, IntersectionObserver, IntersectionObservers}
+use Rattle.page_model.specs.Shown.{Shown}
+use Rattle.page_model.specs.World.{Root, Finding, Registration, IntersectionObserver, IntersectionObservers}
 use Rattle.page_model.specs.Lookups.{no_intersection_observer, intersection_observer_at}
 use Rattle.page_model.specs.Findings.{finding, found, relation, root_origin, Relation, Apart, Boxless, Chained}
 use Rattle.page_model.specs.Chains.{moved_back, root_rect}
@@ -18,50 +19,50 @@ use Rattle.intersection_update.proofs.Lists.{between}
 -- what is found by observers -----------------------------------------------------------------------------------------------------
 
 -- by an observer with a root, margins and thresholds
-found_by : World → Root → Margins → List ℕ → ℕ → Finding
-found_by world root margins thresholds target = finding world (record no_intersection_observer { root = root; margins = margins; thresholds = thresholds }) target
+found_by : Shown → Root → Margins → List ℕ → ℕ → Finding
+found_by shown root margins thresholds target = finding shown (record no_intersection_observer { root = root; margins = margins; thresholds = thresholds }) target
 
-by_relation : (world : World) (x : IntersectionObserver) (target : ℕ) (root : Rect) (it : Relation) →
-    found world x target root it ≡ found world (record no_intersection_observer { root = x.root; margins = x.margins; thresholds = x.thresholds }) target root it
-by_relation world x target root Apart = refl
-by_relation world x target root Boxless = refl
-by_relation world x target root Chained = refl
+by_relation : (shown : Shown) (x : IntersectionObserver) (target : ℕ) (root : Rect) (it : Relation) →
+    found shown x target root it ≡ found shown (record no_intersection_observer { root = x.root; margins = x.margins; thresholds = x.thresholds }) target root it
+by_relation shown x target root Apart = refl
+by_relation shown x target root Boxless = refl
+by_relation shown x target root Chained = refl
 
 -- nothing else of an observer is read
-by_parts : (world : World) (x : IntersectionObserver) (target : ℕ) → finding world x target ≡ found_by world (x.root) (x.margins) (x.thresholds) target
+by_parts : (shown : Shown) (x : IntersectionObserver) (target : ℕ) → finding shown x target ≡ found_by shown (x.root) (x.margins) (x.thresholds) target
 unfolding finding found_by
-by_parts world x target = by_relation world x target (moved_back (root_origin world (x.root)) (root_rect world (x.root) (x.margins))) (relation world (x.root) target)
+by_parts shown x target = by_relation shown x target (moved_back (root_origin shown (x.root)) (root_rect shown (x.root) (x.margins))) (relation shown (x.root) target)
 
 -- observers that find the same and have registrations with the same serial numbers and targets
-pub record AreAlike (world : World) (a b : IntersectionObserver) : Type 0 where
+pub record AreAlike (shown : Shown) (a b : IntersectionObserver) : Type 0 where
   pub subjects : subjects_of (a.registrations) ≡ subjects_of (b.registrations)
-  pub findings : (target : ℕ) → finding world a target ≡ finding world b target
+  pub findings : (target : ℕ) → finding shown a target ≡ finding shown b target
 
-pub alike_same : (world : World) (a : IntersectionObserver) → AreAlike world a a
-alike_same world a = record { subjects = refl; findings = λ target. refl }
+pub alike_same : (shown : Shown) (a : IntersectionObserver) → AreAlike shown a a
+alike_same shown a = record { subjects = refl; findings = λ target. refl }
 
-alike_then : (world : World) (a b c : IntersectionObserver) → AreAlike world a b → AreAlike world b c → AreAlike world a c
-alike_then world a b c first second = record { subjects = first.subjects ∙ second.subjects; findings = λ target. first.findings target ∙ second.findings target }
+alike_then : (shown : Shown) (a b c : IntersectionObserver) → AreAlike shown a b → AreAlike shown b c → AreAlike shown a c
+alike_then shown a b c first second = record { subjects = first.subjects ∙ second.subjects; findings = λ target. first.findings target ∙ second.findings target }
 
-alike_settled : (world : World) (n time : ℕ) (now : Finding) (x : IntersectionObserver) → AreAlike world (settled_at n time now x) x
-alike_settled world n time now x = record {
+alike_settled : (shown : Shown) (n time : ℕ) (now : Finding) (x : IntersectionObserver) → AreAlike shown (settled_at n time now x) x
+alike_settled shown n time now x = record {
   subjects = settled-subjects n time now (x.registrations);
-  findings = λ target. by_parts world (settled_at n time now x) target ∙ sym (by_parts world x target);
+  findings = λ target. by_parts shown (settled_at n time now x) target ∙ sym (by_parts shown x target);
 }
 
-standing_alike : (world : World) (watcher : ℕ) (standing : Option Standing) (time : ℕ) (now : Finding) (it : IntersectionObservers) →
-    AreAlike world (intersection_observer_at (settled_standing standing time now it) watcher) (intersection_observer_at it watcher)
-standing_alike world watcher None time now it = alike_same world (intersection_observer_at it watcher)
-standing_alike world watcher (Some standing) time now it =
-    between (λ a b. AreAlike world b a) (alike_same world) no_intersection_observer (settled_at (standing.target) time now) (alike_settled world (standing.target) time now) (standing.watcher) watcher (it.made)
+standing_alike : (shown : Shown) (watcher : ℕ) (standing : Option Standing) (time : ℕ) (now : Finding) (it : IntersectionObservers) →
+    AreAlike shown (intersection_observer_at (settled_standing standing time now it) watcher) (intersection_observer_at it watcher)
+standing_alike shown watcher None time now it = alike_same shown (intersection_observer_at it watcher)
+standing_alike shown watcher (Some standing) time now it =
+    between (λ a b. AreAlike shown b a) (alike_same shown) no_intersection_observer (settled_at (standing.target) time now) (alike_settled shown (standing.target) time now) (standing.watcher) watcher (it.made)
 
-pub each_alike : (world : World) (watcher time : ℕ) (find : ℕ → Finding) (xs : List Registration) (it : IntersectionObservers) →
-    AreAlike world (intersection_observer_at (each_settled time find xs it) watcher) (intersection_observer_at it watcher)
-each_alike world watcher time find [] it = alike_same world (intersection_observer_at it watcher)
-each_alike world watcher time find (x ∷ xs) it =
+pub each_alike : (shown : Shown) (watcher time : ℕ) (find : ℕ → Finding) (xs : List Registration) (it : IntersectionObservers) →
+    AreAlike shown (intersection_observer_at (each_settled time find xs it) watcher) (intersection_observer_at it watcher)
+each_alike shown watcher time find [] it = alike_same shown (intersection_observer_at it watcher)
+each_alike shown watcher time find (x ∷ xs) it =
     let next : IntersectionObservers = with_settled (x.serial) time (find (x.target)) it in
-    alike_then world (intersection_observer_at (each_settled time find xs next) watcher) (intersection_observer_at next watcher) (intersection_observer_at it watcher)
-    (each_alike world watcher time find xs next) (standing_alike world watcher (standing_of (x.serial) it) time (find (x.target)) it)
+    alike_then shown (intersection_observer_at (each_settled time find xs next) watcher) (intersection_observer_at next watcher) (intersection_observer_at it watcher)
+    (each_alike shown watcher time find xs next) (standing_alike shown watcher (standing_of (x.serial) it) time (find (x.target)) it)
 
 -- one more registration ----------------------------------------------------------------------------------------------------------
 
@@ -97,28 +98,28 @@ some_at place [] there = absurd (elim there [ ])
 some_at zero (x ∷ xs) there = (x, refl)
 some_at (suc place) (x ∷ xs) there = some_at place xs (omega arith)
 
-one_settled : (world : World) (time watcher : ℕ) (it : IntersectionObservers) (find : ℕ → Finding) (found : Option Registration) (x : Registration) →
-    ((target : ℕ) → finding world (intersection_observer_at it watcher) target ≡ find target) →
+one_settled : (shown : Shown) (time watcher : ℕ) (it : IntersectionObservers) (find : ℕ → Finding) (found : Option Registration) (x : Registration) →
+    ((target : ℕ) → finding shown (intersection_observer_at it watcher) target ≡ find target) →
     option_map subject found ≡ Some (x.serial, x.target) →
-    settled_one world time watcher found it ≡ with_settled (x.serial) time (find (x.target)) it
-one_settled world time watcher it find None x same is = cc
-one_settled world time watcher it find (Some y) x same is =
+    settled_one shown time watcher found it ≡ with_settled (x.serial) time (find (x.target)) it
+one_settled shown time watcher it find None x same is = cc
+one_settled shown time watcher it find (Some y) x same is =
     let both : (y.serial, y.target) ≡ (x.serial, x.target) = same_Some (y.serial, y.target) (x.serial, x.target) is in
     ap (λ (now : Finding). with_settled (y.serial) time now it) (same (y.target))
     ∙ ap (λ (subject : ℕ × ℕ). with_settled (subject.0) time (find (subject.1)) it) both
 
 -- the first registrations of an observer settled, and then the next one
-pub place_more : (world : World) (time watcher place : ℕ) (was now : IntersectionObservers) → place < length (registrations_at was watcher) →
-    now ≡ each_settled time (finding world (intersection_observer_at was watcher)) (take place (registrations_at was watcher)) was →
-    settled_one world time watcher (slice_get (registrations_at now watcher) place) now ≡ each_settled time (finding world (intersection_observer_at was watcher)) (take (suc place) (registrations_at was watcher)) was
-place_more world time watcher place was now there is =
-    let find : ℕ → Finding = finding world (intersection_observer_at was watcher) in
+pub place_more : (shown : Shown) (time watcher place : ℕ) (was now : IntersectionObservers) → place < length (registrations_at was watcher) →
+    now ≡ each_settled time (finding shown (intersection_observer_at was watcher)) (take place (registrations_at was watcher)) was →
+    settled_one shown time watcher (slice_get (registrations_at now watcher) place) now ≡ each_settled time (finding shown (intersection_observer_at was watcher)) (take (suc place) (registrations_at was watcher)) was
+place_more shown time watcher place was now there is =
+    let find : ℕ → Finding = finding shown (intersection_observer_at was watcher) in
     let regs : List Registration = registrations_at was watcher in
     let x = some_at place regs there in
-    let alike : AreAlike world (intersection_observer_at now watcher) (intersection_observer_at was watcher) =
-    subst (λ (these : IntersectionObservers). AreAlike world (intersection_observer_at these watcher) (intersection_observer_at was watcher)) (sym is) (each_alike world watcher time find (take place regs) was)
+    let alike : AreAlike shown (intersection_observer_at now watcher) (intersection_observer_at was watcher) =
+    subst (λ (these : IntersectionObservers). AreAlike shown (intersection_observer_at these watcher) (intersection_observer_at was watcher)) (sym is) (each_alike shown watcher time find (take place regs) was)
     in
-    one_settled world time watcher now find (slice_get (registrations_at now watcher) place) (x.0) alike.findings
+    one_settled shown time watcher now find (slice_get (registrations_at now watcher) place) (x.0) alike.findings
     (alike_at place (registrations_at now watcher) regs alike.subjects ∙ ap (option_map subject) (x.1))
     ∙ ap (with_settled (x.0).serial time (find (x.0).target)) is
     ∙ sym (each_more time find (take place regs) (x.0) was)
@@ -129,5 +130,5 @@ count_by_subjects [] = refl
 count_by_subjects (x ∷ xs) = ap suc (count_by_subjects xs)
 
 -- how many there are stays
-pub alike_count : (world : World) (a b : IntersectionObserver) → AreAlike world a b → length (a.registrations) ≡ length (b.registrations)
-alike_count world a b alike = sym (count_by_subjects (a.registrations)) ∙ ap (λ (these : List (ℕ × ℕ)). length these) alike.subjects ∙ count_by_subjects (b.registrations)
+pub alike_count : (shown : Shown) (a b : IntersectionObserver) → AreAlike shown a b → length (a.registrations) ≡ length (b.registrations)
+alike_count shown a b alike = sym (count_by_subjects (a.registrations)) ∙ ap (λ (these : List (ℕ × ℕ)). length these) alike.subjects ∙ count_by_subjects (b.registrations)

@@ -5,7 +5,8 @@ use Rattle.std.specs.List.{cons_option}
 use Rattle.std.proofs.lemmas.Bool.{false≢true}
 use Rattle.std.proofs.lemmas.Option.{same_Some}
 use Rattle.std.proofs.lemmas.List.Elements.{All-head, All-tail}
-use Rattle.page_model.specs.World.{World, Finding, Entry, Registration, IntersectionObserver, IntersectionObservers}
+use Rattle.page_model.specs.Shown.{Shown}
+use Rattle.page_model.specs.World.{Finding, Entry, Registration, IntersectionObserver, IntersectionObservers}
 use Rattle.page_model.specs.Lookups.{no_intersection_observer, intersection_observer_at}
 use Rattle.page_model.specs.Findings.{finding}
 use Rattle.page_model.specs.Intersections.{Settled, settled, is_news, has_queued}
@@ -72,14 +73,14 @@ is_at it watcher place names none serials same there =
     }
 
 -- which is what the definitions settle there
-pub settled_there : (world : World) (it : HeldWatchers) (watcher place serial time target : ℕ) (now : Finding) → IsAt (it.part) watcher place serial →
-    option_map (λ (each : Standing). each.target) (standing_of serial it.part) ≡ Some target → now ≡ finding world (intersection_observer_at it.part watcher) target →
-    record it { part = with_settled serial time now (it.part) } ≡ settled_place world time watcher place it
-settled_there world it watcher place serial time target now at told is =
+pub settled_there : (shown : Shown) (it : HeldWatchers) (watcher place serial time target : ℕ) (now : Finding) → IsAt (it.part) watcher place serial →
+    option_map (λ (each : Standing). each.target) (standing_of serial it.part) ≡ Some target → now ≡ finding shown (intersection_observer_at it.part watcher) target →
+    record it { part = with_settled serial time now (it.part) } ≡ settled_place shown time watcher place it
+settled_there shown it watcher place serial time target now at told is =
     let same : at.registration.target ≡ target = same_Some (at.registration.target) target (ap (option_map (λ (each : Standing). each.target)) (sym at.found) ∙ told) in
     ap (λ (number : ℕ). record it { part = with_settled number time now (it.part) }) (sym at.number)
-    ∙ ap (λ (each : Finding). record it { part = with_settled (at.registration.serial) time each (it.part) }) (is ∙ ap (finding world (intersection_observer_at it.part watcher)) (sym same))
-    ∙ ap (λ (found : Option Registration). record it { part = settled_one world time watcher found (it.part) }) (sym at.at)
+    ∙ ap (λ (each : Finding). record it { part = with_settled (at.registration.serial) time each (it.part) }) (is ∙ ap (finding shown (intersection_observer_at it.part watcher)) (sym same))
+    ∙ ap (λ (found : Option Registration). record it { part = settled_one shown time watcher found (it.part) }) (sym at.at)
 
 -- queues --------------------------------------------------------------------------------------------------------------------------
 

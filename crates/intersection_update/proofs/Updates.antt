@@ -3,7 +3,8 @@ use Rattle.std.proofs.Common.{◌≡◌, ℕ, suc, ◌<◌, ◌≤◌, ◌+◌, 
 use Rattle.std.specs.Prelude.{Bool, true, false, cond, ◌||◌, nat_lt, List, [], Result, Ok, Err, OnOk, OnErr}
 use Rattle.std.specs.List.{list_any}
 use Rattle.std.proofs.lemmas.List.{take_all}
-use Rattle.page_model.specs.World.{World, Tree, Registration, IntersectionObserver, IntersectionObservers}
+use Rattle.page_model.specs.Shown.{Shown}
+use Rattle.page_model.specs.World.{Tree, Registration, IntersectionObserver, IntersectionObservers}
 use Rattle.page_model.specs.Lookups.{entry_or, no_intersection_observer, intersection_observer_at, change_intersection_observer}
 use Rattle.page_model.specs.Findings.{finding}
 use Rattle.page_model.specs.Intersections.{is_rooted_in, watchers, settled_observer, has_queued}
@@ -24,33 +25,33 @@ not_queued n = grind arith
 
 -- the registrations of one observer ---------------------------------------------------------------------------------------------------
 
-module _ (world : World) (time watcher : ℕ) (was : HeldWatchers) where
+module _ (shown : Shown) (time watcher : ℕ) (was : HeldWatchers) where
   -- the first of them settled
   abbrev pub so_far : ℕ → IntersectionObservers
-  so_far place = first_settled world time watcher place (was.part)
+  so_far place = first_settled shown time watcher place (was.part)
 
-  pub one_more : (place : ℕ) (now next : HeldWatchers) → place < length (registrations_at was.part watcher) → now.part ≡ so_far place → next ≡ settled_place world time watcher place now → next.part ≡ so_far (place + 1)
+  pub one_more : (place : ℕ) (now next : HeldWatchers) → place < length (registrations_at was.part watcher) → now.part ≡ so_far place → next ≡ settled_place shown time watcher place now → next.part ≡ so_far (place + 1)
   one_more place now next there is more =
       let next_place : suc place ≡ place + 1 = omega arith in
-      ap (λ (it : HeldWatchers). it.part) more ∙ place_more world time watcher place (was.part) (now.part) there is ∙ ap so_far next_place
+      ap (λ (it : HeldWatchers). it.part) more ∙ place_more shown time watcher place (was.part) (now.part) there is ∙ ap so_far next_place
 
   pub all_of_them : (place : ℕ) (now : HeldWatchers) → HasSerials was.part → record was { part = now.part } ≡ now → length (registrations_at was.part watcher) ≤ place → now.part ≡ so_far place →
-      now ≡ record was { part = change_intersection_observer (settled_observer time (finding world)) watcher (was.part) }
+      now ≡ record was { part = change_intersection_observer (settled_observer time (finding shown)) watcher (was.part) }
   all_of_them place now serials rest past is =
       sym rest
       ∙ ap (λ (part : IntersectionObservers). record was { part = part })
       (is
-      ∙ ap (λ (these : List Registration). each_settled time (finding world (intersection_observer_at was.part watcher)) these (was.part)) (take_all place (registrations_at was.part watcher) past)
-      ∙ observer_settled time (finding world) watcher (was.part) serials)
+      ∙ ap (λ (these : List Registration). each_settled time (finding shown (intersection_observer_at was.part watcher)) these (was.part)) (take_all place (registrations_at was.part watcher) past)
+      ∙ observer_settled time (finding shown) watcher (was.part) serials)
 
 -- one observer after the other ----------------------------------------------------------------------------------------------------------
 
-module _ (world : World) (tree : Tree) (document time : ℕ) (was : HeldWatchers) where
+module _ (shown : Shown) (tree : Tree) (document time : ℕ) (was : HeldWatchers) where
   abbrev is_its : IntersectionObserver → Bool
   is_its it = is_rooted_in tree document (it.root)
 
   abbrev once_settled : IntersectionObserver → IntersectionObserver
-  once_settled it = settled_observer time (finding world) it
+  once_settled it = settled_observer time (finding shown) it
 
   -- the first of them seen to
   abbrev pub first_observers : ℕ → List IntersectionObserver
@@ -60,33 +61,33 @@ module _ (world : World) (tree : Tree) (document time : ℕ) (was : HeldWatchers
   is_longer a b = nat_lt (length (a.queue)) (length (b.queue))
 
   abbrev tells : IntersectionObserver → Bool
-  tells it = is_longer it (settled_if_rooted world tree document time it)
+  tells it = is_longer it (settled_if_rooted shown tree document time it)
 
   -- whether something was queued at one of them
   abbrev pub first_told : ℕ → Bool
   first_told place = list_any tells (take place (was.part.made))
 
   pub next_observer : (place : ℕ) (now next : HeldWatchers) → place < length was.part.made → now.part.made ≡ first_observers place →
-      next ≡ record now { part = change_intersection_observer (settled_if_rooted world tree document time) place (now.part) } → next.part.made ≡ first_observers (place + 1)
+      next ≡ record now { part = change_intersection_observer (settled_if_rooted shown tree document time) place (now.part) } → next.part.made ≡ first_observers (place + 1)
   next_observer place now next there is more =
       let next_place : suc place ≡ place + 1 = omega arith in
       ap (λ (it : HeldWatchers). it.part.made) more
-      ∙ ap (λ (made : List IntersectionObserver). (change_intersection_observer (settled_if_rooted world tree document time) place (record (now.part) { made = made })).made) is
+      ∙ ap (λ (made : List IntersectionObserver). (change_intersection_observer (settled_if_rooted shown tree document time) place (record (now.part) { made = made })).made) is
       ∙ first_more no_intersection_observer is_its once_settled place (was.part.made) there
       ∙ ap first_observers next_place
 
   pub next_told : (place : ℕ) (now next : HeldWatchers) (queued more : Bool) → place < length was.part.made → length now.part.made ≡ length was.part.made → now.part.made ≡ first_observers place →
-      next ≡ record now { part = change_intersection_observer (settled_if_rooted world tree document time) place (now.part) } →
+      next ≡ record now { part = change_intersection_observer (settled_if_rooted shown tree document time) place (now.part) } →
       queued ≡ first_told place → more ≡ has_queued now.part next.part place → (queued || more) ≡ first_told (place + 1)
   next_told place now next queued more there count is changed before tells_more =
       let next_place : suc place ≡ place + 1 = omega arith in
       let here : intersection_observer_at now.part place ≡ intersection_observer_at was.part place =
       ap (λ (made : List IntersectionObserver). entry_or no_intersection_observer made place) is ∙ first_at no_intersection_observer is_its once_settled place (was.part.made)
       in
-      let then : intersection_observer_at next.part place ≡ settled_if_rooted world tree document time (intersection_observer_at was.part place) =
+      let then : intersection_observer_at next.part place ≡ settled_if_rooted shown tree document time (intersection_observer_at was.part place) =
       ap (λ (it : HeldWatchers). intersection_observer_at it.part place) changed
-      ∙ changed_at no_intersection_observer (settled_if_rooted world tree document time) place (now.part.made) (omega (arith, there, count))
-      ∙ ap (settled_if_rooted world tree document time) here
+      ∙ changed_at no_intersection_observer (settled_if_rooted shown tree document time) place (now.part.made) (omega (arith, there, count))
+      ∙ ap (settled_if_rooted shown tree document time) here
       in
       ap (λ b. b || more) before
       ∙ ap (λ b. first_told place || b)
@@ -98,11 +99,11 @@ module _ (world : World) (tree : Tree) (document time : ℕ) (was : HeldWatchers
   no_observer = sym (first_none no_intersection_observer is_its once_settled (was.part.made))
 
   -- all of them are those of the update
-  all_made : (updated world tree document time (was.part)).made ≡ map (settled_if_rooted world tree document time) (was.part.made)
+  all_made : (updated shown tree document time (was.part)).made ≡ map (settled_if_rooted shown tree document time) (was.part.made)
   all_made = each_place no_intersection_observer is_its once_settled (was.part.made)
 
   pub all_observers : (place : ℕ) (now : HeldWatchers) → record was { part = now.part } ≡ now → now.part.given ≡ was.part.given → place ≡ length was.part.made → now.part.made ≡ first_observers place →
-      now ≡ record was { part = updated world tree document time (was.part) }
+      now ≡ record was { part = updated shown tree document time (was.part) }
   all_observers place now rest given past is =
       sym rest
       ∙ ap (λ (given : ℕ). record was { part = record { given = given; made = now.part.made } }) given
@@ -110,20 +111,20 @@ module _ (world : World) (tree : Tree) (document time : ℕ) (was : HeldWatchers
       (is ∙ ap first_observers past ∙ first_all no_intersection_observer is_its once_settled (was.part.made) ∙ sym all_made)
 
   -- where it stops at one of them
-  pub stopped_at : (place : ℕ) (now next : HeldWatchers) → now.part.given ≡ was.part.given → now.part.made ≡ first_observers place → IsBegun world time place now.part next.part →
-      IsStopped world tree document time was.part next.part
+  pub stopped_at : (place : ℕ) (now next : HeldWatchers) → now.part.given ≡ was.part.given → now.part.made ≡ first_observers place → IsBegun shown time place now.part next.part →
+      IsStopped shown tree document time was.part next.part
   stopped_at place now next given is begun =
-      let same : now.part ≡ first_updated world tree document time place (was.part) =
+      let same : now.part ≡ first_updated shown tree document time place (was.part) =
       ap (λ (given : ℕ). record { given = given; made = now.part.made }) given
       ∙ ap (λ (made : List IntersectionObserver). record (was.part) { made = made }) (is ∙ sym (each_first no_intersection_observer is_its once_settled place (was.part.made)))
       in
       record {
         number = place;
         place = begun.place;
-        settled = begun.settled ∙ ap (first_settled world time place begun.place) same;
+        settled = begun.settled ∙ ap (first_settled shown time place begun.place) same;
       }
 
-  pub all_told : (place : ℕ) (queued : Bool) → place ≡ length was.part.made → queued ≡ first_told place → queued ≡ has_news tree document was.part (updated world tree document time was.part)
+  pub all_told : (place : ℕ) (queued : Bool) → place ≡ length was.part.made → queued ≡ first_told place → queued ≡ has_news tree document was.part (updated shown tree document time was.part)
   all_told place queued past is =
       is
       ∙ ap (λ (these : List IntersectionObserver). list_any tells these) (ap (λ n. take n (was.part.made)) past ∙ take_all (length was.part.made) (was.part.made) (omega arith))
@@ -138,21 +139,21 @@ or_true a b is = ap (λ it. it || b) (sym is)
 pub or_false : (a b : Bool) → a ≡ false → b ≡ (a || b)
 or_false a b is = ap (λ it. it || b) (sym is)
 
-pub rooted_settled : (world : World) (tree : Tree) (document time watcher : ℕ) (was : HeldWatchers) → is_rooted_in tree document ((intersection_observer_at was.part watcher).root) ≡ true →
-    record was { part = change_intersection_observer (settled_observer time (finding world)) watcher (was.part) } ≡ record was { part = change_intersection_observer (settled_if_rooted world tree document time) watcher (was.part) }
-rooted_settled world tree document time watcher was rooted =
+pub rooted_settled : (shown : Shown) (tree : Tree) (document time watcher : ℕ) (was : HeldWatchers) → is_rooted_in tree document ((intersection_observer_at was.part watcher).root) ≡ true →
+    record was { part = change_intersection_observer (settled_observer time (finding shown)) watcher (was.part) } ≡ record was { part = change_intersection_observer (settled_if_rooted shown tree document time) watcher (was.part) }
+rooted_settled shown tree document time watcher was rooted =
     let x : IntersectionObserver = intersection_observer_at was.part watcher in
     ap (λ (made : List IntersectionObserver). record was { part = record (was.part) { made = made } })
-    (changed_same no_intersection_observer (settled_observer time (finding world)) (settled_if_rooted world tree document time) watcher (was.part.made)
-    (ap (λ is. cond is (settled_observer time (finding world) x) x) (sym rooted)))
+    (changed_same no_intersection_observer (settled_observer time (finding shown)) (settled_if_rooted shown tree document time) watcher (was.part.made)
+    (ap (λ is. cond is (settled_observer time (finding shown) x) x) (sym rooted)))
 
-pub rooted_same : (world : World) (tree : Tree) (document time watcher : ℕ) (was : HeldWatchers) → is_rooted_in tree document ((intersection_observer_at was.part watcher).root) ≡ false →
-    was ≡ record was { part = change_intersection_observer (settled_if_rooted world tree document time) watcher (was.part) }
-rooted_same world tree document time watcher was apart =
+pub rooted_same : (shown : Shown) (tree : Tree) (document time watcher : ℕ) (was : HeldWatchers) → is_rooted_in tree document ((intersection_observer_at was.part watcher).root) ≡ false →
+    was ≡ record was { part = change_intersection_observer (settled_if_rooted shown tree document time) watcher (was.part) }
+rooted_same shown tree document time watcher was apart =
     let x : IntersectionObserver = intersection_observer_at was.part watcher in
     ap (λ (made : List IntersectionObserver). record was { part = record (was.part) { made = made } })
-    (sym (unchanged no_intersection_observer (settled_if_rooted world tree document time) watcher (was.part.made)
-    (ap (λ is. cond is (settled_observer time (finding world) x) x) apart)))
+    (sym (unchanged no_intersection_observer (settled_if_rooted shown tree document time) watcher (was.part.made)
+    (ap (λ is. cond is (settled_observer time (finding shown) x) x) apart)))
 
 pub on_ok : {A E : Type 0} {P Q : Type 0} (result : Result A E) → (P → Q) → OnOk result P → OnOk result Q
 on_ok (Ok value) f p = f p

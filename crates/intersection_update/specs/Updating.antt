@@ -2,7 +2,8 @@
 -- observations steps).
 use Rattle.std.specs.Prelude.{◌≡◌, ℕ, Bool, cond, length, take, slice_get, Option, Some, None}
 use Rattle.std.specs.List.{list_any}
-use Rattle.page_model.specs.World.{Extent, Registration, IntersectionObserver, IntersectionObservers, Scrolls, Tree, World}
+use Rattle.page_model.specs.World.{Registration, IntersectionObserver, IntersectionObservers, Tree}
+use Rattle.page_model.specs.Shown.{Shown}
 use Rattle.page_model.specs.Lookups.{intersection_observer_at}
 use Rattle.page_model.specs.Findings.{finding}
 use Rattle.page_model.specs.Intersections.{is_rooted_in, watchers, settled_observer, settling, has_queued}
@@ -12,18 +13,12 @@ use Rattle.intersection_observer.specs.Watchers.{HeldWatchers}
 use Rattle.intersection_update.specs.Watching.{AreWatchers}
 
 -- the observers whose roots are a document's, settled by what is found in a world
-abbrev pub updated : World → Tree → ℕ → ℕ → IntersectionObservers → IntersectionObservers
-updated world tree document time it = settling time (finding world) (watchers tree document it) it
+abbrev pub updated : Shown → Tree → ℕ → ℕ → IntersectionObservers → IntersectionObservers
+updated shown tree document time it = settling time (finding shown) (watchers tree document it) it
 
 -- whether an update queued an entry at one of them, so that the document has to be told
 abbrev pub has_news : Tree → ℕ → IntersectionObservers → IntersectionObservers → Bool
 has_news tree document before now = list_any (has_queued before now) (watchers tree document before)
-
--- a world with a tree, a size of the viewport of `top` and scroll positions, which is all that is read of it
-pub record HasParts (elements : Tree) (size : Extent) (positions : Scrolls) (world : World) : Type 0 where
-  pub tree : world.tree ≡ elements
-  pub viewport : world.viewports.size ≡ size
-  pub scrolls : world.scrolls ≡ positions
 
 -- what every change of an update leaves as it is
 pub record AreKept (elements : ℕ) (before now : HeldWatchers) : Type 0 where
@@ -33,38 +28,38 @@ pub record AreKept (elements : ℕ) (before now : HeldWatchers) : Type 0 where
   pub written : AreWatchers elements before.part.made → AreWatchers elements now.part.made
 
 -- the first registrations of an observer settled, one after the other
-abbrev pub first_settled : World → ℕ → ℕ → ℕ → IntersectionObservers → IntersectionObservers
-first_settled world time watcher place it =
-    each_settled time (finding world (intersection_observer_at it watcher)) (take place (registrations_at it watcher)) it
+abbrev pub first_settled : Shown → ℕ → ℕ → ℕ → IntersectionObservers → IntersectionObservers
+first_settled shown time watcher place it =
+    each_settled time (finding shown (intersection_observer_at it watcher)) (take place (registrations_at it watcher)) it
 
 -- an observer whose first registrations were settled, and no others
-pub record IsBegun (world : World) (time watcher : ℕ) (before now : IntersectionObservers) : Type 0 where
+pub record IsBegun (shown : Shown) (time watcher : ℕ) (before now : IntersectionObservers) : Type 0 where
   pub place : ℕ
-  pub settled : now ≡ first_settled world time watcher place before
+  pub settled : now ≡ first_settled shown time watcher place before
 
 -- the observers whose roots are a document's, among the first ones alone
-abbrev pub first_updated : World → Tree → ℕ → ℕ → ℕ → IntersectionObservers → IntersectionObservers
-first_updated world tree document time number it =
-    settling time (finding world) (watchers tree document (record it { made = take number (it.made) })) it
+abbrev pub first_updated : Shown → Tree → ℕ → ℕ → ℕ → IntersectionObservers → IntersectionObservers
+first_updated shown tree document time number it =
+    settling time (finding shown) (watchers tree document (record it { made = take number (it.made) })) it
 
 -- an update that stopped at a registration: what came before it is settled, and nothing else
-pub record IsStopped (world : World) (tree : Tree) (document time : ℕ) (before now : IntersectionObservers) : Type 0 where
+pub record IsStopped (shown : Shown) (tree : Tree) (document time : ℕ) (before now : IntersectionObservers) : Type 0 where
   pub number : ℕ
   pub place : ℕ
-  pub settled : now ≡ first_settled world time number place (first_updated world tree document time number before)
+  pub settled : now ≡ first_settled shown time number place (first_updated shown tree document time number before)
 
 -- one registration of an observer settled, none where there is no such registration
-abbrev pub settled_one : World → ℕ → ℕ → Option Registration → IntersectionObservers → IntersectionObservers
-settled_one world time watcher None it = it
-settled_one world time watcher (Some registration) it =
-    with_settled (registration.serial) time (finding world (intersection_observer_at it watcher) (registration.target)) it
+abbrev pub settled_one : Shown → ℕ → ℕ → Option Registration → IntersectionObservers → IntersectionObservers
+settled_one shown time watcher None it = it
+settled_one shown time watcher (Some registration) it =
+    with_settled (registration.serial) time (finding shown (intersection_observer_at it watcher) (registration.target)) it
 
 -- the registration at a place of an observer's settled
-abbrev pub settled_place : World → ℕ → ℕ → ℕ → HeldWatchers → HeldWatchers
-settled_place world time watcher place it =
-    record it { part = settled_one world time watcher (slice_get (registrations_at (it.part) watcher) place) (it.part) }
+abbrev pub settled_place : Shown → ℕ → ℕ → ℕ → HeldWatchers → HeldWatchers
+settled_place shown time watcher place it =
+    record it { part = settled_one shown time watcher (slice_get (registrations_at (it.part) watcher) place) (it.part) }
 
 -- an observer settled if its root is a document's
-abbrev pub settled_if_rooted : World → Tree → ℕ → ℕ → IntersectionObserver → IntersectionObserver
-settled_if_rooted world tree document time observer =
-    cond (is_rooted_in tree document (observer.root)) (settled_observer time (finding world) observer) observer
+abbrev pub settled_if_rooted : Shown → Tree → ℕ → ℕ → IntersectionObserver → IntersectionObserver
+settled_if_rooted shown tree document time observer =
+    cond (is_rooted_in tree document (observer.root)) (settled_observer time (finding shown) observer) observer

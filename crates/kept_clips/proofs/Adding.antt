@@ -12,7 +12,7 @@ use Rattle.kept_clips.specs.declared.pair.Computed.{Computed}
 use Rattle.kept_clips.specs.Touches.{Touched, last_number, last_touch, with_spot}
 use Rattle.kept_clips.specs.Chains.{chain_of, is_untouched, stands, IsExact}
 use Rattle.kept_clips.specs.Held.{HeldClips, pair_of}
-use Rattle.kept_clips.specs.Numbers.{AreNumbered}
+use Rattle.kept_clips.specs.Numbers.{IsNumbered, AreNumbered}
 
 zeros : (count n : ℕ) → ◌≡◌ {A = ℕ} (get_or (replicate count 0) n 0) 0
 zeros count n = elim (cases_lt n count) [
@@ -52,5 +52,10 @@ same_count (Node node) it = refl
 same_count (View document) it = refl
 
 pub numbered_added : (of : Spot) (it : HeldClips) → AreNumbered it → AreNumbered (record it { touches = with_spot of (it.touches) })
-numbered_added (Node node) it all = record { numbered = all.numbered; counted = all.counted }
-numbered_added (View document) it all = record { numbered = all.numbered; counted = all.counted }
+numbered_added of it all =
+    let count : (with_spot of it.touches).count ≡ it.touches.count = same_count of it.touches in
+    record {
+      touched = λ spot. subst (λ n. last_touch (with_spot of it.touches) spot ≤ n) (sym count) (subst (λ n. n ≤ it.touches.count) (sym (same_last of spot it.touches)) (all.touched spot));
+      numbered = λ number. subst (λ n. IsNumbered n (pair_of it number).computed) (sym count) (all.numbered number);
+      counted = subst (λ n. n ≤ last_number) (sym count) all.counted;
+    }

@@ -1,7 +1,12 @@
 pub mod Coming
 pub mod Cutting
 pub mod Testing
+pub mod Spots
 pub mod Points
 pub mod Pairs
 pub mod Adding
 pub mod Touching
+pub mod Agreeing
+pub mod Seeing
+pub mod Looking
+pub mod Along

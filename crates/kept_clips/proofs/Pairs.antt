@@ -1,5 +1,5 @@
 -- The pair of a number after pairs were held, let go or computed.
-use Rattle.std.proofs.Common.{◌≡◌, ◌∙◌, ℕ, Bool, true, false, cond, ◌==◌, Option, Some, None, [], arith, ap, refl, sym, subst, unwrap_or, Result, Ok, Err}
+use Rattle.std.proofs.Common.{◌≡◌, ◌∙◌, ◌≤◌, ℕ, Bool, true, false, cond, ◌==◌, Option, Some, None, [], arith, ap, refl, sym, subst, unwrap_or, Result, Ok, Err}
 use Rattle.std.specs.Prelude.{OnOk, OnErr, option_map, is_some}
 use Rattle.std.proofs.lemmas.Bool.{eqb-true}
 use Rattle.kept_clips.specs.declared.clip.Clip.{Clip}
@@ -7,10 +7,10 @@ use Rattle.std.specs.Cmp.{nat_cmp_total, unsigned_tied}
 use Rattle.std.specs.FinMap.{get, insert, remove, get-insert, get-remove, get-empty, empty}
 use Rattle.std.specs.Ordering.{nat_cmp, eq_by_cmp}
 use Rattle.clip_chain.specs.declared.spot.Spot.{Spot}
-use Rattle.clip_chain.specs.declared.spot.Spot.TheVariants.{View}
+use Rattle.clip_chain.specs.declared.spot.Spot.TheVariants.{Node, View}
 use Rattle.clip_chain.specs.Scenes.{Scene}
 use Rattle.kept_clips.specs.declared.pair.Pair.{Pair}
-use Rattle.kept_clips.specs.Touches.{Touched}
+use Rattle.kept_clips.specs.Touches.{Touched, last_touch}
 use Rattle.kept_clips.specs.Held.{HeldClips, new_pair, pair_of, spots_of, spots_at, IsHeld, computed_now}
 use Rattle.kept_clips.specs.Numbers.{IsNumbered, AreNumbered}
 use Rattle.kept_clips.specs.Chains.{IsExactPair, IsExact}
@@ -53,12 +53,14 @@ at_removed P it number other hp h = subst P (sym (of_removed it number other)) (
 
 pub numbered_inserted : (it : HeldClips) (number : ℕ) (p : Pair) → IsNumbered it.touches.count p.computed → AreNumbered it → AreNumbered (record it { pairs = insert (it.pairs) number p })
 numbered_inserted it number p hp all = record {
+  touched = all.touched;
   numbered = λ other. at_inserted (λ (q : Pair). IsNumbered it.touches.count q.computed) it number p other hp (all.numbered other);
   counted = all.counted;
 }
 
 pub numbered_removed : (it : HeldClips) (number : ℕ) → AreNumbered it → AreNumbered (record it { pairs = remove (it.pairs) number })
 numbered_removed it number all = record {
+  touched = all.touched;
   numbered = λ other. at_removed (λ (q : Pair). IsNumbered it.touches.count q.computed) it number other tt (all.numbered other);
   counted = all.counted;
 }
@@ -80,8 +82,13 @@ pub either : {A E B : Type 0} (result : Result A E) (P : B → Type 0) (old new 
 either (Ok a) P old new changed ok err hc ho = subst P (sym ok) hc
 either (Err e) P old new changed ok err hc ho = subst P (sym err) ho
 
+none_touched : (spot : Spot) → last_touch (record { count = 0; nodes = []; views = [] }) spot ≤ 0
+none_touched (Node node) = omega arith
+none_touched (View document) = omega arith
+
 pub numbered_empty : AreNumbered (record { touches = record { count = 0; nodes = []; views = [] }; pairs = empty })
 numbered_empty = record {
+  touched = none_touched;
   numbered = λ number. subst (λ (o : Option Pair). IsNumbered 0 (unwrap_or o no_pair).computed) (sym (get-empty nat_cmp number)) tt;
   counted = omega arith;
 }

@@ -1,5 +1,5 @@
 -- A touched spot: clips that hang on it stand no more, and all others stay exact.
-use Rattle.std.proofs.Common.{◌≡◌, ◌∙◌, ℕ, suc, ◌<◌, ◌≤◌, ◌≢◌, ◌&&◌, true, nat_le, nat_lt, min, List, [], ◌∷◌, ◌++◌, Option, Some, None, ap, refl, sym, subst, arith, get_or-set_other, get_or-set_same}
+use Rattle.std.proofs.Common.{◌≡◌, ◌∙◌, ℕ, suc, ◌<◌, ◌≤◌, ◌≢◌, ◌&&◌, true, nat_le, nat_lt, min, List, [], ◌∷◌, ◌++◌, Option, Some, None, ap, refl, sym, subst, inl, inr, arith, get_or-set_other, get_or-set_same}
 use Rattle.std.specs.Prelude.{filter_map, IfSome}
 use Rattle.std.specs.List.{list_all, cons_option}
 use Rattle.std.proofs.lemmas.Bool.Decides.{nat_tests}
@@ -15,6 +15,7 @@ use Rattle.kept_clips.specs.Chains.{is_untouched, stands, IsExact}
 use Rattle.kept_clips.specs.Held.{HeldClips, pair_of}
 use Rattle.kept_clips.specs.Numbers.{IsNumbered, AreNumbered}
 use Rattle.kept_clips.specs.Scenes.{DiffersOnlyAt}
+use Rattle.kept_clips.proofs.Spots.{other_node, other_view, same_or_apart}
 use Rattle.kept_clips.proofs.Testing.{both}
 
 -- the last touches afterwards
@@ -22,12 +23,6 @@ use Rattle.kept_clips.proofs.Testing.{both}
 pub touched_here : (of : Spot) (it : Touched) (number : ℕ) → IsAdded it of → last_touch (touched_at number of it) of ≡ number
 touched_here (Node node) it number added = get_or-set_same it.nodes node.0 number 0 added
 touched_here (View document) it number added = get_or-set_same it.views document number 0 added
-
-other_node : (a b : ℕ) → (¬ Node (record { 0 = a }) ≡ Node (record { 0 = b })) → a ≢ b
-other_node a b apart = λ e. apart (ap (λ n. Node (record { 0 = n })) e)
-
-other_view : (a b : ℕ) → (¬ View a ≡ View b) → a ≢ b
-other_view a b apart = λ e. apart (ap (λ n. View n) e)
 
 pub untouched_there : (of spot : Spot) (it : Touched) (number : ℕ) → (¬ spot ≡ of) → last_touch (touched_at number of it) spot ≡ last_touch it spot
 untouched_there (Node a) (Node b) it number apart = get_or-set_other it.nodes a.0 b.0 number 0 (other_node b.0 a.0 apart)
@@ -97,6 +92,15 @@ exact_still of it before after added only root from between (Some c) numbered ex
     (ap (λ b. b && list_all (is_untouched it c.touches) chain) parts.0 ∙ all_tested of it c.touches chain aparts parts.1)
     ∙ ap common_clip (clips_before of before after only between between_apart)
 
+-- what stands after the touch stood before it
+pub stood : (of : Spot) (it : Touched) (computed : Option Computed) (chain : List Spot) → IsAdded it of → IsNumbered it.count computed → stands (touched of it) computed chain ≡ true → stands it computed chain ≡ true
+stood of it None chain added numbered current = current
+stood of it (Some c) chain added numbered current =
+    let parts = both (nat_lt c.touches last_number) (list_all (is_untouched (touched of it) c.touches) chain) current in
+    let below : c.touches < last_number = grind (arith, nat_tests, parts.0) in
+    ap (λ b. b && list_all (is_untouched it c.touches) chain) parts.0
+    ∙ all_tested of it c.touches chain (apart_all of it c.touches added numbered below chain parts.1) parts.1
+
 pub exact_touched : (of : Spot) (it : HeldClips) (before after : Scene) → IsAdded it.touches of → AreNumbered it → (number : ℕ) → IsExact before it number → DiffersOnlyAt of before after → IsExact after (record it { touches = touched of (it.touches) }) number
 exact_touched of it before after added numbers number exact only = λ between lead current.
     let pair = pair_of it number in
@@ -113,12 +117,23 @@ count_touched : (of : Spot) (it : Touched) (number : ℕ) → (touched_at number
 count_touched (Node node) it number = refl
 count_touched (View document) it number = refl
 
-pub numbered_touched : (of : Spot) (it : HeldClips) → AreNumbered it → AreNumbered (record it { touches = touched of (it.touches) })
-numbered_touched of it all =
+pub numbered_touched : (of : Spot) (it : HeldClips) → IsAdded it.touches of → AreNumbered it → AreNumbered (record it { touches = touched of (it.touches) })
+numbered_touched of it added all =
     let e = count_touched of it.touches (min (suc it.touches.count) last_number) in
     record {
+      touched = λ spot.
+          subst (λ n. last_touch (touched of it.touches) spot ≤ n) (sym e)
+          (elim (same_or_apart of spot) [
+            | inl same ↦ subst (λ (s : Spot). last_touch (touched of it.touches) s ≤ min (suc it.touches.count) last_number) (sym same)
+                (subst (λ n. n ≤ min (suc it.touches.count) last_number) (sym (touched_here of it.touches (min (suc it.touches.count) last_number) added)) (omega arith))
+            | inr apart ↦ subst (λ n. n ≤ min (suc it.touches.count) last_number) (sym (untouched_there of spot it.touches (min (suc it.touches.count) last_number) apart))
+                (let before = all.touched spot in let up = raised it.touches.count last_number all.counted in omega arith)
+          ]);
       numbered = λ number.
           subst (λ n. IsNumbered n (pair_of it number).computed) (sym e)
           (numbered_up it.touches.count (min (suc it.touches.count) last_number) (pair_of it number).computed (raised it.touches.count last_number all.counted) (all.numbered number));
       counted = subst (λ n. n ≤ last_number) (sym e) (omega arith);
     }
+
+pub count_raised : (of : Spot) (it : Touched) → it.count ≤ last_number → it.count ≤ (touched of it).count
+count_raised of it counted = subst (λ n. it.count ≤ n) (sym (count_touched of it (min (suc it.count) last_number))) (raised it.count last_number counted)

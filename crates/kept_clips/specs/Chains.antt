@@ -1,6 +1,6 @@
 -- Which clips that are held still stand: those of pairs on whose chains no spot was touched since.
 use Rattle.std.specs.Prelude.{◌≡◌, ℕ, Bool, true, false, cond, ◌&&◌, nat_lt, nat_le, List, [], ◌∷◌, ◌++◌, Option, Some, None, option_map, IfSome}
-use Rattle.std.specs.List.{list_all}
+use Rattle.std.specs.List.{AllByRecursion, list_all}
 use Rattle.clip_chain.specs.declared.spot.Spot.{Spot}
 use Rattle.clip_chain.specs.Scenes.{Scene}
 use Rattle.clip_chain.specs.Chains.{Leads}
@@ -10,6 +10,7 @@ use Rattle.kept_clips.specs.declared.pair.Computed.{Computed}
 use Rattle.kept_clips.specs.Clips.{clip_between}
 use Rattle.kept_clips.specs.Touches.{Touched, last_number, last_touch}
 use Rattle.kept_clips.specs.Held.{HeldClips, pair_of}
+use Rattle.kept_clips.specs.Scenes.{AgreesAt}
 
 -- the spots on a pair's chain, from its spot outwards to its root
 abbrev pub chain_of : Pair → List Spot → List Spot
@@ -40,3 +41,7 @@ IsExactPair scene touches pair =
 
 abbrev pub IsExact : Scene → HeldClips → ℕ → Type 0
 IsExact scene it number = IsExactPair scene it.touches (pair_of it number)
+
+-- another scene has the same containers and clips along a pair's chain in this one
+abbrev pub AgreesAlong : Scene → Scene → Pair → Type 0
+AgreesAlong seen now pair = (between : List Spot) → Leads now pair.of between pair.root → AllByRecursion (AgreesAt seen now) (pair.of ∷ between)

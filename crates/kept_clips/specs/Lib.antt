@@ -5,4 +5,5 @@ pub mod Chains
 pub mod Scenes
 pub mod Numbers
 pub mod Codes
-pub mod Sample
+pub mod Seen
+pub mod Looked

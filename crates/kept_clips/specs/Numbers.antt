@@ -1,14 +1,16 @@
 -- The numbers of touches that are held.
 use Rattle.std.specs.Prelude.{ℕ, ◌≤◌, Option, Some, None}
 use Rattle.kept_clips.specs.declared.pair.Computed.{Computed}
-use Rattle.kept_clips.specs.Touches.{last_number}
+use Rattle.clip_chain.specs.declared.spot.Spot.{Spot}
+use Rattle.kept_clips.specs.Touches.{last_number, last_touch}
 use Rattle.kept_clips.specs.Held.{HeldClips, pair_of}
 
 abbrev pub IsNumbered : ℕ → Option Computed → Type 0
 IsNumbered count None = Unit {0}
 IsNumbered count (Some computed) = computed.touches ≤ count
 
--- no clip was computed at a number of touches that didn't come yet
+-- no clip was computed, and no spot touched, at a number of touches that didn't come yet
 pub record AreNumbered (it : HeldClips) : Type 0 where
+  pub touched : (spot : Spot) → last_touch it.touches spot ≤ it.touches.count
   pub numbered : (number : ℕ) → IsNumbered it.touches.count (pair_of it number).computed
   pub counted : it.touches.count ≤ last_number

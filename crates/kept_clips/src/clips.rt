@@ -1,6 +1,6 @@
 //! The pairs whose clips are kept.
 
-ghost use Rattle.std.specs.Prelude.{◌≡◌, ◌↔◌, ◌+◌, ℕ, ℤ, List, [], length, true, false, None, IfSome, IsOk, OnOk, OnErr};
+ghost use Rattle.std.specs.Prelude.{◌≡◌, ◌↔◌, ◌+◌, ◌≤◌, ℕ, ℤ, List, [], length, true, false, None, IfSome, IsOk, OnOk, OnErr};
 ghost use Rattle.std.specs.List.{All};
 ghost use Rattle.std.specs.FinMap.{empty};
 ghost use Rattle.clip_chain.specs.declared.spot.Spot.{Spot as SpotOf};
@@ -9,7 +9,8 @@ ghost use Rattle.clip_chain.specs.Chains.{Leads, IsAbove};
 ghost use Rattle.kept_clips.specs.Clips.{clip_between, Contains, IsWithin};
 ghost use Rattle.kept_clips.specs.Touches.{is_added, IsAdded, with_spot, touched};
 ghost use Rattle.kept_clips.specs.Held.{pair_at, pair_of, spots_at, IsHeld, with_pair, without_pair, with_clip};
-ghost use Rattle.kept_clips.specs.Chains.{chain_of, standing_clip, is_current, IsExact};
+ghost use Rattle.kept_clips.specs.Numbers.{AreNumbered};
+ghost use Rattle.kept_clips.specs.Chains.{chain_of, stands, standing_clip, is_current, IsExact};
 ghost use Rattle.kept_clips.specs.Scenes.{DiffersOnlyAt};
 
 use crate::between::{clip_between, is_untouched};
@@ -95,13 +96,18 @@ impl Clips {
         requires { IsAdded self.old.touches of }
         ensures touched { self.new ≡ record self.old { touches = touched of (self.old.touches) } }
         ensures exact { (before after : Scene) (number : ℕ) → IsExact before self.old number → DiffersOnlyAt of before after → IsExact after self.new number }
+        ensures count { self.old.touches.count ≤ self.new.touches.count }
+        ensures stood { (number : ℕ) (chain : List SpotOf) →
+            stands self.new.touches (pair_of self.old number).computed chain ≡ true → stands self.old.touches (pair_of self.old number).computed chain ≡ true }
     {
         self.touches.touch(of);
     }
 
-    /// The pair of a number, None exactly where none is held.
+    /// The pair of a number, None exactly where none is held. No clip was computed, and no spot touched, at a number of touches that
+    /// didn't come yet.
     pub fn pair(&self, number: u64) -> Option<Pair>
-        ensures { result ≡ pair_at self.now number }
+        ensures value { result ≡ pair_at self.now number }
+        ensures numbered { AreNumbered self.now }
     {
         self.pairs.get(number)
     }

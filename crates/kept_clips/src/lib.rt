@@ -9,11 +9,13 @@
 mod between;
 mod clip;
 mod clips;
+mod laws;
 mod pair;
-#[cfg(test)]
-mod tests;
+mod sightings;
 mod touches;
 
 pub use clip::Clip;
 pub use clips::Clips;
+pub use laws::{a_spot_is_seen_by_itself, clips_hang_on_their_chains_alone};
 pub use pair::{Computed, Pair};
+pub use sightings::{Sighting, Sightings};

@@ -6,8 +6,6 @@ mod kept;
 mod laws;
 mod positions;
 mod slots;
-#[cfg(test)]
-mod tests;
 mod trees;
 mod walk;
 

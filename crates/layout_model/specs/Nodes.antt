@@ -57,6 +57,16 @@ unfoldable pub top_of : (ℕ → Node) → ℕ → ℕ
 unfolding path_of last_of
 top_of at n = last_of n (path_of at n)
 
+-- the element whose box holds a node's box: that of its parent (CSS 2.2, 10.1: containing block). The box of a root element is held by
+-- the viewport of its document
+abbrev pub holder : Node → Option ℕ
+holder node = node.parent
+
+-- the nodes, each under the one whose box holds its own. Places, scroll offsets in force and chains of clips go up here; what is
+-- displayed, widths and depths go by the tree itself
+abbrev pub held : (ℕ → Node) → ℕ → Node
+held at n = record (at n) { parent = holder (at n) }
+
 -- each child has its parent as parent
 abbrev pub IsLinked : (ℕ → Node) → Type 0
 IsLinked at = (p c : ℕ) → Contains ((at p).children) c → (at c).parent ≡ Some p

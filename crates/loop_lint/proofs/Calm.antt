@@ -5,7 +5,7 @@ use Rattle.std.specs.List.{AllByRecursion}
 use Rattle.px_units.specs.declared.BoxKind.{BoxKind}
 use Rattle.layout_model.specs.Items.{Kind}
 use Rattle.script_model.specs.Syntax.{Action, Viewport, MakeBlock, MakeImage, MakeFrame, Append, Before, Remove, SetStyle, Grow, Load, MakeResizeObserver, ObserveResize, UnobserveResize, DisconnectResize, MakeIntersectionObserver, ObserveIntersection, UnobserveIntersection, DisconnectIntersection, TakeIntersections, Listen, Unlisten, MakeQueryList, ScrollTo, ScrollBy, RequestFrame, CancelFrame, SetTimer, ClearTimer, Post, Say, Read}
-use Rattle.page_model.specs.World.{Extent, Observation, ResizeObserver, ResizeObservers, IntersectionObservers, Listener, Table, ScrollTarget, Tree, World}
+use Rattle.page_model.specs.World.{Screen, Observation, ResizeObserver, ResizeObservers, IntersectionObservers, Listener, Table, ScrollTarget, Tree, World}
 use Rattle.page_model.specs.Lookups.{change_at, entry_or, no_resize_observer, resize_observer_at}
 use Rattle.page_model.specs.Documents.{is_active}
 use Rattle.page_model.specs.Edits.{with_element, with_frame}
@@ -62,18 +62,18 @@ made-passes document y none test (suc o) (x ∷ xs) pass = made-passes document 
 -- pages ----------------------------------------------------------------------------------------------------------------------------
 
 -- the elements that there were have the sizes that they had, the document is Active where it was, and what passed passes
-pub record IsCalm (document : ℕ) (tree : Tree) (size : Extent) (it : ResizeObservers) (tree' : Tree) (size' : Extent) (it' : ResizeObservers) : Type 0 where
+pub record IsCalm (document : ℕ) (tree : Tree) (screen : Screen) (it : ResizeObservers) (tree' : Tree) (screen' : Screen) (it' : ResizeObservers) : Type 0 where
   pub elements : length tree.elements ≤ length tree'.elements
-  pub sizes : (n : ℕ) → n < length tree.elements → (kind : BoxKind) → size_of tree' size' n kind ≡ size_of tree size n kind
+  pub sizes : (n : ℕ) → n < length tree.elements → (kind : BoxKind) → size_of tree' screen' n kind ≡ size_of tree screen n kind
   pub active : is_active tree' document ≡ is_active tree document
   pub targets : KeepsTargets document it it'
 
 abbrev pub Calm : ℕ → World → World → Type 0
 Calm document before now =
-    IsCalm document (before.tree) (before.viewports.size) (before.resize_observers) (now.tree) (now.viewports.size) (now.resize_observers)
+    IsCalm document (before.tree) (before.viewports.screen) (before.resize_observers) (now.tree) (now.viewports.screen) (now.resize_observers)
 
-pub still-calm : (document : ℕ) (tree : Tree) (size : Extent) (it : ResizeObservers) → IsCalm document tree size it tree size it
-still-calm document tree size it =
+pub still-calm : (document : ℕ) (tree : Tree) (screen : Screen) (it : ResizeObservers) → IsCalm document tree screen it tree screen it
+still-calm document tree screen it =
     record { elements = omega arith; sizes = λ n is kind. refl; active = refl; targets = still-targets document it }
 
 pub then-calm : (document : ℕ) (a b c : World) → Calm document a b → Calm document b c → Calm document a c
@@ -84,11 +84,11 @@ then-calm document a b c one other = record {
   targets = record { each = λ o test pass. other.targets.each o test (one.targets.each o test pass) };
 }
 
-more-calm : (document : ℕ) (counts : Counts) (tree after : Tree) (size : Extent) (it : ResizeObservers) → counts.elements ≡ length tree.elements →
-    counts.documents ≡ length tree.documents → IsTreeIn counts tree → IsMore tree after → IsCalm document tree size it after size it
-more-calm document counts tree after size it elements documents within more = record {
+more-calm : (document : ℕ) (counts : Counts) (tree after : Tree) (screen : Screen) (it : ResizeObservers) → counts.elements ≡ length tree.elements →
+    counts.documents ≡ length tree.documents → IsTreeIn counts tree → IsMore tree after → IsCalm document tree screen it after screen it
+more-calm document counts tree after screen it elements documents within more = record {
   elements = more.elements;
-  sizes = λ n is kind. size-same counts tree after elements documents within more size n (subst (λ (count : ℕ). n < count) (sym elements) is) kind;
+  sizes = λ n is kind. size-same counts tree after elements documents within more screen n (subst (λ (count : ℕ). n < count) (sym elements) is) kind;
   active = more.active document;
   targets = still-targets document it;
 }
@@ -99,33 +99,33 @@ module _ (document : ℕ) (handlers : Handlers) (world : World) (within : IsInRa
   abbrev Done : Effect → Type 0
   Done effect = Calm document world (effect.world)
 
-  here : IsCalm document (world.tree) (world.viewports.size) (world.resize_observers) (world.tree) (world.viewports.size) (world.resize_observers)
-  here = still-calm document (world.tree) (world.viewports.size) (world.resize_observers)
+  here : IsCalm document (world.tree) (world.viewports.screen) (world.resize_observers) (world.tree) (world.viewports.screen) (world.resize_observers)
+  here = still-calm document (world.tree) (world.viewports.screen) (world.resize_observers)
 
   made-element : (kind : Kind) (made_in : ℕ) (framed : Option ℕ) →
-      IsCalm document (world.tree) (world.viewports.size) (world.resize_observers) (with_element kind made_in framed (world.tree)) (world.viewports.size) (world.resize_observers)
+      IsCalm document (world.tree) (world.viewports.screen) (world.resize_observers) (with_element kind made_in framed (world.tree)) (world.viewports.screen) (world.resize_observers)
   made-element kind made_in framed =
-      more-calm document (counts_of (length handlers) world) (world.tree) _ (world.viewports.size) (world.resize_observers) refl refl (within.tree)
+      more-calm document (counts_of (length handlers) world) (world.tree) _ (world.viewports.screen) (world.resize_observers) refl refl (within.tree)
       (element-more kind made_in framed (world.tree))
 
   made-frame : (made_in : ℕ) →
-      IsCalm document (world.tree) (world.viewports.size) (world.resize_observers) (with_frame made_in (world.tree)) (world.viewports.size) (world.resize_observers)
+      IsCalm document (world.tree) (world.viewports.screen) (world.resize_observers) (with_frame made_in (world.tree)) (world.viewports.screen) (world.resize_observers)
   made-frame made_in =
-      more-calm document (counts_of (length handlers) world) (world.tree) _ (world.viewports.size) (world.resize_observers) refl refl (within.tree)
+      more-calm document (counts_of (length handlers) world) (world.tree) _ (world.viewports.screen) (world.resize_observers) refl refl (within.tree)
       (frame-more made_in (world.tree))
 
   observers-calm : (it : ResizeObservers) → KeepsTargets document (world.resize_observers) it →
-      IsCalm document (world.tree) (world.viewports.size) (world.resize_observers) (world.tree) (world.viewports.size) it
+      IsCalm document (world.tree) (world.viewports.screen) (world.resize_observers) (world.tree) (world.viewports.screen) it
   observers-calm it targets = record { elements = here.elements; sizes = here.sizes; active = here.active; targets = targets }
 
   made-observer : (owner : ℕ) (handler : Option ℕ) →
-      IsCalm document (world.tree) (world.viewports.size) (world.resize_observers) (world.tree) (world.viewports.size)
+      IsCalm document (world.tree) (world.viewports.screen) (world.resize_observers) (world.tree) (world.viewports.screen)
       (with_resize_observer owner handler (world.resize_observers))
   made-observer owner handler =
       observers-calm _ (record { each = λ o test pass. made-passes document _ refl test o (world.resize_observers.made) pass })
 
   no-target : (observer n : ℕ) →
-      IsCalm document (world.tree) (world.viewports.size) (world.resize_observers) (world.tree) (world.viewports.size)
+      IsCalm document (world.tree) (world.viewports.screen) (world.resize_observers) (world.tree) (world.viewports.screen)
       (without_resize_target observer n (world.resize_observers))
   no-target observer n = observers-calm _ (record {
     each = λ o test pass. changed-passes document (λ each. record each { targets = without_observed n (each.targets) }) test
@@ -133,7 +133,7 @@ module _ (document : ℕ) (handlers : Handlers) (world : World) (within : IsInRa
   })
 
   no-targets : (observer : ℕ) →
-      IsCalm document (world.tree) (world.viewports.size) (world.resize_observers) (world.tree) (world.viewports.size)
+      IsCalm document (world.tree) (world.viewports.screen) (world.resize_observers) (world.tree) (world.viewports.screen)
       (without_resize_targets observer (world.resize_observers))
   no-targets observer = observers-calm _ (record {
     each = λ o test pass. changed-passes document (λ each. record each { targets = []; active = [] }) test (λ it passes own. tt) observer o
@@ -227,6 +227,6 @@ module _ (document : ℕ) (script : Script) (start : World) where
       (call-carries script _ _ _ since-carried owner handler handed start
       (all-map (IsPresentIn start) (IsEntryIn (length start.tree.elements)) (entry-in start) (presents handed) are) holds
       (record {
-        calm = still-calm document (start.tree) (start.viewports.size) (start.resize_observers);
+        calm = still-calm document (start.tree) (start.viewports.screen) (start.resize_observers);
         within = subst (λ (count : ℕ). IsInRange count start) (sym (same-count script)) within;
       })).calm

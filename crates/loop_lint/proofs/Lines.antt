@@ -7,7 +7,7 @@ use Rattle.script_model.specs.Syntax.{Action, Viewport, MakeBlock, MakeImage, Ma
 use Rattle.script_model.specs.TraceLines.{TraceLine, ThrowLine, LimitLine}
 use Rattle.text_io.specs.declared.kinds.ThrowKind.{ThrowKind}
 use Rattle.text_io.specs.declared.kinds.LimitKind.{LimitKind}
-use Rattle.page_model.specs.World.{Entry, Extent, Scrolls, IntersectionObservers, Listener, Table, Name, Tree, World}
+use Rattle.page_model.specs.World.{Entry, Screen, Scrolls, IntersectionObservers, Listener, Table, Name, Tree, World}
 use Rattle.page_model.specs.Documents.{Container, InElement, InDocument, is_active}
 use Rattle.page_model.specs.EntryLines.{intersection_line, intersection_lines}
 use Rattle.page_model.specs.Readings.{reading_of}
@@ -41,9 +41,9 @@ entries-plain names NoEntries = tt
 entries-plain names (SizeEntries observer entries) = resizes-plain names observer entries
 entries-plain names (CutEntries observer entries) = intersections-plain names observer entries
 
-reading-plain : (names : List Name) (tree : Tree) (size : Extent) (scrolls : Scrolls) (container : Container) → IsPlain (reading_of names tree size scrolls container)
-reading-plain names tree size scrolls (InElement n) = refl
-reading-plain names tree size scrolls (InDocument document) = refl
+reading-plain : (names : List Name) (tree : Tree) (screen : Screen) (scrolls : Scrolls) (container : Container) → IsPlain (reading_of names tree screen scrolls container)
+reading-plain names tree screen scrolls (InElement n) = refl
+reading-plain names tree screen scrolls (InDocument document) = refl
 
 -- commands
 
@@ -75,9 +75,9 @@ module _ (handlers : Handlers) (world : World) where
 
   reading-said : (container : Container) → Plainly (record {
     world = world;
-    lines = reading_of (world.names) (world.tree) (world.viewports.size) (world.scrolls) container ∷ [];
+    lines = reading_of (world.names) (world.tree) (world.viewports.screen) (world.scrolls) container ∷ [];
   })
-  reading-said container = (reading-plain (world.names) (world.tree) (world.viewports.size) (world.scrolls) container, tt)
+  reading-said container = (reading-plain (world.names) (world.tree) (world.viewports.screen) (world.scrolls) container, tt)
 
   does-plain : (present : Present) (action : Action) → OnDid (does handlers world present action) Plainly
   unfolding does

@@ -9,7 +9,7 @@ use Rattle.layout_model.specs.Items.{Kind, BlockKind, ImageKind, FrameKind}
 use Rattle.layout_model.specs.Nodes.{Node, path_above, path_up, path_of, levels}
 use Rattle.layout_model.specs.Boxes.{Inputs, Box, computed, child_inputs, inner_children, kids_of, shown_height, counted, margin_height, total, box_at, box_down, box_in, content_size, inputs_if_block, if_shown, inputs_along, inputs_in}
 use Rattle.layout_model.specs.Reach.{View, view_inputs, inputs_in_view}
-use Rattle.page_model.specs.World.{Extent, Element, Document, DocumentState, Fresh, Active, Dead, Tree}
+use Rattle.page_model.specs.World.{Screen, Element, Document, DocumentState, Fresh, Active, Dead, Tree}
 use Rattle.page_model.specs.Lookups.{entry_or, element_at, document_at, no_element, no_document}
 use Rattle.page_model.specs.Documents.{node_of, nodes_of, is_active, is_active_state, frame_levels}
 use Rattle.page_model.specs.Edits.{with_element, with_frame, new_document}
@@ -171,9 +171,9 @@ module _ (counts : Counts) (tree after : Tree) (elements : counts.elements ≡ l
 
   -- views
 
-  module _ (size : Extent) where
+  module _ (screen : Screen) where
     framed-same : (views views' : ℕ → View) → ((d : ℕ) → d < counts.documents → views' d ≡ views d) → (frame : Option ℕ) → IfSome frame IsThere →
-        framed_size after size views' frame ≡ framed_size tree size views frame
+        framed_size after screen views' frame ≡ framed_size tree screen views frame
     framed-same views views' same None is = refl
     framed-same views views' same (Some frame) is =
         mapped-same _ _ (λ inputs. ap content_size (whole-same inputs frame is)) _
@@ -183,32 +183,32 @@ module _ (counts : Counts) (tree after : Tree) (elements : counts.elements ≡ l
         ∙ viewed-same (views (element_at tree frame).document) frame is)
 
     state-same : (views views' : ℕ → View) → ((d : ℕ) → d < counts.documents → views' d ≡ views d) → (d : ℕ) → d < counts.documents →
-        (state : DocumentState) → view_if_active after size views' d state ≡ view_if_active tree size views d state
+        (state : DocumentState) → view_if_active after screen views' d state ≡ view_if_active tree screen views d state
     state-same views views' same d is Active =
-        ap (λ (it : Document). view_with (it.root) (framed_size after size views' (it.frame))) (more.document d (subst (λ (count : ℕ). d < count) documents is))
+        ap (λ (it : Document). view_with (it.root) (framed_size after screen views' (it.frame))) (more.document d (subst (λ (count : ℕ). d < count) documents is))
         ∙ ap (view_with (document_at tree d).root) (framed-same views views' same (document_at tree d).frame (document-in d is).frame)
     state-same views views' same d is Fresh = refl
     state-same views views' same d is Dead = refl
 
-    view-same : (high d : ℕ) → d < counts.documents → view_up high after size d ≡ view_up high tree size d
+    view-same : (high d : ℕ) → d < counts.documents → view_up high after screen d ≡ view_up high tree screen d
     unfolding view_up
     view-same zero d is = refl
     view-same (suc high) d is =
-        ap (λ (it : Document). view_if_active after size (view_up high after size) d (it.state)) (more.document d (subst (λ (count : ℕ). d < count) documents is))
-        ∙ state-same (view_up high tree size) (view_up high after size) (view-same high) d is (document_at tree d).state
+        ap (λ (it : Document). view_if_active after screen (view_up high after screen) d (it.state)) (more.document d (subst (λ (count : ℕ). d < count) documents is))
+        ∙ state-same (view_up high tree screen) (view_up high after screen) (view-same high) d is (document_at tree d).state
 
-    view-of : (d : ℕ) → d < counts.documents → view_of after size d ≡ view_of tree size d
+    view-of : (d : ℕ) → d < counts.documents → view_of after screen d ≡ view_of tree screen d
     unfolding view_of
     view-of d is = view-same frame_levels d is
 
-    inputs-of : (n : ℕ) → IsThere n → inputs_of after size n ≡ inputs_of tree size n
+    inputs-of : (n : ℕ) → IsThere n → inputs_of after screen n ≡ inputs_of tree screen n
     unfolding inputs_of
     inputs-of n is =
-        ap (λ (element : Element). inputs_in_view (nodes_of after) (view_of after size (element.document)) n) (more.element n (there-in n is))
+        ap (λ (element : Element). inputs_in_view (nodes_of after) (view_of after screen (element.document)) n) (more.element n (there-in n is))
         ∙ ap (λ (view : View). inputs_in_view (nodes_of after) view n) (view-of (element_at tree n).document (element-in n is).document)
-        ∙ viewed-same (view_at tree size n) n is
+        ∙ viewed-same (view_at tree screen n) n is
 
-    pub size-same : (n : ℕ) → IsThere n → (kind : BoxKind) → size_of after size n kind ≡ size_of tree size n kind
+    pub size-same : (n : ℕ) → IsThere n → (kind : BoxKind) → size_of after screen n kind ≡ size_of tree screen n kind
     unfolding size_of box_of
     size-same n is kind =
         ap (λ (box : Option Box). extent_of (unwrap_or (option_map (size_by kind) box) (0, 0)))

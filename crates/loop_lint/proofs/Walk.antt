@@ -22,6 +22,7 @@ use Rattle.page_model.specs.FrameCallbacks.{frame_callbacks_of, frame_callback_s
 use Rattle.page_model.specs.Timers.{due_timers, timer_stands, timer_taken}
 use Rattle.page_model.specs.Tasks.{has_tasks, is_notifying, without_notifying}
 use Rattle.page_model.specs.IntersectionObserving.{without_queue}
+use Rattle.page_model.specs.Shown.{shown_of}
 use Rattle.page_model.specs.Findings.{finding}
 use Rattle.page_model.specs.Steps.{Step, Did, Threw, Met}
 use Rattle.page_model.specs.Operands.{NoEntry}
@@ -146,9 +147,9 @@ notified-same false document world = refl
 update-same : (document : ℕ) (world : World) → (update_intersections document world).resize_observers ≡ world.resize_observers
 unfolding update_intersections
 update-same document world =
-    by_test (settling (world.clock) (finding world) (watchers (world.tree) document (world.intersection_observers)) (world.intersection_observers))
+    by_test (settling (world.clock) (finding (shown_of world)) (watchers (world.tree) document (world.intersection_observers)) (world.intersection_observers))
     (list_any (has_queued (world.intersection_observers)
-    (settling (world.clock) (finding world) (watchers (world.tree) document (world.intersection_observers)) (world.intersection_observers)))
+    (settling (world.clock) (finding (shown_of world)) (watchers (world.tree) document (world.intersection_observers)) (world.intersection_observers)))
     (watchers (world.tree) document (world.intersection_observers)))
   where
     by_test : (it : IntersectionObservers) (test : Bool) →
@@ -261,7 +262,7 @@ module _ (script : Script) (P : World → Type 0) (Q : TraceLine → Type 0) (wa
   pub size-good : (document : ℕ) (world : World) → is_active (world.tree) document ≡ true → P world → Fine (resize_steps script document world)
   unfolding resize_steps
   size-good document world is here =
-      let size = viewport_of (world.tree) (world.viewports.size) document in
+      let size = viewport_of (world.tree) (world.viewports.screen) document in
       let now = record world { viewports = with_noted document size (world.viewports) } in
       if-good Q P (fire script (FiredResize (document_text (world.names) document)) (WindowTarget document) events.Resize) now
       (differs_from size (noted_size document (world.viewports)))

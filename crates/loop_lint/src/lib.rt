@@ -6,8 +6,6 @@ pub mod examples;
 mod kinds;
 pub mod laws;
 mod search;
-#[cfg(test)]
-mod tests;
 
 pub use check::{blame, lint};
 pub use kinds::{Law, Verdict};

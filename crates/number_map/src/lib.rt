@@ -8,9 +8,6 @@ use indexmap::IndexMap;
 use std::alloc::{AllocError, Global};
 use std::marker::Model;
 
-#[cfg(test)]
-mod tests;
-
 /// A map from numbers to values that are copied. A clause sees the finite map, so in what order entries were made makes no
 /// difference. Look-ups hash the number, and a removal moves one entry.
 #[derive(Drop)]

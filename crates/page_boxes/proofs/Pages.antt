@@ -7,7 +7,7 @@ use Rattle.px_units.specs.declared.Size.{Size}
 use Rattle.px_units.specs.declared.Point.{Point}
 use Rattle.layout_model.specs.Boxes.{Inputs, box_in, content_size}
 use Rattle.layout_model.specs.Reach.{View, inputs_in_view}
-use Rattle.page_model.specs.World.{Extent, Element, Tree}
+use Rattle.page_model.specs.World.{Screen, Element, Tree}
 use Rattle.page_model.specs.Lookups.{element_at, no_element, document_at, no_extent}
 use Rattle.page_model.specs.Documents.{nodes_of, is_number}
 use Rattle.page_model.specs.PageBoxes.{pair_of, framed_size, view_of, viewport_of, view_at, inputs_of, has_box, box_of}
@@ -47,47 +47,50 @@ none_mapped : {A B : Type 0} (f : A → B) (found : Option A) → is_some found 
 none_mapped f None none = refl
 none_mapped f (Some x) none = cc
 
-module _ (tree : Tree) (size : Extent) (n : ℕ) where
-  pub boxed_is : has_box tree size n ≡ is_some (inputs_in_view (nodes_of tree) (view_at tree size n) n)
+module _ (tree : Tree) (screen : Screen) (n : ℕ) where
+  pub boxed_is : has_box tree screen n ≡ is_some (inputs_in_view (nodes_of tree) (view_at tree screen n) n)
   unfolding has_box inputs_of
   boxed_is = refl
 
-  pub no_box : has_box tree size n ≡ false → box_of tree size n ≡ None
+  pub no_box : has_box tree screen n ≡ false → box_of tree screen n ≡ None
   unfolding has_box box_of
-  no_box none = none_mapped (λ inputs. box_in (nodes_of tree) inputs n) (inputs_of tree size n) none
+  no_box none = none_mapped (λ inputs. box_in (nodes_of tree) inputs n) (inputs_of tree screen n) none
 
-  pub absent_no_box : nat_lt n (length tree.elements) ≡ false → has_box tree size n ≡ false
-  absent_no_box past = boxed_is ∙ absent_unboxed tree (view_at tree size n) n past
+  pub absent_no_box : nat_lt n (length tree.elements) ≡ false → has_box tree screen n ≡ false
+  absent_no_box past = boxed_is ∙ absent_unboxed tree (view_at tree screen n) n past
 
-  box_here : (inputs : Inputs) → inputs_in_view (nodes_of tree) (view_at tree size n) n ≡ Some inputs → box_of tree size n ≡ Some (box_in (nodes_of tree) inputs n)
+  box_here : (inputs : Inputs) → inputs_in_view (nodes_of tree) (view_at tree screen n) n ≡ Some inputs → box_of tree screen n ≡ Some (box_in (nodes_of tree) inputs n)
   unfolding box_of inputs_of
   box_here inputs is = ap (option_map (λ i. box_in (nodes_of tree) i n)) is
 
-  pub own_held : (kept : List Slot) → IsFreshIn tree size kept (element_at tree n).document → has_box tree size n ≡ true → held_in kept n ≡ box_of tree size n
+  pub own_held : (kept : List Slot) → IsFreshIn tree screen kept (element_at tree n).document → has_box tree screen n ≡ true → held_in kept n ≡ box_of tree screen n
   own_held kept fresh boxed =
-      let found = some_found (inputs_in_view (nodes_of tree) (view_at tree size n) n) (sym boxed_is ∙ boxed) in
+      let found = some_found (inputs_in_view (nodes_of tree) (view_at tree screen n) n) (sym boxed_is ∙ boxed) in
       held_fresh (nodes_of tree) kept n found.0 (fresh.boxes n found.0 found.1) ∙ sym (box_here found.0 found.1)
 
-pub made_if_boxed : (tree : Tree) (n : ℕ) (boxed : Bool) → ((size : Extent) → boxed ≡ has_box tree size n) → boxed ≡ true → n < length tree.elements
+no_screen : Screen
+no_screen = record { size = no_extent }
+
+pub made_if_boxed : (tree : Tree) (n : ℕ) (boxed : Bool) → ((screen : Screen) → boxed ≡ has_box tree screen n) → boxed ≡ true → n < length tree.elements
 made_if_boxed tree n boxed says is = by_test (nat_lt n (length tree.elements)) refl
   where
     by_test : (b : Bool) → nat_lt n (length tree.elements) ≡ b → n < length tree.elements
     by_test true e = grind (arith, nat_tests)
-    by_test false e = let clash : true ≡ false = sym is ∙ says no_extent ∙ absent_no_box tree no_extent n e in cc
+    by_test false e = let clash : true ≡ false = sym is ∙ says no_screen ∙ absent_no_box tree no_screen n e in cc
 
 -- viewports
 both_mapped : {A B C : Type 0} (f : A → B) (g : B → C) (found : Option A) → option_map (λ x. g (f x)) found ≡ option_map g (option_map f found)
 both_mapped f g None = refl
 both_mapped f g (Some x) = refl
 
-module _ (tree : Tree) (size : Extent) where
-  pub framed_by_box : (frame : ℕ) → framed_size tree size (view_of tree size) (Some frame) ≡ option_map content_size (box_of tree size frame)
+module _ (tree : Tree) (screen : Screen) where
+  pub framed_by_box : (frame : ℕ) → framed_size tree screen (view_of tree screen) (Some frame) ≡ option_map content_size (box_of tree screen frame)
   unfolding box_of inputs_of
   framed_by_box frame =
-      both_mapped (λ inputs. box_in (nodes_of tree) inputs frame) content_size (inputs_in_view (nodes_of tree) (view_at tree size frame) frame)
+      both_mapped (λ inputs. box_in (nodes_of tree) inputs frame) content_size (inputs_in_view (nodes_of tree) (view_at tree screen frame) frame)
 
-  pub viewport_found : (document : ℕ) (found : Option (ℕ × ℕ)) → found ≡ framed_size tree size (view_of tree size) (document_at tree document).frame
-      → unwrap_or found (0, 0) ≡ pair_of (viewport_of tree size document)
+  pub viewport_found : (document : ℕ) (found : Option (ℕ × ℕ)) → found ≡ framed_size tree screen (view_of tree screen) (document_at tree document).frame
+      → unwrap_or found (0, 0) ≡ pair_of (viewport_of tree screen document)
   unfolding viewport_of
   viewport_found document found is = ap (λ (o : Option (ℕ × ℕ)). unwrap_or o (0, 0)) is
 

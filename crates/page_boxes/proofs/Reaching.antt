@@ -13,7 +13,7 @@ use Rattle.layout_model.specs.Reach.{View, view_size, view_inputs, inputs_in_vie
 use Rattle.element_tree.specs.declared.node.NodeId.{NodeId}
 use Rattle.element_tree.specs.Links.{node_ids}
 use Rattle.element_tree.specs.Forest.{Knot, parent_of}
-use Rattle.page_model.specs.World.{Extent, ScrolledElement, ScrolledDocument, Tree}
+use Rattle.page_model.specs.World.{Screen, ScrolledElement, ScrolledDocument, Tree}
 use Rattle.page_model.specs.Documents.{nodes_of}
 use Rattle.page_model.specs.PageBoxes.{pair_of, view_of, view_at, has_box, is_scroller, range_if, scroll_range}
 use Rattle.block_layout.specs.Held.{HoldsBoxes}
@@ -153,33 +153,33 @@ unfolding range_of_view
 range_viewed at view reach shown found reached shows is =
     left_of reach shown found (reach_of_view at view) (view_size view) reached (low_view at view).0 (low_view at view).1 shows is
 
-module _ (tree : Tree) (size : Extent) where
+module _ (tree : Tree) (screen : Screen) where
   -- ranges of elements
-  pub scroller_is : (n : ℕ) → has_box tree size n ≡ true → is_scroller tree size n ≡ is_scroll_container (nodes_of tree n)
+  pub scroller_is : (n : ℕ) → has_box tree screen n ≡ true → is_scroller tree screen n ≡ is_scroll_container (nodes_of tree n)
   unfolding is_scroller
   scroller_is n boxed = ap (λ b. b && is_scroll_container (nodes_of tree n)) boxed
 
-  pub no_scroller : (n : ℕ) → has_box tree size n ≡ false → is_scroller tree size n ≡ false
+  pub no_scroller : (n : ℕ) → has_box tree screen n ≡ false → is_scroller tree screen n ≡ false
   unfolding is_scroller
   no_scroller n none = ap (λ b. b && is_scroll_container (nodes_of tree n)) none
 
-  range_by_test : (n : ℕ) (scrolls : Bool) → cond scrolls (range_of (nodes_of tree) (view_at tree size n) n) (0, 0) ≡ range_if tree size n scrolls
+  range_by_test : (n : ℕ) (scrolls : Bool) → cond scrolls (range_of (nodes_of tree) (view_at tree screen n) n) (0, 0) ≡ range_if tree screen n scrolls
   range_by_test n true = refl
   range_by_test n false = refl
 
-  pub element_range : (n : ℕ) → has_box tree size n ≡ true
-      → cond (is_scroll_container (nodes_of tree n)) (range_of (nodes_of tree) (view_at tree size n) n) (0, 0) ≡ pair_of (scroll_range tree size (ScrolledElement n))
+  pub element_range : (n : ℕ) → has_box tree screen n ≡ true
+      → cond (is_scroll_container (nodes_of tree n)) (range_of (nodes_of tree) (view_at tree screen n) n) (0, 0) ≡ pair_of (scroll_range tree screen (ScrolledElement n))
   unfolding scroll_range
-  element_range n boxed = range_by_test n (is_scroll_container (nodes_of tree n)) ∙ ap (range_if tree size n) (sym (scroller_is n boxed))
+  element_range n boxed = range_by_test n (is_scroll_container (nodes_of tree n)) ∙ ap (range_if tree screen n) (sym (scroller_is n boxed))
 
-  pub element_rangeless : (n : ℕ) → has_box tree size n ≡ false → (0, 0) ≡ pair_of (scroll_range tree size (ScrolledElement n))
+  pub element_rangeless : (n : ℕ) → has_box tree screen n ≡ false → (0, 0) ≡ pair_of (scroll_range tree screen (ScrolledElement n))
   unfolding scroll_range
-  element_rangeless n none = ap (range_if tree size n) (sym (no_scroller n none))
+  element_rangeless n none = ap (range_if tree screen n) (sym (no_scroller n none))
 
   -- ranges of documents' viewports
-  pub view_range : (document : ℕ) → range_of_view (nodes_of tree) (view_of tree size document) ≡ pair_of (scroll_range tree size (ScrolledDocument document))
+  pub view_range : (document : ℕ) → range_of_view (nodes_of tree) (view_of tree screen document) ≡ pair_of (scroll_range tree screen (ScrolledDocument document))
   unfolding scroll_range
   view_range document = refl
 
-  pub view_rangeless : (document : ℕ) → (view_of tree size document).root ≡ None → as_size (0, 0) ≡ as_size (pair_of (scroll_range tree size (ScrolledDocument document)))
-  view_rangeless document none = ap as_size (rootless_range (nodes_of tree) (view_of tree size document) none ∙ view_range document)
+  pub view_rangeless : (document : ℕ) → (view_of tree screen document).root ≡ None → as_size (0, 0) ≡ as_size (pair_of (scroll_range tree screen (ScrolledDocument document)))
+  view_rangeless document none = ap as_size (rootless_range (nodes_of tree) (view_of tree screen document) none ∙ view_range document)

@@ -9,7 +9,7 @@ use Rattle.px_units.specs.declared.Rect.{Rect}
 use Rattle.px_units.specs.Rects.{InReach, RectInReach}
 use Rattle.layout_model.specs.Boxes.{Box, padding_size, padding_corner, inner_corner}
 use Rattle.script_model.specs.TraceLines.{ReadLine}
-use Rattle.page_model.specs.World.{Extent, ScrolledElement, ScrolledDocument, Scrolls, Name, Tree}
+use Rattle.page_model.specs.World.{Extent, Screen, ScrolledElement, ScrolledDocument, Scrolls, Name, Tree}
 use Rattle.page_model.specs.Lookups.{no_extent}
 use Rattle.page_model.specs.Documents.{InElement, InDocument}
 use Rattle.page_model.specs.Names.{element_text, document_text}
@@ -94,16 +94,16 @@ pub span_reach : (units : ℤ) → IsSpan units → InReach units
 span_reach units span = record { low = omega (arith, ints, span.0); high = omega (arith, ints, span.1) }
 
 -- what the command `read` shows
-pub element_reading : (names : List Name) (tree : Tree) (size : Extent) (scrolls : Scrolls) (n : ℕ) (rect : Rect) (scroll : Point)
-    → rect ≡ rect_of (place_of tree size scrolls n) (size_of tree size n Border) → scroll ≡ point_at (scroll_offset tree size scrolls (ScrolledElement n))
-    → reading_of names tree size scrolls (InElement n) ≡ ReadLine (element_text names n) rect scroll
-element_reading names tree size scrolls n rect scroll is shown =
-    ap (λ s. ReadLine (element_text names n) (rect_of (place_of tree size scrolls n) (size_of tree size n Border)) s)
-    (shown_offset tree size scrolls n ∙ sym shown)
+pub element_reading : (names : List Name) (tree : Tree) (screen : Screen) (scrolls : Scrolls) (n : ℕ) (rect : Rect) (scroll : Point)
+    → rect ≡ rect_of (place_of tree screen scrolls n) (size_of tree screen n Border) → scroll ≡ point_at (scroll_offset tree screen scrolls (ScrolledElement n))
+    → reading_of names tree screen scrolls (InElement n) ≡ ReadLine (element_text names n) rect scroll
+element_reading names tree screen scrolls n rect scroll is shown =
+    ap (λ s. ReadLine (element_text names n) (rect_of (place_of tree screen scrolls n) (size_of tree screen n Border)) s)
+    (shown_offset tree screen scrolls n ∙ sym shown)
     ∙ ap (λ r. ReadLine (element_text names n) r scroll) (sym is)
 
-pub document_reading : (names : List Name) (tree : Tree) (size : Extent) (scrolls : Scrolls) (document : ℕ) (rect : Rect) (scroll : Point) → rect ≡ rect_of (point_at no_extent) (viewport_of tree size document)
-    → scroll ≡ point_at (scroll_offset tree size scrolls (ScrolledDocument document)) → reading_of names tree size scrolls (InDocument document) ≡ ReadLine (document_text names document) rect scroll
-document_reading names tree size scrolls document rect scroll is shown =
-    ap (λ s. ReadLine (document_text names document) (rect_of (point_at no_extent) (viewport_of tree size document)) s) (sym shown)
+pub document_reading : (names : List Name) (tree : Tree) (screen : Screen) (scrolls : Scrolls) (document : ℕ) (rect : Rect) (scroll : Point) → rect ≡ rect_of (point_at no_extent) (viewport_of tree screen document)
+    → scroll ≡ point_at (scroll_offset tree screen scrolls (ScrolledDocument document)) → reading_of names tree screen scrolls (InDocument document) ≡ ReadLine (document_text names document) rect scroll
+document_reading names tree screen scrolls document rect scroll is shown =
+    ap (λ s. ReadLine (document_text names document) (rect_of (point_at no_extent) (viewport_of tree screen document)) s) (sym shown)
     ∙ ap (λ r. ReadLine (document_text names document) r scroll) (sym is)

@@ -6,7 +6,7 @@ use Rattle.layout_model.specs.Nodes.{Node, is_among, is_in_path}
 use Rattle.layout_model.specs.Boxes.{Inputs, inputs_in, if_shown, inputs_if_block}
 use Rattle.layout_model.specs.Reach.{View, view_inputs, inputs_in_view}
 use Rattle.layout_model.proofs.Paths.{path_top}
-use Rattle.page_model.specs.World.{Element, Extent, Tree}
+use Rattle.page_model.specs.World.{Element, Screen, Tree}
 use Rattle.page_model.specs.Lookups.{element_at, document_at}
 use Rattle.page_model.specs.Documents.{nodes_of, is_active}
 use Rattle.page_model.specs.PageBoxes.{view_with, framed_size, view_of, inputs_of}
@@ -27,9 +27,9 @@ use Rattle.page_boxes.proofs.Views.{view_is, view_idle, view_whole, view_root}
 use Rattle.page_boxes.proofs.Pages.{missing_element, absent_unboxed}
 
 -- the inputs of an element are those that it has in the view of its document
-pub inputs_found : (tree : Tree) (size : Extent) (n document : ℕ) → (element_at tree n).document ≡ document → inputs_of tree size n ≡ inputs_in_view (nodes_of tree) (view_of tree size document) n
+pub inputs_found : (tree : Tree) (screen : Screen) (n document : ℕ) → (element_at tree n).document ≡ document → inputs_of tree screen n ≡ inputs_in_view (nodes_of tree) (view_of tree screen document) n
 unfolding inputs_of
-inputs_found tree size n document owner = ap (λ d. inputs_in_view (nodes_of tree) (view_of tree size d) n) owner
+inputs_found tree screen n document owner = ap (λ d. inputs_in_view (nodes_of tree) (view_of tree screen d) n) owner
 
 none_is : (found : Option Inputs) → is_some found ≡ false → found ≡ None
 none_is None none = refl
@@ -44,41 +44,41 @@ same_fresh at before after n own same was = record {
   above = λ p up. ap (λ (slot : Slot). option_map (λ found. found.above) slot.found) same ∙ was.above p up;
 }
 
-module _ (tree : Tree) (size : Extent) where
+module _ (tree : Tree) (screen : Screen) where
   -- without inputs no element is due
-  not_due : (kept : List Slot) (n : ℕ) → inputs_of tree size n ≡ None → is_due tree size kept n ≡ false
+  not_due : (kept : List Slot) (n : ℕ) → inputs_of tree screen n ≡ None → is_due tree screen kept n ≡ false
   not_due kept n none = ap (λ found. is_due_at found (slot_in kept n)) none
 
   -- a document whose view has no root element
-  module _ (document : ℕ) (none : (view_of tree size document).root ≡ None) where
-    rootless_fresh : (kept : List Slot) → IsFreshIn tree size kept document
+  module _ (document : ℕ) (none : (view_of tree screen document).root ≡ None) where
+    rootless_fresh : (kept : List Slot) → IsFreshIn tree screen kept document
     rootless_fresh kept = record {
-      boxes = λ n inputs is. let nothing : None ≡ Some inputs = sym (rootless (nodes_of tree) (view_of tree size document) none n) ∙ is in cc;
+      boxes = λ n inputs is. let nothing : None ≡ Some inputs = sym (rootless (nodes_of tree) (view_of tree screen document) none n) ∙ is in cc;
     }
 
-    rootless_due : (kept : List Slot) (n : ℕ) → (element_at tree n).document ≡ document → is_due tree size kept n ≡ false
-    rootless_due kept n owner = not_due kept n (inputs_found tree size n document owner ∙ rootless (nodes_of tree) (view_of tree size document) none n)
+    rootless_due : (kept : List Slot) (n : ℕ) → (element_at tree n).document ≡ document → is_due tree screen kept n ≡ false
+    rootless_due kept n owner = not_due kept n (inputs_found tree screen n document owner ∙ rootless (nodes_of tree) (view_of tree screen document) none n)
 
-    pub rootless_laid_out : (kept : List Slot) → IsLaidOut tree size kept document
+    pub rootless_laid_out : (kept : List Slot) → IsLaidOut tree screen kept document
     rootless_laid_out kept = record { fresh = rootless_fresh kept; done = rootless_due kept }
 
   -- a document that isn't Active has no box
-  pub idle_rootless : (document : ℕ) → is_active tree document ≡ false → (view_of tree size document).root ≡ None
-  idle_rootless document none = ap (λ (view : View). view.root) (sym (view_whole tree size document) ∙ view_idle tree size 65536 document none)
+  pub idle_rootless : (document : ℕ) → is_active tree document ≡ false → (view_of tree screen document).root ≡ None
+  idle_rootless document none = ap (λ (view : View). view.root) (sym (view_whole tree screen document) ∙ view_idle tree screen 65536 document none)
 
-  pub idle_fresh : (kept : List Slot) (document : ℕ) → is_active tree document ≡ false → IsFreshIn tree size kept document
+  pub idle_fresh : (kept : List Slot) (document : ℕ) → is_active tree document ≡ false → IsFreshIn tree screen kept document
   idle_fresh kept document none = rootless_fresh document (idle_rootless document none) kept
 
-  pub idle_due : (kept : List Slot) (n : ℕ) → is_active tree (element_at tree n).document ≡ false → is_due tree size kept n ≡ false
+  pub idle_due : (kept : List Slot) (n : ℕ) → is_active tree (element_at tree n).document ≡ false → is_due tree screen kept n ≡ false
   idle_due kept n none = rootless_due (element_at tree n).document (idle_rootless (element_at tree n).document none) kept n refl
 
 -- an Active document whose viewport has this size, where it shows something
-module _ (tree : Tree) (framed : AreFramed tree) (size : Extent) (document : ℕ) (active : is_active tree document ≡ true)
-    (found : Option (ℕ × ℕ)) (shown : found ≡ framed_size tree size (view_of tree size) (document_at tree document).frame) where
-  view_here : view_of tree size document ≡ view_with (document_at tree document).root found
-  view_here = view_is tree framed size document active ∙ ap (view_with (document_at tree document).root) (sym shown)
+module _ (tree : Tree) (framed : AreFramed tree) (screen : Screen) (document : ℕ) (active : is_active tree document ≡ true)
+    (found : Option (ℕ × ℕ)) (shown : found ≡ framed_size tree screen (view_of tree screen) (document_at tree document).frame) where
+  view_here : view_of tree screen document ≡ view_with (document_at tree document).root found
+  view_here = view_is tree framed screen document active ∙ ap (view_with (document_at tree document).root) (sym shown)
 
-  pub rootless_here : (view_with (document_at tree document).root found).root ≡ None → (view_of tree size document).root ≡ None
+  pub rootless_here : (view_with (document_at tree document).root found).root ≡ None → (view_of tree screen document).root ≡ None
   rootless_here none = ap (λ (view : View). view.root) view_here ∙ none
 
 -- a document without a root element shows none
@@ -87,41 +87,41 @@ no_root root None none = refl
 no_root root (Some pair) none = none
 
 -- an element has the inputs that its parent hands down
-module _ (tree : Tree) (framed : AreFramed tree) (size : Extent) where
-  pub inputs_go_down : (depth : ℕ) → GoesDown (nodes_of tree) depth (inputs_of tree size)
+module _ (tree : Tree) (framed : AreFramed tree) (screen : Screen) where
+  pub inputs_go_down : (depth : ℕ) → GoesDown (nodes_of tree) depth (inputs_of tree screen)
   inputs_go_down depth c p is deep =
-      inputs_found tree size c (element_at tree p).document (framed.owners.owned c p is)
-      ∙ inputs_below (nodes_of tree) (view_of tree size (element_at tree p).document) c p is (framed.trees.shallow p)
+      inputs_found tree screen c (element_at tree p).document (framed.owners.owned c p is)
+      ∙ inputs_below (nodes_of tree) (view_of tree screen (element_at tree p).document) c p is (framed.trees.shallow p)
       ∙ ap (λ found. if_shown (nodes_of tree c).item.style.hidden (inputs_if_block (nodes_of tree p).item.kind (nodes_of tree p).item found))
-      (sym (inputs_found tree size p (element_at tree p).document refl))
+      (sym (inputs_found tree screen p (element_at tree p).document refl))
 
 -- an Active document that shows its root element
-module _ (tree : Tree) (framed : AreFramed tree) (size : Extent) (document : ℕ) (active : is_active tree document ≡ true)
-    (pair : ℕ × ℕ) (shown : Some pair ≡ framed_size tree size (view_of tree size) (document_at tree document).frame)
+module _ (tree : Tree) (framed : AreFramed tree) (screen : Screen) (document : ℕ) (active : is_active tree document ≡ true)
+    (pair : ℕ × ℕ) (shown : Some pair ≡ framed_size tree screen (view_of tree screen) (document_at tree document).frame)
     (at : ℕ → Node) (nodes : nodes_of tree ≡ at) (root : ℕ) (rooted : (document_at tree document).root ≡ Some root) where
   abbrev shown_view : View
   shown_view = view_with (Some root) (Some pair)
 
-  pub view_shown : view_of tree size document ≡ shown_view
-  view_shown = view_here tree framed size document active (Some pair) shown ∙ ap (λ found. view_with found (Some pair)) rooted
+  pub view_shown : view_of tree screen document ≡ shown_view
+  view_shown = view_here tree framed screen document active (Some pair) shown ∙ ap (λ found. view_with found (Some pair)) rooted
 
   module _ (inputs : Inputs) (from : inputs ≡ record { width = pair.0; height = Some (pair.1) }) where
-    inputs_shown : (n : ℕ) → inputs_in at root inputs n ≡ inputs_in_view (nodes_of tree) (view_of tree size document) n
+    inputs_shown : (n : ℕ) → inputs_in at root inputs n ≡ inputs_in_view (nodes_of tree) (view_of tree screen document) n
     inputs_shown n =
         ap (λ given. inputs_in at root given n) from
         ∙ sym (inputs_from at root shown_view refl n)
         ∙ ap (λ view. inputs_in_view at view n) (sym view_shown)
-        ∙ ap (λ at. inputs_in_view at (view_of tree size document) n) (sym nodes)
+        ∙ ap (λ at. inputs_in_view at (view_of tree screen document) n) (sym nodes)
 
     -- the document itself
     pub laid_out_here : (kept : List Slot)
         → ((n : ℕ) (own : Inputs) → inputs_in at root inputs n ≡ Some own → IsFreshAt at (slot_in kept) n own)
         → ((n : ℕ) → is_due_with (inputs_in at root inputs) (slot_in kept) n ≡ false)
-        → IsLaidOut tree size kept document
+        → IsLaidOut tree screen kept document
     laid_out_here kept fresh done = record {
       fresh = record { boxes = λ n own is. subst (λ at. IsFreshAt at (slot_in kept) n own) (sym nodes) (fresh n own (inputs_shown n ∙ is)) };
       done = λ n owner.
-          ap (λ found. is_due_at found (slot_in kept n)) (inputs_found tree size n document owner ∙ sym (inputs_shown n)) ∙ done n;
+          ap (λ found. is_due_at found (slot_in kept n)) (inputs_found tree screen n document owner ∙ sym (inputs_shown n)) ∙ done n;
     }
 
     -- what other documents show stands in other trees
@@ -133,37 +133,37 @@ module _ (tree : Tree) (framed : AreFramed tree) (size : Extent) (document : ℕ
         let same : r ≡ root = top_only (nodes_of tree) r root n its.top own.top there here in
         differs (sym its.owner ∙ ap (λ m. (element_at tree m).document) same ∙ own.owner)
 
-    elsewhere : (other n : ℕ) (own : Inputs) → other ≢ document → inputs_in_view (nodes_of tree) (view_of tree size other) n ≡ Some own → inputs_in at root inputs n ≡ None
+    elsewhere : (other n : ℕ) (own : Inputs) → other ≢ document → inputs_in_view (nodes_of tree) (view_of tree screen other) n ≡ Some own → inputs_in at root inputs n ≡ None
     elsewhere other n own differs is = by_inputs (inputs_in at root inputs n) refl
       where
         by_inputs : (found : Option Inputs) → inputs_in at root inputs n ≡ found → inputs_in at root inputs n ≡ None
         by_inputs None e = e
         by_inputs (Some more) e =
-            let there = rooted_in (nodes_of tree) (view_of tree size other) n own is in
+            let there = rooted_in (nodes_of tree) (view_of tree screen other) n own is in
             let here = boxed_inside at root inputs n (ap is_some e) in
-            absurd (apart other there.0 n differs (view_root tree size other there.0 there.1.0) there.1.1 (ap (λ at. is_in_path at root n) nodes ∙ here))
+            absurd (apart other there.0 n differs (view_root tree screen other there.0 there.1.0) there.1.1 (ap (λ at. is_in_path at root n) nodes ∙ here))
 
     module _ (before after : List Slot) (same : (n : ℕ) → inputs_in at root inputs n ≡ None → slot_in after n ≡ slot_in before n) where
       -- the other documents
-      pub others_here : (other : ℕ) → other ≢ document → IsLaidOut tree size before other → IsLaidOut tree size after other
+      pub others_here : (other : ℕ) → other ≢ document → IsLaidOut tree screen before other → IsLaidOut tree screen after other
       others_here other differs was = record {
         fresh = record {
           boxes = λ n own is. same_fresh (nodes_of tree) (slot_in before) (slot_in after) n own (same n (elsewhere other n own differs is)) (was.fresh.boxes n own is);
         };
-        done = λ n owner. by_inputs n owner (inputs_of tree size n) refl;
+        done = λ n owner. by_inputs n owner (inputs_of tree screen n) refl;
       }
         where
-          by_inputs : (n : ℕ) → (element_at tree n).document ≡ other → (found : Option Inputs) → inputs_of tree size n ≡ found → is_due tree size after n ≡ false
-          by_inputs n owner None none = not_due tree size after n none
+          by_inputs : (n : ℕ) → (element_at tree n).document ≡ other → (found : Option Inputs) → inputs_of tree screen n ≡ found → is_due tree screen after n ≡ false
+          by_inputs n owner None none = not_due tree screen after n none
           by_inputs n owner (Some own) is =
-              ap (is_due_at (inputs_of tree size n)) (same n (elsewhere other n own differs (sym (inputs_found tree size n other owner) ∙ is)))
+              ap (is_due_at (inputs_of tree screen n)) (same n (elsewhere other n own differs (sym (inputs_found tree screen n other owner) ∙ is)))
               ∙ was.done n owner
 
       -- what is kept
       unmade : (n : ℕ) → length tree.elements ≤ n → inputs_in at root inputs n ≡ None
       unmade n past =
           let beyond : nat_lt n (length tree.elements) ≡ false = grind (arith, nat_tests) in
-          none_is (inputs_in at root inputs n) (ap is_some (inputs_shown n) ∙ absent_unboxed tree (view_of tree size document) n beyond)
+          none_is (inputs_in at root inputs n) (ap is_some (inputs_shown n) ∙ absent_unboxed tree (view_of tree screen document) n beyond)
 
       pub kept_here : AreKept tree before → length after ≡ length before → IsReady at root after → AreKept tree after
       kept_here kept slots ready = record {
@@ -173,11 +173,11 @@ module _ (tree : Tree) (framed : AreFramed tree) (size : Extent) (document : ℕ
       }
 
     -- the inputs of the root element are those that it is laid out with
-    pub inputs_on_root : inputs_of tree size root ≡ if_shown (at root).item.style.hidden (Some inputs)
+    pub inputs_on_root : inputs_of tree screen root ≡ if_shown (at root).item.style.hidden (Some inputs)
     inputs_on_root =
         let own = framed.owners.roots document root rooted in
         let itself : nat_eq root root ≡ true = grind (arith, nat_tests) in
-        inputs_found tree size root document own.owner
+        inputs_found tree screen root document own.owner
         ∙ ap (λ view. inputs_in_view (nodes_of tree) view root) view_shown
         ∙ inputs_on_top (nodes_of tree) shown_view root own.top
         ∙ ap (λ same. if_shown (nodes_of tree root).item.style.hidden (cond same (Some (view_inputs shown_view)) None)) itself

@@ -11,7 +11,7 @@ use Rattle.layout_model.specs.Clips.{is_scroll_container}
 use Rattle.layout_model.specs.Points.{plus, moved, moved_back, sum_points}
 use Rattle.layout_model.specs.Reach.{View, inputs_in_view, in_force, force_if, range_of, range_of_view, reach_of, reach_of_view, offset_in_force, view_in_force}
 use Rattle.layout_model.specs.Places.{offset_of, place_in}
-use Rattle.page_model.specs.World.{Extent, Scrolls, Tree}
+use Rattle.page_model.specs.World.{Screen, Scrolls, Tree}
 use Rattle.page_model.specs.Lookups.{element_at}
 use Rattle.page_model.specs.Documents.{nodes_of}
 use Rattle.page_model.specs.PageBoxes.{pair_of, stored_in, scrolled_view, has_box, box_of, size_by, size_of, corner_of, point_of, place_if, place_of}
@@ -25,20 +25,20 @@ module _ (own : Box) (found : Size) where
   size_by_kind Content content border = content refl
   size_by_kind Border content border = border refl
 
-module _ (tree : Tree) (size : Extent) (n : ℕ) where
-  pub size_found : (kind : BoxKind) (own : Box) → Some own ≡ box_of tree size n → as_size (size_by kind own) ≡ as_size (pair_of (size_of tree size n kind))
+module _ (tree : Tree) (screen : Screen) (n : ℕ) where
+  pub size_found : (kind : BoxKind) (own : Box) → Some own ≡ box_of tree screen n → as_size (size_by kind own) ≡ as_size (pair_of (size_of tree screen n kind))
   unfolding size_of
   size_found kind own found = ap (λ o. as_size (unwrap_or (option_map (size_by kind) o) (0, 0))) found
 
-  pub size_none : (kind : BoxKind) → None ≡ box_of tree size n → as_size (0, 0) ≡ as_size (pair_of (size_of tree size n kind))
+  pub size_none : (kind : BoxKind) → None ≡ box_of tree screen n → as_size (0, 0) ≡ as_size (pair_of (size_of tree screen n kind))
   unfolding size_of
   size_none kind found = ap (λ o. as_size (unwrap_or (option_map (size_by kind) o) (0, 0))) found
 
-  pub corner_found : (own : Box) → Some own ≡ box_of tree size n → as_point (content_corner own) ≡ point_at (corner_of tree size n)
+  pub corner_found : (own : Box) → Some own ≡ box_of tree screen n → as_point (content_corner own) ≡ point_at (corner_of tree screen n)
   unfolding corner_of
   corner_found own found = ap (λ o. as_point (unwrap_or (option_map content_corner o) (0, 0))) found
 
-  pub corner_none : None ≡ box_of tree size n → as_point (0, 0) ≡ point_at (corner_of tree size n)
+  pub corner_none : None ≡ box_of tree screen n → as_point (0, 0) ≡ point_at (corner_of tree screen n)
   unfolding corner_of
   corner_none found = ap (λ o. as_point (unwrap_or (option_map content_corner o) (0, 0))) found
 
@@ -105,14 +105,14 @@ pub offset_none : (at : ℕ → Node) (stored : ℕ → ℕ × ℕ) (view : View
 unfolding offset_in_force
 offset_none at stored view n none = ap (λ b. force_if b (stored n) (λ u. range_of at view n)) none
 
-module _ (tree : Tree) (size : Extent) (scrolls : Scrolls) (n : ℕ) where
-  pub place_none : has_box tree size n ≡ false → point_of (pos 0, pos 0) ≡ place_of tree size scrolls n
+module _ (tree : Tree) (screen : Screen) (scrolls : Scrolls) (n : ℕ) where
+  pub place_none : has_box tree screen n ≡ false → point_of (pos 0, pos 0) ≡ place_of tree screen scrolls n
   unfolding place_of
-  place_none none = sym (ap (place_if tree size scrolls n) none)
+  place_none none = sym (ap (place_if tree screen scrolls n) none)
 
-  pub place_there : has_box tree size n ≡ true → point_of (place_in (nodes_of tree) (stored_in scrolls) (scrolled_view tree size scrolls ((element_at tree n).document)) n) ≡ place_of tree size scrolls n
+  pub place_there : has_box tree screen n ≡ true → point_of (place_in (nodes_of tree) (stored_in scrolls) (scrolled_view tree screen scrolls ((element_at tree n).document)) n) ≡ place_of tree screen scrolls n
   unfolding place_of
-  place_there there = sym (ap (place_if tree size scrolls n) there)
+  place_there there = sym (ap (place_if tree screen scrolls n) there)
 
 -- a length that isn't negative
 pub same_length : (length : ℤ) → pos 0 ≤ℤ length → pos (unsigned_abs length) ≡ length

@@ -7,7 +7,7 @@ use Rattle.layout_model.specs.Items.{Kind}
 use Rattle.layout_model.specs.Nodes.{Node, IsLinked, IsShallow, path_above, path_up, is_among, is_in_path}
 use Rattle.layout_model.specs.Boxes.{Inputs, Box, box_in, inner_children}
 use Rattle.layout_model.specs.Reach.{inputs_in_view}
-use Rattle.page_model.specs.World.{Extent, Tree}
+use Rattle.page_model.specs.World.{Screen, Tree}
 use Rattle.page_model.specs.Lookups.{element_at}
 use Rattle.page_model.specs.Documents.{nodes_of}
 use Rattle.page_model.specs.PageBoxes.{view_of, inputs_of}
@@ -83,18 +83,18 @@ module _ (tree : Tree) (framed : AreFramed tree) (root : ℕ) where
   unfolding is_in_path
   owner_inside n inside = owner_up 65536 n inside
 
-module _ (tree : Tree) (framed : AreFramed tree) (size : Extent) where
+module _ (tree : Tree) (framed : AreFramed tree) (screen : Screen) where
   -- what has a box in a document's view belongs to that document
-  in_own : (document n : ℕ) (inputs : Inputs) → inputs_in_view (nodes_of tree) (view_of tree size document) n ≡ Some inputs → inputs_of tree size n ≡ Some inputs
+  in_own : (document n : ℕ) (inputs : Inputs) → inputs_in_view (nodes_of tree) (view_of tree screen document) n ≡ Some inputs → inputs_of tree screen n ≡ Some inputs
   in_own document n inputs is =
-      let there = rooted_in (nodes_of tree) (view_of tree size document) n inputs is in
-      let rooted = view_root tree size document there.0 there.1.0 in
+      let there = rooted_in (nodes_of tree) (view_of tree screen document) n inputs is in
+      let rooted = view_root tree screen document there.0 there.1.0 in
       let owner = owner_inside tree framed there.0 n there.1.1 ∙ (framed.owners.roots document there.0 rooted).owner in
-      inputs_found tree size n document owner ∙ is
+      inputs_found tree screen n document owner ∙ is
 
-pub exact_here : (tree : Tree) (size : Extent) (kept : List Slot) {P : Type 0} (style : P → Style) (kind : P → Kind) {most : ℕ} {nodes : List (Knot P)}
-    → IsForest most nodes → nodes_of tree ≡ layout_tree style kind nodes → AreKept tree kept → IsExact tree size kept
-exact_here tree size kept style kind {most} {nodes} forest same fits n inputs is undue =
+pub exact_here : (tree : Tree) (screen : Screen) (kept : List Slot) {P : Type 0} (style : P → Style) (kind : P → Kind) {most : ℕ} {nodes : List (Knot P)}
+    → IsForest most nodes → nodes_of tree ≡ layout_tree style kind nodes → AreKept tree kept → IsExact tree screen kept
+exact_here tree screen kept style kind {most} {nodes} forest same fits n inputs is undue =
     let settled = settled_so (slot_in kept n) inputs (ap (λ found. is_due_at found (slot_in kept n)) (sym is) ∙ undue) in
     let sound = subst (λ at. IsSound at (slot_in kept)) same fits.sound in
     ap (option_map (λ (found : Found). found.own)) settled.held
@@ -105,21 +105,21 @@ exact_here tree size kept style kind {most} {nodes} forest same fits n inputs is
     ∙ ap (λ at. Some (box_in at inputs n)) (sym same)
 
 -- where none is due, all boxes are held as they are now
-module _ (tree : Tree) (framed : AreFramed tree) (size : Extent) (kept : List Slot) (none : (n : ℕ) → is_due tree size kept n ≡ false)
+module _ (tree : Tree) (framed : AreFramed tree) (screen : Screen) (kept : List Slot) (none : (n : ℕ) → is_due tree screen kept n ≡ false)
     (at : ℕ → Node) (same : nodes_of tree ≡ at) (shaped : IsShaped at) (linked : IsLinked at) (shallow : IsShallow at) (fits : AreKept tree kept) where
   sound : IsSound at (slot_in kept)
   sound = subst (λ at. IsSound at (slot_in kept)) same fits.sound
 
-  settled_in : (document n : ℕ) (inputs : Inputs) → inputs_in_view at (view_of tree size document) n ≡ Some inputs → IsSettled (slot_in kept n) inputs
+  settled_in : (document n : ℕ) (inputs : Inputs) → inputs_in_view at (view_of tree screen document) n ≡ Some inputs → IsSettled (slot_in kept n) inputs
   settled_in document n inputs is =
       settled_so (slot_in kept n) inputs
-      (ap (λ found. is_due_at found (slot_in kept n)) (sym (in_own tree framed size document n inputs (ap (λ at. inputs_in_view at (view_of tree size document) n) same ∙ is)))
+      (ap (λ found. is_due_at found (slot_in kept n)) (sym (in_own tree framed screen document n inputs (ap (λ at. inputs_in_view at (view_of tree screen document) n) same ∙ is)))
       ∙ none n)
 
-  around : (document n : ℕ) (inputs : Inputs) → inputs_in_view at (view_of tree size document) n ≡ Some inputs → (p : ℕ) → (at n).parent ≡ Some p → Around at (slot_in kept) p n inputs
+  around : (document n : ℕ) (inputs : Inputs) → inputs_in_view at (view_of tree screen document) n ≡ Some inputs → (p : ℕ) → (at n).parent ≡ Some p → Around at (slot_in kept) p n inputs
   around document n inputs is p up =
-      let parts = handed (at n).item.style.hidden (at p).item.kind (at p).item (inputs_in_view at (view_of tree size document) p) inputs
-      (sym (inputs_below at (view_of tree size document) n p up (shallow p)) ∙ is) in
+      let parts = handed (at n).item.style.hidden (at p).item.kind (at p).item (inputs_in_view at (view_of tree screen document) p) inputs
+      (sym (inputs_below at (view_of tree screen document) n p up (shallow p)) ∙ is) in
       record {
         above = parts.2.0;
         settled = settled_in document p parts.2.0 parts.2.1;
@@ -127,14 +127,14 @@ module _ (tree : Tree) (framed : AreFramed tree) (size : Extent) (kept : List Sl
         handed = parts.2.2;
       }
 
-  boxes_in : (document n : ℕ) (inputs : Inputs) → inputs_in_view at (view_of tree size document) n ≡ Some inputs → IsFreshAt at (slot_in kept) n inputs
+  boxes_in : (document n : ℕ) (inputs : Inputs) → inputs_in_view at (view_of tree screen document) n ≡ Some inputs → IsFreshAt at (slot_in kept) n inputs
   boxes_in document n inputs is = fresh_under at shaped linked shallow (slot_in kept) sound n inputs (settled_in document n inputs is) (around document n inputs is)
 
-  pub fresh_here : IsFresh tree size kept
+  pub fresh_here : IsFresh tree screen kept
   fresh_here = record {
     documents = λ document. record {
       boxes = λ n inputs is.
           subst (λ at. IsFreshAt at (slot_in kept) n inputs) (sym same)
-          (boxes_in document n inputs (sym (ap (λ at. inputs_in_view at (view_of tree size document) n) same) ∙ is));
+          (boxes_in document n inputs (sym (ap (λ at. inputs_in_view at (view_of tree screen document) n) same) ∙ is));
     };
   }

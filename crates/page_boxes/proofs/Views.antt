@@ -5,46 +5,46 @@ use Rattle.std.proofs.Common.{◌≡◌, ◌≢◌, ◌<◌, ◌≤◌, ℕ, zer
 use Rattle.std.specs.Prelude.{is_some}
 use Rattle.layout_model.specs.Boxes.{Inputs, box_in, content_size}
 use Rattle.layout_model.specs.Reach.{View, inputs_in_view}
-use Rattle.page_model.specs.World.{DocumentState, Fresh, Active, Dead, Element, Extent, Tree}
+use Rattle.page_model.specs.World.{DocumentState, Fresh, Active, Dead, Element, Screen, Tree}
 use Rattle.page_model.specs.Lookups.{element_at, document_at, no_element}
 use Rattle.page_model.specs.Documents.{first_of_list, is_active_state, is_active, nodes_of}
 use Rattle.page_model.specs.PageBoxes.{no_view, framed_size, view_with, view_if_active, view_up, view_of}
 use Rattle.page_documents.specs.Paths.{owner_of, holder_of, way_above, way_down, path_to}
 use Rattle.page_documents.specs.Frames.{AreFramed}
 
-module _ (tree : Tree) (size : Extent) where
+module _ (tree : Tree) (screen : Screen) where
   -- one frame more
   view_step : (high less document : ℕ) → high ≡ suc less
-      → view_up high tree size document ≡ view_if_active tree size (view_up less tree size) document (document_at tree document).state
+      → view_up high tree screen document ≡ view_if_active tree screen (view_up less tree screen) document (document_at tree document).state
   unfolding view_up
-  view_step high less document is = ap (λ h. view_up h tree size document) is
+  view_step high less document is = ap (λ h. view_up h tree screen document) is
 
-  pub view_none : (high document : ℕ) → high ≡ 0 → view_up high tree size document ≡ no_view
+  pub view_none : (high document : ℕ) → high ≡ 0 → view_up high tree screen document ≡ no_view
   unfolding view_up
-  view_none high document is = ap (λ h. view_up h tree size document) is
+  view_none high document is = ap (λ h. view_up h tree screen document) is
 
-  idle : (state : DocumentState) (views : ℕ → View) (document : ℕ) → is_active_state state ≡ false → view_if_active tree size views document state ≡ no_view
+  idle : (state : DocumentState) (views : ℕ → View) (document : ℕ) → is_active_state state ≡ false → view_if_active tree screen views document state ≡ no_view
   idle Fresh views document none = refl
   idle Active views document none = cc
   idle Dead views document none = refl
 
-  lively : (state : DocumentState) (views : ℕ → View) (document : ℕ) → is_active_state state ≡ true → view_if_active tree size views document state
-      ≡ view_with (document_at tree document).root (framed_size tree size views (document_at tree document).frame)
+  lively : (state : DocumentState) (views : ℕ → View) (document : ℕ) → is_active_state state ≡ true → view_if_active tree screen views document state
+      ≡ view_with (document_at tree document).root (framed_size tree screen views (document_at tree document).frame)
   lively Fresh views document active = cc
   lively Active views document active = refl
   lively Dead views document active = cc
 
   -- a document that isn't Active shows nothing
-  pub view_idle : (high document : ℕ) → is_active tree document ≡ false → view_up high tree size document ≡ no_view
+  pub view_idle : (high document : ℕ) → is_active tree document ≡ false → view_up high tree screen document ≡ no_view
   view_idle zero document none = view_none 0 document refl
-  view_idle (suc high) document none = view_step (suc high) high document refl ∙ idle (document_at tree document).state (view_up high tree size) document none
+  view_idle (suc high) document none = view_step (suc high) high document refl ∙ idle (document_at tree document).state (view_up high tree screen) document none
 
-  pub view_lively : (high less document : ℕ) → high ≡ suc less → is_active tree document ≡ true → view_up high tree size document
-      ≡ view_with (document_at tree document).root (framed_size tree size (view_up less tree size) (document_at tree document).frame)
+  pub view_lively : (high less document : ℕ) → high ≡ suc less → is_active tree document ≡ true → view_up high tree screen document
+      ≡ view_with (document_at tree document).root (framed_size tree screen (view_up less tree screen) (document_at tree document).frame)
   view_lively high less document is active =
-      view_step high less document is ∙ lively (document_at tree document).state (view_up less tree size) document active
+      view_step high less document is ∙ lively (document_at tree document).state (view_up less tree screen) document active
 
-  pub view_whole : (document : ℕ) → view_up 65536 tree size document ≡ view_of tree size document
+  pub view_whole : (document : ℕ) → view_up 65536 tree screen document ≡ view_of tree screen document
   unfolding view_of
   view_whole document = refl
 
@@ -53,12 +53,12 @@ module _ (tree : Tree) (size : Extent) where
   shown_only root None r is = cc
   shown_only root (Some pair) r is = is
 
-  pub view_root : (document r : ℕ) → (view_of tree size document).root ≡ Some r → (document_at tree document).root ≡ Some r
+  pub view_root : (document r : ℕ) → (view_of tree screen document).root ≡ Some r → (document_at tree document).root ≡ Some r
   view_root document r is = by_state (is_active tree document) refl
     where
       by_state : (active : Bool) → is_active tree document ≡ active → (document_at tree document).root ≡ Some r
       by_state true active =
-          shown_only (document_at tree document).root (framed_size tree size (view_up 65535 tree size) (document_at tree document).frame) r
+          shown_only (document_at tree document).root (framed_size tree screen (view_up 65535 tree screen) (document_at tree document).frame) r
           (sym (ap (λ (view : View). view.root) (sym (view_whole document) ∙ view_lively 65536 65535 document refl active)) ∙ is)
       by_state false none =
           let nothing : None ≡ Some r = sym (ap (λ (view : View). view.root) (sym (view_whole document) ∙ view_idle 65536 document none)) ∙ is in cc
@@ -66,7 +66,7 @@ module _ (tree : Tree) (size : Extent) where
   -- the size of a viewport rests on the view around it alone
   pub size_same : (views others : ℕ → View) (frame : Option ℕ)
       → ((n : ℕ) → frame ≡ Some n → views (element_at tree n).document ≡ others (element_at tree n).document)
-      → framed_size tree size views frame ≡ framed_size tree size others frame
+      → framed_size tree screen views frame ≡ framed_size tree screen others frame
   size_same views others None same = refl
   size_same views others (Some n) same =
       ap (λ view. option_map (λ inputs. content_size (box_in (nodes_of tree) inputs n)) (inputs_in_view (nodes_of tree) view n)) (same n refl)
@@ -84,19 +84,19 @@ module _ (tree : Tree) (size : Extent) where
         by_inputs (Some inputs) = refl
 
     by_frame : (frame : Option ℕ) → (document_at tree document).frame ≡ frame
-        → (view_up high tree size document).root ≡ (view_with (document_at tree document).root (framed_size tree size (view_up less tree size) frame)).root
+        → (view_up high tree screen document).root ≡ (view_with (document_at tree document).root (framed_size tree screen (view_up less tree screen) frame)).root
     by_frame frame is =
         ap (λ (view : View). view.root) (view_lively high less document more active)
-        ∙ ap (λ f. (view_with (document_at tree document).root (framed_size tree size (view_up less tree size) f)).root) is
+        ∙ ap (λ f. (view_with (document_at tree document).root (framed_size tree screen (view_up less tree screen) f)).root) is
 
-    pub root_unframed : (document_at tree document).frame ≡ None → (view_up high tree size document).root ≡ (document_at tree document).root
+    pub root_unframed : (document_at tree document).frame ≡ None → (view_up high tree screen document).root ≡ (document_at tree document).root
     root_unframed none = by_frame None none
 
     pub root_framed : (frame : ℕ) → (document_at tree document).frame ≡ Some frame → (boxed : Bool)
-        → is_some (inputs_in_view (nodes_of tree) (view_up less tree size (element_at tree frame).document) frame) ≡ boxed
-        → (view_up high tree size document).root ≡ cond boxed (document_at tree document).root None
+        → is_some (inputs_in_view (nodes_of tree) (view_up less tree screen (element_at tree frame).document) frame) ≡ boxed
+        → (view_up high tree screen document).root ≡ cond boxed (document_at tree document).root None
     root_framed frame is boxed there =
-        by_frame (Some frame) is ∙ boxed_size (view_up less tree size (element_at tree frame).document) frame boxed there (document_at tree document).root
+        by_frame (Some frame) is ∙ boxed_size (view_up less tree screen (element_at tree frame).document) frame boxed there (document_at tree document).root
 
 -- a frame is there, and what it is in holds its document
 module _ (tree : Tree) (framed : AreFramed tree) where
@@ -152,31 +152,31 @@ module _ (tree : Tree) (framed : AreFramed tree) where
   path_leads document active = framed.leads document active
 
   -- it isn't looked at any further than there are frames
-  module _ (size : Extent) where
+  module _ (screen : Screen) where
     none_steady : (document : ℕ) → (is_active tree document ≡ true → first_of_list (way_down 0 tree document) ≡ Some 0)
-        → (high : ℕ) → view_up high tree size document ≡ view_up (suc high) tree size document
+        → (high : ℕ) → view_up high tree screen document ≡ view_up (suc high) tree screen document
     none_steady document leads high = by_state (is_active tree document) refl
       where
-        by_state : (active : Bool) → is_active tree document ≡ active → view_up high tree size document ≡ view_up (suc high) tree size document
-        by_state false none = view_idle tree size high document none ∙ sym (view_idle tree size (suc high) document none)
+        by_state : (active : Bool) → is_active tree document ≡ active → view_up high tree screen document ≡ view_up (suc high) tree screen document
+        by_state false none = view_idle tree screen high document none ∙ sym (view_idle tree screen (suc high) document none)
         by_state true active = absurd (no_way 0 document refl (leads active))
 
     one_steady : (high document : ℕ)
         → (is_active tree document ≡ true → (frame : ℕ) → (document_at tree document).frame ≡ Some frame
-        → view_up high tree size (element_at tree frame).document ≡ view_up (suc high) tree size (element_at tree frame).document)
-        → view_up (suc high) tree size document ≡ view_up (suc (suc high)) tree size document
+        → view_up high tree screen (element_at tree frame).document ≡ view_up (suc high) tree screen (element_at tree frame).document)
+        → view_up (suc high) tree screen document ≡ view_up (suc (suc high)) tree screen document
     one_steady high document same = by_state (is_active tree document) refl
       where
-        by_state : (active : Bool) → is_active tree document ≡ active → view_up (suc high) tree size document ≡ view_up (suc (suc high)) tree size document
-        by_state false none = view_idle tree size (suc high) document none ∙ sym (view_idle tree size (suc (suc high)) document none)
+        by_state : (active : Bool) → is_active tree document ≡ active → view_up (suc high) tree screen document ≡ view_up (suc (suc high)) tree screen document
+        by_state false none = view_idle tree screen (suc high) document none ∙ sym (view_idle tree screen (suc (suc high)) document none)
         by_state true active =
-            view_lively tree size (suc high) high document refl active
+            view_lively tree screen (suc high) high document refl active
             ∙ ap (view_with (document_at tree document).root)
-            (size_same tree size (view_up high tree size) (view_up (suc high) tree size) (document_at tree document).frame (same active))
-            ∙ sym (view_lively tree size (suc (suc high)) (suc high) document refl active)
+            (size_same tree screen (view_up high tree screen) (view_up (suc high) tree screen) (document_at tree document).frame (same active))
+            ∙ sym (view_lively tree screen (suc (suc high)) (suc high) document refl active)
 
     steady : (most document : ℕ) → (is_active tree document ≡ true → first_of_list (way_down most tree document) ≡ Some 0)
-        → (high : ℕ) → most ≤ high → view_up high tree size document ≡ view_up (suc high) tree size document
+        → (high : ℕ) → most ≤ high → view_up high tree screen document ≡ view_up (suc high) tree screen document
     steady zero document leads high enough = none_steady document leads high
     steady (suc most) document leads zero enough = absurd (omega arith)
     steady (suc most) document leads (suc high) enough =
@@ -185,18 +185,18 @@ module _ (tree : Tree) (framed : AreFramed tree) where
 
     -- the view of an Active document, by the view around it
     pub view_is : (document : ℕ) → is_active tree document ≡ true
-        → view_of tree size document ≡ view_with (document_at tree document).root (framed_size tree size (view_of tree size) (document_at tree document).frame)
+        → view_of tree screen document ≡ view_with (document_at tree document).root (framed_size tree screen (view_of tree screen) (document_at tree document).frame)
     view_is document active =
-        sym (view_whole tree size document)
-        ∙ view_lively tree size 65536 65535 document refl active
+        sym (view_whole tree screen document)
+        ∙ view_lively tree screen 65536 65535 document refl active
         ∙ ap (view_with (document_at tree document).root)
-        (size_same tree size (view_up 65535 tree size) (view_of tree size) (document_at tree document).frame
+        (size_same tree screen (view_up 65535 tree screen) (view_of tree screen) (document_at tree document).frame
         (λ frame is. around frame is (length tree.documents) refl))
       where
         around : (frame : ℕ) → (document_at tree document).frame ≡ Some frame → (count : ℕ) → length tree.documents ≡ count
-            → view_up 65535 tree size (element_at tree frame).document ≡ view_of tree size (element_at tree frame).document
+            → view_up 65535 tree screen (element_at tree frame).document ≡ view_of tree screen (element_at tree frame).document
         around frame is zero count = absurd (no_way (length tree.documents) document count (path_leads document active))
         around frame is (suc less) count =
             let few : suc less ≤ 65536 = omega (arith, framed.few, count) in
             steady less (element_at tree frame).document (λ held. way_less document frame is (length tree.documents) less count (path_leads document active)) 65535 (omega arith)
-            ∙ view_whole tree size (element_at tree frame).document
+            ∙ view_whole tree screen (element_at tree frame).document

@@ -1,7 +1,7 @@
 -- What is kept of the boxes of a page. That boxes are kept, and when they are computed, is this project's own.
 use Rattle.std.specs.Prelude.{◌≡◌, ◌≤◌, ℕ, Bool, true, false, List, length, Some, None, is_some}
 use Rattle.layout_model.specs.Boxes.{Inputs, box_in}
-use Rattle.page_model.specs.World.{Extent, Tree}
+use Rattle.page_model.specs.World.{Screen, Tree}
 use Rattle.page_model.specs.Documents.{nodes_of}
 use Rattle.page_model.specs.PageBoxes.{inputs_of}
 use Rattle.kept_layout.specs.declared.slots.Slot.{Slot}
@@ -15,12 +15,12 @@ pub record AreKept (tree : Tree) (kept : List Slot) : Type 0 where
   pub sound : IsSound (nodes_of tree) (slot_in kept)
   pub unmade : (n : ℕ) → length tree.elements ≤ n → (slot_in kept n).found ≡ None
 
--- which elements are due, and how many, where the viewport of `top` has this size
-abbrev pub is_due : Tree → Extent → List Slot → ℕ → Bool
-is_due tree size kept = is_due_with (inputs_of tree size) (slot_in kept)
+-- which elements are due, and how many, where `top` has this screen
+abbrev pub is_due : Tree → Screen → List Slot → ℕ → Bool
+is_due tree screen kept = is_due_with (inputs_of tree screen) (slot_in kept)
 
-abbrev pub due_count : Tree → Extent → List Slot → ℕ
-due_count tree size kept = due_count_with (inputs_of tree size) (slot_in kept) (length kept)
+abbrev pub due_count : Tree → Screen → List Slot → ℕ
+due_count tree screen kept = due_count_with (inputs_of tree screen) (slot_in kept) (length kept)
 
 -- a computation sets no mark and drops no box
 pub record FillsOnly (old new : List Slot) : Type 0 where
@@ -28,6 +28,6 @@ pub record FillsOnly (old new : List Slot) : Type 0 where
   pub found : (n : ℕ) → is_some (slot_in old n).found ≡ true → is_some (slot_in new n).found ≡ true
 
 -- what is held for each element that has a box and isn't due is that box as it is now
-abbrev pub IsExact : Tree → Extent → List Slot → Type 0
-IsExact tree size kept =
-    (n : ℕ) (inputs : Inputs) → inputs_of tree size n ≡ Some inputs → is_due tree size kept n ≡ false → held_in kept n ≡ Some (box_in (nodes_of tree) inputs n)
+abbrev pub IsExact : Tree → Screen → List Slot → Type 0
+IsExact tree screen kept =
+    (n : ℕ) (inputs : Inputs) → inputs_of tree screen n ≡ Some inputs → is_due tree screen kept n ≡ false → held_in kept n ≡ Some (box_in (nodes_of tree) inputs n)

@@ -1,25 +1,25 @@
 -- Which documents are laid out so far.
 use Rattle.std.specs.Prelude.{◌≡◌, ℕ, Bool, true, false, List, length}
-use Rattle.page_model.specs.World.{Extent, Tree}
+use Rattle.page_model.specs.World.{Screen, Tree}
 use Rattle.page_model.specs.Lookups.{element_at, entry_or}
 use Rattle.kept_layout.specs.declared.slots.Slot.{Slot}
 use Rattle.page_boxes.specs.Fresh.{IsFreshIn}
 use Rattle.page_boxes.specs.Kept.{is_due}
 
 -- each box of a document is held as it is now, and none of its elements is due
-pub record IsLaidOut (tree : Tree) (size : Extent) (kept : List Slot) (document : ℕ) : Type 0 where
-  pub fresh : IsFreshIn tree size kept document
-  pub done : (n : ℕ) → (element_at tree n).document ≡ document → is_due tree size kept n ≡ false
+pub record IsLaidOut (tree : Tree) (screen : Screen) (kept : List Slot) (document : ℕ) : Type 0 where
+  pub fresh : IsFreshIn tree screen kept document
+  pub done : (n : ℕ) → (element_at tree n).document ≡ document → is_due tree screen kept n ≡ false
 
 abbrev pub is_marked : List Bool → ℕ → Bool
 is_marked marks document = entry_or false marks document
 
 -- each document that is marked is laid out
-abbrev pub AreLaidOut : Tree → Extent → List Bool → List Slot → Type 0
-AreLaidOut tree size marks kept = (document : ℕ) → is_marked marks document ≡ true → IsLaidOut tree size kept document
+abbrev pub AreLaidOut : Tree → Screen → List Bool → List Slot → Type 0
+AreLaidOut tree screen marks kept = (document : ℕ) → is_marked marks document ≡ true → IsLaidOut tree screen kept document
 
 -- how the marks and what is kept go on: what was marked stays so, and all that is marked is laid out
-pub record GoesOn (tree : Tree) (size : Extent) (before marks : List Bool) (kept : List Slot) : Type 0 where
+pub record GoesOn (tree : Tree) (screen : Screen) (before marks : List Bool) (kept : List Slot) : Type 0 where
   pub count : length marks ≡ 64
   pub more : (document : ℕ) → is_marked before document ≡ true → is_marked marks document ≡ true
-  pub laid_out : AreLaidOut tree size marks kept
+  pub laid_out : AreLaidOut tree screen marks kept

@@ -1,12 +1,16 @@
--- What is asked of a page: sizes, and names in readings.
+-- What is asked of a page: sizes, the screen, and names in readings.
 use Rattle.std.specs.Prelude.{ℕ, List, unsigned_abs}
 use Rattle.px_units.specs.declared.Size.{Size}
-use Rattle.page_model.specs.World.{Extent, Name}
+use Rattle.page_model.specs.World.{Extent, Screen, Name}
 use Rattle.page_model.specs.Names.{element_text, document_text}
+use Rattle.page_boxes.specs.declared.screens.Screen.{Screen as ShownScreen}
 use Rattle.page_model.specs.Documents.{Container, InElement, InDocument}
 
 abbrev pub seen_size : Size → Extent
 seen_size size = record { across = unsigned_abs size.width; down = unsigned_abs size.height }
+
+abbrev pub seen_screen : ShownScreen → Screen
+seen_screen screen = record { size = seen_size screen.size }
 
 abbrev pub seen_pair : Size → ℕ × ℕ
 seen_pair size = (unsigned_abs size.width, unsigned_abs size.height)

@@ -2,15 +2,16 @@
 
 ghost use Rattle.std.specs.Prelude.{◌≡◌, ◌<◌, ◌≤◌, Some, None, IfSome, length, option_map};
 ghost use Rattle.element_tree.specs.Links.{number};
-ghost use Rattle.page_model.specs.World.{Extent};
+ghost use Rattle.page_model.specs.World.{Screen as WorldScreen};
 ghost use Rattle.page_model.specs.Lookups.{element_at, document_at};
 ghost use Rattle.page_model.specs.PageBoxes.{pair_of, view_up, view_with, view_of, framed_size, viewport_of, has_box, box_of};
 ghost use Rattle.block_layout.specs.Seen.{as_size};
 ghost use Rattle.page_tree.specs.Items.{IsNatural};
 ghost use Rattle.page_boxes.specs.Fresh.{IsFreshIn, IsFreshAbove};
-ghost use Rattle.page_boxes.specs.Pages.{seen_size, seen_pair};
+ghost use Rattle.page_boxes.specs.Pages.{seen_screen, seen_pair};
 
 use crate::climb::is_boxed;
+use crate::screens::Screen;
 use block_layout::{BoxOf, Boxes};
 use element_tree::NodeId;
 use kept_layout::Kept;
@@ -27,7 +28,7 @@ const NO_SIZE: Size = Size {
 
 // The root element that a document shows, none where it isn't Active or its frame has no box. So many frames are looked at.
 fn shown_root(page: &PageTree, document: u32, high: u32) -> Option<NodeId>
-    ensures { (size : Extent) → option_map number result ≡ (view_up high page.now.tree size document).root }
+    ensures { (screen : WorldScreen) → option_map number result ≡ (view_up high page.now.tree screen document).root }
 {
     if high == 0 {
         return None;
@@ -52,7 +53,7 @@ fn shown_root(page: &PageTree, document: u32, high: u32) -> Option<NodeId>
 ///
 /// It calls itself once for each frame around the element.
 pub fn has_box(page: &PageTree, node: NodeId) -> bool
-    ensures { (size : Extent) → result ≡ has_box page.now.tree size node.0 }
+    ensures { (screen : WorldScreen) → result ≡ has_box page.now.tree screen node.0 }
 {
     if !page.holds(node) {
         return false;
@@ -63,8 +64,8 @@ pub fn has_box(page: &PageTree, node: NodeId) -> bool
 
 // The box of an element, none where it has none.
 pub(crate) fn own_box(page: &PageTree, boxes: &Kept, node: NodeId) -> Option<BoxOf>
-    ensures { (size : Extent) → IsFreshIn page.now.tree size boxes.now (element_at page.now.tree node.0).document →
-        result ≡ box_of page.now.tree size node.0 }
+    ensures { (screen : WorldScreen) → IsFreshIn page.now.tree screen boxes.now (element_at page.now.tree node.0).document →
+        result ≡ box_of page.now.tree screen node.0 }
 {
     if has_box(page, node) {
         boxes.box_of(node)
@@ -77,15 +78,15 @@ pub(crate) fn own_box(page: &PageTree, boxes: &Kept, node: NodeId) -> Option<Box
 pub(crate) fn framed_size(
     page: &PageTree,
     boxes: &Kept,
-    viewport: Size,
+    screen: Screen,
     document: u32,
 ) -> Option<Size>
-    ensures value { IsFreshAbove page.now.tree (seen_size viewport) boxes.now document → option_map seen_pair result
-        ≡ framed_size page.now.tree (seen_size viewport) (view_of page.now.tree (seen_size viewport)) (document_at page.now.tree document).frame }
-    ensures range { IsNatural viewport → IfSome result IsNatural }
+    ensures value { IsFreshAbove page.now.tree (seen_screen screen) boxes.now document → option_map seen_pair result
+        ≡ framed_size page.now.tree (seen_screen screen) (view_of page.now.tree (seen_screen screen)) (document_at page.now.tree document).frame }
+    ensures range { IsNatural screen.size → IfSome result IsNatural }
 {
     let Some(frame) = page.frame_of(document) else {
-        return Some(viewport);
+        return Some(screen.size);
     };
     match own_box(page, boxes, frame) {
         Some(own) => Some(own.size(BoxKind::Content)),
@@ -104,13 +105,13 @@ pub(crate) struct Shown {
 pub(crate) fn shown_in(
     page: &PageTree,
     boxes: &Kept,
-    viewport: Size,
+    screen: Screen,
     document: u32,
 ) -> Option<Shown>
-    ensures nothing { IsFreshAbove page.now.tree (seen_size viewport) boxes.now document → result ≡ None →
-        (view_of page.now.tree (seen_size viewport) document).root ≡ None }
-    ensures shown { IsFreshAbove page.now.tree (seen_size viewport) boxes.now document → IfSome result (λ shown.
-        view_of page.now.tree (seen_size viewport) document ≡ view_with (Some shown.root.0) (Some (seen_pair shown.size))) }
+    ensures nothing { IsFreshAbove page.now.tree (seen_screen screen) boxes.now document → result ≡ None →
+        (view_of page.now.tree (seen_screen screen) document).root ≡ None }
+    ensures shown { IsFreshAbove page.now.tree (seen_screen screen) boxes.now document → IfSome result (λ shown.
+        view_of page.now.tree (seen_screen screen) document ≡ view_with (Some shown.root.0) (Some (seen_pair shown.size))) }
     ensures top { IfSome result (λ shown. (element_at page.now.tree shown.root.0).parent ≡ None) }
     ensures made { IfSome result (λ shown. shown.root.0 < length page.now.tree.elements) }
 {
@@ -120,22 +121,22 @@ pub(crate) fn shown_in(
     let Some(root) = page.root(document) else {
         return None;
     };
-    match framed_size(page, boxes, viewport, document) {
+    match framed_size(page, boxes, screen, document) {
         Some(size) => Some(Shown { root, size }),
         None => None,
     }
 }
 
-/// The size of a document's viewport (CSSOM View, 4: `innerWidth`, `innerHeight`): for `top` the one that is handed in, and for
+/// The size of a document's viewport (CSSOM View, 4: `innerWidth`, `innerHeight`): for `top` that of its screen, and for
 /// another document the content box of its frame, 0 by 0 where that has no box. It is so where the boxes of the document around it
-/// are held as they are now with this size. No memory.
-pub fn viewport_of(page: &PageTree, boxes: &Kept, viewport: Size, document: u32) -> Size
-    requires { IsNatural viewport }
-    ensures value { IsFreshAbove page.now.tree (seen_size viewport) boxes.now document →
-        result ≡ as_size (pair_of (viewport_of page.now.tree (seen_size viewport) document)) }
+/// are held as they are now with this screen. No memory.
+pub fn viewport_of(page: &PageTree, boxes: &Kept, screen: Screen, document: u32) -> Size
+    requires { IsNatural screen.size }
+    ensures value { IsFreshAbove page.now.tree (seen_screen screen) boxes.now document →
+        result ≡ as_size (pair_of (viewport_of page.now.tree (seen_screen screen) document)) }
     ensures range { IsNatural result }
 {
-    match framed_size(page, boxes, viewport, document) {
+    match framed_size(page, boxes, screen, document) {
         Some(size) => size,
         None => NO_SIZE,
     }

@@ -4,7 +4,7 @@
 ghost use Rattle.std.specs.Prelude.{◌≡◌, ◌<◌, ℕ, true, Some, None, IfSome, length, is_some};
 ghost use Rattle.layout_model.specs.Points.{IsWithin};
 ghost use Rattle.layout_model.specs.Reach.{View, inputs_in_view, offset_in_force, range_of_view};
-ghost use Rattle.page_model.specs.World.{Extent, ScrolledElement, ScrolledDocument};
+ghost use Rattle.page_model.specs.World.{Screen as WorldScreen, ScrolledElement, ScrolledDocument};
 ghost use Rattle.page_model.specs.Lookups.{element_at, no_extent};
 ghost use Rattle.page_model.specs.Scrolls.{position_of, lesser_extent};
 ghost use Rattle.page_model.specs.PageBoxes.{pair_of, extent_of, view_with, stored_in, scroll_offset};
@@ -13,12 +13,13 @@ ghost use Rattle.block_layout.specs.Seen.{as_point};
 ghost use Rattle.block_layout.specs.Trees.{layout_tree};
 ghost use Rattle.page_tree.specs.Items.{IsNatural};
 ghost use Rattle.page_boxes.specs.Fresh.{HoldsAll, IsFresh, IsFreshIn, IsFreshAbove};
-ghost use Rattle.page_boxes.specs.Pages.{seen_size, seen_pair};
+ghost use Rattle.page_boxes.specs.Pages.{seen_screen, seen_pair};
 ghost use Rattle.page_boxes.specs.Ranges.{IsOffset};
 
 use crate::documents::{Shown, has_box, shown_in};
 use crate::least::{last_range, root_range};
 use crate::ranges::{boxed_range, shown_range};
+use crate::screens::Screen;
 use block_layout::Styled;
 use element_tree::{NodeId, Tree};
 use kept_layout::Kept;
@@ -84,8 +85,8 @@ pub(crate) fn boxed_offset<P: Styled>(
 
 // The scroll offset in force of an element.
 fn element_offset(page: &PageTree, boxes: &Kept, scrolls: &Scrolls, node: NodeId) -> Point
-    ensures value { (size : Extent) → IsFreshIn page.now.tree size boxes.now (element_at page.now.tree node.0).document →
-        result ≡ as_point (pair_of (scroll_offset page.now.tree size scrolls.now (ScrolledElement node.0))) }
+    ensures value { (screen : WorldScreen) → IsFreshIn page.now.tree screen boxes.now (element_at page.now.tree node.0).document →
+        result ≡ as_point (pair_of (scroll_offset page.now.tree screen scrolls.now (ScrolledElement node.0))) }
     ensures range { IsOffset result }
 {
     if has_box(page, node) {
@@ -120,19 +121,19 @@ pub(crate) fn view_offset(
     page: &PageTree,
     boxes: &Kept,
     scrolls: &Scrolls,
-    viewport: Size,
+    screen: Screen,
     document: u32,
 ) -> Point
-    ensures value { IsFreshAbove page.now.tree (seen_size viewport) boxes.now document →
-        IsFreshIn page.now.tree (seen_size viewport) boxes.now document →
-        result ≡ as_point (pair_of (scroll_offset page.now.tree (seen_size viewport) scrolls.now (ScrolledDocument document))) }
+    ensures value { IsFreshAbove page.now.tree (seen_screen screen) boxes.now document →
+        IsFreshIn page.now.tree (seen_screen screen) boxes.now document →
+        result ≡ as_point (pair_of (scroll_offset page.now.tree (seen_screen screen) scrolls.now (ScrolledDocument document))) }
     ensures range { IsOffset result }
 {
     let target = ScrollTarget::Document(document);
     if is_at_start(scrolls, target) {
         return ORIGIN;
     }
-    match shown_in(page, boxes, viewport, document) {
+    match shown_in(page, boxes, screen, document) {
         Some(shown) => shown_offset(page.tree(), boxes, scrolls, target, shown),
         None => ORIGIN,
     }
@@ -140,21 +141,21 @@ pub(crate) fn view_offset(
 
 /// The scroll offset in force of an element or of a document's viewport (CSSOM View, 4 to 6: `scrollTop`, `scrollY`): on each
 /// axis the lesser of the stored position and of how far it can be scrolled. It is so where the boxes of the page are held as
-/// they are now with this size of the viewport of `top`. No memory.
+/// they are now with this screen of `top`. No memory.
 pub fn offset_of(
     page: &PageTree,
     boxes: &Kept,
     scrolls: &Scrolls,
-    viewport: Size,
+    screen: Screen,
     target: ScrollTarget,
 ) -> Point
-    requires { IsNatural viewport }
-    ensures value { IsFresh page.now.tree (seen_size viewport) boxes.now →
-        result ≡ as_point (pair_of (scroll_offset page.now.tree (seen_size viewport) scrolls.now (seen_target target))) }
+    requires { IsNatural screen.size }
+    ensures value { IsFresh page.now.tree (seen_screen screen) boxes.now →
+        result ≡ as_point (pair_of (scroll_offset page.now.tree (seen_screen screen) scrolls.now (seen_target target))) }
     ensures range { IsOffset result }
 {
     match target {
         ScrollTarget::Node(node) => element_offset(page, boxes, scrolls, node),
-        ScrollTarget::Document(document) => view_offset(page, boxes, scrolls, viewport, document),
+        ScrollTarget::Document(document) => view_offset(page, boxes, scrolls, screen, document),
     }
 }

@@ -9,10 +9,11 @@ ghost use Rattle.page_tree.specs.Steps.{seen_container};
 ghost use Rattle.page_boxes.specs.Fresh.{IsFresh, IsFreshIn, IsFreshAbove, IsFreshFor};
 ghost use Rattle.page_boxes.specs.Kept.{AreKept, FillsOnly, is_due, due_count};
 ghost use Rattle.page_boxes.specs.LaidOut.{is_marked, IsLaidOut, AreLaidOut, GoesOn};
-ghost use Rattle.page_boxes.specs.Pages.{seen_size};
+ghost use Rattle.page_boxes.specs.Pages.{seen_screen};
 
 use crate::documents::framed_size;
 use crate::laid_out::LaidOut;
+use crate::screens::Screen;
 use block_layout::Inputs;
 use kept_layout::Kept;
 use page_tree::{Container, PageTree};
@@ -34,26 +35,26 @@ fn root_inputs(viewport: Size) -> Inputs
 fn lay_out<L: Ledger>(
     boxes: &mut Kept,
     page: &PageTree,
-    viewport: Size,
+    screen: Screen,
     document: u32,
     steps: &mut Steps<L>,
 )
     requires kept { AreKept page.now.tree boxes.old }
     requires active { is_active page.now.tree document ≡ true }
-    requires around { IsFreshAbove page.now.tree (seen_size viewport) boxes.old document }
-    ensures laid_out { IsLaidOut page.now.tree (seen_size viewport) boxes.new document }
-    ensures others { (other : ℕ) → other ≢ document → IsLaidOut page.now.tree (seen_size viewport) boxes.old other →
-        IsLaidOut page.now.tree (seen_size viewport) boxes.new other }
+    requires around { IsFreshAbove page.now.tree (seen_screen screen) boxes.old document }
+    ensures laid_out { IsLaidOut page.now.tree (seen_screen screen) boxes.new document }
+    ensures others { (other : ℕ) → other ≢ document → IsLaidOut page.now.tree (seen_screen screen) boxes.old other →
+        IsLaidOut page.now.tree (seen_screen screen) boxes.new other }
     ensures kept { AreKept page.now.tree boxes.new }
     ensures slots { length boxes.new ≡ length boxes.old }
     ensures fills { FillsOnly boxes.old boxes.new }
-    ensures ticks { steps.new + due_count page.now.tree (seen_size viewport) boxes.new
-        ≤ steps.old + due_count page.now.tree (seen_size viewport) boxes.old }
+    ensures ticks { steps.new + due_count page.now.tree (seen_screen screen) boxes.new
+        ≤ steps.old + due_count page.now.tree (seen_screen screen) boxes.old }
 {
     let Some(root) = page.root(document) else {
         return;
     };
-    let Some(size) = framed_size(page, boxes, viewport, document) else {
+    let Some(size) = framed_size(page, boxes, screen, document) else {
         return;
     };
     boxes.refresh(page.tree(), root, root_inputs(size), steps);
@@ -63,7 +64,7 @@ fn lay_out<L: Ledger>(
 fn lay_out_once<L: Ledger>(
     boxes: &mut Kept,
     page: &PageTree,
-    viewport: Size,
+    screen: Screen,
     document: u32,
     laid_out: &mut LaidOut,
     steps: &mut Steps<L>,
@@ -72,20 +73,20 @@ fn lay_out_once<L: Ledger>(
     requires known { document < 64 }
     requires active { is_active page.now.tree document ≡ true }
     requires marks { length laid_out.old ≡ 64 }
-    requires around { IsFreshAbove page.now.tree (seen_size viewport) boxes.old document }
-    requires laid_out { AreLaidOut page.now.tree (seen_size viewport) laid_out.old boxes.old }
-    ensures goes { GoesOn page.now.tree (seen_size viewport) laid_out.old laid_out.new boxes.new }
+    requires around { IsFreshAbove page.now.tree (seen_screen screen) boxes.old document }
+    requires laid_out { AreLaidOut page.now.tree (seen_screen screen) laid_out.old boxes.old }
+    ensures goes { GoesOn page.now.tree (seen_screen screen) laid_out.old laid_out.new boxes.new }
     ensures marked { is_marked laid_out.new document ≡ true }
     ensures kept { AreKept page.now.tree boxes.new }
     ensures slots { length boxes.new ≡ length boxes.old }
     ensures fills { FillsOnly boxes.old boxes.new }
-    ensures ticks { steps.new + due_count page.now.tree (seen_size viewport) boxes.new
-        ≤ steps.old + due_count page.now.tree (seen_size viewport) boxes.old }
+    ensures ticks { steps.new + due_count page.now.tree (seen_screen screen) boxes.new
+        ≤ steps.old + due_count page.now.tree (seen_screen screen) boxes.old }
 {
     if laid_out.has(document) {
         return;
     }
-    lay_out(boxes, page, viewport, document, steps);
+    lay_out(boxes, page, screen, document, steps);
     laid_out.mark(document);
 }
 
@@ -94,7 +95,7 @@ fn lay_out_once<L: Ledger>(
 fn lay_out_up<L: Ledger>(
     boxes: &mut Kept,
     page: &PageTree,
-    viewport: Size,
+    screen: Screen,
     document: u32,
     high: u32,
     laid_out: &mut LaidOut,
@@ -104,14 +105,14 @@ fn lay_out_up<L: Ledger>(
     requires framed { AreFramed page.now.tree }
     requires leads { is_active page.now.tree document ≡ true → first_of_list (way_down high page.now.tree document) ≡ Some 0 }
     requires marks { length laid_out.old ≡ 64 }
-    requires laid_out { AreLaidOut page.now.tree (seen_size viewport) laid_out.old boxes.old }
-    ensures goes { GoesOn page.now.tree (seen_size viewport) laid_out.old laid_out.new boxes.new }
+    requires laid_out { AreLaidOut page.now.tree (seen_screen screen) laid_out.old boxes.old }
+    ensures goes { GoesOn page.now.tree (seen_screen screen) laid_out.old laid_out.new boxes.new }
     ensures marked { is_active page.now.tree document ≡ true → is_marked laid_out.new document ≡ true }
     ensures kept { AreKept page.now.tree boxes.new }
     ensures slots { length boxes.new ≡ length boxes.old }
     ensures fills { FillsOnly boxes.old boxes.new }
-    ensures ticks { steps.new + due_count page.now.tree (seen_size viewport) boxes.new
-        ≤ steps.old + due_count page.now.tree (seen_size viewport) boxes.old }
+    ensures ticks { steps.new + due_count page.now.tree (seen_screen screen) boxes.new
+        ≤ steps.old + due_count page.now.tree (seen_screen screen) boxes.old }
 {
     if high == 0 {
         return;
@@ -122,29 +123,29 @@ fn lay_out_up<L: Ledger>(
     match page.frame_of(document) {
         Some(frame) => {
             let holder = page.document_of(frame);
-            lay_out_up(boxes, page, viewport, holder, high - 1, laid_out, steps);
-            lay_out_once(boxes, page, viewport, document, laid_out, steps);
+            lay_out_up(boxes, page, screen, holder, high - 1, laid_out, steps);
+            lay_out_once(boxes, page, screen, document, laid_out, steps);
         }
-        None => lay_out_once(boxes, page, viewport, document, laid_out, steps),
+        None => lay_out_once(boxes, page, screen, document, laid_out, steps),
     }
 }
 
-/// Computes what is due of the page's boxes, with this size of the viewport of `top`: each box of the page is then held as it is
+/// Computes what is due of the page's boxes, with this screen of `top`: each box of the page is then held as it is
 /// now, and none is due. What is kept fits the page before, and afterwards. It takes at most one step for each box that was due,
 /// sets no mark, drops no box, and takes no memory.
-pub fn refresh<L: Ledger>(boxes: &mut Kept, page: &PageTree, viewport: Size, steps: &mut Steps<L>)
+pub fn refresh<L: Ledger>(boxes: &mut Kept, page: &PageTree, screen: Screen, steps: &mut Steps<L>)
     requires { AreKept page.now.tree boxes.old }
-    ensures fresh { IsFresh page.now.tree (seen_size viewport) boxes.new }
+    ensures fresh { IsFresh page.now.tree (seen_screen screen) boxes.new }
     ensures kept { AreKept page.now.tree boxes.new }
-    ensures done { (n : ℕ) → is_due page.now.tree (seen_size viewport) boxes.new n ≡ false }
+    ensures done { (n : ℕ) → is_due page.now.tree (seen_screen screen) boxes.new n ≡ false }
     ensures slots { length boxes.new ≡ length boxes.old }
     ensures fills { FillsOnly boxes.old boxes.new }
-    ensures ticks { steps.new + due_count page.now.tree (seen_size viewport) boxes.new ≤ steps.old + due_count page.now.tree (seen_size viewport) boxes.old }
+    ensures ticks { steps.new + due_count page.now.tree (seen_screen screen) boxes.new ≤ steps.old + due_count page.now.tree (seen_screen screen) boxes.old }
 {
     let mut laid_out = LaidOut::new();
     let count = page.document_count();
     for document in 0..count {
-        lay_out_up(boxes, page, viewport, document, count, &mut laid_out, steps);
+        lay_out_up(boxes, page, screen, document, count, &mut laid_out, steps);
     }
 }
 
@@ -152,44 +153,44 @@ pub fn refresh<L: Ledger>(boxes: &mut Kept, page: &PageTree, viewport: Size, ste
 fn refresh_document<L: Ledger>(
     boxes: &mut Kept,
     page: &PageTree,
-    viewport: Size,
+    screen: Screen,
     document: u32,
     steps: &mut Steps<L>,
 )
     requires { AreKept page.now.tree boxes.old }
-    ensures fresh { IsFreshIn page.now.tree (seen_size viewport) boxes.new document }
+    ensures fresh { IsFreshIn page.now.tree (seen_screen screen) boxes.new document }
     ensures kept { AreKept page.now.tree boxes.new }
     ensures slots { length boxes.new ≡ length boxes.old }
     ensures fills { FillsOnly boxes.old boxes.new }
-    ensures ticks { steps.new + due_count page.now.tree (seen_size viewport) boxes.new ≤ steps.old + due_count page.now.tree (seen_size viewport) boxes.old }
+    ensures ticks { steps.new + due_count page.now.tree (seen_screen screen) boxes.new ≤ steps.old + due_count page.now.tree (seen_screen screen) boxes.old }
 {
     let mut laid_out = LaidOut::new();
     let count = page.document_count();
-    lay_out_up(boxes, page, viewport, document, count, &mut laid_out, steps);
+    lay_out_up(boxes, page, screen, document, count, &mut laid_out, steps);
 }
 
-/// Computes what is due of the boxes that a reading of an element or a document rests on, with this size of the viewport of `top`:
+/// Computes what is due of the boxes that a reading of an element or a document rests on, with this screen of `top`:
 /// those of one document and of the documents around it are then held as they are now. What is kept fits the page before, and
 /// afterwards. It takes at most one step for each box that was due, and no memory.
 pub fn refresh_for<L: Ledger>(
     boxes: &mut Kept,
     page: &PageTree,
-    viewport: Size,
+    screen: Screen,
     container: Container,
     steps: &mut Steps<L>,
 )
     requires { AreKept page.now.tree boxes.old }
-    ensures fresh { IsFreshFor page.now.tree (seen_size viewport) boxes.new (seen_container container) }
+    ensures fresh { IsFreshFor page.now.tree (seen_screen screen) boxes.new (seen_container container) }
     ensures kept { AreKept page.now.tree boxes.new }
     ensures slots { length boxes.new ≡ length boxes.old }
     ensures fills { FillsOnly boxes.old boxes.new }
-    ensures ticks { steps.new + due_count page.now.tree (seen_size viewport) boxes.new ≤ steps.old + due_count page.now.tree (seen_size viewport) boxes.old }
+    ensures ticks { steps.new + due_count page.now.tree (seen_screen screen) boxes.new ≤ steps.old + due_count page.now.tree (seen_screen screen) boxes.old }
 {
     let around = match container {
         Container::Element(node) => Some(node),
         Container::Document(document) => page.frame_of(document),
     };
     if let Some(node) = around {
-        refresh_document(boxes, page, viewport, page.document_of(node), steps);
+        refresh_document(boxes, page, screen, page.document_of(node), steps);
     }
 }

@@ -18,6 +18,7 @@ mod least;
 mod offsets;
 mod ranges;
 mod readings;
+mod screens;
 
 pub use documents::{has_box, viewport_of};
 pub use exact::undue_boxes_are_exact;
@@ -28,3 +29,4 @@ pub use ranges::{is_scroller, range_of};
 pub use readings::{
     Reading, border_rect, content_origin, corner_of, padding_rect, place_of, read, size_of,
 };
+pub use screens::Screen;

@@ -6,7 +6,7 @@ ghost use Rattle.layout_model.specs.Clips.{is_visible, is_clip, is_scroll_contai
 ghost use Rattle.layout_model.specs.Points.{minus, capped};
 ghost use Rattle.layout_model.specs.Reach.{View, inputs_in_view, range_of as range_in, range_of_view};
 ghost use Rattle.style_values.specs.Seen.{seen_style};
-ghost use Rattle.page_model.specs.World.{Extent, ScrolledElement, ScrolledDocument};
+ghost use Rattle.page_model.specs.World.{Screen as WorldScreen, ScrolledElement, ScrolledDocument};
 ghost use Rattle.page_model.specs.Lookups.{element_at};
 ghost use Rattle.page_model.specs.PageBoxes.{pair_of, view_with, is_scroller, scroll_range};
 ghost use Rattle.scrolling.specs.Ranges.{IsLength, IsRange};
@@ -15,10 +15,11 @@ ghost use Rattle.block_layout.specs.Seen.{as_size};
 ghost use Rattle.block_layout.specs.Trees.{layout_tree};
 ghost use Rattle.page_tree.specs.Items.{IsNatural};
 ghost use Rattle.page_boxes.specs.Fresh.{HoldsAll, IsFresh, IsFreshIn, IsFreshAbove};
-ghost use Rattle.page_boxes.specs.Pages.{seen_size, seen_pair};
+ghost use Rattle.page_boxes.specs.Pages.{seen_screen, seen_pair};
 
 use crate::climb::has_kids;
 use crate::documents::{Shown, has_box, shown_in};
+use crate::screens::Screen;
 use block_layout::{Boxes, Styled, overflow_reach};
 use element_tree::{NodeId, Tree};
 use kept_layout::Kept;
@@ -59,7 +60,7 @@ pub(crate) fn is_scroll_container<P: Styled>(tree: &Tree<P>, node: NodeId) -> bo
 
 /// Whether an element is a scroll container with a box (CSS Overflow 3, 3.1). A root element is none.
 pub fn is_scroller(page: &PageTree, node: NodeId) -> bool
-    ensures { (size : Extent) → result ≡ is_scroller page.now.tree size node.0 }
+    ensures { (screen : WorldScreen) → result ≡ is_scroller page.now.tree screen node.0 }
 {
     has_box(page, node) && is_scroll_container(page.tree(), node)
 }
@@ -102,8 +103,8 @@ pub(crate) fn boxed_range<P: Styled>(tree: &Tree<P>, boxes: &Kept, node: NodeId)
 
 // The scrolling range of an element.
 fn element_range(page: &PageTree, boxes: &Kept, node: NodeId) -> Size
-    ensures value { (size : Extent) → IsFreshIn page.now.tree size boxes.now (element_at page.now.tree node.0).document →
-        result ≡ as_size (pair_of (scroll_range page.now.tree size (ScrolledElement node.0))) }
+    ensures value { (screen : WorldScreen) → IsFreshIn page.now.tree screen boxes.now (element_at page.now.tree node.0).document →
+        result ≡ as_size (pair_of (scroll_range page.now.tree screen (ScrolledElement node.0))) }
     ensures range { IsRange result }
 {
     if has_box(page, node) {
@@ -126,13 +127,13 @@ pub(crate) fn shown_range<P: Styled>(tree: &Tree<P>, boxes: &Kept, shown: Shown)
 }
 
 // The scrolling range of a document's viewport.
-fn view_range(page: &PageTree, boxes: &Kept, viewport: Size, document: u32) -> Size
-    ensures value { IsFreshAbove page.now.tree (seen_size viewport) boxes.now document →
-        IsFreshIn page.now.tree (seen_size viewport) boxes.now document →
-        result ≡ as_size (pair_of (scroll_range page.now.tree (seen_size viewport) (ScrolledDocument document))) }
+fn view_range(page: &PageTree, boxes: &Kept, screen: Screen, document: u32) -> Size
+    ensures value { IsFreshAbove page.now.tree (seen_screen screen) boxes.now document →
+        IsFreshIn page.now.tree (seen_screen screen) boxes.now document →
+        result ≡ as_size (pair_of (scroll_range page.now.tree (seen_screen screen) (ScrolledDocument document))) }
     ensures range { IsRange result }
 {
-    match shown_in(page, boxes, viewport, document) {
+    match shown_in(page, boxes, screen, document) {
         Some(shown) => shown_range(page.tree(), boxes, shown),
         None => NO_SIZE,
     }
@@ -141,17 +142,17 @@ fn view_range(page: &PageTree, boxes: &Kept, viewport: Size, document: u32) -> S
 /// How far an element or the viewport of a document can be scrolled (CSS Overflow 3, 2.2; CSSOM View: scrolling area): how
 /// far its content reaches beyond its padding box, or beyond the viewport. It is 0 by 0 for an element that isn't a scroll
 /// container with a box, and for what isn't there. It is so where the boxes of the page are held as they are now with this
-/// size of the viewport of `top`. No memory.
+/// screen of `top`. No memory.
 ///
 /// It calls itself once a level of the tree below.
-pub fn range_of(page: &PageTree, boxes: &Kept, viewport: Size, target: ScrollTarget) -> Size
-    requires { IsNatural viewport }
-    ensures value { IsFresh page.now.tree (seen_size viewport) boxes.now →
-        result ≡ as_size (pair_of (scroll_range page.now.tree (seen_size viewport) (seen_target target))) }
+pub fn range_of(page: &PageTree, boxes: &Kept, screen: Screen, target: ScrollTarget) -> Size
+    requires { IsNatural screen.size }
+    ensures value { IsFresh page.now.tree (seen_screen screen) boxes.now →
+        result ≡ as_size (pair_of (scroll_range page.now.tree (seen_screen screen) (seen_target target))) }
     ensures range { IsRange result }
 {
     match target {
         ScrollTarget::Node(node) => element_range(page, boxes, node),
-        ScrollTarget::Document(document) => view_range(page, boxes, viewport, document),
+        ScrollTarget::Document(document) => view_range(page, boxes, screen, document),
     }
 }

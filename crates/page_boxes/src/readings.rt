@@ -4,7 +4,7 @@ ghost use Rattle.std.specs.Prelude.{◌≡◌, List, ◌+ℤ◌, ◌-ℤ◌};
 ghost use Rattle.px_units.specs.Rects.{InReach, RectInReach};
 ghost use Rattle.px_units.specs.declared.BoxKind.TheVariants.{Border};
 ghost use Rattle.script_model.specs.TraceLines.{ReadLine};
-ghost use Rattle.page_model.specs.World.{Extent, Name};
+ghost use Rattle.page_model.specs.World.{Screen as WorldScreen, Name};
 ghost use Rattle.page_model.specs.Lookups.{element_at};
 ghost use Rattle.page_model.specs.Chains.{padding_box_at, content_corner_at};
 ghost use Rattle.page_model.specs.PageBoxes.{pair_of, box_of, size_of, corner_of, place_of};
@@ -13,12 +13,13 @@ ghost use Rattle.block_layout.specs.Seen.{as_size};
 ghost use Rattle.page_tree.specs.Items.{IsNatural};
 ghost use Rattle.page_tree.specs.Steps.{seen_container};
 ghost use Rattle.page_boxes.specs.Fresh.{IsFresh, IsFreshIn};
-ghost use Rattle.page_boxes.specs.Pages.{seen_size, text_in};
+ghost use Rattle.page_boxes.specs.Pages.{seen_screen, text_in};
 ghost use Rattle.page_boxes.specs.Ranges.{IsOffset, IsSpan, IsPlace, IsEdge, AreEdges};
 
 use crate::documents::{has_box, own_box, viewport_of};
 use crate::in_force::{offset_of, view_offset};
 use crate::offsets::{moved_back, scrolled, unsigned};
+use crate::screens::Screen;
 use element_tree::NodeId;
 use kept_layout::Kept;
 use page_tree::{Container, PageTree};
@@ -51,8 +52,8 @@ const NO_SIZE: Size = Size {
 /// The size of an element's content box or border box (CSS 2.2, 8.1), 0 by 0 without a box. It is so where the boxes of
 /// its document are held as they are now. No memory.
 pub fn size_of(page: &PageTree, boxes: &Kept, node: NodeId, kind: BoxKind) -> Size
-    ensures value { (size : Extent) → IsFreshIn page.now.tree size boxes.now (element_at page.now.tree node.0).document →
-        result ≡ as_size (pair_of (size_of page.now.tree size node.0 kind)) }
+    ensures value { (screen : WorldScreen) → IsFreshIn page.now.tree screen boxes.now (element_at page.now.tree node.0).document →
+        result ≡ as_size (pair_of (size_of page.now.tree screen node.0 kind)) }
     ensures width { IsSpan result.width }
     ensures height { IsSpan result.height }
 {
@@ -65,8 +66,8 @@ pub fn size_of(page: &PageTree, boxes: &Kept, node: NodeId, kind: BoxKind) -> Si
 /// The corner of an element's content in its padding box, which is its left and top paddings (Resize Observer, 3.2:
 /// `contentRect`), zeros without a box. It is so where the boxes of its document are held as they are now. No memory.
 pub fn corner_of(page: &PageTree, boxes: &Kept, node: NodeId) -> Point
-    ensures value { (size : Extent) → IsFreshIn page.now.tree size boxes.now (element_at page.now.tree node.0).document →
-        result ≡ point_at (corner_of page.now.tree size node.0) }
+    ensures value { (screen : WorldScreen) → IsFreshIn page.now.tree screen boxes.now (element_at page.now.tree node.0).document →
+        result ≡ point_at (corner_of page.now.tree screen node.0) }
     ensures left { IsSpan result.left }
     ensures top { IsSpan result.top }
 {
@@ -77,7 +78,7 @@ pub fn corner_of(page: &PageTree, boxes: &Kept, node: NodeId) -> Point
 }
 
 /// The place of an element's border box in the viewport of its document (CSSOM View, 6: `getBoundingClientRect`), zeros
-/// without a box. It is so where the boxes of the page are held as they are now with this size of the viewport of `top`. No
+/// without a box. It is so where the boxes of the page are held as they are now with this screen of `top`. No
 /// memory.
 ///
 /// It goes up to the root by the boxes of the element and its ancestors alone, with the heights that are kept above each; what is
@@ -86,12 +87,12 @@ pub fn place_of(
     page: &PageTree,
     boxes: &Kept,
     scrolls: &Scrolls,
-    viewport: Size,
+    screen: Screen,
     node: NodeId,
 ) -> Point
-    requires { IsNatural viewport }
-    ensures value { IsFresh page.now.tree (seen_size viewport) boxes.now →
-        result ≡ place_of page.now.tree (seen_size viewport) scrolls.now node.0 }
+    requires { IsNatural screen.size }
+    ensures value { IsFresh page.now.tree (seen_screen screen) boxes.now →
+        result ≡ place_of page.now.tree (seen_screen screen) scrolls.now node.0 }
     ensures left { IsPlace result.left }
     ensures top { IsPlace result.top }
 {
@@ -99,7 +100,7 @@ pub fn place_of(
         return ORIGIN;
     }
     let tree = page.tree();
-    let view = view_offset(page, boxes, scrolls, viewport, page.document_of(node));
+    let view = view_offset(page, boxes, scrolls, screen, page.document_of(node));
     moved_back(
         boxes.unscrolled_place_of(tree, node),
         scrolled(tree, boxes, scrolls, node),
@@ -151,39 +152,39 @@ fn rect_at(corner: Point, size: Size) -> Rect
 }
 
 /// The border box of an element in the viewport of its document (CSSOM View, 6: `getBoundingClientRect`), all zeros without a
-/// box. It is so where the boxes of the page are held as they are now with this size of the viewport of `top`. No memory.
+/// box. It is so where the boxes of the page are held as they are now with this screen of `top`. No memory.
 pub fn border_rect(
     page: &PageTree,
     boxes: &Kept,
     scrolls: &Scrolls,
-    viewport: Size,
+    screen: Screen,
     node: NodeId,
 ) -> Rect
-    requires { IsNatural viewport }
-    ensures value { IsFresh page.now.tree (seen_size viewport) boxes.now →
-        result ≡ rect_of (place_of page.now.tree (seen_size viewport) scrolls.now node.0) (size_of page.now.tree (seen_size viewport) node.0 Border) }
+    requires { IsNatural screen.size }
+    ensures value { IsFresh page.now.tree (seen_screen screen) boxes.now →
+        result ≡ rect_of (place_of page.now.tree (seen_screen screen) scrolls.now node.0) (size_of page.now.tree (seen_screen screen) node.0 Border) }
     ensures edges { AreEdges result }
     ensures width { IsSpan (result.right -ℤ result.left) }
     ensures height { IsSpan (result.bottom -ℤ result.top) }
 {
     rect_at(
-        place_of(page, boxes, scrolls, viewport, node),
+        place_of(page, boxes, scrolls, screen, node),
         size_of(page, boxes, node, BoxKind::Border),
     )
 }
 
 /// The padding box of an element in the viewport of its document (CSS 2.2, 8.1), all zeros without a box. It is so where the
-/// boxes of the page are held as they are now with this size of the viewport of `top`. No memory.
+/// boxes of the page are held as they are now with this screen of `top`. No memory.
 pub fn padding_rect(
     page: &PageTree,
     boxes: &Kept,
     scrolls: &Scrolls,
-    viewport: Size,
+    screen: Screen,
     node: NodeId,
 ) -> Rect
-    requires { IsNatural viewport }
-    ensures value { IsFresh page.now.tree (seen_size viewport) boxes.now →
-        result ≡ padding_box_at (place_of page.now.tree (seen_size viewport) scrolls.now node.0) (box_of page.now.tree (seen_size viewport) node.0) }
+    requires { IsNatural screen.size }
+    ensures value { IsFresh page.now.tree (seen_screen screen) boxes.now →
+        result ≡ padding_box_at (place_of page.now.tree (seen_screen screen) scrolls.now node.0) (box_of page.now.tree (seen_screen screen) node.0) }
     ensures edges { AreEdges result }
     ensures width { IsSpan (result.right -ℤ result.left) }
     ensures height { IsSpan (result.bottom -ℤ result.top) }
@@ -191,27 +192,27 @@ pub fn padding_rect(
     let Some(own) = own_box(page, boxes, node) else {
         return NO_RECT;
     };
-    let place = place_of(page, boxes, scrolls, viewport, node);
+    let place = place_of(page, boxes, scrolls, screen, node);
     rect_at(beside(place, own.padding_corner()), own.padding_size())
 }
 
 /// The corner of the content box of an element in the viewport of its document (CSS 2.2, 8.1), which for a frame is where the
 /// viewport of the document in it begins; zeros without a box. It is so where the boxes of the page are held as they are now
-/// with this size of the viewport of `top`. No memory.
+/// with this screen of `top`. No memory.
 pub fn content_origin(
     page: &PageTree,
     boxes: &Kept,
     scrolls: &Scrolls,
-    viewport: Size,
+    screen: Screen,
     node: NodeId,
 ) -> Point
-    requires { IsNatural viewport }
-    ensures value { IsFresh page.now.tree (seen_size viewport) boxes.now →
-        result ≡ content_corner_at (place_of page.now.tree (seen_size viewport) scrolls.now node.0) (box_of page.now.tree (seen_size viewport) node.0) }
+    requires { IsNatural screen.size }
+    ensures value { IsFresh page.now.tree (seen_screen screen) boxes.now →
+        result ≡ content_corner_at (place_of page.now.tree (seen_screen screen) scrolls.now node.0) (box_of page.now.tree (seen_screen screen) node.0) }
     ensures left { IsEdge result.left }
     ensures top { IsEdge result.top }
 {
-    let place = place_of(page, boxes, scrolls, viewport, node);
+    let place = place_of(page, boxes, scrolls, screen, node);
     match own_box(page, boxes, node) {
         Some(own) => beside(place, own.inner()),
         None => place,
@@ -220,17 +221,17 @@ pub fn content_origin(
 
 /// What the command `read` shows: an element's border box in the viewport of its document, all zeros without a box, or the
 /// viewport of the document; and the scroll offset in force. It is so where the boxes of the page are held as they are now
-/// with this size of the viewport of `top`. No memory.
+/// with this screen of `top`. No memory.
 pub fn read(
     page: &PageTree,
     boxes: &Kept,
     scrolls: &Scrolls,
-    viewport: Size,
+    screen: Screen,
     container: Container,
 ) -> Reading
-    requires { IsNatural viewport }
-    ensures value { (names : List Name) → IsFresh page.now.tree (seen_size viewport) boxes.now →
-        reading_of names page.now.tree (seen_size viewport) scrolls.now (seen_container container)
+    requires { IsNatural screen.size }
+    ensures value { (names : List Name) → IsFresh page.now.tree (seen_screen screen) boxes.now →
+        reading_of names page.now.tree (seen_screen screen) scrolls.now (seen_container container)
         ≡ ReadLine (text_in names (seen_container container)) result.rect result.scroll }
     ensures edges { RectInReach result.rect }
     ensures width { InReach (result.rect.right -ℤ result.rect.left) }
@@ -239,16 +240,16 @@ pub fn read(
 {
     match container {
         Container::Element(node) => Reading {
-            rect: border_rect(page, boxes, scrolls, viewport, node),
-            scroll: offset_of(page, boxes, scrolls, viewport, ScrollTarget::Node(node)),
+            rect: border_rect(page, boxes, scrolls, screen, node),
+            scroll: offset_of(page, boxes, scrolls, screen, ScrollTarget::Node(node)),
         },
         Container::Document(document) => Reading {
-            rect: rect_at(ORIGIN, viewport_of(page, boxes, viewport, document)),
+            rect: rect_at(ORIGIN, viewport_of(page, boxes, screen, document)),
             scroll: offset_of(
                 page,
                 boxes,
                 scrolls,
-                viewport,
+                screen,
                 ScrollTarget::Document(document),
             ),
         },

@@ -4,11 +4,12 @@ use Rattle.std.proofs.lemmas.Bool.Decides.{nat_tests}
 use Rattle.std.specs.Prelude.{◌||◌, not, ◌==◌, option_map}
 use Rattle.layout_model.specs.Nodes.{path_of, is_among, is_in_path}
 use Rattle.layout_model.proofs.Paths.{path_child, path_top, depth_child, depth_least}
-use Rattle.page_model.specs.World.{Extent, Tree, Scrolls, Root, ImplicitRoot, DocumentRoot, ElementRoot}
+use Rattle.page_model.specs.World.{Screen, Tree, Scrolls, Root, ImplicitRoot, DocumentRoot, ElementRoot}
 use Rattle.page_model.specs.Lookups.{element_at, document_at}
-use Rattle.page_model.specs.Documents.{InElement, container_by, container_of, is_root_element, first_of_list, nodes_of, element_depth, is_inclusive_ancestor}
+use Rattle.page_model.specs.Documents.{InElement, container_by, container_of, is_root_element, first_of_list, nodes_of, element_depth}
 use Rattle.page_model.specs.PageBoxes.{has_box}
-use Rattle.page_model.specs.Findings.{is_proper_ancestor, is_apart}
+use Rattle.page_model.specs.Shown.{shown_with}
+use Rattle.page_model.specs.Findings.{is_on_chain, is_apart}
 use Rattle.page_documents.specs.Paths.{owner_of, way_above, way_down}
 use Rattle.page_documents.specs.Frames.{AreFramed}
 use Rattle.clip_chain.specs.declared.spot.Spot.{Spot}
@@ -17,8 +18,7 @@ use Rattle.clip_chain.specs.Scenes.{Scene}
 use Rattle.clip_chain.specs.Chains.{Leads, IsAbove}
 use Rattle.clip_chain.specs.Worlds.{element_spot, spot_of, spot_of_root, scene_of}
 use Rattle.clip_chain.proofs.Leading.{above_inwards}
-use Rattle.page_geometry.specs.Worlds.{world_with}
-use Rattle.page_geometry.proofs.Shown.{active, parent_boxed, root_is, frame_boxed}
+use Rattle.page_geometry.proofs.Standing.{active, parent_boxed, root_is, frame_boxed}
 use Rattle.page_geometry.proofs.Levels.{count_is}
 use Rattle.page_boxes.proofs.Views.{way_less, no_way}
 
@@ -72,15 +72,15 @@ proper_is : (same inside : Bool) → cond same false inside ≡ true → (same �
 proper_is true inside is = absurd (let no : ⊥ = cc in no)
 proper_is false inside is = (refl, is)
 
-module _ (tree : Tree) (size : Extent) (scrolls : Scrolls) (framed : AreFramed tree) where
+module _ (tree : Tree) (screen : Screen) (scrolls : Scrolls) (framed : AreFramed tree) where
   abbrev scene : Scene
-  scene = scene_of (world_with tree size scrolls)
+  scene = scene_of (shown_with tree screen scrolls)
 
   abbrev own : ℕ → ℕ
   own n = (element_at tree n).document
 
   -- what an element with a box stands in
-  module _ (n : ℕ) (boxed : has_box tree size n ≡ true) where
+  module _ (n : ℕ) (boxed : has_box tree screen n ≡ true) where
     pub in_parent : (p : ℕ) → (element_at tree n).parent ≡ Some p → scene.container (element_spot n) ≡ Some (element_spot p)
     in_parent p is =
         ap (λ b. cond b (option_map spot_of (container_of tree n)) None) boxed
@@ -90,13 +90,13 @@ module _ (tree : Tree) (size : Extent) (scrolls : Scrolls) (framed : AreFramed t
     in_view is =
         ap (λ b. cond b (option_map spot_of (container_of tree n)) None) boxed
         ∙ ap (λ o. option_map spot_of (container_by o (is_root_element tree n) (own n))) is
-        ∙ ap (λ b. option_map spot_of (container_by None b (own n))) (root_is tree size n boxed framed is)
+        ∙ ap (λ b. option_map spot_of (container_by None b (own n))) (root_is tree screen n boxed framed is)
 
   pub in_frame : (document frame : ℕ) → (document_at tree document).frame ≡ Some frame → scene.container (View document) ≡ Some (element_spot frame)
   in_frame document frame is = ap (λ o. option_map spot_of (option_map InElement o)) is
 
   -- the viewport of its document is above it
-  view_step : (n : ℕ) → has_box tree size n ≡ true → ((p : ℕ) → (element_at tree n).parent ≡ Some p → IsAbove scene (View (own p)) (element_spot p))
+  view_step : (n : ℕ) → has_box tree screen n ≡ true → ((p : ℕ) → (element_at tree n).parent ≡ Some p → IsAbove scene (View (own p)) (element_spot p))
       → (parent : Option ℕ) → (element_at tree n).parent ≡ parent → IsAbove scene (View (own n)) (element_spot n)
   view_step n boxed below None is = ([], in_view n boxed is)
   view_step n boxed below (Some p) is =
@@ -111,15 +111,15 @@ module _ (tree : Tree) (size : Extent) (scrolls : Scrolls) (framed : AreFramed t
   unfolding element_depth
   depth_some n = depth_least (nodes_of tree) n
 
-  to_view : (most n : ℕ) → element_depth tree n ≤ most → has_box tree size n ≡ true → IsAbove scene (View (own n)) (element_spot n)
+  to_view : (most n : ℕ) → element_depth tree n ≤ most → has_box tree screen n ≡ true → IsAbove scene (View (own n)) (element_spot n)
   to_view zero n short boxed = absurd (omega (arith, depth_some n))
   to_view (suc most) n short boxed =
-      view_step n boxed (λ p is. to_view most p (depth_falls most n p short is) (parent_boxed tree size n boxed framed p is)) (element_at tree n).parent refl
+      view_step n boxed (λ p is. to_view most p (depth_falls most n p short is) (parent_boxed tree screen n boxed framed p is)) (element_at tree n).parent refl
 
   -- so is an element that is an ancestor
-  ancestor_step : (a n : ℕ) → is_inclusive_ancestor tree a n ≡ true → nat_eq a n ≡ false
-      → (parent : Option ℕ) → (element_at tree n).parent ≡ parent → (p : ℕ) × (parent ≡ Some p) × (is_inclusive_ancestor tree a p ≡ true)
-  unfolding is_inclusive_ancestor is_in_path is_among
+  ancestor_step : (a n : ℕ) → is_in_path (nodes_of tree) a n ≡ true → nat_eq a n ≡ false
+      → (parent : Option ℕ) → (element_at tree n).parent ≡ parent → (p : ℕ) × (parent ≡ Some p) × (is_in_path (nodes_of tree) a p ≡ true)
+  unfolding is_in_path is_among
   ancestor_step a n inside differs None is =
       let clash : true ≡ false =
       sym inside ∙ ap (is_among a) (path_top (nodes_of tree) n is) ∙ ap (λ b. b || false) differs in absurd (let no : ⊥ = cc in no)
@@ -130,8 +130,8 @@ module _ (tree : Tree) (size : Extent) (scrolls : Scrolls) (framed : AreFramed t
         ∙ sym (ap (is_among a) (path_child (nodes_of tree) n p is (framed.trees.shallow p))) ∙ inside,
   )
 
-  below_step : (a n : ℕ) → has_box tree size n ≡ true → is_inclusive_ancestor tree a n ≡ true
-      → ((p : ℕ) → (element_at tree n).parent ≡ Some p → is_inclusive_ancestor tree a p ≡ true → (a ≡ p) ⊎ IsAbove scene (element_spot a) (element_spot p))
+  below_step : (a n : ℕ) → has_box tree screen n ≡ true → is_in_path (nodes_of tree) a n ≡ true
+      → ((p : ℕ) → (element_at tree n).parent ≡ Some p → is_in_path (nodes_of tree) a p ≡ true → (a ≡ p) ⊎ IsAbove scene (element_spot a) (element_spot p))
       → (same : Bool) → nat_eq a n ≡ same → (a ≡ n) ⊎ IsAbove scene (element_spot a) (element_spot n)
   below_step a n boxed inside up true same = inl (eqb-true a n same)
   below_step a n boxed inside up false differs =
@@ -146,12 +146,12 @@ module _ (tree : Tree) (size : Extent) (scrolls : Scrolls) (framed : AreFramed t
         ])
       ]
 
-  to_ancestor : (most a n : ℕ) → element_depth tree n ≤ most → has_box tree size n ≡ true → is_inclusive_ancestor tree a n ≡ true
+  to_ancestor : (most a n : ℕ) → element_depth tree n ≤ most → has_box tree screen n ≡ true → is_in_path (nodes_of tree) a n ≡ true
       → (a ≡ n) ⊎ IsAbove scene (element_spot a) (element_spot n)
   to_ancestor zero a n short boxed inside = absurd (omega (arith, depth_some n))
   to_ancestor (suc most) a n short boxed inside =
       below_step a n boxed inside
-      (λ p is. to_ancestor most a p (depth_falls most n p short is) (parent_boxed tree size n boxed framed p is))
+      (λ p is. to_ancestor most a p (depth_falls most n p short is) (parent_boxed tree screen n boxed framed p is))
       (nat_eq a n) refl
 
   -- and the viewport of `top`
@@ -164,7 +164,7 @@ module _ (tree : Tree) (size : Extent) (scrolls : Scrolls) (framed : AreFramed t
       let at : document ≡ 0 = node_number (View document) (View 0) same in
       let clash : None ≡ Some frame = sym framed.top.unframed ∙ ap (λ d. (document_at tree d).frame) (sym at) ∙ is in cc
 
-  top_step : (n : ℕ) → has_box tree size n ≡ true → IsAbove scene (View (own n)) (element_spot n) → (high : ℕ) → first_of_list (way_down (suc high) tree (own n)) ≡ Some 0
+  top_step : (n : ℕ) → has_box tree screen n ≡ true → IsAbove scene (View (own n)) (element_spot n) → (high : ℕ) → first_of_list (way_down (suc high) tree (own n)) ≡ Some 0
       → ((frame : ℕ) → (document_at tree (own n)).frame ≡ Some frame → IsAbove scene (View 0) (element_spot frame))
       → (frame : Option ℕ) → (document_at tree (own n)).frame ≡ frame → IsAbove scene (View 0) (element_spot n)
   top_step n boxed below high leads up None is =
@@ -174,27 +174,27 @@ module _ (tree : Tree) (size : Extent) (scrolls : Scrolls) (framed : AreFramed t
       over scene (View (own n)) (View 0) (element_spot n) below.0 below.1 (not_top (own n) frame is)
       (above_inwards scene (View 0) (View (own n)) (element_spot frame) (in_frame (own n) frame is) (λ same. cc) (up frame is))
 
-  to_top : (high n : ℕ) → has_box tree size n ≡ true → first_of_list (way_down (suc high) tree (own n)) ≡ Some 0 → IsAbove scene (View 0) (element_spot n)
+  to_top : (high n : ℕ) → has_box tree screen n ≡ true → first_of_list (way_down (suc high) tree (own n)) ≡ Some 0 → IsAbove scene (View 0) (element_spot n)
   to_top zero n boxed leads =
       top_step n boxed (to_view (element_depth tree n) n (omega arith) boxed) 0 leads
       (λ frame is. absurd (no_way tree framed 0 (own frame) refl (way_less tree framed (own n) frame is 1 0 refl leads)))
       (document_at tree (own n)).frame refl
   to_top (suc high) n boxed leads =
       top_step n boxed (to_view (element_depth tree n) n (omega arith) boxed) (suc high) leads
-      (λ frame is. to_top high frame (frame_boxed tree size n boxed framed frame is) (way_less tree framed (own n) frame is (suc (suc high)) (suc high) refl leads))
+      (λ frame is. to_top high frame (frame_boxed tree screen n boxed framed frame is) (way_less tree framed (own n) frame is (suc (suc high)) (suc high) refl leads))
       (document_at tree (own n)).frame refl
 
   -- a root that a target isn't apart from is above it
-  pub above : (root : Root) (n : ℕ) → has_box tree size n ≡ true → is_apart (world_with tree size scrolls) root n ≡ false → IsAbove scene (spot_of_root root) (element_spot n)
+  pub above : (root : Root) (n : ℕ) → has_box tree screen n ≡ true → is_apart (shown_with tree screen scrolls) root n ≡ false → IsAbove scene (spot_of_root root) (element_spot n)
   above ImplicitRoot n boxed near =
-      let counted = count_is tree framed (own n) (active tree size n boxed) (length tree.documents) refl in
+      let counted = count_is tree framed (own n) (active tree screen n boxed) (length tree.documents) refl in
       to_top counted.0 n boxed counted.2
   above (DocumentRoot document) n boxed near =
       subst (λ d. IsAbove scene (View d) (element_spot n)) (eqb-true (own n) document (not_false (own n == document) near))
       (to_view (element_depth tree n) n (omega arith) boxed)
   above (ElementRoot a) n boxed near =
-      let proper : is_proper_ancestor tree a n ≡ true = second_true (own n == own a) (is_proper_ancestor tree a n) (not (has_box tree size a)) (not (has_box tree size n)) near in
-      let kept = proper_is (a == n) (is_inclusive_ancestor tree a n) proper in
+      let proper : is_on_chain tree a n ≡ true = second_true (own n == own a) (is_on_chain tree a n) (not (has_box tree screen a)) (not (has_box tree screen n)) near in
+      let kept = proper_is (a == n) (is_in_path (nodes_of tree) a n) proper in
       elim (to_ancestor (element_depth tree n) a n (omega arith) boxed kept.1) [
         | inl same ↦ absurd (let clash : true ≡ false = sym (number_same a n same) ∙ kept.0 in let no : ⊥ = cc in no)
         | inr found ↦ found

@@ -4,17 +4,17 @@ use Rattle.std.specs.Prelude.{IfSome, ◌&&◌, not, is_some}
 use Rattle.px_units.specs.declared.Rect.{Rect}
 use Rattle.layout_model.specs.Clips.{is_block, is_visible, clips}
 use Rattle.layout_model.specs.Nodes.{Node as LayoutNode}
-use Rattle.page_model.specs.World.{Extent, Tree, Scrolls}
+use Rattle.page_model.specs.World.{Screen, Tree, Scrolls}
 use Rattle.page_model.specs.Lookups.{document_at}
 use Rattle.page_model.specs.Documents.{InElement, container_of, nodes_of, element_depth}
 use Rattle.page_model.specs.PageBoxes.{has_box}
+use Rattle.page_model.specs.Shown.{shown_with}
 use Rattle.page_model.specs.Chains.{zero_rect, border_rect, padding_rect}
 use Rattle.page_documents.specs.Frames.{AreFramed}
 use Rattle.clip_chain.specs.declared.spot.Spot.{Spot}
 use Rattle.clip_chain.specs.declared.spot.Spot.TheVariants.{View}
 use Rattle.clip_chain.specs.Scenes.{Scene}
 use Rattle.clip_chain.specs.Worlds.{element_spot, spot_of, scene_of}
-use Rattle.page_geometry.specs.Worlds.{world_with}
 use Rattle.page_geometry.specs.Ranks.{rank_of}
 use Rattle.page_geometry.proofs.Ends.{falls}
 
@@ -26,36 +26,36 @@ clips_by node result block cuts is =
     ∙ sym (ap (λ b. b && not (is_visible node.item.style.overflow) && is_some node.parent) block
     ∙ ap (λ b. true && b && is_some node.parent) cuts)
 
-module _ (tree : Tree) (size : Extent) (scrolls : Scrolls) where
+module _ (tree : Tree) (screen : Screen) (scrolls : Scrolls) where
   abbrev scene : Scene
-  scene = scene_of (world_with tree size scrolls)
+  scene = scene_of (shown_with tree screen scrolls)
 
   module _ (n : ℕ) where
-    pub no_container : has_box tree size n ≡ false → None ≡ scene.container (element_spot n)
+    pub no_container : has_box tree screen n ≡ false → None ≡ scene.container (element_spot n)
     no_container none = sym (ap (λ b. cond b (option_map spot_of (container_of tree n)) None) none)
 
-    pub container_is : (found : Option Spot) → has_box tree size n ≡ true → found ≡ option_map spot_of (container_of tree n) → found ≡ scene.container (element_spot n)
+    pub container_is : (found : Option Spot) → has_box tree screen n ≡ true → found ≡ option_map spot_of (container_of tree n) → found ≡ scene.container (element_spot n)
     container_is found there is = is ∙ sym (ap (λ b. cond b (option_map spot_of (container_of tree n)) None) there)
 
-    pub no_clip : (has_box tree size n && clips (nodes_of tree n)) ≡ false → None ≡ scene.clip (element_spot n)
-    no_clip none = by_box (has_box tree size n) (clips (nodes_of tree n)) none
+    pub no_clip : (has_box tree screen n && clips (nodes_of tree n)) ≡ false → None ≡ scene.clip (element_spot n)
+    no_clip none = by_box (has_box tree screen n) (clips (nodes_of tree n)) none
       where
-        by_box : (b c : Bool) → (b && c) ≡ false → None ≡ cond b (cond c (Some (padding_rect (world_with tree size scrolls) n)) None) None
-        by_box true c is = sym (ap (λ b. cond b (Some (padding_rect (world_with tree size scrolls) n)) None) is)
+        by_box : (b c : Bool) → (b && c) ≡ false → None ≡ cond b (cond c (Some (padding_rect (shown_with tree screen scrolls) n)) None) None
+        by_box true c is = sym (ap (λ b. cond b (Some (padding_rect (shown_with tree screen scrolls) n)) None) is)
         by_box false c is = refl
 
-    pub clip_is : (rect : Rect) → (has_box tree size n && clips (nodes_of tree n)) ≡ true → rect ≡ padding_rect (world_with tree size scrolls) n → Some rect ≡ scene.clip (element_spot n)
-    clip_is rect some is = ap Some is ∙ by_box (has_box tree size n) (clips (nodes_of tree n)) some
+    pub clip_is : (rect : Rect) → (has_box tree screen n && clips (nodes_of tree n)) ≡ true → rect ≡ padding_rect (shown_with tree screen scrolls) n → Some rect ≡ scene.clip (element_spot n)
+    clip_is rect some is = ap Some is ∙ by_box (has_box tree screen n) (clips (nodes_of tree n)) some
       where
-        by_box : (b c : Bool) → (b && c) ≡ true → Some (padding_rect (world_with tree size scrolls) n) ≡ cond b (cond c (Some (padding_rect (world_with tree size scrolls) n)) None) None
-        by_box true c there = sym (ap (λ b. cond b (Some (padding_rect (world_with tree size scrolls) n)) None) there)
+        by_box : (b c : Bool) → (b && c) ≡ true → Some (padding_rect (shown_with tree screen scrolls) n) ≡ cond b (cond c (Some (padding_rect (shown_with tree screen scrolls) n)) None) None
+        by_box true c there = sym (ap (λ b. cond b (Some (padding_rect (shown_with tree screen scrolls) n)) None) there)
         by_box false c there = absurd (let no : ⊥ = cc in no)
 
-    pub no_bounds : has_box tree size n ≡ false → zero_rect ≡ scene.bounds (element_spot n)
-    no_bounds none = sym (ap (λ b. cond b (border_rect (world_with tree size scrolls) n) zero_rect) none)
+    pub no_bounds : has_box tree screen n ≡ false → zero_rect ≡ scene.bounds (element_spot n)
+    no_bounds none = sym (ap (λ b. cond b (border_rect (shown_with tree screen scrolls) n) zero_rect) none)
 
-    pub bounds_are : (rect : Rect) → has_box tree size n ≡ true → rect ≡ border_rect (world_with tree size scrolls) n → rect ≡ scene.bounds (element_spot n)
-    bounds_are rect there is = is ∙ sym (ap (λ b. cond b (border_rect (world_with tree size scrolls) n) zero_rect) there)
+    pub bounds_are : (rect : Rect) → has_box tree screen n ≡ true → rect ≡ border_rect (shown_with tree screen scrolls) n → rect ≡ scene.bounds (element_spot n)
+    bounds_are rect there is = is ∙ sym (ap (λ b. cond b (border_rect (shown_with tree screen scrolls) n) zero_rect) there)
 
   pub view_container : (document : ℕ) (found : Option Spot) → found ≡ option_map element_spot (document_at tree document).frame → found ≡ scene.container (View document)
   view_container document found is = is ∙ by_frame (document_at tree document).frame
@@ -65,6 +65,6 @@ module _ (tree : Tree) (size : Extent) (scrolls : Scrolls) where
       by_frame (Some frame) = refl
 
   module _ (framed : AreFramed tree) (few : length tree.documents ≤ 64) (deep : (n : ℕ) → element_depth tree n ≤ 256) where
-    pub ends : (from : Spot) (found : Option Spot) → found ≡ scene.container from → IfSome found (λ next. rank_of tree size next < rank_of tree size from)
+    pub ends : (from : Spot) (found : Option Spot) → found ≡ scene.container from → IfSome found (λ next. rank_of tree screen next < rank_of tree screen from)
     ends from None is = tt
-    ends from (Some next) is = falls tree size scrolls framed few deep from next (sym is)
+    ends from (Some next) is = falls tree screen scrolls framed few deep from next (sym is)

@@ -2,19 +2,19 @@
 use Rattle.std.proofs.Common.{◌≡◌, ◌≤◌, ◌<◌, ◌+◌, ◌*◌, ℕ, Bool, true, false, cond, List, [], ◌∷◌, length, Option, Some, None, refl, ap, subst, arith}
 use Rattle.std.specs.Prelude.{option_map}
 use Rattle.layout_model.proofs.Paths.{depth_child, depth_least}
-use Rattle.page_model.specs.World.{Extent, Tree, Scrolls}
+use Rattle.page_model.specs.World.{Screen, Tree, Scrolls}
 use Rattle.page_model.specs.Lookups.{element_at, document_at}
 use Rattle.page_model.specs.Documents.{InElement, container_by, container_of, is_root_element, nodes_of, element_depth}
 use Rattle.page_model.specs.PageBoxes.{has_box}
+use Rattle.page_model.specs.Shown.{shown_with}
 use Rattle.page_documents.specs.Frames.{AreFramed}
 use Rattle.clip_chain.specs.declared.spot.Spot.{Spot}
 use Rattle.clip_chain.specs.declared.spot.Spot.TheVariants.{Node, View}
 use Rattle.clip_chain.specs.Scenes.{Scene}
 use Rattle.clip_chain.specs.Chains.{Leads}
 use Rattle.clip_chain.specs.Worlds.{element_spot, spot_of, scene_of}
-use Rattle.page_geometry.specs.Worlds.{world_with}
 use Rattle.page_geometry.specs.Ranks.{level_of, rank_of}
-use Rattle.page_geometry.proofs.Shown.{active, parent_boxed}
+use Rattle.page_geometry.proofs.Standing.{active, parent_boxed}
 use Rattle.page_geometry.proofs.Levels.{level_more, level_some, level_most}
 
 leads_on : (b : Bool) (o : Option Spot) (next : Spot) → cond b o None ≡ Some next → (b ≡ true) × (o ≡ Some next)
@@ -24,18 +24,18 @@ leads_on false o next is = absurd (let no : ⊥ = cc in no)
 same_next : (a b : Spot) → Some a ≡ Some b → a ≡ b
 same_next a b is = cc
 
-module _ (tree : Tree) (size : Extent) (scrolls : Scrolls) (framed : AreFramed tree) (few : length tree.documents ≤ 64)
+module _ (tree : Tree) (screen : Screen) (scrolls : Scrolls) (framed : AreFramed tree) (few : length tree.documents ≤ 64)
     (deep : (n : ℕ) → element_depth tree n ≤ 256) where
   abbrev scene : Scene
-  scene = scene_of (world_with tree size scrolls)
+  scene = scene_of (shown_with tree screen scrolls)
 
   abbrev own : ℕ → ℕ
   own n = (element_at tree n).document
 
-  ranked : (n : ℕ) → has_box tree size n ≡ true → rank_of tree size (element_spot n) ≡ 257 * level_of tree (own n) + element_depth tree n
+  ranked : (n : ℕ) → has_box tree screen n ≡ true → rank_of tree screen (element_spot n) ≡ 257 * level_of tree (own n) + element_depth tree n
   ranked n boxed = ap (λ b. cond b (257 * level_of tree (own n) + element_depth tree n) 0) boxed
 
-  unranked : (n : ℕ) → has_box tree size n ≡ false → rank_of tree size (element_spot n) ≡ 0
+  unranked : (n : ℕ) → has_box tree screen n ≡ false → rank_of tree screen (element_spot n) ≡ 0
   unranked n none = ap (λ b. cond b (257 * level_of tree (own n) + element_depth tree n) 0) none
 
   depth_more : (n p : ℕ) → (element_at tree n).parent ≡ Some p → element_depth tree n ≡ element_depth tree p + 1
@@ -46,46 +46,46 @@ module _ (tree : Tree) (size : Extent) (scrolls : Scrolls) (framed : AreFramed t
   unfolding element_depth
   depth_some n = depth_least (nodes_of tree) n
 
-  outwards : (n : ℕ) → has_box tree size n ≡ true → (parent : Option ℕ) (is_root : Bool) (next : Spot) → (element_at tree n).parent ≡ parent
-      → option_map spot_of (container_by parent is_root (own n)) ≡ Some next → rank_of tree size next < rank_of tree size (element_spot n)
+  outwards : (n : ℕ) → has_box tree screen n ≡ true → (parent : Option ℕ) (is_root : Bool) (next : Spot) → (element_at tree n).parent ≡ parent
+      → option_map spot_of (container_by parent is_root (own n)) ≡ Some next → rank_of tree screen next < rank_of tree screen (element_spot n)
   outwards n boxed None true next is leads =
-      subst (λ spot. rank_of tree size spot < rank_of tree size (element_spot n)) (same_next (View (own n)) next leads)
+      subst (λ spot. rank_of tree screen spot < rank_of tree screen (element_spot n)) (same_next (View (own n)) next leads)
       (omega (arith, ranked n boxed, depth_some n))
   outwards n boxed None false next is leads = absurd (let no : ⊥ = cc in no)
   outwards n boxed (Some p) is_root next is leads =
       let level : level_of tree (own n) ≡ level_of tree (own p) = ap (level_of tree) (framed.owners.owned n p is) in
-      subst (λ spot. rank_of tree size spot < rank_of tree size (element_spot n)) (same_next (element_spot p) next leads)
-      (omega (arith, ranked n boxed, ranked p (parent_boxed tree size n boxed framed p is), level, depth_more n p is))
+      subst (λ spot. rank_of tree screen spot < rank_of tree screen (element_spot n)) (same_next (element_spot p) next leads)
+      (omega (arith, ranked n boxed, ranked p (parent_boxed tree screen n boxed framed p is), level, depth_more n p is))
 
-  frame_lower : (document frame : ℕ) → (document_at tree document).frame ≡ Some frame → (boxed : Bool) → has_box tree size frame ≡ boxed
-      → rank_of tree size (element_spot frame) < rank_of tree size (View document)
+  frame_lower : (document frame : ℕ) → (document_at tree document).frame ≡ Some frame → (boxed : Bool) → has_box tree screen frame ≡ boxed
+      → rank_of tree screen (element_spot frame) < rank_of tree screen (View document)
   frame_lower document frame is true boxed =
-      omega (arith, ranked frame boxed, level_more tree framed few document frame is (active tree size frame boxed), deep frame)
+      omega (arith, ranked frame boxed, level_more tree framed few document frame is (active tree screen frame boxed), deep frame)
   frame_lower document frame is false none =
       let more = level_some tree framed document frame is in omega (arith, unranked frame none, more.1)
 
   beyond : (document : ℕ) (frame : Option ℕ) (next : Spot) → (document_at tree document).frame ≡ frame
-      → option_map spot_of (option_map InElement frame) ≡ Some next → rank_of tree size next < rank_of tree size (View document)
+      → option_map spot_of (option_map InElement frame) ≡ Some next → rank_of tree screen next < rank_of tree screen (View document)
   beyond document None next is leads = absurd (let no : ⊥ = cc in no)
   beyond document (Some frame) next is leads =
-      subst (λ spot. rank_of tree size spot < rank_of tree size (View document)) (same_next (element_spot frame) next leads)
-      (frame_lower document frame is (has_box tree size frame) refl)
+      subst (λ spot. rank_of tree screen spot < rank_of tree screen (View document)) (same_next (element_spot frame) next leads)
+      (frame_lower document frame is (has_box tree screen frame) refl)
 
-  pub falls : (from next : Spot) → scene.container from ≡ Some next → rank_of tree size next < rank_of tree size from
+  pub falls : (from next : Spot) → scene.container from ≡ Some next → rank_of tree screen next < rank_of tree screen from
   falls (Node node) next leads =
-      let found = leads_on (has_box tree size (node.0)) (option_map spot_of (container_of tree (node.0))) next leads in
+      let found = leads_on (has_box tree screen (node.0)) (option_map spot_of (container_of tree (node.0))) next leads in
       outwards (node.0) found.0 (element_at tree (node.0)).parent (is_root_element tree (node.0)) next refl found.1
   falls (View document) next leads = beyond document (document_at tree document).frame next refl leads
 
-  short : (from root : Spot) (between : List Spot) → Leads scene from between root → length between ≤ rank_of tree size from
+  short : (from root : Spot) (between : List Spot) → Leads scene from between root → length between ≤ rank_of tree screen from
   short from root [] leads = omega arith
   short from root (next ∷ others) leads =
-      let below : length others ≤ rank_of tree size next = short next root others leads.2 in
+      let below : length others ≤ rank_of tree screen next = short next root others leads.2 in
       let lower = falls from next leads.0 in
       omega (arith, below, lower)
 
   -- no chain is longer than the definition of clips looks
-  pub few_between : (n : ℕ) (root : Spot) (between : List Spot) → has_box tree size n ≡ true → Leads scene (element_spot n) between root → length between ≤ 65536
+  pub few_between : (n : ℕ) (root : Spot) (between : List Spot) → has_box tree screen n ≡ true → Leads scene (element_spot n) between root → length between ≤ 65536
   few_between n root between boxed leads =
       let below = short (element_spot n) root between leads in
       omega (arith, below, ranked n boxed, deep n, level_most tree framed 64 (own n))

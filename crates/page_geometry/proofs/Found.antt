@@ -8,9 +8,10 @@ use Rattle.px_units.specs.declared.Point.{Point}
 use Rattle.px_units.specs.declared.Rect.{Rect}
 use Rattle.px_units.specs.declared.Size.{Size}
 use Rattle.script_model.specs.Margins.{Margins}
-use Rattle.page_model.specs.World.{World, Root}
+use Rattle.page_model.specs.World.{Root}
 use Rattle.page_model.specs.Lookups.{element_at}
-use Rattle.page_model.specs.PageBoxes.{pair_of, viewport_of, box_of, size_of, place_of}
+use Rattle.page_model.specs.PageBoxes.{pair_of}
+use Rattle.page_model.specs.Shown.{Shown, viewport_of, box_of, size_of, place_of}
 use Rattle.page_model.specs.Readings.{rect_of}
 use Rattle.page_model.specs.Chains.{moved_by, moved_out, padding_box_at, origin, viewport_rect, border_rect, padding_rect, root_bounds, root_rect}
 use Rattle.block_layout.specs.Seen.{as_size}
@@ -27,35 +28,35 @@ at_start o across down =
     edges_same (moved_by o (record { left = pos 0; top = pos 0; right = pos across; bottom = pos down })) (rect_of o (record { across = across; down = down }))
     (omega (arith, ints)) (omega (arith, ints)) (omega (arith, ints)) (omega (arith, ints))
 
-module _ (world : World) where
-  pub viewport_found : (document : ℕ) (o : Point) (size : Size) (width height : ℤ) (result : Rect) → result ≡ moved_by o (sized width height) → o ≡ origin world document
-      → width ≡ size.width → height ≡ size.height → size ≡ as_size (pair_of (viewport_of (world.tree) (world.viewports.size) document)) → result ≡ viewport_rect world document
+module _ (shown : Shown) where
+  pub viewport_found : (document : ℕ) (o : Point) (size : Size) (width height : ℤ) (result : Rect) → result ≡ moved_by o (sized width height) → o ≡ origin shown document
+      → width ≡ size.width → height ≡ size.height → size ≡ as_size (pair_of (viewport_of shown document)) → result ≡ viewport_rect shown document
   unfolding viewport_rect
   viewport_found document o size width height result is begins across down sizes =
       is
       ∙ (λ i. moved_by (begins i) (sized (across i) (down i)))
-      ∙ ap (λ (s : Size). moved_by (origin world document) (sized s.width s.height)) sizes
-      ∙ at_start (origin world document) (viewport_of (world.tree) (world.viewports.size) document).across (viewport_of (world.tree) (world.viewports.size) document).down
+      ∙ ap (λ (s : Size). moved_by (origin shown document) (sized s.width s.height)) sizes
+      ∙ at_start (origin shown document) (viewport_of shown document).across (viewport_of shown document).down
 
-  pub border_found : (n document : ℕ) (o : Point) (own result : Rect) → result ≡ moved_by o own → o ≡ origin world document → document ≡ (element_at (world.tree) n).document
-      → own ≡ rect_of (place_of (world.tree) (world.viewports.size) (world.scrolls) n) (size_of (world.tree) (world.viewports.size) n Border)
-      → result ≡ border_rect world n
+  pub border_found : (n document : ℕ) (o : Point) (own result : Rect) → result ≡ moved_by o own → o ≡ origin shown document → document ≡ (element_at (shown.tree) n).document
+      → own ≡ rect_of (place_of shown n) (size_of shown n Border)
+      → result ≡ border_rect shown n
   unfolding border_rect
   border_found n document o own result is begins owner at =
       is
-      ∙ ap (λ p. moved_by p own) (begins ∙ ap (origin world) owner)
-      ∙ ap (moved_by (origin world (element_at (world.tree) n).document)) at
+      ∙ ap (λ p. moved_by p own) (begins ∙ ap (origin shown) owner)
+      ∙ ap (moved_by (origin shown (element_at (shown.tree) n).document)) at
 
-  pub padding_found : (n document : ℕ) (o : Point) (own result : Rect) → result ≡ moved_by o own → o ≡ origin world document → document ≡ (element_at (world.tree) n).document
-      → own ≡ padding_box_at (place_of (world.tree) (world.viewports.size) (world.scrolls) n) (box_of (world.tree) (world.viewports.size) n)
-      → result ≡ padding_rect world n
+  pub padding_found : (n document : ℕ) (o : Point) (own result : Rect) → result ≡ moved_by o own → o ≡ origin shown document → document ≡ (element_at (shown.tree) n).document
+      → own ≡ padding_box_at (place_of shown n) (box_of shown n)
+      → result ≡ padding_rect shown n
   unfolding padding_rect
   padding_found n document o own result is begins owner at =
       is
-      ∙ ap (λ p. moved_by p own) (begins ∙ ap (origin world) owner)
-      ∙ ap (moved_by (origin world (element_at (world.tree) n).document)) at
+      ∙ ap (λ p. moved_by p own) (begins ∙ ap (origin shown) owner)
+      ∙ ap (moved_by (origin shown (element_at (shown.tree) n).document)) at
 
-  pub root_found : (root : Root) (margins : Margins) (bounds result : Rect) → result ≡ moved_out margins bounds → bounds ≡ root_bounds world root → result ≡ root_rect world root margins
+  pub root_found : (root : Root) (margins : Margins) (bounds result : Rect) → result ≡ moved_out margins bounds → bounds ≡ root_bounds shown root → result ≡ root_rect shown root margins
   unfolding root_rect
   root_found root margins bounds result is begins = is ∙ ap (moved_out margins) begins
 

@@ -1,5 +1,4 @@
-pub mod Parts
-pub mod Shown
+pub mod Standing
 pub mod Levels
 pub mod Chains
 pub mod Ends
@@ -9,3 +8,4 @@ pub mod Found
 pub mod Containers
 pub mod Results
 pub mod Ancestors
+mod Missing

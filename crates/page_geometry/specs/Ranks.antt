@@ -3,7 +3,7 @@
 use Rattle.std.specs.Prelude.{ℕ, zero, suc, ◌+◌, ◌*◌, cond, Option, Some, None}
 use Rattle.text_io.specs.Limits.{limit_number}
 use Rattle.text_io.specs.declared.kinds.LimitKind.TheVariants as limits
-use Rattle.page_model.specs.World.{Extent, Tree}
+use Rattle.page_model.specs.World.{Screen, Tree}
 use Rattle.page_model.specs.Lookups.{element_at, document_at}
 use Rattle.page_model.specs.Documents.{element_depth}
 use Rattle.page_model.specs.PageBoxes.{has_box}
@@ -23,7 +23,7 @@ abbrev pub level_of : Tree → ℕ → ℕ
 level_of tree document = level_up (limit_number limits.Documents) tree document
 
 -- a level of documents has room for all depths of elements
-abbrev pub rank_of : Tree → Extent → Spot → ℕ
-rank_of tree size (View document) = 257 * level_of tree document
-rank_of tree size (Node node) =
-    cond (has_box tree size (node.0)) (257 * level_of tree (element_at tree (node.0)).document + element_depth tree (node.0)) 0
+abbrev pub rank_of : Tree → Screen → Spot → ℕ
+rank_of tree screen (View document) = 257 * level_of tree document
+rank_of tree screen (Node node) =
+    cond (has_box tree screen (node.0)) (257 * level_of tree (element_at tree (node.0)).document + element_depth tree (node.0)) 0

@@ -1,76 +1,20 @@
 //! A page as chains of containers see it.
 
-ghost use Rattle.std.specs.Prelude.{◌≡◌, ◌≤◌, ℕ, length, not};
+ghost use Rattle.std.specs.Prelude.{◌≡◌, not};
 ghost use Rattle.layout_model.specs.Clips.{clips, is_visible};
 ghost use Rattle.style_values.specs.Seen.{seen_style};
-ghost use Rattle.page_model.specs.Documents.{element_depth, nodes_of};
-ghost use Rattle.page_documents.specs.Frames.{AreFramed};
-ghost use Rattle.page_tree.specs.Items.{IsNatural};
-ghost use Rattle.page_boxes.specs.Fresh.{IsFresh};
-ghost use Rattle.page_boxes.specs.Pages.{seen_size};
+ghost use Rattle.page_model.specs.Documents.{nodes_of};
 ghost use Rattle.page_tree.specs.Steps.{seen_container};
 ghost use Rattle.clip_chain.specs.Worlds.{spot_of};
 
 use crate::rects::{NO_RECT, border_rect, padding_rect, viewport_rect};
+use crate::shown::Shown;
 use block_layout::ItemKind;
 use clip_chain::{Geometry, Spot};
 use element_tree::NodeId;
-use kept_layout::Kept;
-use page_boxes::has_box;
 use page_tree::{Container, PageTree};
-use px_units::{Rect, Size};
-use scrolling::Scrolls;
+use px_units::Rect;
 use style_values::{Overflow, Style};
-
-/// The containers, clips and boxes of a page as they are now (Intersection Observer, 3.2.7), in the coordinates of the viewport
-/// of `top`. All boxes are held as they are with this size of that viewport.
-#[derive(Clone, Copy)]
-pub struct PageGeometry<'a> {
-    /// The elements and documents.
-    pub page: &'a PageTree,
-    /// Their boxes.
-    pub boxes: &'a Kept,
-    /// The stored scroll positions.
-    pub scrolls: &'a Scrolls,
-    /// The size of the viewport of `top`, in units of 1/64 pixel.
-    pub viewport: Size,
-    // How many documents there are.
-    pub(crate) documents: u32,
-    ghost natural: { IsNatural viewport },
-    ghost fresh: { IsFresh page.now.tree (seen_size viewport) boxes.now },
-    ghost framed: { AreFramed page.now.tree },
-    ghost counted: { documents ≡ length page.now.tree.documents },
-    ghost few: { documents ≤ 64 },
-    ghost deep: { (n : ℕ) → element_depth (page.now.tree) n ≤ 256 },
-}
-
-impl<'a> PageGeometry<'a> {
-    /// A page with its boxes, which are held as they are with this size of the viewport of `top`.
-    pub fn new(
-        page: &'a PageTree,
-        boxes: &'a Kept,
-        scrolls: &'a Scrolls,
-        viewport: Size,
-    ) -> PageGeometry<'a>
-        requires natural { IsNatural viewport }
-        requires fresh { IsFresh page.now.tree (seen_size viewport) boxes.now }
-        ensures page { result.page.now ≡ page.now }
-        ensures boxes { result.boxes.now ≡ boxes.now }
-        ensures scrolls { result.scrolls.now ≡ scrolls.now }
-        ensures viewport { result.viewport ≡ viewport }
-    {
-        // Both tell what is so of every page.
-        let documents = page.document_count();
-        page.holds(NodeId(0));
-        PageGeometry {
-            page,
-            boxes,
-            scrolls,
-            viewport,
-            documents,
-        }
-    }
-}
 
 fn is_cut(style: &Style) -> bool
     ensures { result ≡ not (is_visible (seen_style style.now).overflow) }
@@ -103,28 +47,28 @@ fn spot_of(container: Container) -> Spot
     }
 }
 
-impl Geometry for PageGeometry<'_> {
-    ghost use Rattle.page_boxes.specs.Pages.{seen_size};
+impl Geometry for Shown<'_> {
     ghost use Rattle.clip_chain.specs.Worlds.{scene_of};
-    ghost use Rattle.page_geometry.specs.Worlds.{world_with};
     ghost use Rattle.page_geometry.specs.Ranks.{rank_of};
 
-    ghost scene = { λ it. scene_of (world_with (it.page.now.tree) (seen_size it.viewport) (it.scrolls.now)) };
+    ghost scene = { scene_of };
 
-    ghost rank = { λ it. rank_of (it.page.now.tree) (seen_size it.viewport) };
+    ghost rank = { λ it. rank_of it.tree it.screen };
 
     fn container(&self, of: Spot) -> Option<Spot> {
+        // It tells that chains end.
+        self.document_count();
         match of {
             Spot::Node(node) => {
-                if !has_box(self.page, node) {
+                if !self.has_box(node) {
                     return None;
                 }
-                match self.page.container_of(node) {
+                match self.container_of(node) {
                     Some(container) => Some(spot_of(container)),
                     None => None,
                 }
             }
-            Spot::View(document) => match self.page.frame_of(document) {
+            Spot::View(document) => match self.frame_of(document) {
                 Some(frame) => Some(Spot::Node(frame)),
                 None => None,
             },
@@ -134,7 +78,7 @@ impl Geometry for PageGeometry<'_> {
     fn clip(&self, of: Spot) -> Option<Rect> {
         match of {
             Spot::Node(node) => {
-                if has_box(self.page, node) && clips(self.page, node) {
+                if self.has_box(node) && clips(self.page(), node) {
                     Some(padding_rect(self, node))
                 } else {
                     None
@@ -147,7 +91,7 @@ impl Geometry for PageGeometry<'_> {
     fn bounds(&self, of: Spot) -> Rect {
         match of {
             Spot::Node(node) => {
-                if has_box(self.page, node) {
+                if self.has_box(node) {
                     border_rect(self, node)
                 } else {
                     NO_RECT

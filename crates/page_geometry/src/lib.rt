@@ -7,12 +7,15 @@
 
 mod findings;
 mod geometry;
-mod laws;
 mod origins;
 mod ratios;
 mod rects;
 mod relations;
+mod scene;
+mod shown;
+mod sizes;
+mod telling;
 
 pub use findings::find;
-pub use geometry::PageGeometry;
-pub use laws::findings_read_these_parts_alone;
+pub use shown::Shown;
+pub use telling::told;

@@ -2,13 +2,10 @@
 
 ghost use Rattle.std.specs.Prelude.{◌≡◌, ◌≤◌, ◌+◌};
 ghost use Rattle.page_model.specs.Chains.{added, origin, origin_up};
-ghost use Rattle.page_boxes.specs.Pages.{seen_size};
 ghost use Rattle.page_boxes.specs.Ranges.{IsEdge};
-ghost use Rattle.page_geometry.specs.Worlds.{world_with};
 ghost use Rattle.page_geometry.specs.Ranges.{IsOrigin};
 
-use crate::geometry::PageGeometry;
-use page_boxes::{content_origin, has_box};
+use crate::shown::Shown;
 use px_units::Point;
 
 pub(crate) const NOWHERE: Point = Point { left: 0, top: 0 };
@@ -28,38 +25,31 @@ fn added(corner: Point, around: Point, frames: u32) -> Point
 }
 
 // Where the viewport of a document begins, so many frames looked at.
-fn origin_up(geometry: &PageGeometry<'_>, document: u32, high: u32) -> Point
+fn origin_up(shown: &Shown<'_>, document: u32, high: u32) -> Point
     requires { high ≤ 64 }
-    ensures value { result ≡ origin_up high (world_with geometry.now.page.now.tree (seen_size geometry.now.viewport) geometry.now.scrolls.now) document }
+    ensures value { result ≡ origin_up high shown.now document }
     ensures range { IsOrigin high result }
 {
     if high == 0 {
         return NOWHERE;
     }
-    let page = geometry.page;
-    let Some(frame) = page.frame_of(document) else {
+    let Some(frame) = shown.frame_of(document) else {
         return NOWHERE;
     };
-    if !has_box(page, frame) {
+    if !shown.has_box(frame) {
         return NOWHERE;
     }
-    let corner = content_origin(
-        page,
-        geometry.boxes,
-        geometry.scrolls,
-        geometry.viewport,
-        frame,
-    );
-    let around = origin_up(geometry, page.document_of(frame), high - 1);
+    let corner = shown.content_origin(frame);
+    let around = origin_up(shown, shown.document_of(frame), high - 1);
     added(corner, around, high - 1)
 }
 
 // Where the viewport of a document begins: at the zero point for `top`, and for a document whose frame has no box.
 //
 // It calls itself once for each frame around the document.
-pub(crate) fn origin(geometry: &PageGeometry<'_>, document: u32) -> Point
-    ensures value { result ≡ origin (world_with geometry.now.page.now.tree (seen_size geometry.now.viewport) geometry.now.scrolls.now) document }
+pub(crate) fn origin(shown: &Shown<'_>, document: u32) -> Point
+    ensures value { result ≡ origin shown.now document }
     ensures range { IsOrigin 64 result }
 {
-    origin_up(geometry, document, geometry.documents)
+    origin_up(shown, document, shown.document_count())
 }

@@ -3,15 +3,12 @@
 ghost use Rattle.std.specs.Prelude.{◌≡◌, ◌-ℤ◌};
 ghost use Rattle.page_model.specs.Chains.{moved_by, moved_back, viewport_rect, border_rect, padding_rect};
 ghost use Rattle.clip_chain.specs.Ranges.{IsBounds};
-ghost use Rattle.page_boxes.specs.Pages.{seen_size};
 ghost use Rattle.page_boxes.specs.Ranges.{AreEdges, IsSpan};
-ghost use Rattle.page_geometry.specs.Worlds.{world_with};
 ghost use Rattle.page_geometry.specs.Ranges.{IsOrigin, IsMoved, IsRectReached};
 
-use crate::geometry::PageGeometry;
 use crate::origins::origin;
+use crate::shown::Shown;
 use element_tree::NodeId;
-use page_boxes::viewport_of;
 use px_units::{Point, Rect, shift};
 
 pub(crate) const NO_RECT: Rect = Rect {
@@ -44,46 +41,34 @@ pub(crate) fn moved_back(from: Point, rect: Rect) -> Rect
 }
 
 // The viewport of a document.
-pub(crate) fn viewport_rect(geometry: &PageGeometry<'_>, document: u32) -> Rect
-    ensures value { result ≡ viewport_rect (world_with geometry.now.page.now.tree (seen_size geometry.now.viewport) geometry.now.scrolls.now) document }
+pub(crate) fn viewport_rect(shown: &Shown<'_>, document: u32) -> Rect
+    ensures value { result ≡ viewport_rect shown.now document }
     ensures range { IsBounds result }
 {
-    let size = viewport_of(geometry.page, geometry.boxes, geometry.viewport, document);
+    let size = shown.viewport_of(document);
     let own = Rect {
         left: 0,
         top: 0,
         right: size.width,
         bottom: size.height,
     };
-    moved_by(origin(geometry, document), own)
+    moved_by(origin(shown, document), own)
 }
 
 // The border box of an element.
-pub(crate) fn border_rect(geometry: &PageGeometry<'_>, node: NodeId) -> Rect
-    ensures value { result ≡ border_rect (world_with geometry.now.page.now.tree (seen_size geometry.now.viewport) geometry.now.scrolls.now) node.0 }
+pub(crate) fn border_rect(shown: &Shown<'_>, node: NodeId) -> Rect
+    ensures value { result ≡ border_rect shown.now node.0 }
     ensures range { IsBounds result }
 {
-    let own = page_boxes::border_rect(
-        geometry.page,
-        geometry.boxes,
-        geometry.scrolls,
-        geometry.viewport,
-        node,
-    );
-    moved_by(origin(geometry, geometry.page.document_of(node)), own)
+    let own = shown.border_rect(node);
+    moved_by(origin(shown, shown.document_of(node)), own)
 }
 
 // The padding box of an element.
-pub(crate) fn padding_rect(geometry: &PageGeometry<'_>, node: NodeId) -> Rect
-    ensures value { result ≡ padding_rect (world_with geometry.now.page.now.tree (seen_size geometry.now.viewport) geometry.now.scrolls.now) node.0 }
+pub(crate) fn padding_rect(shown: &Shown<'_>, node: NodeId) -> Rect
+    ensures value { result ≡ padding_rect shown.now node.0 }
     ensures range { IsBounds result }
 {
-    let own = page_boxes::padding_rect(
-        geometry.page,
-        geometry.boxes,
-        geometry.scrolls,
-        geometry.viewport,
-        node,
-    );
-    moved_by(origin(geometry, geometry.page.document_of(node)), own)
+    let own = shown.padding_rect(node);
+    moved_by(origin(shown, shown.document_of(node)), own)
 }

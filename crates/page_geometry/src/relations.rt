@@ -1,16 +1,14 @@
 //! How a target lies to a root (Intersection Observer, 2.2 and 3.2.10).
 
 ghost use Rattle.std.specs.Prelude.{◌≡◌};
-ghost use Rattle.page_model.specs.World.{Extent, Scrolls};
-ghost use Rattle.page_model.specs.Findings.{is_proper_ancestor, is_apart};
+ghost use Rattle.page_model.specs.Findings.{is_on_chain, is_apart};
 ghost use Rattle.clip_chain.specs.Worlds.{spot_of_root};
 ghost use Rattle.intersection_observer.specs.Seen.{seen_root};
-ghost use Rattle.page_geometry.specs.Worlds.{world_with};
 
+use crate::shown::Shown;
 use clip_chain::Spot;
 use element_tree::NodeId;
 use intersection_observer::Root;
-use page_boxes::has_box;
 use page_tree::PageTree;
 
 // The implicit root is the viewport of `top`.
@@ -24,29 +22,29 @@ pub(crate) fn spot_of_root(root: Root) -> Spot
     }
 }
 
-// Whether the first element stands above the second (DOM, 1.1: ancestor).
-fn is_proper_ancestor(page: &PageTree, ancestor: NodeId, node: NodeId) -> bool
-    ensures { result ≡ is_proper_ancestor page.now.tree ancestor.0 node.0 }
+// Whether an element lies on the chain of those that hold the target's box (CSS 2.2, 10.1: containing block), which are its ancestors.
+fn is_on_chain(page: &PageTree, element: NodeId, target: NodeId) -> bool
+    ensures { result ≡ is_on_chain page.now.tree element.0 target.0 }
 {
     let tree = page.tree();
-    match tree.parent(node) {
-        Some(parent) => ancestor != node && tree.is_ancestor(ancestor, parent),
+    match tree.parent(target) {
+        Some(parent) => element != target && tree.is_ancestor(element, parent),
         None => false,
     }
 }
 
-// Whether a target is apart from a root: of another document, or not below an element, or one of the two has no box.
-pub(crate) fn is_apart(page: &PageTree, root: Root, target: NodeId) -> bool
-    ensures { (size : Extent) (scrolls : Scrolls) → result ≡ is_apart (world_with page.now.tree size scrolls) (seen_root root) target.0 }
+// Whether a target is apart from a root: of another document, or an element that isn't on its chain, or one of the two has no box.
+pub(crate) fn is_apart(shown: &Shown<'_>, root: Root, target: NodeId) -> bool
+    ensures { result ≡ is_apart shown.now (seen_root root) target.0 }
 {
     match root {
         Root::Implicit => false,
-        Root::Document(document) => page.document_of(target) != document,
+        Root::Document(document) => shown.document_of(target) != document,
         Root::Node(node) => {
-            page.document_of(target) != page.document_of(node)
-                || !is_proper_ancestor(page, node, target)
-                || !has_box(page, node)
-                || !has_box(page, target)
+            shown.document_of(target) != shown.document_of(node)
+                || !is_on_chain(shown.page(), node, target)
+                || !shown.has_box(node)
+                || !shown.has_box(target)
         }
     }
 }

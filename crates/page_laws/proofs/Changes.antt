@@ -14,6 +14,7 @@ use Rattle.page_model.specs.Timers.{timer_taken}
 use Rattle.page_model.specs.Tasks.{is_notifying, with_notifying, without_notifying}
 use Rattle.page_model.specs.IntersectionObserving.{without_queue}
 use Rattle.page_model.specs.Findings.{finding}
+use Rattle.page_model.specs.Shown.{shown_of}
 use Rattle.page_model.specs.Gathering.{Sight, has_changed, is_deeper, is_of, gathered_if, observed_size, reported, with_reported, without_active}
 use Rattle.page_model.specs.Intersections.{Settled, is_news, settled, settled_observer, settling, has_queued, watchers, with_notify_task, update_intersections}
 use Rattle.page_model.specs.Loop.{gather, emptied}
@@ -295,11 +296,11 @@ pub update-next : (document : ℕ) (world : World) → document < length world.t
 unfolding update_intersections
 update-next document world is =
     let observers = watchers (world.tree) document (world.intersection_observers) in
-    let settled_ones = settling (world.clock) (finding world) observers (world.intersection_observers) in
+    let settled_ones = settling (world.clock) (finding (shown_of world)) observers (world.intersection_observers) in
     let now = record world { intersection_observers = settled_ones } in
     let first : IsNext world now =
-    intersection-next world settled_ones (λ counts. changed-each (IsIntersectionObserverIn counts) (settled_observer (world.clock) (finding world))
-    (settled-in counts (world.clock) (finding world)) observers (world.intersection_observers.made)) in
+    intersection-next world settled_ones (λ counts. changed-each (IsIntersectionObserverIn counts) (settled_observer (world.clock) (finding (shown_of world)))
+    (settled-in counts (world.clock) (finding (shown_of world))) observers (world.intersection_observers.made)) in
     by_test settled_ones first (list_any (has_queued (world.intersection_observers) settled_ones) observers)
   where
     by_test : (it : IntersectionObservers) → IsNext world (record world { intersection_observers = it }) → (test : Bool) →

@@ -350,7 +350,7 @@ module _ (script : Script) (P : ℕ → World → Type 0) (In : ℕ → Present 
     size-keeps : (document : ℕ) (world : World) → is_active (world.tree) document ≡ true → P k world → P k (resize_steps script document world).state
     unfolding resize_steps
     size-keeps document world is here =
-        let size = viewport_of (world.tree) (world.viewports.size) document in
+        let size = viewport_of (world.tree) (world.viewports.screen) document in
         let now = record world { viewports = with_noted document size (world.viewports) } in
         only_if-keeps (P k) (fire script (FiredResize (document_text (world.names) document)) (WindowTarget document) events.Resize) now
         (differs_from size (noted_size document (world.viewports)))

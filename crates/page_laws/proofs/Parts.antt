@@ -2,7 +2,7 @@
 use Rattle.std.specs.Prelude.{ℕ, zero, suc, ◌<◌, ℤ, Bool, true, false, cond, List, [], ◌∷◌, ◌++◌, Option, Some, None, IfSome, slice_get, unwrap_or}
 use Rattle.std.specs.List.{AllByRecursion, list_any}
 use Rattle.px_units.specs.declared.BoxKind.{BoxKind}
-use Rattle.page_model.specs.World.{Extent, ScrollTarget, ScrolledElement, ScrolledDocument, Scrolls, ResizeObserver, ResizeObservers, IntersectionObserver, IntersectionObservers, Tree, World}
+use Rattle.page_model.specs.World.{Extent, Screen, ScrollTarget, ScrolledElement, ScrolledDocument, Scrolls, ResizeObserver, ResizeObservers, IntersectionObserver, IntersectionObservers, Tree, World}
 use Rattle.page_model.specs.Lookups.{change_at, element_at}
 use Rattle.page_model.specs.Documents.{Container, InElement, InDocument, is_root_element}
 use Rattle.page_model.specs.PageBoxes.{is_scroller}
@@ -138,10 +138,10 @@ module _ (counts : Counts) where
   element-scroll-in tree n false true top within is-n = is-n
   element-scroll-in tree n false false top within is-n = tt
 
-  thing-scroll-in : (tree : Tree) (size : Extent) (container : Container) → 0 < counts.documents → IsTreeIn counts tree → IsContainerIn counts container →
-      IfSome (scrolled_thing tree size container) (IsScrollIn counts)
-  thing-scroll-in tree size (InElement n) top within is-in = element-scroll-in tree n (is_root_element tree n) (is_scroller tree size n) top within is-in
-  thing-scroll-in tree size (InDocument document) top within is-in = is-in
+  thing-scroll-in : (tree : Tree) (screen : Screen) (container : Container) → 0 < counts.documents → IsTreeIn counts tree → IsContainerIn counts container →
+      IfSome (scrolled_thing tree screen container) (IsScrollIn counts)
+  thing-scroll-in tree screen (InElement n) top within is-in = element-scroll-in tree n (is_root_element tree n) (is_scroller tree screen n) top within is-in
+  thing-scroll-in tree screen (InDocument document) top within is-in = is-in
 
   list-document-in : (tree : Tree) (target : ScrollTarget) → 0 < counts.documents → IsTreeIn counts tree → IsScrollIn counts target →
       scroll_document tree target < counts.documents
@@ -159,10 +159,10 @@ module _ (handlers : ℕ) (world : World) (within : IsInRange handlers world) wh
       (list-document-in counts (world.tree) target within.top within.tree is) is within.scrolls)
 
   pub scroll-in : (left top : ℤ) (container : Container) → IsContainerIn (counts_of handlers world) container →
-      IsInRange handlers (scrolled_to left top (scrolled_thing (world.tree) (world.viewports.size) container) world)
+      IsInRange handlers (scrolled_to left top (scrolled_thing (world.tree) (world.viewports.screen) container) world)
   scroll-in left top container is =
-      scroll-to-in left top (scrolled_thing (world.tree) (world.viewports.size) container)
-      (thing-scroll-in (counts_of handlers world) (world.tree) (world.viewports.size) container within.top within.tree is)
+      scroll-to-in left top (scrolled_thing (world.tree) (world.viewports.screen) container)
+      (thing-scroll-in (counts_of handlers world) (world.tree) (world.viewports.screen) container within.top within.tree is)
 
   scroll-by-to-in : (left top : ℤ) (target : Option ScrollTarget) → IfSome target (IsScrollIn (counts_of handlers world)) →
       IsInRange handlers (scrolled_by left top target world)
@@ -170,7 +170,7 @@ module _ (handlers : ℕ) (world : World) (within : IsInRange handlers world) wh
   scroll-by-to-in left top (Some target) is = scroll-to-in _ _ (Some target) is
 
   pub scroll-by-in : (left top : ℤ) (container : Container) → IsContainerIn (counts_of handlers world) container →
-      IsInRange handlers (scrolled_by left top (scrolled_thing (world.tree) (world.viewports.size) container) world)
+      IsInRange handlers (scrolled_by left top (scrolled_thing (world.tree) (world.viewports.screen) container) world)
   scroll-by-in left top container is =
-      scroll-by-to-in left top (scrolled_thing (world.tree) (world.viewports.size) container)
-      (thing-scroll-in (counts_of handlers world) (world.tree) (world.viewports.size) container within.top within.tree is)
+      scroll-by-to-in left top (scrolled_thing (world.tree) (world.viewports.screen) container)
+      (thing-scroll-in (counts_of handlers world) (world.tree) (world.viewports.screen) container within.top within.tree is)

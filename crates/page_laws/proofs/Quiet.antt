@@ -15,6 +15,7 @@ use Rattle.page_model.specs.FrameCallbacks.{frame_callbacks_of, frame_callback_s
 use Rattle.page_model.specs.Timers.{by_due_time, due_timers, timer_stands}
 use Rattle.page_model.specs.Tasks.{has_tasks, is_notifying}
 use Rattle.page_model.specs.Findings.{finding}
+use Rattle.page_model.specs.Shown.{shown_of}
 use Rattle.page_model.specs.Gathering.{sight_of, is_of, gathered_if, is_filled, has_active, has_skipped}
 use Rattle.page_model.specs.Runs.{Flow, Next, Thrown, Limited, Said, Turn, silent, say, follow, ◌followed_by◌, only_if, lifted, for_each, repeat, by_place, at_place, most_steps}
 use Rattle.page_model.specs.Callbacks.{Script, while_active, fire}
@@ -83,10 +84,10 @@ at-top world quiet = ap (λ documents. unwrap_or (slice_get documents 0) no_docu
 others-inactive : (world : World) → IsQuiet world → (n : ℕ) → is_active (world.tree) (suc n) ≡ false
 others-inactive world quiet n = ap (λ documents. is_active_state (unwrap_or (slice_get documents (suc n)) no_document).state) (quiet.alone)
 
-own-viewport : (world : World) → IsQuiet world → viewport_of (world.tree) (world.viewports.size) 0 ≡ world.viewports.size
+own-viewport : (world : World) → IsQuiet world → viewport_of (world.tree) (world.viewports.screen) 0 ≡ world.viewports.screen.size
 unfolding viewport_of
 own-viewport world quiet =
-    ap (λ frame. extent_of (unwrap_or (framed_size (world.tree) (world.viewports.size) (view_of (world.tree) (world.viewports.size)) frame) (0, 0)))
+    ap (λ frame. extent_of (unwrap_or (framed_size (world.tree) (world.viewports.screen) (view_of (world.tree) (world.viewports.screen)) frame) (0, 0)))
     (ap (λ (it : Document). it.frame) (at-top world quiet) ∙ quiet.frame)
 
 active-hushed : (document : ℕ) (part : ℕ → World → Said World) → ((world : World) → IsQuiet world → IsHushed (part 0 world)) → (world : World) →
@@ -106,15 +107,15 @@ put-first : (value : Option Extent) (noted : List (Option Extent)) → entry_or 
 put-first value [] = refl
 put-first value (x ∷ xs) = refl
 
-noted-quiet : (world : World) (size : Extent) → size ≡ world.viewports.size → IsQuiet world →
+noted-quiet : (world : World) (size : Extent) → size ≡ world.viewports.screen.size → IsQuiet world →
     IsQuiet (record world { viewports = with_noted 0 size (world.viewports) })
 noted-quiet world size is quiet = record {
   top = quiet.top;
   alone = quiet.alone;
   frame = quiet.frame;
   pending = quiet.pending;
-  noted = ap (differs_from (world.viewports.size)) (put-first (Some size) (world.viewports.noted)) ∙ subst
-      (λ it. differs_from (world.viewports.size) (Some it) ≡ false) (sym is) (ap not (same-size (world.viewports.size)));
+  noted = ap (differs_from (world.viewports.screen.size)) (put-first (Some size) (world.viewports.noted)) ∙ subst
+      (λ it. differs_from (world.viewports.screen.size) (Some it) ≡ false) (sym is) (ap not (same-size (world.viewports.screen.size)));
   resize_observers = quiet.resize_observers;
   intersection_observers = quiet.intersection_observers;
   queries = quiet.queries;
@@ -154,7 +155,7 @@ timers-hushed script world quiet =
 resize-hushed : (script : Script) (world : World) → IsQuiet world → IsHushed (resize_steps script 0 world)
 unfolding resize_steps
 resize-hushed script world quiet =
-    let size = viewport_of (world.tree) (world.viewports.size) 0 in
+    let size = viewport_of (world.tree) (world.viewports.screen) 0 in
     only_if-not (fire script (FiredResize (document_text (world.names) 0)) (WindowTarget 0) events.Resize)
     (record world { viewports = with_noted 0 size (world.viewports) })
     (differs_from size (noted_size 0 (world.viewports)))
@@ -240,7 +241,7 @@ updated-quiet world quiet =
     let watching = places_from 0 (λ (observer : IntersectionObserver). is_rooted_in (world.tree) 0 (observer.root)) in
     let now =
     record world {
-      intersection_observers = settling (world.clock) (finding world) (watchers (world.tree) 0 (world.intersection_observers))
+      intersection_observers = settling (world.clock) (finding (shown_of world)) (watchers (world.tree) 0 (world.intersection_observers))
           (world.intersection_observers);
     } in
     let still : IsQuiet now = record {
@@ -250,7 +251,7 @@ updated-quiet world quiet =
       pending = quiet.pending;
       noted = quiet.noted;
       resize_observers = quiet.resize_observers;
-      intersection_observers = ap (λ these. change_each (settled_observer (world.clock) (finding world)) (watching these) these) (quiet.intersection_observers);
+      intersection_observers = ap (λ these. change_each (settled_observer (world.clock) (finding (shown_of world))) (watching these) these) (quiet.intersection_observers);
       queries = quiet.queries;
       frame_callbacks = quiet.frame_callbacks;
       timers = quiet.timers;

@@ -6,7 +6,7 @@ use Rattle.px_units.specs.declared.BoxKind.{BoxKind}
 use Rattle.layout_model.specs.Boxes.{Inputs, box_in}
 use Rattle.text_io.specs.declared.kinds.LimitKind.TheVariants as limits
 use Rattle.script_model.specs.Syntax.{Operand, Read}
-use Rattle.page_model.specs.World.{Extent, Tree, World}
+use Rattle.page_model.specs.World.{Screen, Tree, World}
 use Rattle.page_model.specs.Lookups.{no_extent}
 use Rattle.page_model.specs.Documents.{nodes_of, active_documents, is_active, is_active_state, frame_levels}
 use Rattle.page_model.specs.PageBoxes.{inputs_of, has_box, box_of, size_of, size_by, extent_of}
@@ -42,6 +42,6 @@ no-size : (tree : Tree) (n : ℕ) (kind : BoxKind) (inputs : Option Inputs) → 
 no-size tree n kind None none = refl
 no-size tree n kind (Some inputs) none = absurd (true≢false none)
 
-pub no-box-no-size : (tree : Tree) (size : Extent) (n : ℕ) (kind : BoxKind) → has_box tree size n ≡ false → size_of tree size n kind ≡ no_extent
+pub no-box-no-size : (tree : Tree) (screen : Screen) (n : ℕ) (kind : BoxKind) → has_box tree screen n ≡ false → size_of tree screen n kind ≡ no_extent
 unfolding has_box box_of size_of
-no-box-no-size tree size n kind none = no-size tree n kind (inputs_of tree size n) none
+no-box-no-size tree screen n kind none = no-size tree n kind (inputs_of tree screen n) none

@@ -11,7 +11,7 @@ pub record IsQuiet (world : World) : Type 0 where
   pub alone : world.tree.documents ≡ top ∷ []
   pub frame : top.frame ≡ None
   pub pending : pending_of 0 world.scrolls ≡ []
-  pub noted : differs_from (world.viewports.size) (noted_size 0 world.viewports) ≡ false
+  pub noted : differs_from (world.viewports.screen.size) (noted_size 0 world.viewports) ≡ false
   pub resize_observers : world.resize_observers.made ≡ []
   pub intersection_observers : world.intersection_observers.made ≡ []
   pub queries : world.queries ≡ []

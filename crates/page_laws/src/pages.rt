@@ -4,7 +4,7 @@ ghost use Rattle.std.specs.Prelude.{◌≡◌, ℕ, suc, ◌+◌, ◌<◌, IsTru
 ghost use Rattle.std.specs.List.{AllByRecursion};
 ghost use Rattle.px_units.specs.declared.BoxKind.{BoxKind};
 ghost use Rattle.script_model.specs.Syntax.{Action, Operand, Read};
-ghost use Rattle.page_model.specs.World.{Extent, Tree, World};
+ghost use Rattle.page_model.specs.World.{Screen, Tree, World};
 ghost use Rattle.page_model.specs.Lookups.{no_extent};
 ghost use Rattle.page_model.specs.Documents.{InElement, active_documents, element_depth, is_active};
 ghost use Rattle.page_model.specs.PageBoxes.{has_box, size_of};
@@ -49,7 +49,7 @@ pub fn listed_documents_are_active()
 
 /// An element without a box has the size 0 by 0.
 pub fn no_box_has_no_size()
-    ensures { (tree : Tree) (size : Extent) (n : ℕ) (kind : BoxKind) → has_box tree size n ≡ false → size_of tree size n kind ≡ no_extent }
+    ensures { (tree : Tree) (screen : Screen) (n : ℕ) (kind : BoxKind) → has_box tree screen n ≡ false → size_of tree screen n kind ≡ no_extent }
 {}
 
 /// An element that is put into another one, last or before a sibling, stands one level deeper than that one.

@@ -5,7 +5,7 @@ ghost use Rattle.std.specs.Option.{ForSome};
 ghost use Rattle.style_values.specs.Ranges.{IsAllowed};
 ghost use Rattle.style_values.specs.Seen.{seen_declaration};
 ghost use Rattle.element_tree.specs.Links.{number};
-ghost use Rattle.page_model.specs.World.{Extent};
+ghost use Rattle.page_model.specs.World.{Screen as WorldScreen};
 ghost use Rattle.page_model.specs.Outcome.{opening_world};
 ghost use Rattle.page_model.specs.Documents.{nodes_of, removed};
 ghost use Rattle.page_model.specs.Steps.{Did, Threw};
@@ -17,14 +17,14 @@ ghost use Rattle.page_tree.specs.Faults.{refusal, element_room, frame_room, IsMa
 ghost use Rattle.page_tree.specs.Steps.{seen_container, seen_axis, IsContainerIn};
 ghost use Rattle.page_boxes.specs.Fresh.{IsFresh, IsFreshFor};
 ghost use Rattle.page_boxes.specs.Kept.{AreKept, FillsOnly, IsExact, is_due, due_count};
-ghost use Rattle.page_boxes.specs.Pages.{seen_size};
+ghost use Rattle.page_boxes.specs.Pages.{seen_screen};
 ghost use Rattle.page_layout.specs.Marks.{element_of, is_over, MarksOnly, MarksNone};
 
 use crate::marks::{element_of, mark, parent_of};
 use block_layout::ItemKind;
 use element_tree::NodeId;
 use kept_layout::Kept;
-use page_boxes::{refresh, refresh_for, undue_boxes_are_exact};
+use page_boxes::{Screen, refresh, refresh_for, undue_boxes_are_exact};
 use page_tree::{Axis, Container, MakeFault, PageTree, PlaceFault};
 use px_units::{Px, Size};
 use std::alloc::{AllocError, Global};
@@ -84,13 +84,13 @@ impl LaidTree {
     }
 
     /// The boxes that are held by now. What is held for an element that has a box and isn't due is that box as it is now, whatever
-    /// size the viewport of `top` has; so where none is due, all boxes are held as they are now.
+    /// screen `top` is shown on; so where none is due, all boxes are held as they are now.
     pub fn boxes(&self) -> &Kept
         ensures value { result.now ≡ self.now.kept }
         ensures kept { AreKept self.now.elements.tree self.now.kept }
-        ensures exact { (size : Extent) → IsExact self.now.elements.tree size self.now.kept }
-        ensures fresh { (size : Extent) → ((n : ℕ) → is_due self.now.elements.tree size self.now.kept n ≡ false) →
-            IsFresh self.now.elements.tree size self.now.kept }
+        ensures exact { (screen : WorldScreen) → IsExact self.now.elements.tree screen self.now.kept }
+        ensures fresh { (screen : WorldScreen) → ((n : ℕ) → is_due self.now.elements.tree screen self.now.kept n ≡ false) →
+            IsFresh self.now.elements.tree screen self.now.kept }
     {
         undue_boxes_are_exact(&self.boxes, &self.page);
         &self.boxes
@@ -276,32 +276,32 @@ impl LaidTree {
         Ok(())
     }
 
-    /// Computes what is due of the boxes, with this size of the viewport of `top`: each box of the page is then held as it is now,
+    /// Computes what is due of the boxes, with this screen of `top`: each box of the page is then held as it is now,
     /// and none is due. It takes at most one step for each box that was due, sets no mark, drops no box, and takes no memory.
-    pub fn refresh<L: Ledger>(&mut self, viewport: Size, steps: &mut Steps<L>)
-        ensures fresh { IsFresh self.new.elements.tree (seen_size viewport) self.new.kept }
-        ensures done { (n : ℕ) → is_due self.new.elements.tree (seen_size viewport) self.new.kept n ≡ false }
+    pub fn refresh<L: Ledger>(&mut self, screen: Screen, steps: &mut Steps<L>)
+        ensures fresh { IsFresh self.new.elements.tree (seen_screen screen) self.new.kept }
+        ensures done { (n : ℕ) → is_due self.new.elements.tree (seen_screen screen) self.new.kept n ≡ false }
         ensures same { self.new.elements ≡ self.old.elements }
         ensures fills { FillsOnly self.old.kept self.new.kept }
-        ensures ticks { steps.new + due_count self.old.elements.tree (seen_size viewport) self.new.kept ≤ steps.old + due_count self.old.elements.tree (seen_size viewport) self.old.kept }
+        ensures ticks { steps.new + due_count self.old.elements.tree (seen_screen screen) self.new.kept ≤ steps.old + due_count self.old.elements.tree (seen_screen screen) self.old.kept }
     {
-        refresh(&mut self.boxes, &self.page, viewport, steps);
+        refresh(&mut self.boxes, &self.page, screen, steps);
     }
 
-    /// Computes what is due of the boxes that a reading of an element or a document rests on, with this size of the viewport of
-    /// `top`: those of one document and of the documents around it are then held as they are now. It takes at most one step for
+    /// Computes what is due of the boxes that a reading of an element or a document rests on, with this screen of `top`:
+    /// those of one document and of the documents around it are then held as they are now. It takes at most one step for
     /// each box that was due, and no memory.
     pub fn refresh_for<L: Ledger>(
         &mut self,
-        viewport: Size,
+        screen: Screen,
         container: Container,
         steps: &mut Steps<L>,
     )
-        ensures fresh { IsFreshFor self.new.elements.tree (seen_size viewport) self.new.kept (seen_container container) }
+        ensures fresh { IsFreshFor self.new.elements.tree (seen_screen screen) self.new.kept (seen_container container) }
         ensures same { self.new.elements ≡ self.old.elements }
         ensures fills { FillsOnly self.old.kept self.new.kept }
-        ensures ticks { steps.new + due_count self.old.elements.tree (seen_size viewport) self.new.kept ≤ steps.old + due_count self.old.elements.tree (seen_size viewport) self.old.kept }
+        ensures ticks { steps.new + due_count self.old.elements.tree (seen_screen screen) self.new.kept ≤ steps.old + due_count self.old.elements.tree (seen_screen screen) self.old.kept }
     {
-        refresh_for(&mut self.boxes, &self.page, viewport, container, steps);
+        refresh_for(&mut self.boxes, &self.page, screen, container, steps);
     }
 }

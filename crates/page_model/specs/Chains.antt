@@ -7,11 +7,14 @@ use Rattle.px_units.specs.declared.Point.{Point}
 use Rattle.px_units.specs.Rects.{has_points, overlap, shifted}
 use Rattle.layout_model.specs.Boxes.{Box, padding_size, padding_corner, inner_corner}
 use Rattle.layout_model.specs.Clips.{clips}
+use Rattle.layout_model.specs.Nodes.{holder}
 use Rattle.script_model.specs.Margins.{MarginPart, MarginPixels, MarginPercentage, Margins}
-use Rattle.page_model.specs.World.{World, Tree, Root, ImplicitRoot, DocumentRoot, ElementRoot}
+use Rattle.page_model.specs.World.{Tree, Root, ImplicitRoot, DocumentRoot, ElementRoot}
 use Rattle.page_model.specs.Lookups.{element_at, document_at}
-use Rattle.page_model.specs.Documents.{frame_levels, Container, InElement, InDocument, container_of, nodes_of}
-use Rattle.page_model.specs.PageBoxes.{extent_of, viewport_of, has_box, box_of, size_of, place_of}
+use Rattle.page_model.specs.Documents.{frame_levels, Container, InElement, InDocument, container_by, is_root_element, nodes_of}
+use Rattle.page_model.specs.PageBoxes.{extent_of}
+use Rattle.page_model.specs.PageBoxes as boxes
+use Rattle.page_model.specs.Shown.{Shown, viewport_of, has_box, box_of, size_of, place_of}
 use Rattle.page_model.specs.Readings.{rect_of}
 
 abbrev pub zero_point : Point
@@ -42,47 +45,51 @@ abbrev pub content_corner_at : Point → Option Box → Point
 content_corner_at place None = place
 content_corner_at place (Some box) = beside place (inner_corner box)
 
-abbrev pub origin_with_box : (ℕ → Point) → World → Bool → ℕ → Point
-origin_with_box above world true frame =
-    added (content_corner_at (place_of (world.tree) (world.viewports.size) (world.scrolls) frame) (box_of (world.tree) (world.viewports.size) frame)) (above (element_at (world.tree) frame).document)
-origin_with_box above world false frame = zero_point
+abbrev pub origin_with_box : (ℕ → Point) → Shown → Bool → ℕ → Point
+origin_with_box above shown true frame =
+    added (content_corner_at (place_of shown frame) (box_of shown frame)) (above (element_at (shown.tree) frame).document)
+origin_with_box above shown false frame = zero_point
 
-abbrev pub origin_by_frame : (ℕ → Point) → World → Option ℕ → Point
-origin_by_frame above world None = zero_point
-origin_by_frame above world (Some frame) = origin_with_box above world (has_box (world.tree) (world.viewports.size) frame) frame
+abbrev pub origin_by_frame : (ℕ → Point) → Shown → Option ℕ → Point
+origin_by_frame above shown None = zero_point
+origin_by_frame above shown (Some frame) = origin_with_box above shown (has_box shown frame) frame
 
-unfoldable pub origin_up : ℕ → World → ℕ → Point
-unfolding has_box box_of place_of
-origin_up zero world document = zero_point
-origin_up (suc high) world document = origin_by_frame (origin_up high world) world (document_at (world.tree) document).frame
+unfoldable pub origin_up : ℕ → Shown → ℕ → Point
+unfolding boxes.has_box boxes.box_of boxes.place_of
+origin_up zero shown document = zero_point
+origin_up (suc high) shown document = origin_by_frame (origin_up high shown) shown (document_at (shown.tree) document).frame
 
 -- where a document's viewport begins: at the zero point for the top document, and for one whose frame has no box
-unfoldable pub origin : World → ℕ → Point
+unfoldable pub origin : Shown → ℕ → Point
 unfolding origin_up
-origin world document = origin_up frame_levels world document
+origin shown document = origin_up frame_levels shown document
 
-abbrev pub origin_of_element : World → ℕ → Point
-origin_of_element world element = origin world (element_at (world.tree) element).document
+abbrev pub origin_of_element : Shown → ℕ → Point
+origin_of_element shown element = origin shown (element_at (shown.tree) element).document
 
 -- in the coordinates of the top document: the viewport of a document, and the border box and the padding box of an element
-unfoldable pub viewport_rect : World → ℕ → Rect
-unfolding origin viewport_of
-viewport_rect world document = rect_of (origin world document) (viewport_of (world.tree) (world.viewports.size) document)
+unfoldable pub viewport_rect : Shown → ℕ → Rect
+unfolding origin boxes.viewport_of
+viewport_rect shown document = rect_of (origin shown document) (viewport_of shown document)
 
-unfoldable pub border_rect : World → ℕ → Rect
-unfolding origin place_of size_of
-border_rect world element = moved_by (origin_of_element world element) (rect_of (place_of (world.tree) (world.viewports.size) (world.scrolls) element) (size_of (world.tree) (world.viewports.size) element Border))
+unfoldable pub border_rect : Shown → ℕ → Rect
+unfolding origin boxes.place_of boxes.size_of
+border_rect shown element = moved_by (origin_of_element shown element) (rect_of (place_of shown element) (size_of shown element Border))
 
-unfoldable pub padding_rect : World → ℕ → Rect
-unfolding origin place_of box_of
-padding_rect world element = moved_by (origin_of_element world element) (padding_box_at (place_of (world.tree) (world.viewports.size) (world.scrolls) element) (box_of (world.tree) (world.viewports.size) element))
+unfoldable pub padding_rect : Shown → ℕ → Rect
+unfolding origin boxes.place_of boxes.box_of
+padding_rect shown element = moved_by (origin_of_element shown element) (padding_box_at (place_of shown element) (box_of shown element))
 
-abbrev pub clips_in : World → ℕ → Bool
-clips_in world element = clips (nodes_of (world.tree) element)
+abbrev pub clips_in : Shown → ℕ → Bool
+clips_in shown element = clips (nodes_of (shown.tree) element)
 
--- what a container stands in: a document in its frame
+-- what an element's box is held by: the element that is its holder, or the document whose root element it is
+abbrev pub holding : Tree → ℕ → Option Container
+holding tree element = container_by (holder (nodes_of tree element)) (is_root_element tree element) (element_at tree element).document
+
+-- what lies beyond a container: what holds an element, and the frame of a document
 abbrev pub container_beyond : Tree → Container → Option Container
-container_beyond tree (InElement element) = container_of tree element
+container_beyond tree (InElement element) = holding tree element
 container_beyond tree (InDocument document) = option_map InElement (document_at tree document).frame
 
 abbrev pub containers_by : (Container → List Container) → Option Container → List Container
@@ -98,9 +105,9 @@ containers_from (suc most) tree container =
 abbrev pub most_containers : ℕ
 most_containers = 65536
 
--- all containers of an element, from its parent up to the top document
+-- all containers of an element, from what holds it up to the top document
 abbrev pub containers_of : Tree → ℕ → List Container
-containers_of tree element = containers_by (containers_from most_containers tree) (container_of tree element)
+containers_of tree element = containers_by (containers_from most_containers tree) (holding tree element)
 
 -- the implicit root is the top document
 abbrev pub is_root : Root → Container → Bool
@@ -110,14 +117,14 @@ is_root (ElementRoot root) (InElement element) = element == root
 is_root root container = false
 
 -- the padding box of an element that clips, and the viewport of a document
-abbrev pub clip_of : World → Container → Option Rect
-clip_of world (InElement element) = cond (clips_in world element) (Some (padding_rect world element)) None
-clip_of world (InDocument document) = Some (viewport_rect world document)
+abbrev pub clip_of : Shown → Container → Option Rect
+clip_of shown (InElement element) = cond (clips_in shown element) (Some (padding_rect shown element)) None
+clip_of shown (InDocument document) = Some (viewport_rect shown document)
 
 -- the clips strictly between a target and a root
-unfoldable pub clips_between : World → Root → ℕ → List Rect
+unfoldable pub clips_between : Shown → Root → ℕ → List Rect
 unfolding containers_from viewport_rect padding_rect
-clips_between world root target = filter_map (clip_of world) (take_while (λ c. not (is_root root c)) (containers_of (world.tree) target))
+clips_between shown root target = filter_map (clip_of shown) (take_while (λ c. not (is_root root c)) (containers_of (shown.tree) target))
 
 -- the common part of a rectangle and others, none where no point is common to all
 unfoldable pub common_part : Rect → List Rect → Option Rect
@@ -142,16 +149,16 @@ moved_out margins r =
     }
 
 -- the padding box of a root element that clips, and the border box of another; zero without a box
-abbrev pub element_root_bounds : World → ℕ → Bool → Rect
-element_root_bounds world element true = cond (clips_in world element) (padding_rect world element) (border_rect world element)
-element_root_bounds world element false = zero_rect
+abbrev pub element_root_bounds : Shown → ℕ → Bool → Rect
+element_root_bounds shown element true = cond (clips_in shown element) (padding_rect shown element) (border_rect shown element)
+element_root_bounds shown element false = zero_rect
 
-abbrev pub root_bounds : World → Root → Rect
-root_bounds world ImplicitRoot = viewport_rect world 0
-root_bounds world (DocumentRoot document) = viewport_rect world document
-root_bounds world (ElementRoot element) = element_root_bounds world element (has_box (world.tree) (world.viewports.size) element)
+abbrev pub root_bounds : Shown → Root → Rect
+root_bounds shown ImplicitRoot = viewport_rect shown 0
+root_bounds shown (DocumentRoot document) = viewport_rect shown document
+root_bounds shown (ElementRoot element) = element_root_bounds shown element (has_box shown element)
 
 -- the root intersection rectangle (Intersection Observer, 2.2)
-unfoldable pub root_rect : World → Root → Margins → Rect
-unfolding viewport_rect border_rect padding_rect has_box
-root_rect world root margins = moved_out margins (root_bounds world root)
+unfoldable pub root_rect : Shown → Root → Margins → Rect
+unfolding viewport_rect border_rect padding_rect boxes.has_box
+root_rect shown root margins = moved_out margins (root_bounds shown root)

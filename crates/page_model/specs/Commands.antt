@@ -96,7 +96,7 @@ matches_in query viewport = matches query viewport.across viewport.down
 -- whether a media query list matches the viewport of a document now
 unfoldable pub matches_now : World → ℕ → List MediaQuery → Bool
 unfolding viewport_of matches
-matches_now world document query = matches_in query (viewport_of (world.tree) (world.viewports.size) document)
+matches_now world document query = matches_in query (viewport_of (world.tree) (world.viewports.screen) document)
 
 -- a step of a part, lifted to the world that it stands in
 unfoldable pub with_tree : World → Step Tree → Step Effect
@@ -240,10 +240,10 @@ does handlers world present (MakeQueryList name document query) = do
   })
 does handlers world present (ScrollTo target left top) = do
   container ← container_meant (world.names) present target
-  becomes (scrolled_to left top (scrolled_thing (world.tree) (world.viewports.size) container) world)
+  becomes (scrolled_to left top (scrolled_thing (world.tree) (world.viewports.screen) container) world)
 does handlers world present (ScrollBy target left top) = do
   container ← container_meant (world.names) present target
-  becomes (scrolled_by left top (scrolled_thing (world.tree) (world.viewports.size) container) world)
+  becomes (scrolled_by left top (scrolled_thing (world.tree) (world.viewports.screen) container) world)
 does handlers world present (RequestFrame document key handler) = do
   owner ← document_named (world.names) document
   called ← handler_named handlers handler
@@ -270,7 +270,7 @@ does handlers world present (Post document handler) = do
 does handlers world present (Say word) = writes (SayLine word ∷ []) world
 does handlers world present (Read target) = do
   container ← container_meant (world.names) present target
-  writes (reading_of (world.names) (world.tree) (world.viewports.size) (world.scrolls) container ∷ []) world
+  writes (reading_of (world.names) (world.tree) (world.viewports.screen) (world.scrolls) container ∷ []) world
 
 -- whether the present entry intersects
 abbrev pub seen_now : Present → Step Bool
@@ -283,10 +283,10 @@ unfoldable pub asked : World → Present → Test → Step Bool
 unfolding ◌>>=◌ ◌>>◌ size_of matches_now
 asked world present (Wider node units) = do
   n ← element_meant (world.names) present node
-  Did (nat_lt units (size_of (world.tree) (world.viewports.size) n Border).across)
+  Did (nat_lt units (size_of (world.tree) (world.viewports.screen) n Border).across)
 asked world present (Taller node units) = do
   n ← element_meant (world.names) present node
-  Did (nat_lt units (size_of (world.tree) (world.viewports.size) n Border).down)
+  Did (nat_lt units (size_of (world.tree) (world.viewports.screen) n Border).down)
 asked world present (Matches name) = do
   query ← query_list_named (world.names) name
   Did (matches_now world (query_list_at (world.queries) query).document (query_list_at (world.queries) query).query)

@@ -4,10 +4,12 @@ use Rattle.std.specs.Prelude.{ℕ, ◌*◌, Bool, true, false, cond, not, ◌||�
 use Rattle.px_units.specs.declared.Rect.{Rect}
 use Rattle.px_units.specs.declared.Point.{Point}
 use Rattle.px_units.specs.Rects.{area}
-use Rattle.page_model.specs.World.{World, Tree, Root, ImplicitRoot, DocumentRoot, ElementRoot, Finding, IntersectionObserver}
+use Rattle.layout_model.specs.Nodes.{held, is_in_path}
+use Rattle.page_model.specs.World.{Tree, Root, ImplicitRoot, DocumentRoot, ElementRoot, Finding, IntersectionObserver}
 use Rattle.page_model.specs.Lookups.{element_at}
-use Rattle.page_model.specs.Documents.{is_inclusive_ancestor}
-use Rattle.page_model.specs.PageBoxes.{has_box}
+use Rattle.page_model.specs.Documents.{nodes_of}
+use Rattle.page_model.specs.PageBoxes as boxes
+use Rattle.page_model.specs.Shown.{Shown, has_box}
 use Rattle.page_model.specs.Chains.{zero_point, zero_rect, moved_back, origin, origin_of_element, border_rect, clips_between, common_part, root_rect}
 
 -- how a target lies to a root: apart from it, without a box, or in a chain of containers that leads to it
@@ -16,19 +18,20 @@ pub data Relation : Type 0 where
   Boxless : Relation
   Chained : Relation
 
-abbrev pub is_proper_ancestor : Tree → ℕ → ℕ → Bool
-is_proper_ancestor tree ancestor element = cond (ancestor == element) false (is_inclusive_ancestor tree ancestor element)
+-- whether an element lies on the chain of those that hold another one
+abbrev pub is_on_chain : Tree → ℕ → ℕ → Bool
+is_on_chain tree element target = cond (element == target) false (is_in_path (held (nodes_of tree)) element target)
 
--- apart from a root that isn't implicit is a target of another node document; and from an element also one that isn't a
--- descendant, or where one of the two has no box
-abbrev pub is_apart : World → Root → ℕ → Bool
-is_apart world ImplicitRoot target = false
-is_apart world (DocumentRoot root) target = not ((element_at (world.tree) target).document == root)
-is_apart world (ElementRoot root) target =
-    not ((element_at (world.tree) target).document == (element_at (world.tree) root).document) || not (is_proper_ancestor (world.tree) root target) || not (has_box (world.tree) (world.viewports.size) root) || not (has_box (world.tree) (world.viewports.size) target)
+-- apart from a root that isn't implicit is a target of another node document; and from an element also one on whose chain it
+-- doesn't lie, or where one of the two has no box
+abbrev pub is_apart : Shown → Root → ℕ → Bool
+is_apart shown ImplicitRoot target = false
+is_apart shown (DocumentRoot root) target = not ((element_at (shown.tree) target).document == root)
+is_apart shown (ElementRoot root) target =
+    not ((element_at (shown.tree) target).document == (element_at (shown.tree) root).document) || not (is_on_chain (shown.tree) root target) || not (has_box shown root) || not (has_box shown target)
 
-abbrev pub relation : World → Root → ℕ → Relation
-relation world root target = cond (is_apart world root target) Apart (cond (has_box (world.tree) (world.viewports.size) target) Chained Boxless)
+abbrev pub relation : Shown → Root → ℕ → Relation
+relation shown root target = cond (is_apart shown root target) Apart (cond (has_box shown target) Chained Boxless)
 
 -- the count of thresholds, in ten-thousandths, that aren't greater than the part of the whole
 abbrev pub index_of : List ℕ → ℕ → ℕ → ℕ
@@ -75,31 +78,31 @@ seen_at thresholds from bounds cut root =
     }
 
 -- from where the root rectangle is told: the viewport of the root's document
-abbrev pub root_origin : World → Root → Point
-root_origin world ImplicitRoot = zero_point
-root_origin world (DocumentRoot document) = origin world document
-root_origin world (ElementRoot element) = cond (has_box (world.tree) (world.viewports.size) element) (origin_of_element world element) zero_point
+abbrev pub root_origin : Shown → Root → Point
+root_origin shown ImplicitRoot = zero_point
+root_origin shown (DocumentRoot document) = origin shown document
+root_origin shown (ElementRoot element) = cond (has_box shown element) (origin_of_element shown element) zero_point
 
-abbrev pub found : World → IntersectionObserver → ℕ → Rect → Relation → Finding
-found world observer target root Apart = unseen 0 root
-found world observer target root Boxless = unseen (index_of (observer.thresholds) 0 1) root
-found world observer target root Chained =
-    let bounds = border_rect world target in
+abbrev pub found : Shown → IntersectionObserver → ℕ → Rect → Relation → Finding
+found shown observer target root Apart = unseen 0 root
+found shown observer target root Boxless = unseen (index_of (observer.thresholds) 0 1) root
+found shown observer target root Chained =
+    let bounds = border_rect shown target in
     seen_at
     (observer.thresholds)
-    (origin_of_element world target)
+    (origin_of_element shown target)
     bounds
-    (common_part bounds (root_rect world (observer.root) (observer.margins) ∷ clips_between world (observer.root) target))
+    (common_part bounds (root_rect shown (observer.root) (observer.margins) ∷ clips_between shown (observer.root) target))
     root
 
 -- the finding of a target by an observer; its rectangles are in the coordinates of the target's document, the root
 -- rectangle in those of the root's
-unfoldable pub finding : World → IntersectionObserver → ℕ → Finding
-unfolding root_rect clips_between common_part ratio_of origin border_rect has_box is_inclusive_ancestor
-finding world observer target =
+unfoldable pub finding : Shown → IntersectionObserver → ℕ → Finding
+unfolding root_rect clips_between common_part ratio_of origin border_rect boxes.has_box is_in_path
+finding shown observer target =
     found
-    world
+    shown
     observer
     target
-    (moved_back (root_origin world (observer.root)) (root_rect world (observer.root) (observer.margins)))
-    (relation world (observer.root) target)
+    (moved_back (root_origin shown (observer.root)) (root_rect shown (observer.root) (observer.margins)))
+    (relation shown (observer.root) target)

@@ -4,7 +4,7 @@ use Rattle.std.specs.Prelude.{ℕ, Bool, true, false, cond, not, ◌&&◌, ◌==
 use Rattle.std.specs.List.{list_any}
 use Rattle.px_units.specs.declared.BoxKind.{BoxKind}
 use Rattle.px_units.specs.declared.BoxKind.TheVariants.{Content, Border}
-use Rattle.page_model.specs.World.{Extent, Tree, Observation, ResizeObserver, ResizeObservers, World}
+use Rattle.page_model.specs.World.{Extent, Screen, Tree, Observation, ResizeObserver, ResizeObservers, World}
 use Rattle.page_model.specs.Lookups.{same_extent, resize_observer_at, change_resize_observer}
 use Rattle.page_model.specs.Documents.{element_depth}
 use Rattle.page_model.specs.PageBoxes.{size_of, corner_of}
@@ -15,13 +15,13 @@ pub record Sight : Type 0 where
   pub corner : ℕ → Extent
   pub depth : ℕ → ℕ
 
--- those of elements and documents, where the viewport of `top` has a size
-abbrev pub sight_in : Tree → Extent → Sight
-sight_in tree size = record { size = size_of tree size; corner = corner_of tree size; depth = element_depth tree }
+-- those of elements and documents, where `top` is shown on a screen
+abbrev pub sight_in : Tree → Screen → Sight
+sight_in tree screen = record { size = size_of tree screen; corner = corner_of tree screen; depth = element_depth tree }
 
 -- those of a page
 abbrev pub sight_of : World → Sight
-sight_of world = sight_in (world.tree) (world.viewports.size)
+sight_of world = sight_in (world.tree) (world.viewports.screen)
 
 abbrev pub observed_size : Sight → Observation → Extent
 observed_size sight observation = sight.size (observation.target) (observation.observed)

@@ -6,6 +6,7 @@ use Rattle.page_model.specs.Lookups.{intersection_observer_at, change_each}
 use Rattle.page_model.specs.Documents.{is_active, is_number, tree_document}
 use Rattle.page_model.specs.IntersectionObserving.{without_queue}
 use Rattle.page_model.specs.Tasks.{with_task, is_notifying, with_notifying, without_notifying}
+use Rattle.page_model.specs.Shown.{shown_of}
 use Rattle.page_model.specs.Findings.{finding}
 use Rattle.page_model.specs.Runs.{Said, silent, for_each, only_if}
 use Rattle.page_model.specs.Callbacks.{Script, CutEntries, call}
@@ -75,7 +76,7 @@ unfoldable pub update_intersections : ℕ → World → World
 unfolding finding tree_document
 update_intersections document world =
     let observers = watchers (world.tree) document (world.intersection_observers) in
-    let settled = settling (world.clock) (finding world) observers (world.intersection_observers) in
+    let settled = settling (world.clock) (finding (shown_of world)) observers (world.intersection_observers) in
     let now = record world { intersection_observers = settled } in
     cond (list_any (has_queued (world.intersection_observers) settled) observers)
     (with_notify_task document (is_notifying document (world.notifying)) now)

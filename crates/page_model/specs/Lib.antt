@@ -6,6 +6,7 @@ pub mod Edits
 pub mod Viewports
 pub mod Scrolls
 pub mod PageBoxes
+pub mod Shown
 pub mod Steps
 pub mod Operands
 pub mod ResizeObserving

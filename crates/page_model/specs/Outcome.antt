@@ -19,7 +19,7 @@ abbrev pub opening_world : World
 opening_world = record {
   tree = record { elements = []; documents = record { state = Active; frame = None; root = None } ∷ [] };
   names = record { text = codes "top"; thing = DocumentThing 0 } ∷ [];
-  viewports = record { size = record { across = 51200; down = 38400 }; noted = [] };
+  viewports = record { screen = record { size = record { across = 51200; down = 38400 } }; noted = [] };
   scrolls = record { elements = []; documents = []; pending = [] };
   resize_observers = record { given = 0; made = [] };
   intersection_observers = record { given = 0; made = [] };

@@ -5,7 +5,7 @@ use Rattle.px_units.specs.declared.BoxKind.TheVariants.{Border}
 use Rattle.px_units.specs.declared.Point.{Point}
 use Rattle.px_units.specs.declared.Rect.{Rect}
 use Rattle.script_model.specs.TraceLines.{TraceLine, ReadLine}
-use Rattle.page_model.specs.World.{Extent, ScrolledElement, ScrolledDocument, Scrolls, Name, Tree}
+use Rattle.page_model.specs.World.{Extent, Screen, ScrolledElement, ScrolledDocument, Scrolls, Name, Tree}
 use Rattle.page_model.specs.Lookups.{no_extent}
 use Rattle.page_model.specs.Names.{element_text, document_text}
 use Rattle.page_model.specs.Documents.{Container, InElement, InDocument}
@@ -23,20 +23,20 @@ abbrev pub point_at : Extent → Point
 point_at extent = record { left = pos (extent.across); top = pos (extent.down) }
 
 -- the scroll offset in force of an element, none where it is no scroll container with a box, as a root element never is
-abbrev pub shown_scroll : Tree → Extent → Scrolls → ℕ → Bool → Extent
-shown_scroll tree size scrolls n true = scroll_offset tree size scrolls (ScrolledElement n)
-shown_scroll tree size scrolls n false = no_extent
+abbrev pub shown_scroll : Tree → Screen → Scrolls → ℕ → Bool → Extent
+shown_scroll tree screen scrolls n true = scroll_offset tree screen scrolls (ScrolledElement n)
+shown_scroll tree screen scrolls n false = no_extent
 
 -- for an element its border box in its document's viewport, all zeros without a box; for a document its viewport; and the
 -- scroll offset in force
-abbrev pub reading_of : List Name → Tree → Extent → Scrolls → Container → TraceLine
-reading_of names tree size scrolls (InElement n) =
+abbrev pub reading_of : List Name → Tree → Screen → Scrolls → Container → TraceLine
+reading_of names tree screen scrolls (InElement n) =
     ReadLine
     (element_text names n)
-    (rect_of (place_of tree size scrolls n) (size_of tree size n Border))
-    (point_at (shown_scroll tree size scrolls n (is_scroller tree size n)))
-reading_of names tree size scrolls (InDocument document) =
+    (rect_of (place_of tree screen scrolls n) (size_of tree screen n Border))
+    (point_at (shown_scroll tree screen scrolls n (is_scroller tree screen n)))
+reading_of names tree screen scrolls (InDocument document) =
     ReadLine
     (document_text names document)
-    (rect_of (point_at no_extent) (viewport_of tree size document))
-    (point_at (scroll_offset tree size scrolls (ScrolledDocument document)))
+    (rect_of (point_at no_extent) (viewport_of tree screen document))
+    (point_at (scroll_offset tree screen scrolls (ScrolledDocument document)))

@@ -47,7 +47,7 @@ run_timers script world =
 unfoldable pub resize_steps : Script → ℕ → World → Said World
 unfolding fire viewport_of
 resize_steps script document world =
-    let size = viewport_of (world.tree) (world.viewports.size) document in
+    let size = viewport_of (world.tree) (world.viewports.screen) document in
     only_if
     (fire script (FiredResize (document_text (world.names) document)) (WindowTarget document) events.Resize)
     (record world { viewports = with_noted document size (world.viewports) })

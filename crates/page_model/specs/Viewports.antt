@@ -1,10 +1,10 @@
--- The size of the top document's viewport, and the sizes that resize steps noted (CSSOM View, 13).
+-- The screen of the top document, and the sizes that resize steps noted (CSSOM View, 13).
 use Rattle.std.specs.Prelude.{ℕ, Bool, false, not, Option, Some, None}
 use Rattle.page_model.specs.World.{Extent, Viewports}
 use Rattle.page_model.specs.Lookups.{same_extent, entry_or, put_at}
 
 abbrev pub with_size : ℕ → ℕ → Viewports → Viewports
-with_size width height it = record it { size = record { across = width; down = height } }
+with_size width height it = record it { screen = record (it.screen) { size = record { across = width; down = height } } }
 
 -- the size that was noted for a document, if any was
 abbrev pub noted_size : ℕ → Viewports → Option Extent

@@ -48,9 +48,13 @@ pub record Tree : Type 0 where
 
 -- viewports and scrolling ------------------------------------------------------------------------------------------------------
 
--- the size of the top document's viewport, and for each document the size noted at its last resize steps, if any
-pub record Viewports : Type 0 where
+-- what the top document is shown on: the size of its viewport
+pub record Screen : Type 0 where
   pub size : Extent
+
+-- the screen, and for each document the size of its viewport that was noted at its last resize steps, if any
+pub record Viewports : Type 0 where
+  pub screen : Screen
   pub noted : List (Option Extent)
 
 pub data ScrollTarget : Type 0 where

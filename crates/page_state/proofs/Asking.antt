@@ -21,14 +21,14 @@ module _ (world : World) (subject : Option NodeId) (seen : Option Bool) (operand
   meant : element_meant world.names (present_with subject seen) operand ≡ Did n
   meant = meant_same world.names subject seen operand ∙ found
 
-  pub wider_is : have ≡ (size_of world.tree world.viewports.size n Border).across → asked world (present_with subject seen) (Wider operand units) ≡ Did (nat_lt units have)
+  pub wider_is : have ≡ (size_of world.tree world.viewports.screen n Border).across → asked world (present_with subject seen) (Wider operand units) ≡ Did (nat_lt units have)
   unfolding asked ◌>>=◌
   wider_is is =
-      ap (λ (step : Step ℕ). step >>= λ m. Did (nat_lt units (size_of world.tree world.viewports.size m Border).across)) meant
+      ap (λ (step : Step ℕ). step >>= λ m. Did (nat_lt units (size_of world.tree world.viewports.screen m Border).across)) meant
       ∙ ap (λ across. Did (nat_lt units across)) (sym is)
 
-  pub taller_is : have ≡ (size_of world.tree world.viewports.size n Border).down → asked world (present_with subject seen) (Taller operand units) ≡ Did (nat_lt units have)
+  pub taller_is : have ≡ (size_of world.tree world.viewports.screen n Border).down → asked world (present_with subject seen) (Taller operand units) ≡ Did (nat_lt units have)
   unfolding asked ◌>>=◌
   taller_is is =
-      ap (λ (step : Step ℕ). step >>= λ m. Did (nat_lt units (size_of world.tree world.viewports.size m Border).down)) meant
+      ap (λ (step : Step ℕ). step >>= λ m. Did (nat_lt units (size_of world.tree world.viewports.screen m Border).down)) meant
       ∙ ap (λ down. Did (nat_lt units down)) (sym is)

@@ -57,9 +57,9 @@ module _ (handlers : Handlers) (world : World) (present : Present) where
           λ i. there i >>= λ (within : Container). found i >>= λ (m : ℕ). other i >>= λ (next : ℕ). with_tree world (placing within m (Some next) (world.tree))
 
   pub reads : (of : Operand) (container : Container) → container_meant world.names present of ≡ Did container
-      → does handlers world present (Read of) ≡ writes (reading_of (world.names) (world.tree) (world.viewports.size) (world.scrolls) container ∷ []) world
+      → does handlers world present (Read of) ≡ writes (reading_of (world.names) (world.tree) (world.viewports.screen) (world.scrolls) container ∷ []) world
   unfolding does
-  reads of container there = λ i. there i >>= λ (within : Container). writes (reading_of (world.names) (world.tree) (world.viewports.size) (world.scrolls) within ∷ []) world
+  reads of container there = λ i. there i >>= λ (within : Container). writes (reading_of (world.names) (world.tree) (world.viewports.screen) (world.scrolls) within ∷ []) world
 
 -- what holds whatever handlers there are holds with these
 pub kept_at : {old new : PageView} {result : Result Effect PageFault} {step : Handlers → Step ModelEffect} (handlers : Handlers) → Keeps old new result step → Kept old new result (step handlers)
@@ -152,15 +152,15 @@ module _ (page : Inside) (now : PageView) (view_is : record { world = world_of p
 -- something is scrolled
 
 module _ (handlers : Handlers) (world : World) (present : Present) (of : Operand) (container : Container) (there : container_meant world.names present of ≡ Did container)
-    (target : Option ScrollTarget) (thing : scrolled_thing world.tree world.viewports.size container ≡ target) (left top : ℤ) where
+    (target : Option ScrollTarget) (thing : scrolled_thing world.tree world.viewports.screen container ≡ target) (left top : ℤ) where
   pub scrolls_to : does handlers world present (ScrollTo of left top) ≡ becomes (scrolled_to left top target world)
   unfolding does
   scrolls_to =
-      (λ i. there i >>= λ (within : Container). becomes (scrolled_to left top (scrolled_thing (world.tree) (world.viewports.size) within) world))
+      (λ i. there i >>= λ (within : Container). becomes (scrolled_to left top (scrolled_thing (world.tree) (world.viewports.screen) within) world))
       ∙ ap (λ (it : Option ScrollTarget). becomes (scrolled_to left top it world)) thing
 
   pub scrolls_by : does handlers world present (ScrollBy of left top) ≡ becomes (scrolled_by left top target world)
   unfolding does
   scrolls_by =
-      (λ i. there i >>= λ (within : Container). becomes (scrolled_by left top (scrolled_thing (world.tree) (world.viewports.size) within) world))
+      (λ i. there i >>= λ (within : Container). becomes (scrolled_by left top (scrolled_thing (world.tree) (world.viewports.screen) within) world))
       ∙ ap (λ (it : Option ScrollTarget). becomes (scrolled_by left top it world)) thing

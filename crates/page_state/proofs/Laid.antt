@@ -1,10 +1,10 @@
 -- Boxes that were computed, where a page's elements stay as they are.
 use Rattle.std.proofs.Common.{◌≡◌, ◌≤◌, ◌+◌, ℕ, List, subst, sym, ap, ◌∙◌, arith}
-use Rattle.page_model.specs.World.{Extent, Tree, World}
+use Rattle.page_model.specs.World.{Screen, Tree, World}
 use Rattle.kept_layout.specs.declared.slots.Slot.{Slot}
 use Rattle.page_boxes.specs.Fresh.{IsFresh}
 use Rattle.page_boxes.specs.Kept.{FillsOnly, due_count}
-use Rattle.page_boxes.specs.Pages.{seen_size}
+use Rattle.page_boxes.specs.Pages.{seen_screen}
 use Rattle.page_layout.specs.Views.{LaidElements}
 use Rattle.page_state.specs.Boxes.{Computes}
 use Rattle.page_state.specs.Views.{PageView}
@@ -12,9 +12,9 @@ use Rattle.page_state.specs.Worlds.{world_of}
 use Rattle.page_state.specs.declared.page.Page.TheInside.{Inside}
 
 -- what is fresh is so through the tree and the boxes that are handed out
-pub fresh_in : {tree handed : Tree} {size : Extent} {kept boxes : List Slot} → IsFresh tree size kept → handed ≡ tree → boxes ≡ kept → IsFresh handed size boxes
-fresh_in {handed} {size} {kept} fresh same held =
-    subst (λ (slots : List Slot). IsFresh handed size slots) (sym held) (subst (λ (tree : Tree). IsFresh tree size kept) (sym same) fresh)
+pub fresh_in : {tree handed : Tree} {screen : Screen} {kept boxes : List Slot} → IsFresh tree screen kept → handed ≡ tree → boxes ≡ kept → IsFresh handed screen boxes
+fresh_in {handed} {screen} {kept} fresh same held =
+    subst (λ (slots : List Slot). IsFresh handed screen slots) (sym held) (subst (λ (tree : Tree). IsFresh tree screen kept) (sym same) fresh)
 
 module _ (page : Inside) (after : LaidElements) (same : after.elements ≡ page.laid.elements) where
   pub view_refreshed : (now : PageView) → record { world = world_of page; begun = page.begun; kept = page.laid.kept } ≡ now
@@ -24,7 +24,7 @@ module _ (page : Inside) (after : LaidElements) (same : after.elements ≡ page.
 
   -- what the computation leaves, seen from outside
   pub computed : (now : PageView) → record { world = world_of page; begun = page.begun; kept = page.laid.kept } ≡ now → FillsOnly page.laid.kept after.kept → (from to : ℕ)
-      → to + due_count page.laid.elements.tree (seen_size page.size) after.kept ≤ from + due_count page.laid.elements.tree (seen_size page.size) page.laid.kept
+      → to + due_count page.laid.elements.tree (seen_screen page.screen) after.kept ≤ from + due_count page.laid.elements.tree (seen_screen page.screen) page.laid.kept
       → Computes now.world now.kept after.kept from to
   computed now view_is fills from to ticks = subst (λ (v : PageView). Computes v.world v.kept after.kept from to) view_is (record { fills = fills; ticks = ticks })
 

@@ -10,7 +10,6 @@ mod Doing
 mod Noted
 mod Handlers
 mod QueryLists
-mod Missing
 mod Asking
 mod Opening
 mod Puts

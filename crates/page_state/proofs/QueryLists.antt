@@ -15,7 +15,7 @@ use Rattle.page_model.specs.Steps.{Did, ◌>>=◌, ◌>>◌, becomes, met_unless
 use Rattle.page_model.specs.PageBoxes.{viewport_of}
 use Rattle.page_model.specs.Lookups.{query_list_at}
 use Rattle.page_model.specs.QueryLists.{with_query_list, with_state}
-use Rattle.page_boxes.specs.Pages.{seen_size}
+use Rattle.page_boxes.specs.Pages.{seen_screen}
 use Rattle.page_state.specs.Answers.{Keeps}
 use Rattle.page_state.specs.Queries.{seen_query_list, is_changed, changed_from, next_changed, once_evaluated}
 use Rattle.page_state.specs.Views.{PageView}
@@ -66,13 +66,13 @@ turned true false false changed = search (rules, tests)
 turned false false false changed = search (rules, tests)
 
 module _ (world : World) (query : ℕ) (list : ModelQueryList) (viewport : Extent) (at : query_list_at world.queries query ≡ list) where
-  pub matches_here : (answer : Bool) → answer ≡ matches_in list.query viewport → viewport ≡ viewport_of world.tree world.viewports.size list.document
+  pub matches_here : (answer : Bool) → answer ≡ matches_in list.query viewport → viewport ≡ viewport_of world.tree world.viewports.screen list.document
       → answer ≡ matches_now world (query_list_at world.queries query).document (query_list_at world.queries query).query
   unfolding matches_now viewport_of matches
   matches_here answer is here = subst (λ (it : ModelQueryList). answer ≡ matches_now world it.document it.query) (sym at) (is ∙ ap (λ (size : Extent). matches_in list.query size) here)
 
-  module _ (document : ℕ) (changed : is_changed document viewport list ≡ true) (here : viewport ≡ viewport_of world.tree world.viewports.size document) where
-    state_now : not list.matched ≡ matches_in list.query (viewport_of world.tree world.viewports.size document)
+  module _ (document : ℕ) (changed : is_changed document viewport list ≡ true) (here : viewport ≡ viewport_of world.tree world.viewports.screen document) where
+    state_now : not list.matched ≡ matches_in list.query (viewport_of world.tree world.viewports.screen document)
     state_now = turned (list.document == document) (matches_in list.query viewport) list.matched changed ∙ ap (λ (size : Extent). matches_in list.query size) here
 
     changed_matches : not list.matched ≡ matches_now world document (query_list_at world.queries query).query
@@ -83,7 +83,7 @@ module _ (world : World) (query : ℕ) (list : ModelQueryList) (viewport : Exten
         → record world { queries = with_state (not list.matched) query (world.queries) } ≡ once_evaluated document (next_changed document place world) world
     evaluated place found =
         ap (λ (matched : Bool). record world { queries = with_state matched query (world.queries) })
-        (subst (λ (it : ModelQueryList). not list.matched ≡ matches_in it.query (viewport_of world.tree world.viewports.size document)) (sym at) state_now)
+        (subst (λ (it : ModelQueryList). not list.matched ≡ matches_in it.query (viewport_of world.tree world.viewports.screen document)) (sym at) state_now)
         ∙ ap (λ (number : Option ℕ). once_evaluated document number world) (found ∙ ap (λ (size : Extent). changed_from document place size world.queries) here)
 
 module _ (inside : Inside) (query : ℕ) (list : QueryList) (below : query < length inside.queries.items) (is : list ≡ slice_index_or inside.queries.items query list) where
@@ -99,7 +99,7 @@ module _ (inside : Inside) (query : ℕ) (list : QueryList) (below : query < len
 module _ (inside : Inside) (now : PageView) (view_is : record { world = world_of inside; begun = inside.begun; kept = inside.laid.kept } ≡ now)
     (query : ℕ) (list : QueryList) (below : query < length inside.queries.items) (is : list ≡ slice_index_or inside.queries.items query list)
     (document : ℕ) (viewport : Extent) (changed : is_changed document viewport (query_list_at (map seen_query_list inside.queries.items) query) ≡ true)
-    (here : viewport ≡ viewport_of now.world.tree now.world.viewports.size document) where
+    (here : viewport ≡ viewport_of now.world.tree now.world.viewports.screen document) where
   seen_list : query_list_at now.world.queries query ≡ seen_query_list list
   seen_list = subst (λ (v : PageView). query_list_at v.world.queries query ≡ seen_query_list list) view_is (list_here inside query list below is)
 
@@ -133,7 +133,7 @@ module _ (handlers : Handlers) (world : World) (present : Present) where
 module _ (inside : Inside) (text : List ℕ) (query : List MediaQuery) (owner : ℕ) (names : List Name) (queries : List QueryList) (copy : List MediaQuery) (matched : Bool) (viewport : Extent)
     (given : names ≡ inside.names.list ++ record { text = text; thing = QueryListThing (length inside.queries.items) } ∷ [])
     (made : queries ≡ inside.queries.items ++ record { document = owner; query = copy; matched = matched } ∷ [])
-    (copied : copy ≡ query) (is : matched ≡ matches_in copy viewport) (here : viewport ≡ viewport_of inside.laid.elements.tree (seen_size inside.size) owner) where
+    (copied : copy ≡ query) (is : matched ≡ matches_in copy viewport) (here : viewport ≡ viewport_of inside.laid.elements.tree (seen_screen inside.screen) owner) where
   name_given : names ≡ with_name text (QueryListThing (length (map seen_query_list inside.queries.items))) inside.names.list
   name_given = given ∙ ap (λ (n : ℕ). inside.names.list ++ record { text = text; thing = QueryListThing n } ∷ []) (sym (length-map inside.queries.items seen_query_list))
 

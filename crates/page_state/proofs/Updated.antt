@@ -1,6 +1,7 @@
 -- A page once intersections were updated.
 use Rattle.std.proofs.Common.{◌≡◌, ℕ, Bool, true, false, cond, List, refl, sym, ap, ◌∙◌}
 use Rattle.page_model.specs.World.{World, Notify}
+use Rattle.page_model.specs.Shown.{shown_of}
 use Rattle.page_model.specs.Intersections.{update_intersections, with_notify_task}
 use Rattle.page_model.specs.Tasks.{is_notifying, with_notifying, with_task}
 use Rattle.event_tables.specs.Tasks.{WaitingTasks}
@@ -10,10 +11,10 @@ use Rattle.page_state.specs.Worlds.{world_of}
 use Rattle.page_state.specs.declared.page.Page.TheInside.{Inside}
 
 module _ (page : Inside) (document : ℕ) (after : HeldWatchers) (queued : Bool)
-    (is : after ≡ record (page.watchers) { part = updated (world_of page) (page.laid.elements.tree) document (page.clock) (page.watchers.part) })
-    (news : queued ≡ has_news page.laid.elements.tree document page.watchers.part (updated (world_of page) (page.laid.elements.tree) document (page.clock) (page.watchers.part))) where
+    (is : after ≡ record (page.watchers) { part = updated (shown_of (world_of page)) (page.laid.elements.tree) document (page.clock) (page.watchers.part) })
+    (news : queued ≡ has_news page.laid.elements.tree document page.watchers.part (updated (shown_of (world_of page)) (page.laid.elements.tree) document (page.clock) (page.watchers.part))) where
   abbrev settled : HeldWatchers
-  settled = record (page.watchers) { part = updated (world_of page) (page.laid.elements.tree) document (page.clock) (page.watchers.part) }
+  settled = record (page.watchers) { part = updated (shown_of (world_of page)) (page.laid.elements.tree) document (page.clock) (page.watchers.part) }
 
   abbrev quiet : World
   quiet = world_of (record page { watchers = settled })

@@ -13,7 +13,7 @@ use Rattle.page_state.specs.declared.answers.PageFault.{PageFault}
 
 -- how many boxes are due in a world
 abbrev pub due_count : World → List Slot → ℕ
-due_count world kept = due_count_in world.tree world.viewports.size kept
+due_count world kept = due_count_in world.tree world.viewports.screen kept
 
 -- boxes are computed: the steps are at most the boxes that were due and aren't afterwards. No mark is set, and no box dropped
 pub record Computes (world : World) (old new : List Slot) (from to : ℕ) : Type 0 where

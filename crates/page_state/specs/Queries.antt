@@ -21,10 +21,10 @@ changed_from document place viewport queries = option_map (λ number. place + nu
 
 -- in the viewport of a document as it is now
 abbrev pub next_changed : ℕ → ℕ → World → Option ℕ
-next_changed document place world = changed_from document place (viewport_of (world.tree) (world.viewports.size) document) (world.queries)
+next_changed document place world = changed_from document place (viewport_of (world.tree) (world.viewports.screen) document) (world.queries)
 
 -- the world once this query list was evaluated for its document
 abbrev pub once_evaluated : ℕ → Option ℕ → World → World
 once_evaluated document None world = world
 once_evaluated document (Some query) world =
-    record world { queries = with_state (matches_in (query_list_at (world.queries) query).query (viewport_of (world.tree) (world.viewports.size) document)) query (world.queries) }
+    record world { queries = with_state (matches_in (query_list_at (world.queries) query).query (viewport_of (world.tree) (world.viewports.screen) document)) query (world.queries) }

@@ -62,6 +62,6 @@ pub record IsPage (page : Inside) : Type 0 where
   pub timers : IsCounted page.timers.part.given page.count page.begun
   pub watched : AreWatchers (length page.laid.elements.tree.elements) page.watchers.part.made
   pub asked : AreAsked page.queries.items (length page.laid.elements.tree.documents)
-  pub sized : IsNatural page.size
+  pub sized : IsNatural page.screen.size
   pub noted : AllByRecursion (λ (it : Option Size). ForSome it IsNatural) page.noted
   pub time : page.clock ≤ 1000000000000

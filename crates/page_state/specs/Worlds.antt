@@ -2,7 +2,7 @@
 use Rattle.std.specs.Prelude.{map, length, option_map}
 use Rattle.page_model.specs.World.{World}
 use Rattle.page_model.specs.Ranges.{Counts}
-use Rattle.page_boxes.specs.Pages.{seen_size}
+use Rattle.page_boxes.specs.Pages.{seen_size, seen_screen}
 use Rattle.page_state.specs.Queries.{seen_query_list}
 use Rattle.page_state.specs.declared.page.Page.TheInside.{Inside}
 
@@ -10,7 +10,7 @@ abbrev pub world_of : Inside → World
 world_of p = record {
   tree = p.laid.elements.tree;
   names = p.names.list;
-  viewports = record { size = seen_size p.size; noted = map (option_map seen_size) p.noted };
+  viewports = record { screen = seen_screen p.screen; noted = map (option_map seen_size) p.noted };
   scrolls = p.scrolls;
   resize_observers = p.observers.part;
   intersection_observers = p.watchers.part;

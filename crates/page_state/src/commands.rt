@@ -38,7 +38,7 @@ impl Page {
         ensures done { (present : Present) → Keeps self.old self.new result (λ handlers. does handlers self.old.world present (Viewport (unsigned_abs size.width) (unsigned_abs size.height))) }
         ensures boxes { self.new.kept ≡ self.old.kept }
     {
-        self.size = size;
+        self.screen.size = size;
         Ok(Effect::Nothing)
     }
 

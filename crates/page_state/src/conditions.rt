@@ -86,11 +86,11 @@ impl Page {
 
     // The size of an element's border box as it is now.
     fn border_size<L: Ledger>(&mut self, node: NodeId, steps: &mut Steps<L>) -> Size
-        ensures value { seen_size result ≡ size_of self.old.world.tree self.old.world.viewports.size node.0 Border }
+        ensures value { seen_size result ≡ size_of self.old.world.tree self.old.world.viewports.screen node.0 Border }
         ensures same { self.new ≡ record self.old { kept = self.new.kept } }
         ensures boxes { Computes self.old.world self.old.kept self.new.kept steps.old steps.new }
     {
-        self.laid.refresh(self.size, steps);
+        self.laid.refresh(self.screen, steps);
         size_of(self.laid.page(), self.laid.boxes(), node, BoxKind::Border)
     }
 }

@@ -7,9 +7,10 @@ ghost use Rattle.page_model.specs.Callbacks.{handler_names};
 ghost use Rattle.page_model.specs.Commands.{begun_in, does};
 ghost use Rattle.page_model.specs.Outcome.{opening_world};
 ghost use Rattle.page_model.specs.PageBoxes.{viewport_of};
+ghost use Rattle.page_model.specs.Shown.{shown_of, shown_with};
 ghost use Rattle.page_model.specs.Ticks.{time_set};
 ghost use Rattle.page_boxes.specs.Kept.{AreKept, FillsOnly, IsExact, is_due, due_count};
-ghost use Rattle.page_boxes.specs.Pages.{seen_size};
+ghost use Rattle.page_boxes.specs.Pages.{seen_size, seen_screen};
 ghost use Rattle.page_tree.specs.Items.{IsNatural};
 ghost use Rattle.script_syntax.specs.Allowed.{ActionAllowed, IsTime};
 ghost use Rattle.script_syntax.specs.Seen.{action_of};
@@ -24,8 +25,8 @@ use crate::queries::QueryList;
 use element_tree::NodeId;
 use event_tables::{FrameCallbacks, Listeners, Tasks, Timers};
 use intersection_observer::{WatcherId, Watchers};
-use page_boxes::viewport_of;
-use page_geometry::PageGeometry;
+use page_boxes::{Screen, viewport_of};
+use page_geometry::Shown;
 use page_layout::LaidTree;
 use page_tree::Container;
 use px_units::Size;
@@ -57,10 +58,12 @@ const MOST_REGISTRATIONS: u32 = 50_000;
 /// As many listeners, frame callbacks and timers as may be held, and posted tasks as may wait.
 const MOST_CALLBACKS: u32 = 4096;
 
-/// The viewport at first: 800 by 600 pixels.
-const FIRST_SIZE: Size = Size {
-    width: 51200,
-    height: 38400,
+/// The screen at first: a viewport of 800 by 600 pixels.
+const FIRST_SCREEN: Screen = Screen {
+    size: Size {
+        width: 51200,
+        height: 38400,
+    },
 };
 
 /// A page with the document `top`. A contract sees it as a world of the definitions, and as whether a command was begun
@@ -83,7 +86,7 @@ pub struct Page {
     pub(crate) frame_callbacks: FrameCallbacks,
     pub(crate) timers: Timers,
     pub(crate) tasks: Tasks,
-    pub(crate) size: Size,
+    pub(crate) screen: Screen,
     // The size of a document's viewport at its last resize steps.
     pub(crate) noted: ByDocument<Option<Size>>,
     pub(crate) clock: u64,
@@ -131,7 +134,7 @@ impl Page {
             frame_callbacks: FrameCallbacks::new(alloc, MOST_CALLBACKS),
             timers: Timers::new(alloc, MOST_CALLBACKS),
             tasks: Tasks::new(alloc, MOST_CALLBACKS),
-            size: FIRST_SIZE,
+            screen: FIRST_SCREEN,
             noted,
             clock: 0,
             count: 0,
@@ -275,10 +278,10 @@ impl Page {
     /// for each box that was due. The world and what was begun are as before. No memory.
     pub fn refresh_boxes<L: Ledger>(&mut self, steps: &mut Steps<L>)
         ensures same { self.new ≡ record self.old { kept = self.new.kept } }
-        ensures done { (n : ℕ) → is_due self.new.world.tree self.new.world.viewports.size self.new.kept n ≡ false }
+        ensures done { (n : ℕ) → is_due self.new.world.tree self.new.world.viewports.screen self.new.kept n ≡ false }
         ensures boxes { Computes self.old.world self.old.kept self.new.kept steps.old steps.new }
     {
-        self.laid.refresh(self.size, steps);
+        self.laid.refresh(self.screen, steps);
     }
 
     /// What is kept of the boxes. What is held for an element that has a box and isn't due is that box as it is now, and a mark on an
@@ -286,26 +289,18 @@ impl Page {
     pub fn boxes(&self) -> &kept_layout::Kept
         ensures value { result.now ≡ self.now.kept }
         ensures kept { AreKept self.now.world.tree self.now.kept }
-        ensures exact { IsExact self.now.world.tree self.now.world.viewports.size self.now.kept }
+        ensures exact { IsExact self.now.world.tree self.now.world.viewports.screen self.now.kept }
     {
         self.laid.boxes()
     }
 
-    /// The containers, clips and boxes of the page as they are now (Intersection Observer, 3.2.7), in units of 1/64 pixel and in the
-    /// coordinates of the viewport of `top`. No box may be due; `refresh_boxes` sees to that. No memory.
-    pub fn geometry(&self) -> PageGeometry<'_>
-        requires { (n : ℕ) → is_due self.now.world.tree self.now.world.viewports.size self.now.kept n ≡ false }
-        ensures tree { result.page.now.tree ≡ self.now.world.tree }
-        ensures boxes { result.boxes.now ≡ self.now.kept }
-        ensures scrolls { result.scrolls.now ≡ self.now.world.scrolls }
-        ensures viewport { seen_size result.viewport ≡ self.now.world.viewports.size }
+    /// What is shown of the page as it is now: boxes, places, containers and clips (Intersection Observer, 3.2.7), in units of 1/64
+    /// pixel. No box may be due; `refresh_boxes` sees to that. No memory.
+    pub fn geometry(&self) -> Shown<'_>
+        requires { (n : ℕ) → is_due self.now.world.tree self.now.world.viewports.screen self.now.kept n ≡ false }
+        ensures { result ≡ shown_of self.now.world }
     {
-        PageGeometry::new(
-            self.laid.page(),
-            self.laid.boxes(),
-            &self.scrolls,
-            self.size,
-        )
+        shown_now(&self.laid, &self.scrolls, self.screen)
     }
 
     pub(crate) fn document_name(&self, document: u32) -> Name
@@ -342,17 +337,26 @@ impl Page {
 // The size of the viewport of a document as it is now.
 pub(crate) fn viewport_now<L: Ledger>(
     laid: &mut LaidTree,
-    size: Size,
+    screen: Screen,
     document: u32,
     steps: &mut Steps<L>,
 ) -> Size
-    requires { IsNatural size }
-    ensures value { seen_size result ≡ viewport_of laid.new.elements.tree (seen_size size) document }
+    requires { IsNatural screen.size }
+    ensures value { seen_size result ≡ viewport_of laid.new.elements.tree (seen_screen screen) document }
     ensures natural { IsNatural result }
     ensures same { laid.new.elements ≡ laid.old.elements }
     ensures fills { FillsOnly laid.old.kept laid.new.kept }
-    ensures ticks { steps.new + due_count laid.old.elements.tree (seen_size size) laid.new.kept ≤ steps.old + due_count laid.old.elements.tree (seen_size size) laid.old.kept }
+    ensures ticks { steps.new + due_count laid.old.elements.tree (seen_screen screen) laid.new.kept ≤ steps.old + due_count laid.old.elements.tree (seen_screen screen) laid.old.kept }
 {
-    laid.refresh_for(size, Container::Document(document), steps);
-    viewport_of(laid.page(), laid.boxes(), size, document)
+    laid.refresh_for(screen, Container::Document(document), steps);
+    viewport_of(laid.page(), laid.boxes(), screen, document)
+}
+
+// What is shown of a page of whose boxes none is due.
+pub(crate) fn shown_now<'a>(laid: &'a LaidTree, scrolls: &'a Scrolls, screen: Screen) -> Shown<'a>
+    requires natural { IsNatural screen.size }
+    requires done { (n : ℕ) → is_due laid.now.elements.tree (seen_screen screen) laid.now.kept n ≡ false }
+    ensures { result ≡ shown_with laid.now.elements.tree (seen_screen screen) scrolls.now }
+{
+    Shown::new(laid.page(), laid.boxes(), scrolls, screen)
 }

@@ -84,7 +84,7 @@ impl Page {
         }
         let query = query.copy(*self.queries.allocator())?;
         self.names.reserve(1)?;
-        let viewport = viewport_now(&mut self.laid, self.size, document, steps);
+        let viewport = viewport_now(&mut self.laid, self.screen, document, steps);
         let matched = query.matches(viewport);
         let list = QueryList {
             document,
@@ -107,7 +107,7 @@ impl Page {
         ensures boxes { Computes self.old.world self.old.kept self.new.kept steps.old steps.new }
     {
         let list = &self.queries[query as usize];
-        let viewport = viewport_now(&mut self.laid, self.size, list.document, steps);
+        let viewport = viewport_now(&mut self.laid, self.screen, list.document, steps);
         list.query.matches(viewport)
     }
 
@@ -127,7 +127,7 @@ impl Page {
         ensures evaluated { self.new ≡ record self.old { world = once_evaluated document (next_changed document place self.old.world) (self.old.world); kept = self.new.kept } }
         ensures boxes { Computes self.old.world self.old.kept self.new.kept steps.old steps.new }
     {
-        let size = viewport_now(&mut self.laid, self.size, document, steps);
+        let size = viewport_now(&mut self.laid, self.screen, document, steps);
         let query = changed_from(self.queries.as_slice(), document, size, place)?;
         let list = &mut self.queries[query];
         list.matched = !list.matched;

@@ -15,9 +15,8 @@ ghost use Rattle.page_state.specs.Things.{present_of, IsSubject};
 ghost use Rattle.page_state.specs.Labels.{IsIn};
 
 use crate::answers::{Effect, PageFault};
-use crate::page::Page;
+use crate::page::{Page, shown_now};
 use element_tree::NodeId;
-use page_boxes::read;
 use page_tree::Container;
 use script_syntax::Operand;
 use std::sync::ledger::Ledger;
@@ -45,20 +44,14 @@ impl Page {
     fn reading<L: Ledger>(&mut self, container: Container, steps: &mut Steps<L>) -> TraceLine
         requires { IsIn self.old.world container }
         ensures line { seen_line result
-            ≡ reading_of self.old.world.names self.old.world.tree self.old.world.viewports.size self.old.world.scrolls (seen_container container) }
+            ≡ reading_of self.old.world.names self.old.world.tree self.old.world.viewports.screen self.old.world.scrolls (seen_container container) }
         ensures same { self.new ≡ record self.old { kept = self.new.kept } }
         ensures boxes { Computes self.old.world self.old.kept self.new.kept steps.old steps.new }
         ensures reach { HasReach (seen_line result) }
     {
         let target = self.container_name(container);
-        self.laid.refresh(self.size, steps);
-        let shown = read(
-            self.laid.page(),
-            self.laid.boxes(),
-            &self.scrolls,
-            self.size,
-            container,
-        );
+        self.laid.refresh(self.screen, steps);
+        let shown = shown_now(&self.laid, &self.scrolls, self.screen).read(container);
         TraceLine::Read {
             target,
             rect: shown.rect,

@@ -1,56 +1,21 @@
 //! What the resize loop asks of a page (Resize Observer, 3.4). Sizes are those of boxes as they are now.
 
 ghost use Rattle.std.specs.Prelude.{◌≡◌, ◌<◌, length, option_map, IfOk, IfSome, OnErr};
-ghost use Rattle.page_model.specs.World.{Extent};
 ghost use Rattle.page_model.specs.Gathering.{has_skipped, sight_in, sight_of, without_active, size_entry};
 ghost use Rattle.page_model.specs.Loop.{gather};
 ghost use Rattle.depth_gather.specs.Deliveries.{turn_of, active_at, entries_in};
 ghost use Rattle.depth_gather.specs.Gathering.{active_count};
 ghost use Rattle.depth_gather.specs.Entries.{as_size, as_point, HasLengths};
 ghost use Rattle.std.specs.List.{AllByRecursion};
-ghost use Rattle.page_boxes.specs.Fresh.{IsFresh};
-ghost use Rattle.page_boxes.specs.Pages.{seen_size};
 ghost use Rattle.page_state.specs.Boxes.{Computes};
 ghost use Rattle.page_state.specs.Rounds.{next_turn, once_reported};
 
-use crate::page::Page;
-use depth_gather::{Delivery, Sizes};
-use element_tree::NodeId;
-use page_boxes::{corner_of, size_of};
-use page_layout::LaidTree;
-use px_units::{BoxKind, Point, Size};
+use crate::page::{Page, shown_now};
+use depth_gather::Delivery;
 use resize_observer::ObserverId;
 use std::alloc::AllocError;
 use std::sync::ledger::Ledger;
 use step_count::Steps;
-
-// The sizes of a page whose boxes are all held as they are now.
-#[derive(Clone, Copy)]
-struct Shown<'a> {
-    laid: &'a LaidTree,
-    size: Size,
-    ghost fresh: { IsFresh laid.now.elements.tree (seen_size size) laid.now.kept },
-}
-
-impl Sizes for Shown<'_> {
-    ghost sight = { λ it. sight_in it.laid.now.elements.tree (seen_size it.size) };
-
-    fn size_now(&self, node: NodeId, kind: BoxKind) -> Size {
-        size_of(self.laid.page(), self.laid.boxes(), node, kind)
-    }
-
-    fn corner_now(&self, node: NodeId) -> Point {
-        corner_of(self.laid.page(), self.laid.boxes(), node)
-    }
-
-    fn depth_now(&self, node: NodeId) -> u32 {
-        let page = self.laid.page();
-        if page.holds(node) {
-            return page.depth(node);
-        }
-        1
-    }
-}
 
 impl Page {
     /// Gathers the active observations of a document at a depth (Resize Observer, 3.4: gather active observations at
@@ -60,11 +25,8 @@ impl Page {
         ensures boxes { Computes self.old.world self.old.kept self.new.kept steps.old steps.new }
         ensures number { result ≡ active_count document self.new.world.resize_observers }
     {
-        self.laid.refresh(self.size, steps);
-        let sizes = Shown {
-            laid: &self.laid,
-            size: self.size,
-        };
+        self.laid.refresh(self.screen, steps);
+        let sizes = shown_now(&self.laid, &self.scrolls, self.screen);
         depth_gather::gather(&mut self.observers, &sizes, document, depth)
     }
 
@@ -89,11 +51,8 @@ impl Page {
         ensures lengths { IfOk result (λ next. IfSome next (λ it. AllByRecursion HasLengths it.entries)) }
         ensures same { OnErr result (self.new ≡ record self.old { kept = self.new.kept }) }
     {
-        self.laid.refresh(self.size, steps);
-        let sizes = Shown {
-            laid: &self.laid,
-            size: self.size,
-        };
+        self.laid.refresh(self.screen, steps);
+        let sizes = shown_now(&self.laid, &self.scrolls, self.screen);
         let alloc = *self.queries.allocator();
         depth_gather::next_delivery(alloc, &mut self.observers, &sizes, document, place)
     }

@@ -20,9 +20,9 @@ ghost use Rattle.page_state.specs.Labels.{IsIn};
 ghost use Rattle.page_state.specs.Things.{present_of, IsSubject};
 
 use crate::answers::{Effect, PageFault};
-use crate::page::Page;
+use crate::page::{Page, shown_now};
 use element_tree::NodeId;
-use page_boxes::{is_scroller, offset_of, range_of};
+use page_boxes::is_scroller;
 use page_tree::Container;
 use px_units::{Point, Size};
 use script_syntax::Operand;
@@ -81,7 +81,7 @@ impl Page {
     // What a scroll of an element or a document scrolls: a root element stands for its document's viewport.
     fn scrolled_thing(&self, container: Container) -> Option<ScrollTarget>
         requires { IsIn self.now.world container }
-        ensures { option_map seen_target result ≡ scrolled_thing self.now.world.tree self.now.world.viewports.size (seen_container container) }
+        ensures { option_map seen_target result ≡ scrolled_thing self.now.world.tree self.now.world.viewports.screen (seen_container container) }
     {
         match container {
             Container::Document(document) => Some(ScrollTarget::Document(document)),
@@ -90,7 +90,7 @@ impl Page {
     }
 
     fn scrolled_element(&self, node: NodeId) -> Option<ScrollTarget>
-        ensures { option_map seen_target result ≡ scrolled_thing self.now.world.tree self.now.world.viewports.size (InElement node.0) }
+        ensures { option_map seen_target result ≡ scrolled_thing self.now.world.tree self.now.world.viewports.screen (InElement node.0) }
     {
         if self.is_root_element(node) {
             return Some(ScrollTarget::Document(self.laid.page().document_of(node)));
@@ -115,25 +115,24 @@ impl Page {
 
     // The scroll offset in force of a target and its range, of boxes as they are now.
     fn reach<L: Ledger>(&mut self, target: ScrollTarget, steps: &mut Steps<L>) -> Reach
-        ensures offset { result.offset ≡ point_of (scroll_offset self.old.world.tree self.old.world.viewports.size self.old.world.scrolls (seen_target target)) }
-        ensures range { seen_size result.range ≡ scroll_range self.old.world.tree self.old.world.viewports.size (seen_target target) }
+        ensures offset { result.offset ≡ point_of (scroll_offset self.old.world.tree self.old.world.viewports.screen self.old.world.scrolls (seen_target target)) }
+        ensures range { seen_size result.range ≡ scroll_range self.old.world.tree self.old.world.viewports.screen (seen_target target) }
         ensures in_force { IsInForce result.offset }
         ensures bound { IsRange result.range }
         ensures same { self.new ≡ record self.old { kept = self.new.kept } }
         ensures boxes { Computes self.old.world self.old.kept self.new.kept steps.old steps.new }
     {
-        self.laid.refresh(self.size, steps);
-        let page = self.laid.page();
-        let boxes = self.laid.boxes();
+        self.laid.refresh(self.screen, steps);
+        let shown = shown_now(&self.laid, &self.scrolls, self.screen);
         Reach {
-            offset: offset_of(page, boxes, &self.scrolls, self.size, target),
-            range: range_of(page, boxes, self.size, target),
+            offset: shown.offset_of(target),
+            range: shown.range_of(target),
         }
     }
 
     // Scrolls to a position, kept within the range of the target.
     fn move_to(&mut self, target: ScrollTarget, to: Point, range: Size) -> Result<Effect, PageFault>
-        requires value { seen_size range ≡ scroll_range self.old.world.tree self.old.world.viewports.size (seen_target target) }
+        requires value { seen_size range ≡ scroll_range self.old.world.tree self.old.world.viewports.screen (seen_target target) }
         requires bound { IsRange range }
         ensures done { Keeps self.old self.new result (λ handlers. becomes (scrolled_to to.left to.top (Some (seen_target target)) self.old.world)) }
         ensures boxes { self.new.kept ≡ self.old.kept }

@@ -11,7 +11,7 @@ ghost use Rattle.page_model.specs.Viewports.{noted_size, with_noted, differs_fro
 ghost use Rattle.intersection_update.specs.Watching.{AreWritten, watcher_numbers};
 ghost use Rattle.page_state.specs.Boxes.{Computes};
 
-use crate::page::{Page, viewport_now};
+use crate::page::{Page, shown_now, viewport_now};
 use event_tables::Task;
 use intersection_observer::{EntryList, WatcherId};
 use intersection_update::{update, watchers_of};
@@ -38,14 +38,14 @@ impl Page {
     /// noted (CSSOM View, 13: run the resize steps). The first call only notes it. No memory.
     pub fn viewport_changed<L: Ledger>(&mut self, document: u32, steps: &mut Steps<L>) -> bool
         requires { document < length self.old.world.tree.documents }
-        ensures value { result ≡ differs_from (viewport_of self.old.world.tree self.old.world.viewports.size document) (noted_size document self.old.world.viewports) }
+        ensures value { result ≡ differs_from (viewport_of self.old.world.tree self.old.world.viewports.screen document) (noted_size document self.old.world.viewports) }
         ensures noted { self.new.world ≡ record (self.old.world) {
-          viewports = with_noted document (viewport_of (self.old.world.tree) (self.old.world.viewports.size) document) (self.old.world.viewports);
+          viewports = with_noted document (viewport_of (self.old.world.tree) (self.old.world.viewports.screen) document) (self.old.world.viewports);
         } }
         ensures begun { self.new.begun ≡ self.old.begun }
         ensures boxes { Computes self.old.world self.old.kept self.new.kept steps.old steps.new }
     {
-        let size = viewport_now(&mut self.laid, self.size, document, steps);
+        let size = viewport_now(&mut self.laid, self.screen, document, steps);
         // There are at most 64 documents.
         let _count = self.laid.page().document_count();
         let before = self.noted.get(document, None);
@@ -73,16 +73,9 @@ impl Page {
         ensures rest { OnErr result (self.new ≡ record self.old { world = record (self.old.world) { intersection_observers = self.new.world.intersection_observers }; kept = self.new.kept }) }
         ensures boxes { Computes self.old.world self.old.kept self.new.kept steps.old steps.new }
     {
-        self.laid.refresh(self.size, steps);
-        let queued = update(
-            self.laid.page(),
-            self.laid.boxes(),
-            &self.scrolls,
-            self.size,
-            &mut self.watchers,
-            document,
-            self.clock,
-        )?;
+        self.laid.refresh(self.screen, steps);
+        let shown = shown_now(&self.laid, &self.scrolls, self.screen);
+        let queued = update(&shown, &mut self.watchers, document, self.clock)?;
         if !queued || self.notifying.get(document, false) {
             return Ok(());
         }

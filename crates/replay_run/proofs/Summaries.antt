@@ -21,6 +21,7 @@ use Rattle.trace_runs.proofs.Lines.{bytes_both, bytes_one}
 use Rattle.trace_summary.specs.Counts.{IsTrace, summary_of, rows_text}
 use Rattle.trace_summary.specs.declared.summary.Summary.{Summary}
 use Rattle.replay_run.specs.Answers.{Answers, Tells}
+use Rattle.replay_run.specs.Certificates.{lint_text}
 use Rattle.replay_run.specs.Statuses.{is_done, status_after, status_at}
 use Rattle.replay_run.specs.Words.{ending_by, written_by}
 use Rattle.replay_run.specs.declared.words.Job.{Job}
@@ -51,6 +52,7 @@ refused-text : (it : Job) (refusal : Refusal) → bytes_of (refusal_line refusal
 unfolding written_by outcome_read check_read summary_read
 refused-text job.Replay refusal = refl
 refused-text job.Check refusal = sym (bytes_one (refusal_line refusal))
+refused-text job.Lint refusal = sym (bytes_one (refusal_line refusal))
 refused-text job.Summary refusal = sym (bytes_one (refusal_line refusal))
 refused-text job.Print refusal = sym (bytes_one (refusal_line refusal))
 
@@ -58,6 +60,7 @@ refused-ending : (it : Job) (refusal : Refusal) → refused_ending refusal ≡ e
 unfolding outcome_read
 refused-ending job.Replay refusal = refl
 refused-ending job.Check refusal = refl
+refused-ending job.Lint refusal = refl
 refused-ending job.Summary refusal = refl
 refused-ending job.Print refusal = refl
 
@@ -83,6 +86,11 @@ pub check_tells : (status : Status) (script : List Item) (before after : Option 
     → Tells status (ending_by job.Check (Ok script)) (written_by job.Check (Ok script)) before after f g
 unfolding written_by
 check_tells status script before after f g told = told
+
+pub lint_tells : (status : Status) (script : List Item) (before after : Option (List ℕ)) (f g : ℕ) → Tells status Ended (lint_text script) before after f g
+    → Tells status (ending_by job.Lint (Ok script)) (written_by job.Lint (Ok script)) before after f g
+unfolding written_by
+lint_tells status script before after f g told = told
 
 pub summary_tells : (status : Status) (script : List Item) (before after : Option (List ℕ)) (f g : ℕ) → Tells status (outcome_read (Ok script)).ending (summary_read (Ok script)) before after f g
     → Tells status (ending_by job.Summary (Ok script)) (written_by job.Summary (Ok script)) before after f g

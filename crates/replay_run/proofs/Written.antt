@@ -3,7 +3,7 @@ use Rattle.std.proofs.Common.{◌≡◌, ◌∙◌, refl, ap, sym, subst, ℕ, �
 use Rattle.std.proofs.lemmas.List.{append-nil}
 use Rattle.std.specs.Io.KnownBytes.{Appends}
 use Rattle.text_io.specs.Streams.{Rose, TakesPart}
-use Rattle.std.specs.Prelude.{Ok, codes}
+use Rattle.std.specs.Prelude.{Ok, codes, slice_get}
 use Rattle.word_model.specs.Numbers.{decimal}
 use Rattle.script_model.specs.Syntax.{Item}
 use Rattle.script_model.specs.Scripts.{command_count}
@@ -13,7 +13,10 @@ use Rattle.trace_runs.proofs.Writes.{both, part_begins, part_behind, part_taken}
 use Rattle.trace_summary.specs.Lines.{first_line, behind_line}
 use Rattle.trace_summary.proofs.Rows.{Writing}
 use Rattle.trace_summary.proofs.Splits.{line_splits}
+use Rattle.loop_lint.specs.LoopHandlers.{loop_handler_lines}
+use Rattle.loop_lint.specs.Verdicts.{moves, disturbs}
 use Rattle.replay_run.specs.Answers.{Tells}
+use Rattle.replay_run.specs.Certificates.{certificate_text, lint_text}
 use Rattle.replay_run.specs.declared.status.Status.TheVariants.{Done, WriteFault}
 
 -- a line more
@@ -57,3 +60,15 @@ pub count_text : (count : ℕ) (script : List Item) (first second whole : List �
 unfolding check_read
 count_text count script first second whole a b c is =
     c ∙ ap (λ text. text ++ (10 ∷ [])) (b ∙ ap (λ text. text ++ decimal count) a) ∙ ap (λ (n : ℕ). (codes "ok " ++ decimal n) ++ (10 ∷ [])) is
+
+-- the two lines of a script's certificates
+pub lint_written : (items : List Item) (steady quiet : Option ℕ) (none first whole : List ℕ) → none ≡ []
+    → steady ≡ slice_get (loop_handler_lines moves items) 0 → first ≡ none ++ certificate_text (codes "steady") (codes "unsteady ") steady
+    → quiet ≡ slice_get (loop_handler_lines disturbs items) 0 → whole ≡ first ++ certificate_text (codes "quiet") (codes "unquiet ") quiet → whole ≡ lint_text items
+unfolding lint_text
+lint_written items steady quiet none first whole empty moved steadily disturbed quietly =
+    quietly
+    ∙ ap (λ (text : List ℕ). text ++ certificate_text (codes "quiet") (codes "unquiet ") quiet)
+    (steadily ∙ ap (λ (text : List ℕ). text ++ certificate_text (codes "steady") (codes "unsteady ") steady) empty)
+    ∙ ap (λ (line : Option ℕ). certificate_text (codes "steady") (codes "unsteady ") line ++ certificate_text (codes "quiet") (codes "unquiet ") quiet) moved
+    ∙ ap (λ (line : Option ℕ). certificate_text (codes "steady") (codes "unsteady ") (slice_get (loop_handler_lines moves items) 0) ++ certificate_text (codes "quiet") (codes "unquiet ") line) disturbed

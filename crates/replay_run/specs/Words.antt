@@ -6,8 +6,9 @@ use Rattle.script_model.specs.Reading.{Reading, refusal_line}
 use Rattle.script_model.specs.TraceText.{line_text}
 use Rattle.script_text.specs.ScriptText.{printed}
 use Rattle.page_model.specs.Outcome.{Ending, Ended, refused_ending, outcome_read, bytes_of, check_read, summary_read}
+use Rattle.replay_run.specs.Certificates.{lint_text}
 use Rattle.replay_run.specs.declared.words.Job.{Job}
-use Rattle.replay_run.specs.declared.words.Job.TheVariants.{Replay, Check, Summary, Print}
+use Rattle.replay_run.specs.declared.words.Job.TheVariants.{Replay, Check, Lint, Summary, Print}
 use Rattle.replay_run.specs.declared.words.Origin.{Origin}
 use Rattle.replay_run.specs.declared.words.Origin.TheVariants.{Source, Number}
 use Rattle.replay_run.specs.declared.words.Words.{Words}
@@ -29,7 +30,8 @@ unfolding number_of
 asked [] = Some (of_source Replay)
 asked (word ∷ []) =
     cond (bytes_eq word (codes "--check")) (Some (of_source Check))
-    (cond (bytes_eq word (codes "--summary")) (Some (of_source Summary)) None)
+    (cond (bytes_eq word (codes "--lint")) (Some (of_source Lint))
+    (cond (bytes_eq word (codes "--summary")) (Some (of_source Summary)) None))
 asked (word ∷ number ∷ []) =
     cond (bytes_eq word (codes "--generate")) (option_map (of_number Print) (number_of number))
     (cond (bytes_eq word (codes "--generate-run")) (option_map (of_number Summary) (number_of number)) None)
@@ -46,9 +48,11 @@ given (Number number) left = Some (generated number)
 
 -- what is written of a text by its reading; of one that is refused, the line that says so
 unfoldable pub written_by : Job → Reading → List ℕ
-unfolding outcome_read bytes_of check_read summary_read printed line_text
+unfolding outcome_read bytes_of check_read lint_text summary_read printed line_text
 written_by Replay read = bytes_of (outcome_read read).lines
 written_by Check read = check_read read
+written_by Lint (Ok items) = lint_text items
+written_by Lint (Err refusal) = line_text (refusal_line refusal)
 written_by Summary read = summary_read read
 written_by Print (Ok items) = printed items
 written_by Print (Err refusal) = line_text (refusal_line refusal)
@@ -61,6 +65,7 @@ read_ending (Err refusal) = refused_ending refusal
 abbrev pub ending_by : Job → Reading → Ending
 ending_by Replay read = (outcome_read read).ending
 ending_by Check read = read_ending read
+ending_by Lint read = read_ending read
 ending_by Summary read = (outcome_read read).ending
 ending_by Print read = read_ending read
 
@@ -68,6 +73,7 @@ ending_by Print read = read_ending read
 abbrev pub is_run : Job → Bool
 is_run Replay = true
 is_run Check = false
+is_run Lint = false
 is_run Summary = true
 is_run Print = false
 

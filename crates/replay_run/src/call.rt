@@ -13,6 +13,7 @@ ghost use Rattle.replay_run.specs.Answers.{Answers, Ends, IsTaken, Tells};
 ghost use Rattle.replay_run.specs.Statuses.{is_done, status_after};
 ghost use Rattle.replay_run.specs.Words.{asked, ending_by, given, has_page, is_run, is_source, written_by};
 
+use crate::certificates::write_certificates;
 use crate::check::check;
 use crate::input::feed_all;
 use crate::play::play;
@@ -181,6 +182,10 @@ fn perform<K: Sink, L: Ledger>(
             status: check(alloc, script, sink),
             page: None,
         },
+        Job::Lint => Report {
+            status: write_certificates(alloc, script, sink),
+            page: None,
+        },
         Job::Summary => summarize(alloc, script, sink, steps),
         Job::Print => Report {
             status: write_script(alloc, script, sink),
@@ -255,11 +260,13 @@ fn perform_on_number<K: Sink, L: Ledger>(
 ///
 /// - no words: replays the script that the source has left, and writes its trace;
 /// - `--check`: reads that script, and writes `ok` and the number of its commands, those of handlers and blocks included;
+/// - `--lint`: reads it, and writes whether its resize loops always go deeper (`steady`) and whether none of them ends with the error
+///   (`quiet`), by what its loop handlers hold, or the line of the first command that stands in the way (`unsteady`, `unquiet`);
 /// - `--summary`: replays it, and writes for each kind of trace lines how many there are;
 /// - `--generate N`: writes the script of the number N, which is at most 1,000,000; reads nothing;
 /// - `--generate-run N`: replays the script of the number, and writes its summary; reads nothing.
 ///
-/// Of a source that is no script, the first three write the line that says where alone. `steps` counts the boxes that are
+/// Of a source that is no script, the first four write the line that says where alone. `steps` counts the boxes that are
 /// computed: a `read`, and a tick where there is an observer, compute the boxes that are due.
 ///
 /// - `Done`, `Syntax` and `Limit`: exactly by how what is asked for ends; all that is to be written was. A source that was read

@@ -4,6 +4,7 @@
 #![tactic(auto)]
 
 mod call;
+mod certificates;
 mod check;
 mod input;
 mod laws;

@@ -15,6 +15,8 @@ pub enum Job {
     Replay,
     /// The number of its commands is written.
     Check,
+    /// Its certificates are written.
+    Lint,
     /// It is run, and how many lines of each kind its trace has is written.
     Summary,
     /// It is written.
@@ -65,7 +67,7 @@ impl Words {
         }
     }
 
-    /// What these words ask for: no words to replay the source, `--check` and `--summary` to check or to summarize it,
+    /// What these words ask for: no words to replay the source, `--check`, `--lint` and `--summary` to check, to certify or to summarize it,
     /// `--generate N` and `--generate-run N` to print or to summarize the script of a number. None for any other list of words.
     /// No memory.
     #[tactic(auto, unfolding(crate::specs::Words::asked))]
@@ -86,6 +88,8 @@ impl Words {
     {
         if word == "--check" {
             Some(Words::of_source(Job::Check))
+        } else if word == "--lint" {
+            Some(Words::of_source(Job::Lint))
         } else if word == "--summary" {
             Some(Words::of_source(Job::Summary))
         } else {

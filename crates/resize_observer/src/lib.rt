@@ -5,8 +5,6 @@ mod documents;
 mod observation;
 mod observer;
 mod observers;
-#[cfg(test)]
-mod tests;
 
 pub use observation::{Observation, ObserverId};
 pub use observers::{ObserveFault, Observers};

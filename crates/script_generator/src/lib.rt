@@ -9,8 +9,6 @@ ghost use Rattle.script_text.specs.ScriptText.{printed};
 
 mod laws;
 mod templates;
-#[cfg(test)]
-mod tests;
 
 pub use laws::{generated_text_is_a_script, scripts_come_again};
 use script_lexer::Lexer;

@@ -5,8 +5,6 @@ mod class;
 mod lexer;
 mod places;
 mod scan;
-#[cfg(test)]
-mod tests;
 mod text;
 
 pub use lexer::Lexer;

@@ -13,8 +13,6 @@ mod items;
 mod lines;
 mod numbers;
 mod operands;
-#[cfg(test)]
-mod tests;
 
 use script_syntax::Script;
 use script_text::laws::{printed_script_reads_back, what_is_read_is_well_formed};

@@ -7,8 +7,6 @@ mod pending;
 mod positions;
 mod scrolls;
 mod target;
-#[cfg(test)]
-mod tests;
 
 pub use laws::a_scroll_comes_to_its_position;
 pub use scrolls::Scrolls;

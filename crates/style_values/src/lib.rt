@@ -6,8 +6,6 @@ mod keywords;
 mod lengths;
 mod properties;
 mod styles;
-#[cfg(test)]
-mod tests;
 
 use px_units::{Length, Px};
 use thiserror::Error;

@@ -7,8 +7,6 @@ mod memory;
 mod name;
 mod std_streams;
 mod streams;
-#[cfg(test)]
-mod tests;
 
 pub use kinds::{EventKind, LimitKind, ThrowKind};
 pub use memory::{MemorySink, MemorySource};

@@ -5,8 +5,6 @@ mod laws;
 mod margins;
 mod parts;
 mod ratios;
-#[cfg(test)]
-mod tests;
 mod thresholds;
 
 pub use laws::{crossed_root_meets_nothing, thresholds_are_the_values_in_order};

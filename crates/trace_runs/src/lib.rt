@@ -3,8 +3,6 @@
 #![tactic(auto)]
 
 mod faults;
-#[cfg(test)]
-mod tests;
 mod write;
 
 pub use faults::{Flow, RunFault};

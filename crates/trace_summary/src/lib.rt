@@ -5,8 +5,6 @@ mod gather;
 mod laws;
 mod lines;
 mod summary;
-#[cfg(test)]
-mod tests;
 
 pub use gather::GatherSink;
 pub use laws::{a_text_has_one_trace, rows_are_the_summary};

@@ -7,6 +7,7 @@ use Rattle.clip_chain.specs.Chains.{Leads}
 use Rattle.clip_chain.specs.Worlds.{element_spot, spot_of_root}
 use Rattle.intersection_observer.specs.Places.{Standing as Place, standing_of}
 use Rattle.intersection_observer.specs.Seen.{seen_root}
+use Rattle.thresholds.specs.Roots.{IsNear}
 use Rattle.candidate_index.specs.Findings.{limits_of, sight_over}
 use Rattle.candidate_index.specs.Registrations.{observer_of, target_of, standing_for, IfChained, HasClip}
 use Rattle.candidate_index.specs.Asked.{asked_if, steps_if}
@@ -36,7 +37,7 @@ returns-clause-basis g c =
     let target : target_of it serial ≡ c.target_of-target.result.0 = looked_up (λ (p : Place). p.target) (standing_of serial it) (record { watcher = 0; target = 0 }) c.target_of-target.result.0 c.target_of-target.ensures in
     let root : (observer_of it serial).root ≡ seen_root c.root_of-root.result = ap (λ w. (intersection_observer_at it w).root) watcher ∙ sym c.root_of-root.ensures in
     let margins : c.margins_of.result.now ≡ (observer_of it serial).margins = c.margins_of.ensures ∙ ap (λ w. (intersection_observer_at it w).margins) (sym watcher) in
-    let limits : c.limits_of.result ≡ limits_of scene (observer_of it serial) = c.limits_of.ensures ∙ (λ i. moved_out (margins i) (root_bounds scene (spot_of_root (sym root i)))) in
+    let limits : c.limits_of.result ≡ limits_of scene (observer_of it serial) = c.limits_of.ensures.value ∙ (λ i. moved_out (margins i) (root_bounds scene (spot_of_root (sym root i)))) in
     λ between h.
     let P : Root → ℕ → Type 0 = λ r t. IfChained (standings r t) (Leads scene (element_spot t) (between serial) (spot_of_root r)) in
     let leads = subst (λ r. P r c.target_of-target.result.0) root (subst (λ t. P (observer_of it serial).root t) target h) in
@@ -79,3 +80,12 @@ returns-clause-ready g c = λ other.
     let target = target_of it other in
     if_still (standing_for (g.S.Scene.standings c.args.scene.now) it other) (HasClip scene c.args.clips.now other root target) (HasClip scene c.sight_of.new.clips other root target)
     (c.sight_of.ensures.ready other root target)
+
+pub returns-clause-near : goal.returns-clause-near
+returns-clause-near g c =
+    let scene = g.S.Geometry.scene c.args.scene.now in
+    let it = c.args.watchers.now.part in
+    let serial = c.args.registration.0 in
+    let watcher = looked_up (λ (p : Place). p.watcher) (standing_of serial it) (record { watcher = 0; target = 0 }) c.watcher_of-watcher.result.0 c.watcher_of-watcher.ensures.value in
+    let root : (observer_of it serial).root ≡ seen_root c.root_of-root.result = ap (λ w. (intersection_observer_at it w).root) watcher ∙ sym c.root_of-root.ensures in
+    subst (λ (r : Root). IsNear (root_bounds scene (spot_of_root r)) c.limits_of.result) (sym root) c.limits_of.ensures.near

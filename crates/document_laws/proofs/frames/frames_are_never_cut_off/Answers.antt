@@ -4,7 +4,7 @@ use Rattle.document_laws.proofs.Leading.{active_whole, fresh_whole}
 use Rattle.document_laws.proofs.frames.frames_are_never_cut_off.Goals as goal
 
 pub returns-clause-views : goal.returns-clause-views
-returns-clause-views c = λ tree levels most size document enough. views_whole tree size levels most document enough
+returns-clause-views c = λ tree levels most screen document enough. views_whole tree screen levels most document enough
 
 pub returns-clause-origins : goal.returns-clause-origins
 returns-clause-origins c = origins_whole

@@ -4,13 +4,13 @@ use Rattle.intersection_update.proofs.Settled.{is_at, settled_there, longer_once
 use Rattle.intersection_update.proofs.settling.settle_at.Goals as goal
 
 pub returns-in-Queued-clause-settled : goal.returns-in-Queued-clause-settled
-returns-in-Queued-clause-settled c world parts =
+returns-in-Queued-clause-settled c =
     let old = c.args.watchers.now in
     c.in_ok-settle.ensures.settled
-    ∙ settled_there world old c.args.watcher.0 c.args.place _ c.args.time c.target_of-target.result.0 (seen_finding c.find-found.result)
+    ∙ settled_there c.args.shown.now old c.args.watcher.0 c.args.place _ c.args.time c.target_of-target.result.0 (seen_finding c.find-found.result)
     (is_at old.part c.args.watcher.0 c.args.place c.registrations.result.now _ c.registrations.ensures.serials c.registrations.ensures.value c.requires.place)
     c.target_of-target.ensures
-    (c.find-found.ensures.value world parts.tree parts.viewport parts.scrolls)
+    c.find-found.ensures.value
 
 pub returns-in-Queued-clause-queued : goal.returns-in-Queued-clause-queued
 returns-in-Queued-clause-queued c =
@@ -28,13 +28,13 @@ returns-in-Queued-clause-registrations c = count_once c.args.watchers.now c.sett
 
 pub returns-in-Queued-clause-kept : goal.returns-in-Queued-clause-kept
 returns-in-Queued-clause-kept c =
-    kept_once (length c.args.page.now.tree.elements) c.args.watchers.now c.settle.new.self _ c.args.time (seen_finding c.find-found.result) c.find-found.ensures.reach c.in_ok-settle.ensures.settled
+    kept_once (length c.args.shown.now.tree.elements) c.args.watchers.now c.settle.new.self _ c.args.time (seen_finding c.find-found.result) c.find-found.ensures.reach c.in_ok-settle.ensures.settled
 
 pub returns-in-Kept-clause-settled : goal.returns-in-Kept-clause-settled
-returns-in-Kept-clause-settled c world parts =
+returns-in-Kept-clause-settled c =
     let old = c.args.watchers.now in
     c.in_ok-settle.ensures.settled
-    ∙ settled_there world old c.args.watcher.0 c.args.place _ c.args.time c.target_of-target.result.0 (seen_finding c.find-found.result)
+    ∙ settled_there c.args.shown.now old c.args.watcher.0 c.args.place _ c.args.time c.target_of-target.result.0 (seen_finding c.find-found.result)
     (is_at old.part c.args.watcher.0 c.args.place c.registrations.result.now _ c.registrations.ensures.serials c.registrations.ensures.value c.requires.place)
     c.target_of-target.ensures
-    (c.find-found.ensures.value world parts.tree parts.viewport parts.scrolls)
+    c.find-found.ensures.value

@@ -21,18 +21,18 @@ loop-place-preserved c =
     ]
     in
     record {
-      settled = λ world parts. one_more world c.args.time c.args.watcher.0 was c.loop-place.place now next there (c.loop-place.invariant.settled world parts) (c.in_ok-is_queued.ensures.settled world parts);
+      settled = one_more c.args.shown.now c.args.time c.args.watcher.0 was c.loop-place.place now next there c.loop-place.invariant.settled c.in_ok-is_queued.ensures.settled;
       queued = joined ∙ either_queued c.loop-place.queued c.in_ok-is_queued.is_queued
           (length (watcher_at was c.args.watcher.0).queue) (length (watcher_at now c.args.watcher.0).queue) (length (watcher_at next c.args.watcher.0).queue)
           c.loop-place.invariant.queued c.in_ok-is_queued.ensures.queued c.loop-place.invariant.longer c.settle_at.ensures.longer;
       longer = longer;
       registrations = c.settle_at.ensures.registrations ∙ c.loop-place.invariant.registrations;
-      kept = kept_then (length c.args.page.now.tree.elements) was now next c.loop-place.invariant.kept c.settle_at.ensures.kept;
+      kept = kept_then (length c.args.shown.now.tree.elements) was now next c.loop-place.invariant.kept c.settle_at.ensures.kept;
       serials = c.loop-place.invariant.serials;
       end = c.loop-place.invariant.end;
     }
 
 pub returns-clause-settled : goal.returns-clause-settled
-returns-clause-settled c world parts =
-    all_of_them world c.args.time c.args.watcher.0 c.args.watchers.now c.loop-place.place c.loop-place.watchers c.loop-place.invariant.serials c.loop-place.invariant.kept.rest
-    (omega (arith, c.loop-place.invariant.end, c.loop-place-test.false)) (c.loop-place.invariant.settled world parts)
+returns-clause-settled c =
+    all_of_them c.args.shown.now c.args.time c.args.watcher.0 c.args.watchers.now c.loop-place.place c.loop-place.watchers c.loop-place.invariant.serials c.loop-place.invariant.kept.rest
+    (omega (arith, c.loop-place.invariant.end, c.loop-place-test.false)) c.loop-place.invariant.settled

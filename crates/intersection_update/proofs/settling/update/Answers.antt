@@ -1,7 +1,5 @@
 use Rattle.std.proofs.Common.{◌≡◌, ◌<◌, ◌∙◌, length, arith}
 use Rattle.std.specs.Prelude.{◌||◌}
-use Rattle.page_boxes.specs.Pages.{seen_size}
-use Rattle.intersection_update.specs.Updating.{HasParts}
 use Rattle.intersection_update.proofs.Settled.{kept_then}
 use Rattle.intersection_update.proofs.Updates.{next_observer, next_told, all_observers, all_told, stopped_at, on_err, or_true, or_false}
 use Rattle.intersection_update.proofs.settling.update.Goals as goal
@@ -9,7 +7,7 @@ use Rattle.intersection_update.proofs.settling.update.Goals.{then-queued, else-q
 
 pub loop-number-preserved : goal.loop-number-preserved
 loop-number-preserved c =
-    let tree = c.args.page.now.tree in
+    let tree = c.args.shown.now.tree in
     let was = c.args.watchers.now in
     let now = c.loop-number.watchers in
     let next = c.settle_if_rooted.new.watchers in
@@ -21,28 +19,25 @@ loop-number-preserved c =
     ]
     in
     record {
-      settled = λ world parts. next_observer world tree c.args.document c.args.time was c.loop-number.number now next there (c.loop-number.invariant.settled world parts) (c.in_ok-is_queued.ensures.settled world parts);
-      queued = λ world parts. joined ∙ next_told world tree c.args.document c.args.time was c.loop-number.number now next c.loop-number.queued c.in_ok-is_queued.is_queued there
-          c.loop-number.invariant.kept.count (c.loop-number.invariant.settled world parts) (c.in_ok-is_queued.ensures.settled world parts) (c.loop-number.invariant.queued world parts) c.in_ok-is_queued.ensures.queued;
+      settled = next_observer c.args.shown.now tree c.args.document c.args.time was c.loop-number.number now next there c.loop-number.invariant.settled c.in_ok-is_queued.ensures.settled;
+      queued = joined ∙ next_told c.args.shown.now tree c.args.document c.args.time was c.loop-number.number now next c.loop-number.queued c.in_ok-is_queued.is_queued there
+          c.loop-number.invariant.kept.count c.loop-number.invariant.settled c.in_ok-is_queued.ensures.settled c.loop-number.invariant.queued c.in_ok-is_queued.ensures.queued;
       kept = kept_then (length tree.elements) was now next c.loop-number.invariant.kept c.settle_if_rooted.ensures.kept;
       end = c.loop-number.invariant.end;
     }
 
 pub returns-clause-updated : goal.returns-clause-updated
-returns-clause-updated c world tree size scrolls =
-    let parts : HasParts c.args.page.now.tree (seen_size c.args.viewport) c.args.scrolls.now world = record { tree = tree; viewport = size; scrolls = scrolls } in
-    all_observers world c.args.page.now.tree c.args.document c.args.time c.args.watchers.now c.loop-number.number c.loop-number.watchers c.loop-number.invariant.kept.rest c.loop-number.invariant.kept.given
-    (omega (arith, c.loop-number.invariant.end, c.loop-number-test.false, c.loop-number.auto.number-end)) (c.loop-number.invariant.settled world parts)
+returns-clause-updated c =
+    all_observers c.args.shown.now c.args.shown.now.tree c.args.document c.args.time c.args.watchers.now c.loop-number.number c.loop-number.watchers c.loop-number.invariant.kept.rest c.loop-number.invariant.kept.given
+    (omega (arith, c.loop-number.invariant.end, c.loop-number-test.false, c.loop-number.auto.number-end)) c.loop-number.invariant.settled
 
 pub returns-clause-queued : goal.returns-clause-queued
-returns-clause-queued c world tree size scrolls =
-    let parts : HasParts c.args.page.now.tree (seen_size c.args.viewport) c.args.scrolls.now world = record { tree = tree; viewport = size; scrolls = scrolls } in
-    all_told world c.args.page.now.tree c.args.document c.args.time c.args.watchers.now c.loop-number.number c.loop-number.queued
-    (omega (arith, c.loop-number.invariant.end, c.loop-number-test.false, c.loop-number.auto.number-end)) (c.loop-number.invariant.queued world parts)
+returns-clause-queued c =
+    all_told c.args.shown.now c.args.shown.now.tree c.args.document c.args.time c.args.watchers.now c.loop-number.number c.loop-number.queued
+    (omega (arith, c.loop-number.invariant.end, c.loop-number-test.false, c.loop-number.auto.number-end)) c.loop-number.invariant.queued
 
 pub returns-in_err-is_queued-clause-stopped : goal.returns-in_err-is_queued-clause-stopped
-returns-in_err-is_queued-clause-stopped c world tree size scrolls =
-    let parts : HasParts c.args.page.now.tree (seen_size c.args.viewport) c.args.scrolls.now world = record { tree = tree; viewport = size; scrolls = scrolls } in
+returns-in_err-is_queued-clause-stopped c =
     on_err c.from_residual.result
-    (stopped_at world c.args.page.now.tree c.args.document c.args.time c.args.watchers.now c.loop-number.number c.loop-number.watchers c.settle_if_rooted.new.watchers
-    c.loop-number.invariant.kept.given (c.loop-number.invariant.settled world parts) (c.in_err-is_queued.ensures.stopped world parts))
+    (stopped_at c.args.shown.now c.args.shown.now.tree c.args.document c.args.time c.args.watchers.now c.loop-number.number c.loop-number.watchers c.settle_if_rooted.new.watchers
+    c.loop-number.invariant.kept.given c.loop-number.invariant.settled c.in_err-is_queued.ensures.stopped)

@@ -15,17 +15,17 @@ boxed_offset-requires c =
     omega (arith, made, count_here c.args.page.now c.tree.result.now c.tree.ensures.value)
 
 pub returns-then-has_box-clause-value : goal.returns-then-has_box-clause-value
-returns-then-has_box-clause-value c size fresh =
+returns-then-has_box-clause-value c screen fresh =
     let tree = c.args.page.now.tree in
     let n = c.args.node.0 in
-    let view = view_of tree size (element_at tree n).document in
+    let view = view_of tree screen (element_at tree n).document in
     let nodes = c.tree.ensures.nodes in
-    let there = sym (c.has_box.ensures size) ∙ c.if-has_box.true in
-    let boxed = sym (ap (λ at. is_some (inputs_in_view at view n)) nodes) ∙ sym (boxed_is tree size n) ∙ there in
+    let there = sym (c.has_box.ensures screen) ∙ c.if-has_box.true in
+    let boxed = sym (ap (λ at. is_some (inputs_in_view at view n)) nodes) ∙ sym (boxed_is tree screen n) ∙ there in
     c.boxed_offset.ensures.value view (subst (λ at. HoldsAll at view c.args.boxes.now) nodes fresh) boxed
     ∙ ap (λ at. as_point (offset_in_force at (stored_in c.args.scrolls.now) view n)) (sym nodes)
-    ∙ ap as_point (element_offset tree size c.args.scrolls.now n there)
+    ∙ ap as_point (element_offset tree screen c.args.scrolls.now n there)
 
 pub returns-else-has_box-clause-value : goal.returns-else-has_box-clause-value
-returns-else-has_box-clause-value c size fresh =
-    element_offsetless c.args.page.now.tree size c.args.scrolls.now (c.args.node.0) (sym (c.has_box.ensures size) ∙ c.if-has_box.false)
+returns-else-has_box-clause-value c screen fresh =
+    element_offsetless c.args.page.now.tree screen c.args.scrolls.now (c.args.node.0) (sym (c.has_box.ensures screen) ∙ c.if-has_box.false)

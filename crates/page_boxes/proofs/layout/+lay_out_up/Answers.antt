@@ -4,7 +4,7 @@ use Rattle.page_model.specs.Lookups.{element_at}
 use Rattle.page_model.specs.Documents.{first_of_list}
 use Rattle.page_documents.specs.Paths.{way_down}
 use Rattle.page_boxes.specs.Fresh.{IsFreshIn}
-use Rattle.page_boxes.specs.Pages.{seen_size}
+use Rattle.page_boxes.specs.Pages.{seen_screen}
 use Rattle.page_boxes.proofs.Views.{no_way, way_less}
 use Rattle.page_boxes.proofs.Going.{fresh_in}
 use Rattle.page_boxes.proofs.layout.+lay_out_up.Goals as goal
@@ -43,7 +43,7 @@ lay_out_once-requires-clause-around g t c frame is =
     let tree = c.args.page.now.tree in
     let there = sym c.frame_of.ensures.value ∙ ap (option_map number) c.in-Some.is in
     let same : c.in-Some.frame.0 ≡ frame = cc (sym there ∙ is) in
-    subst (IsFreshIn tree (seen_size c.args.viewport) c.lay_out_up.new.boxes)
+    subst (IsFreshIn tree (seen_screen c.args.screen) c.lay_out_up.new.boxes)
     (c.document_of-holder.ensures ∙ ap (λ n. (element_at tree n).document) same)
-    (fresh_in tree (seen_size c.args.viewport) c.lay_out_up.new.laid_out c.lay_out_up.new.boxes c.lay_out_up.ensures.goes.laid_out c.document_of-holder.result
+    (fresh_in tree (seen_screen c.args.screen) c.lay_out_up.new.laid_out c.lay_out_up.new.boxes c.lay_out_up.ensures.goes.laid_out c.document_of-holder.result
     c.lay_out_up.ensures.marked)

@@ -12,7 +12,7 @@ use Rattle.block_layout.proofs.Nodes.{parent_is}
 use Rattle.kept_layout.specs.Due.{due_count as due_count_with}
 use Rattle.kept_layout.specs.Slots.{slot_in}
 use Rattle.page_tree.specs.Items.{style_in, kind_in}
-use Rattle.page_boxes.specs.Pages.{seen_size, seen_pair}
+use Rattle.page_boxes.specs.Pages.{seen_screen, seen_pair}
 use Rattle.page_boxes.proofs.Pages.{count_here}
 use Rattle.page_boxes.proofs.Undue.{fills_none, fills_fresh}
 use Rattle.page_boxes.proofs.Renewed.{no_root, rootless_here, rootless_laid_out, inputs_go_down, laid_out_here, others_here, kept_here, inputs_on_root, ready_before}
@@ -22,19 +22,19 @@ use Rattle.page_boxes.proofs.layout.lay_out.Goals as goal
 pub returns-in_default-clause-laid_out : goal.returns-in_default-clause-laid_out
 returns-in_default-clause-laid_out g c =
     let tree = c.args.page.now.tree in
-    let size = seen_size c.args.viewport in
-    let found = framed_size tree size (view_of tree size) (document_at tree c.args.document).frame in
+    let screen = seen_screen c.args.screen in
+    let found = framed_size tree screen (view_of tree screen) (document_at tree c.args.document).frame in
     let none = sym c.root.ensures.value ∙ ap (option_map number) c.in_default.is in
-    rootless_laid_out tree size c.args.document
-    (rootless_here tree c.root.ensures.framed size c.args.document c.requires.active found refl (no_root (document_at tree c.args.document).root found none))
+    rootless_laid_out tree screen c.args.document
+    (rootless_here tree c.root.ensures.framed screen c.args.document c.requires.active found refl (no_root (document_at tree c.args.document).root found none))
     c.args.boxes.now
 
 pub returns-in_default-framed_size-clause-laid_out : goal.returns-in_default-framed_size-clause-laid_out
 returns-in_default-framed_size-clause-laid_out g c =
     let tree = c.args.page.now.tree in
-    let size = seen_size c.args.viewport in
-    rootless_laid_out tree size c.args.document
-    (rootless_here tree c.root.ensures.framed size c.args.document c.requires.active None (c.in_default-framed_size.ensures.value c.requires.around) refl)
+    let screen = seen_screen c.args.screen in
+    rootless_laid_out tree screen c.args.document
+    (rootless_here tree c.root.ensures.framed screen c.args.document c.requires.active None (c.in_default-framed_size.ensures.value c.requires.around) refl)
     c.args.boxes.now
 
 -- the tree of its root element
@@ -54,58 +54,58 @@ pub returns-clause-laid_out : goal.returns-clause-laid_out
 returns-clause-laid_out g c =
     let tree = c.args.page.now.tree in
     let framed = c.root.ensures.framed in
-    let size = seen_size c.args.viewport in
+    let screen = seen_screen c.args.screen in
     let pair = seen_pair c.in-Some-framed_size.size in
     let shown = c.in-Some-framed_size.ensures.value c.requires.around in
     let at = layout_tree style_in kind_in c.tree.result.now.nodes in
     let rooted = sym c.root.ensures.value ∙ ap (option_map number) c.in-Some.is in
-    let ready = ready_before tree framed size c.args.document c.requires.active pair shown at c.tree.ensures.nodes c.in-Some.root.0 rooted
+    let ready = ready_before tree framed screen c.args.document c.requires.active pair shown at c.tree.ensures.nodes c.in-Some.root.0 rooted
     c.args.boxes.now c.requires.kept in
-    laid_out_here tree framed size c.args.document c.requires.active pair shown at c.tree.ensures.nodes c.in-Some.root.0 rooted
+    laid_out_here tree framed screen c.args.document c.requires.active pair shown at c.tree.ensures.nodes c.in-Some.root.0 rooted
     _ c.root_inputs.ensures c.refresh.new.self (c.refresh.ensures.fresh ready) (c.refresh.ensures.done ready)
 
 pub returns-clause-others : goal.returns-clause-others
 returns-clause-others g c =
     let tree = c.args.page.now.tree in
     let framed = c.root.ensures.framed in
-    let size = seen_size c.args.viewport in
+    let screen = seen_screen c.args.screen in
     let pair = seen_pair c.in-Some-framed_size.size in
     let shown = c.in-Some-framed_size.ensures.value c.requires.around in
     let at = layout_tree style_in kind_in c.tree.result.now.nodes in
     let rooted = sym c.root.ensures.value ∙ ap (option_map number) c.in-Some.is in
-    others_here tree framed size c.args.document c.requires.active pair shown at c.tree.ensures.nodes c.in-Some.root.0 rooted
+    others_here tree framed screen c.args.document c.requires.active pair shown at c.tree.ensures.nodes c.in-Some.root.0 rooted
     _ c.root_inputs.ensures c.args.boxes.now c.refresh.new.self c.refresh.ensures.others
 
 pub returns-clause-kept : goal.returns-clause-kept
 returns-clause-kept g c =
     let tree = c.args.page.now.tree in
     let framed = c.root.ensures.framed in
-    let size = seen_size c.args.viewport in
+    let screen = seen_screen c.args.screen in
     let pair = seen_pair c.in-Some-framed_size.size in
     let shown = c.in-Some-framed_size.ensures.value c.requires.around in
     let at = layout_tree style_in kind_in c.tree.result.now.nodes in
     let rooted = sym c.root.ensures.value ∙ ap (option_map number) c.in-Some.is in
-    let ready = ready_before tree framed size c.args.document c.requires.active pair shown at c.tree.ensures.nodes c.in-Some.root.0 rooted
+    let ready = ready_before tree framed screen c.args.document c.requires.active pair shown at c.tree.ensures.nodes c.in-Some.root.0 rooted
     c.args.boxes.now c.requires.kept in
-    kept_here tree framed size c.args.document c.requires.active pair shown at c.tree.ensures.nodes c.in-Some.root.0 rooted
+    kept_here tree framed screen c.args.document c.requires.active pair shown at c.tree.ensures.nodes c.in-Some.root.0 rooted
     _ c.root_inputs.ensures c.args.boxes.now c.refresh.new.self c.refresh.ensures.others c.requires.kept c.refresh.ensures.slots (c.refresh.ensures.ready ready)
 
 pub returns-clause-ticks : goal.returns-clause-ticks
 returns-clause-ticks g c =
     let tree = c.args.page.now.tree in
     let framed = c.root.ensures.framed in
-    let size = seen_size c.args.viewport in
+    let screen = seen_screen c.args.screen in
     let pair = seen_pair c.in-Some-framed_size.size in
     let shown = c.in-Some-framed_size.ensures.value c.requires.around in
     let at = layout_tree style_in kind_in c.tree.result.now.nodes in
     let rooted = sym c.root.ensures.value ∙ ap (option_map number) c.in-Some.is in
-    let ready = ready_before tree framed size c.args.document c.requires.active pair shown at c.tree.ensures.nodes c.in-Some.root.0 rooted
+    let ready = ready_before tree framed screen c.args.document c.requires.active pair shown at c.tree.ensures.nodes c.in-Some.root.0 rooted
     c.args.boxes.now c.requires.kept in
-    let paid = c.refresh.ensures.paid ready.slots (inputs_of tree size)
-    (subst (λ at. GoesDown at (depth_of at c.in-Some.root.0) (inputs_of tree size)) c.tree.ensures.nodes
-    (inputs_go_down tree framed size (depth_of (nodes_of tree) c.in-Some.root.0)))
-    (inputs_on_root tree framed size c.args.document c.requires.active pair shown at c.tree.ensures.nodes c.in-Some.root.0 rooted _ c.root_inputs.ensures) in
-    let same = ap (due_count_with (inputs_of tree size) (slot_in c.refresh.new.self)) c.refresh.ensures.slots in
+    let paid = c.refresh.ensures.paid ready.slots (inputs_of tree screen)
+    (subst (λ at. GoesDown at (depth_of at c.in-Some.root.0) (inputs_of tree screen)) c.tree.ensures.nodes
+    (inputs_go_down tree framed screen (depth_of (nodes_of tree) c.in-Some.root.0)))
+    (inputs_on_root tree framed screen c.args.document c.requires.active pair shown at c.tree.ensures.nodes c.in-Some.root.0 rooted _ c.root_inputs.ensures) in
+    let same = ap (due_count_with (inputs_of tree screen) (slot_in c.refresh.new.self)) c.refresh.ensures.slots in
     omega (arith, paid, same)
 
 -- what it leaves of what is kept
@@ -122,6 +122,6 @@ returns-clause-fills g c =
     let shown = c.in-Some-framed_size.ensures.value c.requires.around in
     let at = layout_tree style_in kind_in c.tree.result.now.nodes in
     let rooted = sym c.root.ensures.value ∙ ap (option_map number) c.in-Some.is in
-    let ready = ready_before tree c.root.ensures.framed (seen_size c.args.viewport) c.args.document c.requires.active pair shown at c.tree.ensures.nodes c.in-Some.root.0 rooted
+    let ready = ready_before tree c.root.ensures.framed (seen_screen c.args.screen) c.args.document c.requires.active pair shown at c.tree.ensures.nodes c.in-Some.root.0 rooted
     c.args.boxes.now c.requires.kept in
     fills_fresh at (inputs_in at c.in-Some.root.0 (seen_inputs c.root_inputs.result)) c.args.boxes.now c.refresh.new.self c.refresh.ensures.others (c.refresh.ensures.fresh ready)

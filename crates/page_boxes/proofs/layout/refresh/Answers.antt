@@ -3,7 +3,7 @@ use borrow.Author.Count.{below_more}
 use Rattle.page_model.specs.Documents.{first_of_list, is_active}
 use Rattle.page_documents.specs.Paths.{way_down}
 use Rattle.page_boxes.specs.LaidOut.{is_marked, AreLaidOut}
-use Rattle.page_boxes.specs.Pages.{seen_size}
+use Rattle.page_boxes.specs.Pages.{seen_screen}
 use Rattle.page_boxes.proofs.Views.{path_leads}
 use Rattle.page_boxes.proofs.Undue.{fills_none, fills_on}
 use Rattle.page_boxes.proofs.Going.{none_laid_out, fresh_in, none_due, active_known}
@@ -16,8 +16,8 @@ loop-document-init g c =
       slots = refl;
       fills = fills_none c.args.boxes.now;
       count = ap (λ marks. length marks) c.new-laid_out.ensures;
-      laid_out = subst (λ marks. AreLaidOut c.args.page.now.tree (seen_size c.args.viewport) marks c.args.boxes.now) (sym c.new-laid_out.ensures)
-          (none_laid_out c.args.page.now.tree (seen_size c.args.viewport) c.args.boxes.now);
+      laid_out = subst (λ marks. AreLaidOut c.args.page.now.tree (seen_screen c.args.screen) marks c.args.boxes.now) (sym c.new-laid_out.ensures)
+          (none_laid_out c.args.page.now.tree (seen_screen c.args.screen) c.args.boxes.now);
       marked = λ document low. absurd (omega arith);
       ticks = omega arith;
     }
@@ -43,7 +43,7 @@ loop-document-preserved g c = record {
 pub returns-clause-fresh : goal.returns-clause-fresh
 returns-clause-fresh g c = record {
   documents = λ document.
-      fresh_in c.args.page.now.tree (seen_size c.args.viewport) c.loop-document.laid_out c.loop-document.boxes c.loop-document.invariant.laid_out document
+      fresh_in c.args.page.now.tree (seen_screen c.args.screen) c.loop-document.laid_out c.loop-document.boxes c.loop-document.invariant.laid_out document
       (λ active.
       let known = active_known c.args.page.now.tree document active in
       c.loop-document.invariant.marked document (omega (arith, known, c.document_count-count.ensures.value, c.loop-document-test.false)) active);
@@ -51,7 +51,7 @@ returns-clause-fresh g c = record {
 
 pub returns-clause-done : goal.returns-clause-done
 returns-clause-done g c =
-    none_due c.args.page.now.tree (seen_size c.args.viewport) c.loop-document.laid_out c.loop-document.boxes c.loop-document.invariant.laid_out
+    none_due c.args.page.now.tree (seen_screen c.args.screen) c.loop-document.laid_out c.loop-document.boxes c.loop-document.invariant.laid_out
     (λ document active.
     let known = active_known c.args.page.now.tree document active in
     c.loop-document.invariant.marked document (omega (arith, known, c.document_count-count.ensures.value, c.loop-document-test.false)) active)

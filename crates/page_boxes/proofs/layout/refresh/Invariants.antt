@@ -2,7 +2,7 @@ use Rattle.std.proofs.Common.{◌≡◌, ◌<◌, ◌+◌, ◌≤◌, ℕ, true,
 use Rattle.page_model.specs.Documents.{is_active}
 use Rattle.page_boxes.specs.Kept.{AreKept, FillsOnly, due_count}
 use Rattle.page_boxes.specs.LaidOut.{is_marked, AreLaidOut}
-use Rattle.page_boxes.specs.Pages.{seen_size}
+use Rattle.page_boxes.specs.Pages.{seen_screen}
 use Rattle.page_boxes.proofs.layout.refresh.Given as goal
 
 abbrev pub invariant-loop-document : goal.invariant-loop-document
@@ -11,7 +11,7 @@ invariant-loop-document g l = record {
   slots : length l.boxes ≡ length l.initial.boxes;
   fills : FillsOnly l.initial.boxes l.boxes;
   count : length l.laid_out ≡ 64;
-  laid_out : AreLaidOut l.page.tree (seen_size l.viewport) l.laid_out l.boxes;
+  laid_out : AreLaidOut l.page.tree (seen_screen l.screen) l.laid_out l.boxes;
   marked : (document : ℕ) → document < l.document → is_active l.page.tree document ≡ true → is_marked l.laid_out document ≡ true;
-  ticks : l.steps + due_count l.page.tree (seen_size l.viewport) l.boxes ≤ l.initial.steps + due_count l.page.tree (seen_size l.viewport) l.initial.boxes;
+  ticks : l.steps + due_count l.page.tree (seen_screen l.screen) l.boxes ≤ l.initial.steps + due_count l.page.tree (seen_screen l.screen) l.initial.boxes;
 }

@@ -2,7 +2,7 @@ use Rattle.std.proofs.Common.{ap, sym, subst, ◌∙◌}
 use Rattle.page_model.specs.Documents.{first_of_list}
 use Rattle.page_documents.specs.Paths.{way_down}
 use Rattle.page_boxes.specs.LaidOut.{AreLaidOut}
-use Rattle.page_boxes.specs.Pages.{seen_size}
+use Rattle.page_boxes.specs.Pages.{seen_screen}
 use Rattle.page_boxes.proofs.Views.{path_leads}
 use Rattle.page_boxes.proofs.Going.{none_laid_out, fresh_in}
 use Rattle.page_boxes.proofs.layout.refresh_document.Goals as goal
@@ -14,10 +14,10 @@ lay_out_up-requires-clause-leads g c active =
 
 pub lay_out_up-requires-clause-laid_out : goal.lay_out_up-requires-clause-laid_out
 lay_out_up-requires-clause-laid_out g c =
-    subst (λ marks. AreLaidOut c.args.page.now.tree (seen_size c.args.viewport) marks c.args.boxes.now) (sym c.new-laid_out.ensures)
-    (none_laid_out c.args.page.now.tree (seen_size c.args.viewport) c.args.boxes.now)
+    subst (λ marks. AreLaidOut c.args.page.now.tree (seen_screen c.args.screen) marks c.args.boxes.now) (sym c.new-laid_out.ensures)
+    (none_laid_out c.args.page.now.tree (seen_screen c.args.screen) c.args.boxes.now)
 
 pub returns-clause-fresh : goal.returns-clause-fresh
 returns-clause-fresh g c =
-    fresh_in c.args.page.now.tree (seen_size c.args.viewport) c.lay_out_up.new.laid_out c.lay_out_up.new.boxes c.lay_out_up.ensures.goes.laid_out c.args.document
+    fresh_in c.args.page.now.tree (seen_screen c.args.screen) c.lay_out_up.new.laid_out c.lay_out_up.new.boxes c.lay_out_up.ensures.goes.laid_out c.args.document
     c.lay_out_up.ensures.marked

@@ -16,17 +16,17 @@ boxed_range-requires c =
     omega (arith, made, count_here c.args.page.now c.tree.result.now c.tree.ensures.value)
 
 pub returns-then-has_box-clause-value : goal.returns-then-has_box-clause-value
-returns-then-has_box-clause-value c size fresh =
+returns-then-has_box-clause-value c screen fresh =
     let tree = c.args.page.now.tree in
     let n = c.args.node.0 in
-    let view = view_of tree size (element_at tree n).document in
+    let view = view_of tree screen (element_at tree n).document in
     let nodes = c.tree.ensures.nodes in
-    let there = sym (c.has_box.ensures size) ∙ c.if-has_box.true in
-    let boxed = sym (ap (λ at. is_some (inputs_in_view at view n)) nodes) ∙ sym (boxed_is tree size n) ∙ there in
+    let there = sym (c.has_box.ensures screen) ∙ c.if-has_box.true in
+    let boxed = sym (ap (λ at. is_some (inputs_in_view at view n)) nodes) ∙ sym (boxed_is tree screen n) ∙ there in
     c.boxed_range.ensures.value view (subst (λ at. HoldsAll at view c.args.boxes.now) nodes fresh) boxed
     ∙ ap (λ at. as_size (cond (is_scroll_container (at n)) (range_of at view n) (0, 0))) (sym nodes)
-    ∙ ap as_size (element_range tree size n there)
+    ∙ ap as_size (element_range tree screen n there)
 
 pub returns-else-has_box-clause-value : goal.returns-else-has_box-clause-value
-returns-else-has_box-clause-value c size fresh =
-    ap as_size (element_rangeless c.args.page.now.tree size (c.args.node.0) (sym (c.has_box.ensures size) ∙ c.if-has_box.false))
+returns-else-has_box-clause-value c screen fresh =
+    ap as_size (element_rangeless c.args.page.now.tree screen (c.args.node.0) (sym (c.has_box.ensures screen) ∙ c.if-has_box.false))

@@ -10,11 +10,11 @@ is_scroll_container-requires c =
     omega (arith, made, count_here c.args.page.now c.tree.result.now c.tree.ensures.value)
 
 pub returns-then-has_box : goal.returns-then-has_box
-returns-then-has_box c size =
+returns-then-has_box c screen =
     c.is_scroll_container.ensures
     ∙ ap (λ at. is_scroll_container (at (c.args.node.0))) (sym c.tree.ensures.nodes)
-    ∙ sym (scroller_is c.args.page.now.tree size (c.args.node.0) (sym (c.has_box.ensures size) ∙ c.if-has_box.true))
+    ∙ sym (scroller_is c.args.page.now.tree screen (c.args.node.0) (sym (c.has_box.ensures screen) ∙ c.if-has_box.true))
 
 pub returns-else-has_box : goal.returns-else-has_box
-returns-else-has_box c size =
-    c.if-has_box.false ∙ sym (no_scroller c.args.page.now.tree size (c.args.node.0) (sym (c.has_box.ensures size) ∙ c.if-has_box.false))
+returns-else-has_box c screen =
+    c.if-has_box.false ∙ sym (no_scroller c.args.page.now.tree screen (c.args.node.0) (sym (c.has_box.ensures screen) ∙ c.if-has_box.false))

@@ -3,20 +3,20 @@ use Rattle.page_model.specs.PageBoxes.{view_of}
 use Rattle.layout_model.specs.Reach.{range_of_view}
 use Rattle.block_layout.specs.Seen.{as_size}
 use Rattle.page_boxes.specs.Fresh.{HoldsAll}
-use Rattle.page_boxes.specs.Pages.{seen_size}
+use Rattle.page_boxes.specs.Pages.{seen_screen}
 use Rattle.page_boxes.proofs.Reaching.{view_range, view_rangeless}
 use Rattle.page_boxes.proofs.ranges.view_range.Goals as goal
 
 pub returns-in-Some-clause-value : goal.returns-in-Some-clause-value
 returns-in-Some-clause-value c around fresh =
     let tree = c.args.page.now.tree in
-    let size = seen_size c.args.viewport in
-    let view = view_of tree size c.args.document in
+    let screen = seen_screen c.args.screen in
+    let view = view_of tree screen c.args.document in
     let nodes = c.tree.ensures.nodes in
     c.shown_range.ensures.value (sym (ap (λ at. (at (c.in-Some.shown.root.0)).parent) nodes) ∙ c.in-Some.ensures.top) view (c.in-Some.ensures.shown around)
     (subst (λ at. HoldsAll at view c.args.boxes.now) nodes fresh)
     ∙ ap (λ at. as_size (range_of_view at view)) (sym nodes)
-    ∙ ap as_size (view_range tree size c.args.document)
+    ∙ ap as_size (view_range tree screen c.args.document)
 
 pub returns-in-None-clause-value : goal.returns-in-None-clause-value
-returns-in-None-clause-value c around fresh = view_rangeless c.args.page.now.tree (seen_size c.args.viewport) c.args.document (c.in-None.ensures.nothing around refl)
+returns-in-None-clause-value c around fresh = view_rangeless c.args.page.now.tree (seen_screen c.args.screen) c.args.document (c.in-None.ensures.nothing around refl)

@@ -3,15 +3,15 @@ use Rattle.layout_model.specs.Boxes.{padding_corner}
 use Rattle.page_model.specs.Lookups.{element_at}
 use Rattle.page_model.specs.Chains.{padding_box_at}
 use Rattle.page_model.specs.PageBoxes.{box_of, place_of}
-use Rattle.page_boxes.specs.Pages.{seen_size}
+use Rattle.page_boxes.specs.Pages.{seen_screen}
 use Rattle.page_boxes.proofs.Rects.{beside_is, padding_found, padding_right, padding_bottom}
 use Rattle.page_boxes.proofs.readings.padding_rect.Goals as goal
 
 pub returns-in_default-clause-value : goal.returns-in_default-clause-value
 returns-in_default-clause-value c fresh =
     let tree = c.args.page.now.tree in
-    let size = seen_size c.args.viewport in
-    ap (padding_box_at (place_of tree size c.args.scrolls.now (c.args.node.0))) (c.in_default.ensures size (fresh.documents (element_at tree (c.args.node.0)).document))
+    let screen = seen_screen c.args.screen in
+    ap (padding_box_at (place_of tree screen c.args.scrolls.now (c.args.node.0))) (c.in_default.ensures screen (fresh.documents (element_at tree (c.args.node.0)).document))
 
 pub rect_at-requires-clause-right : goal.rect_at-requires-clause-right
 rect_at-requires-clause-right c =
@@ -26,10 +26,10 @@ rect_at-requires-clause-bottom c =
 pub returns-clause-value : goal.returns-clause-value
 returns-clause-value c fresh =
     let tree = c.args.page.now.tree in
-    let size = seen_size c.args.viewport in
+    let screen = seen_screen c.args.screen in
     let n = c.args.node.0 in
-    let place = place_of tree size c.args.scrolls.now n in
-    padding_found place (box_of tree size n) c.in-Some.own (c.in-Some.ensures size (fresh.documents (element_at tree n).document)) c.beside.result
+    let place = place_of tree screen c.args.scrolls.now n in
+    padding_found place (box_of tree screen n) c.in-Some.own (c.in-Some.ensures screen (fresh.documents (element_at tree n).document)) c.beside.result
     (beside_is c.place_of-place.result place (padding_corner c.in-Some.own) c.padding_corner.result c.beside.result (c.place_of-place.ensures.value fresh) c.padding_corner.ensures.value
     c.beside.ensures.left c.beside.ensures.top)
     c.padding_size.result c.padding_size.ensures.value c.rect_at.result c.rect_at.ensures.value

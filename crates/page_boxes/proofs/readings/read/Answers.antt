@@ -4,28 +4,28 @@ use Rattle.page_model.specs.Lookups.{no_extent, element_at}
 use Rattle.page_model.specs.PageBoxes.{viewport_of}
 use Rattle.page_model.specs.Readings.{point_at, reading_of}
 use Rattle.page_tree.specs.Steps.{seen_container}
-use Rattle.page_boxes.specs.Pages.{seen_size, text_in}
+use Rattle.page_boxes.specs.Pages.{seen_screen, text_in}
 use Rattle.page_boxes.proofs.Rects.{element_reading, document_reading, rect_same, edges_reach, span_reach}
 use Rattle.page_boxes.proofs.readings.read.Goals as goal
 
 pub returns-in-Element-clause-value : goal.returns-in-Element-clause-value
 returns-in-Element-clause-value c names fresh =
     let tree = c.args.page.now.tree in
-    let size = seen_size c.args.viewport in
+    let screen = seen_screen c.args.screen in
     let scrolls = c.args.scrolls.now in
-    ap (λ k. reading_of names tree size scrolls (seen_container k)) c.in-Element.is
-    ∙ element_reading names tree size scrolls (c.in-Element.node.0) c.border_rect.result c.offset_of.result (c.border_rect.ensures.value fresh) (c.offset_of.ensures.value fresh)
+    ap (λ k. reading_of names tree screen scrolls (seen_container k)) c.in-Element.is
+    ∙ element_reading names tree screen scrolls (c.in-Element.node.0) c.border_rect.result c.offset_of.result (c.border_rect.ensures.value fresh) (c.offset_of.ensures.value fresh)
     ∙ sym (ap (λ k. ReadLine (text_in names (seen_container k)) c.border_rect.result c.offset_of.result) c.in-Element.is)
 
 pub returns-in-Document-clause-value : goal.returns-in-Document-clause-value
 returns-in-Document-clause-value c names fresh =
     let tree = c.args.page.now.tree in
-    let size = seen_size c.args.viewport in
+    let screen = seen_screen c.args.screen in
     let scrolls = c.args.scrolls.now in
     let document = c.in-Document.document in
-    ap (λ k. reading_of names tree size scrolls (seen_container k)) c.in-Document.is
-    ∙ document_reading names tree size scrolls document c.rect_at.result c.offset_of-in-Document.result
-    (rect_same c.rect_at.result (point_at no_extent) (point_at no_extent) c.viewport_of.result (viewport_of tree size document) refl
+    ap (λ k. reading_of names tree screen scrolls (seen_container k)) c.in-Document.is
+    ∙ document_reading names tree screen scrolls document c.rect_at.result c.offset_of-in-Document.result
+    (rect_same c.rect_at.result (point_at no_extent) (point_at no_extent) c.viewport_of.result (viewport_of tree screen document) refl
     (c.viewport_of.ensures.value (λ frame is. fresh.documents (element_at tree frame).document)) c.rect_at.ensures.value)
     (c.offset_of-in-Document.ensures.value fresh)
     ∙ sym (ap (λ k. ReadLine (text_in names (seen_container k)) c.rect_at.result c.offset_of-in-Document.result) c.in-Document.is)

@@ -3,9 +3,9 @@ use Rattle.page_boxes.proofs.Shown.{size_by_kind, size_found, size_none}
 use Rattle.page_boxes.proofs.readings.size_of.Goals as goal
 
 pub returns-in-Some-clause-value : goal.returns-in-Some-clause-value
-returns-in-Some-clause-value c size fresh =
+returns-in-Some-clause-value c screen fresh =
     size_by_kind c.in-Some.own c.size.result c.args.kind c.size.ensures.content c.size.ensures.border
-    ∙ size_found c.args.page.now.tree size (c.args.node.0) c.args.kind c.in-Some.own (c.in-Some.ensures size fresh)
+    ∙ size_found c.args.page.now.tree screen (c.args.node.0) c.args.kind c.in-Some.own (c.in-Some.ensures screen fresh)
 
 pub returns-in-None-clause-value : goal.returns-in-None-clause-value
-returns-in-None-clause-value c size fresh = size_none c.args.page.now.tree size (c.args.node.0) c.args.kind (c.in-None.ensures size fresh)
+returns-in-None-clause-value c screen fresh = size_none c.args.page.now.tree screen (c.args.node.0) c.args.kind (c.in-None.ensures screen fresh)

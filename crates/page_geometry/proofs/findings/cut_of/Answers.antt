@@ -7,32 +7,28 @@ use Rattle.clip_chain.proofs.Worlds.{part_is}
 use Rattle.thresholds.specs.Areas.{LiesIn}
 use Rattle.thresholds.proofs.Areas.{part_inside}
 use Rattle.intersection_observer.specs.Seen.{seen_root}
-use Rattle.page_boxes.specs.Pages.{seen_size}
-use Rattle.page_geometry.specs.Worlds.{world_with}
 use Rattle.page_geometry.proofs.Chains.{above}
 use Rattle.page_geometry.proofs.Ends.{few_between}
 use Rattle.page_geometry.proofs.findings.cut_of.Goals as goal
 
 pub visible_rect-requires : goal.visible_rect-requires
 visible_rect-requires c =
-    let it = c.args.geometry.now in
-    let world = world_with (c.args.geometry.now.page.now.tree) (seen_size c.args.geometry.now.viewport) (c.args.geometry.now.scrolls.now) in
-    subst (λ root. IsAbove (scene_of world) root (element_spot (c.args.target.0))) (sym c.spot_of_root.ensures)
-    (above (it.page.now.tree) (seen_size it.viewport) (it.scrolls.now) it.framed (seen_root c.args.root) (c.args.target.0) c.requires.boxed c.requires.near)
+    let it = c.args.shown.now in
+    subst (λ root. IsAbove (scene_of it) root (element_spot (c.args.target.0))) (sym c.spot_of_root.ensures)
+    (above it.tree it.screen it.scrolls c.document_count.ensures.framed (seen_root c.args.root) (c.args.target.0) c.requires.boxed c.requires.near)
 
 pub returns-clause-value : goal.returns-clause-value
 returns-clause-value c =
-    let it = c.args.geometry.now in
-    let world = world_with (c.args.geometry.now.page.now.tree) (seen_size c.args.geometry.now.viewport) (c.args.geometry.now.scrolls.now) in
+    let it = c.args.shown.now in
     let root = seen_root c.args.root in
     let n = c.args.target.0 in
-    let chain = above (it.page.now.tree) (seen_size it.viewport) (it.scrolls.now) it.framed root n c.requires.boxed c.requires.near in
-    let few = few_between (it.page.now.tree) (seen_size it.viewport) (it.scrolls.now) it.framed (subst (λ n. n ≤ 64) it.counted it.few) it.deep n (spot_of_root root) chain.0 c.requires.boxed chain.1 in
-    c.visible_rect.ensures.part chain.0 (subst (λ spot. Leads (scene_of world) (element_spot n) chain.0 spot) (sym c.spot_of_root.ensures) chain.1)
-    ∙ part_is world root n chain.0 c.args.limits chain.1 few
+    let chain = above it.tree it.screen it.scrolls c.document_count.ensures.framed root n c.requires.boxed c.requires.near in
+    let few = few_between it.tree it.screen it.scrolls c.document_count.ensures.framed c.document_count.ensures.few c.document_count.ensures.deep n (spot_of_root root) chain.0 c.requires.boxed chain.1 in
+    c.visible_rect.ensures.part chain.0 (subst (λ spot. Leads (scene_of it) (element_spot n) chain.0 spot) (sym c.spot_of_root.ensures) chain.1)
+    ∙ part_is it root n chain.0 c.args.limits chain.1 few
 
 pub returns-clause-inside : goal.returns-clause-inside
 returns-clause-inside c =
-    let world = world_with (c.args.geometry.now.page.now.tree) (seen_size c.args.geometry.now.viewport) (c.args.geometry.now.scrolls.now) in
-    subst (λ o. IfSome o (LiesIn (border_rect world (c.args.target.0)))) (sym (returns-clause-value c))
-    (part_inside (border_rect world (c.args.target.0)) (c.args.limits ∷ clips_between world (seen_root c.args.root) (c.args.target.0)))
+    let it = c.args.shown.now in
+    subst (λ o. IfSome o (LiesIn (border_rect it (c.args.target.0)))) (sym (returns-clause-value c))
+    (part_inside (border_rect it (c.args.target.0)) (c.args.limits ∷ clips_between it (seen_root c.args.root) (c.args.target.0)))

@@ -1,5 +1,5 @@
 use Rattle.replay_run.proofs.Asking.{job_tells}
-use Rattle.replay_run.proofs.Summaries.{replay_tells, check_tells, summary_tells, print_tells}
+use Rattle.replay_run.proofs.Summaries.{replay_tells, check_tells, lint_tells, summary_tells, print_tells}
 use Rattle.replay_run.proofs.call.perform.Goals as goal
 
 pub returns-in-Replay-clause-tells : goal.returns-in-Replay-clause-tells
@@ -8,6 +8,10 @@ returns-in-Replay-clause-tells g c =
 
 pub returns-in-Check-clause-tells : goal.returns-in-Check-clause-tells
 returns-in-Check-clause-tells g c = job_tells c.check.result _ _ _ _ _ _ _ c.in-Check.is (check_tells c.check.result _ _ _ _ _ c.check.ensures)
+
+pub returns-in-Lint-clause-tells : goal.returns-in-Lint-clause-tells
+returns-in-Lint-clause-tells g c =
+    job_tells c.write_certificates.result _ _ _ _ _ _ _ c.in-Lint.is (lint_tells c.write_certificates.result _ _ _ _ _ c.write_certificates.ensures)
 
 pub returns-in-Summary-clause-tells : goal.returns-in-Summary-clause-tells
 returns-in-Summary-clause-tells g c =

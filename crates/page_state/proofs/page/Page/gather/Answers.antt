@@ -2,6 +2,8 @@
 use Rattle.std.proofs.Common.{ap, ◌∙◌}
 use Rattle.page_model.specs.Loop.{gather}
 use Rattle.page_model.specs.World.{World}
+use Rattle.page_model.specs.Shown.{Shown}
+use Rattle.page_model.specs.Gathering.{gathering, sight_in}
 use Rattle.resize_observer.specs.Observers.{HeldObservers}
 use Rattle.page_state.specs.Views.{PageView}
 use Rattle.page_state.specs.Worlds.{world_of}
@@ -12,7 +14,8 @@ use Rattle.page_state.proofs.page.Page.gather.Goals as goal
 pub returns-clause-gathered : goal.returns-clause-gathered
 returns-clause-gathered g c =
     let p = record (c.self.inside) { laid = c.refresh.new.self } in
-    ap (λ (it : HeldObservers). record { world = record (world_of p) { resize_observers = it.part }; begun = p.begun; kept = p.laid.kept }) c.gather.ensures.gathered
+    ap (λ (it : HeldObservers). record { world = record (world_of p) { resize_observers = it.part }; begun = p.begun; kept = p.laid.kept }) (c.gather.ensures.gathered
+    ∙ ap (λ (s : Shown). record (c.self.inside.observers) { part = gathering (sight_in s.tree s.screen) c.args.document c.args.depth (c.self.inside.observers.part) }) c.shown_now-sizes.ensures)
     ∙ ap (λ (world : World). record { world = world; begun = p.begun; kept = p.laid.kept }) (gathers c.args.document c.args.depth (world_of p))
     ∙ ap (λ (v : PageView). record { world = gather c.args.document c.args.depth (v.world); begun = v.begun; kept = v.kept })
     (view_refreshed c.self.inside c.refresh.new.self c.refresh.ensures.same c.args.self.now c.self.view_is)

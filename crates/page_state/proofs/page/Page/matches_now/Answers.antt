@@ -18,7 +18,7 @@ returns-clause-value g c =
     (subst (λ (v : PageView). c.args.query < length v.world.queries) (sym c.self.view_is) c.requires) in
     let at : query_list_at c.args.self.now.world.queries c.args.query ≡ seen_query_list list =
     subst (λ (v : PageView). query_list_at v.world.queries c.args.query ≡ seen_query_list list) c.self.view_is (list_here c.self.inside c.args.query list below c.index-list.ensures) in
-    matches_here c.args.self.now.world c.args.query (seen_query_list list) (seen_size c.viewport_now-viewport.result) at c.matches.result c.matches.ensures (c.viewport_now-viewport.ensures.value ∙ ap (λ (v : PageView). viewport_of v.world.tree v.world.viewports.size list.document)
+    matches_here c.args.self.now.world c.args.query (seen_query_list list) (seen_size c.viewport_now-viewport.result) at c.matches.result c.matches.ensures (c.viewport_now-viewport.ensures.value ∙ ap (λ (v : PageView). viewport_of v.world.tree v.world.viewports.screen list.document)
     (view_refreshed c.self.inside c.viewport_now-viewport.new.laid c.viewport_now-viewport.ensures.same c.args.self.now c.self.view_is))
 
 pub returns-clause-boxes : goal.returns-clause-boxes

@@ -18,7 +18,7 @@ returns-clause-matches g c =
     (subst (λ (it : List QueryList). c.in_ok-query.query < length it) c.as_slice.ensures.value c.in_ok-query.ensures.there)
     c.index_mut-list.ensures.value c.args.document (seen_size c.viewport_now-size.result)
     (subst (λ (it : List QueryList). is_changed c.args.document (seen_size c.viewport_now-size.result) (query_list_at (map seen_query_list it) c.in_ok-query.query) ≡ true) c.as_slice.ensures.value c.in_ok-query.ensures.changed)
-    (c.viewport_now-size.ensures.value ∙ ap (λ (v : PageView). viewport_of v.world.tree v.world.viewports.size c.args.document) view_is)
+    (c.viewport_now-size.ensures.value ∙ ap (λ (v : PageView). viewport_of v.world.tree v.world.viewports.screen c.args.document) view_is)
 
 pub returns-clause-evaluated : goal.returns-clause-evaluated
 returns-clause-evaluated g c =
@@ -28,7 +28,7 @@ returns-clause-evaluated g c =
     (subst (λ (it : List QueryList). c.in_ok-query.query < length it) c.as_slice.ensures.value c.in_ok-query.ensures.there)
     c.index_mut-list.ensures.value c.args.document (seen_size c.viewport_now-size.result)
     (subst (λ (it : List QueryList). is_changed c.args.document (seen_size c.viewport_now-size.result) (query_list_at (map seen_query_list it) c.in_ok-query.query) ≡ true) c.as_slice.ensures.value c.in_ok-query.ensures.changed)
-    (c.viewport_now-size.ensures.value ∙ ap (λ (v : PageView). viewport_of v.world.tree v.world.viewports.size c.args.document) view_is) c.args.place
+    (c.viewport_now-size.ensures.value ∙ ap (λ (v : PageView). viewport_of v.world.tree v.world.viewports.screen c.args.document) view_is) c.args.place
     (subst (λ (it : List QueryList). Some c.in_ok-query.query ≡ changed_from c.args.document c.args.place (seen_size c.viewport_now-size.result) (map seen_query_list it)) c.as_slice.ensures.value c.in_ok-query.ensures.value)
 
 pub returns-clause-boxes : goal.returns-clause-boxes

@@ -20,10 +20,10 @@ pub returns-clause-done : goal.returns-clause-done
 returns-clause-done g c =
     let world = c.args.self.now.world in
     let target = Some (seen_target c.in-Some.target) in
-    let from : Extent = scroll_offset world.tree world.viewports.size world.scrolls (seen_target c.in-Some.target) in
+    let from : Extent = scroll_offset world.tree world.viewports.screen world.scrolls (seen_target c.in-Some.target) in
     let left : pos (from.across) +ℤ c.args.by.left ≡ c.moved.result.left = ap (λ (p : Point). p.left +ℤ c.args.by.left) (sym c.reach-reach.ensures.offset) ∙ sym c.moved.ensures.left in
     let top : pos (from.down) +ℤ c.args.by.top ≡ c.moved.result.top = ap (λ (p : Point). p.top +ℤ c.args.by.top) (sym c.reach-reach.ensures.offset) ∙ sym c.moved.ensures.top in
-    let thing : scrolled_thing world.tree world.viewports.size (seen_container c.in_ok-container.container) ≡ target = sym c.scrolled_thing.ensures ∙ ap (option_map seen_target) c.in-Some.is in
+    let thing : scrolled_thing world.tree world.viewports.screen (seen_container c.in_ok-container.container) ≡ target = sym c.scrolled_thing.ensures ∙ ap (option_map seen_target) c.in-Some.is in
     keeps_by
     (keeps_since (subst (λ (v : PageView). Keeps v c.move_to.new.self c.move_to.result (λ handlers. becomes (scrolled_to c.moved.result.left c.moved.result.top target v.world))) c.reach-reach.ensures.same c.move_to.ensures.done))
     (λ handlers.

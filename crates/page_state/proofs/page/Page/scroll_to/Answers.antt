@@ -17,7 +17,7 @@ pub returns-clause-done : goal.returns-clause-done
 returns-clause-done g c =
     let world = c.args.self.now.world in
     let target = Some (seen_target c.in-Some.target) in
-    let thing : scrolled_thing world.tree world.viewports.size (seen_container c.in_ok-container.container) ≡ target = sym c.scrolled_thing.ensures ∙ ap (option_map seen_target) c.in-Some.is in
+    let thing : scrolled_thing world.tree world.viewports.screen (seen_container c.in_ok-container.container) ≡ target = sym c.scrolled_thing.ensures ∙ ap (option_map seen_target) c.in-Some.is in
     keeps_by
     (keeps_since (subst (λ (v : PageView). Keeps v c.move_to.new.self c.move_to.result (λ handlers. becomes (scrolled_to c.args.to.left c.args.to.top target v.world))) c.reach-reach.ensures.same c.move_to.ensures.done))
     (λ handlers. scrolls_to handlers world (present_of c.args.subject) (operand_of c.args.of) (seen_container c.in_ok-container.container) c.in_ok-container.ensures.answer target thing c.args.to.left c.args.to.top)

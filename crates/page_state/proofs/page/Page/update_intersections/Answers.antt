@@ -1,6 +1,7 @@
 -- Intersections are updated, and a task that tells it waits.
-use Rattle.std.proofs.Common.{◌≡◌, ◌<◌, ◌≤◌, length, refl, sym, ap, subst, ◌∙◌, arith, tests}
+use Rattle.std.proofs.Common.{◌≡◌, ◌<◌, ◌≤◌, length, sym, ap, subst, ◌∙◌, arith, tests}
 use Rattle.page_model.specs.World.{World, Tree}
+use Rattle.page_model.specs.Shown.{Shown}
 use Rattle.page_model.specs.Intersections.{update_intersections}
 use Rattle.intersection_update.specs.Updating.{updated, has_news}
 use Rattle.event_tables.specs.Tasks.{WaitingTasks}
@@ -15,10 +16,10 @@ pub returns-then-not-queued-clause-updated : goal.returns-then-not-queued-clause
 returns-then-not-queued-clause-updated g c =
     let p = record (c.self.inside) { laid = c.refresh.new.self } in
     let view_is = view_refreshed c.self.inside c.refresh.new.self c.refresh.ensures.same c.args.self.now c.self.view_is in
-    let is = c.in_ok-queued.ensures.updated (world_of p) (sym c.page.ensures.tree) refl refl
-    ∙ ap (λ (tree : Tree). record (p.watchers) { part = updated (world_of p) tree c.args.document (p.clock) (p.watchers.part) }) c.page.ensures.tree in
-    let news = c.in_ok-queued.ensures.queued (world_of p) (sym c.page.ensures.tree) refl refl
-    ∙ ap (λ (tree : Tree). has_news tree c.args.document p.watchers.part (updated (world_of p) tree c.args.document (p.clock) (p.watchers.part))) c.page.ensures.tree in
+    let is = c.in_ok-queued.ensures.updated
+    ∙ ap (λ (s : Shown). record (p.watchers) { part = updated s s.tree c.args.document (p.clock) (p.watchers.part) }) c.shown_now-shown.ensures in
+    let news = c.in_ok-queued.ensures.queued
+    ∙ ap (λ (s : Shown). has_news s.tree c.args.document p.watchers.part (updated s s.tree c.args.document (p.clock) (p.watchers.part))) c.shown_now-shown.ensures in
     let same : world_of (record p { watchers = c.update.new.watchers }) ≡ update_intersections c.args.document (world_of p) = elim c.then-not-queued.branch [
       | then-not-queued-via-then-not-queued w ↦ not_told p c.args.document c.update.new.watchers c.in_ok-queued.queued is news (grind (arith, tests, w.if-not-queued.true))
       | then-not-queued-via-else-not-queued+then-get w ↦ still_told p c.args.document c.update.new.watchers c.in_ok-queued.queued is news (sym w.get.ensures ∙ w.if-get.true)
@@ -30,17 +31,17 @@ pub set-requires : goal.set-requires
 set-requires g c =
     let there : c.args.document < length c.self.inside.laid.elements.tree.documents = subst (λ (v : PageView). c.args.document < length v.world.tree.documents) (sym c.self.view_is) c.requires in
     let few : length c.self.inside.laid.elements.tree.documents ≤ 64 =
-    subst (λ (it : Tree). length it.documents ≤ 64) (c.page-2.ensures.tree ∙ (λ i. (c.refresh.ensures.same i).tree)) c.document_count-count.ensures.bound in
+    subst (λ (it : Tree). length it.documents ≤ 64) (c.page.ensures.tree ∙ (λ i. (c.refresh.ensures.same i).tree)) c.document_count-count.ensures.bound in
     omega (arith, there, few)
 
 pub returns-clause-updated : goal.returns-clause-updated
 returns-clause-updated g c =
     let p = record (c.self.inside) { laid = c.refresh.new.self } in
     let view_is = view_refreshed c.self.inside c.refresh.new.self c.refresh.ensures.same c.args.self.now c.self.view_is in
-    let is = c.in_ok-queued.ensures.updated (world_of p) (sym c.page.ensures.tree) refl refl
-    ∙ ap (λ (tree : Tree). record (p.watchers) { part = updated (world_of p) tree c.args.document (p.clock) (p.watchers.part) }) c.page.ensures.tree in
-    let news = c.in_ok-queued.ensures.queued (world_of p) (sym c.page.ensures.tree) refl refl
-    ∙ ap (λ (tree : Tree). has_news tree c.args.document p.watchers.part (updated (world_of p) tree c.args.document (p.clock) (p.watchers.part))) c.page.ensures.tree in
+    let is = c.in_ok-queued.ensures.updated
+    ∙ ap (λ (s : Shown). record (p.watchers) { part = updated s s.tree c.args.document (p.clock) (p.watchers.part) }) c.shown_now-shown.ensures in
+    let news = c.in_ok-queued.ensures.queued
+    ∙ ap (λ (s : Shown). has_news s.tree c.args.document p.watchers.part (updated s s.tree c.args.document (p.clock) (p.watchers.part))) c.shown_now-shown.ensures in
     ap (λ (world : World). record { world = world; begun = p.begun; kept = p.laid.kept })
     (now_told p c.args.document c.update.new.watchers c.in_ok-queued.queued is news (grind (arith, tests, c.if-not-queued.false)) (sym c.get.ensures ∙ c.if-get.false) c.push.new.self c.set.new.self
     (ap (λ (it : WaitingTasks). it.part) c.in-Ok.ensures.queued) c.set.ensures)

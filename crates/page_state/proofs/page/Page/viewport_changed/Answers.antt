@@ -6,7 +6,7 @@ use Rattle.px_units.specs.declared.Size.{Size}
 use Rattle.page_model.specs.World.{Extent, Tree}
 use Rattle.page_model.specs.PageBoxes.{viewport_of}
 use Rattle.page_model.specs.Viewports.{noted_size, with_noted, differs_from}
-use Rattle.page_boxes.specs.Pages.{seen_size}
+use Rattle.page_boxes.specs.Pages.{seen_size, seen_screen}
 use Rattle.page_tree.specs.Items.{IsNatural}
 use Rattle.scrolling.proofs.Puts.{map-put}
 use Rattle.page_state.specs.Views.{PageView}
@@ -46,17 +46,17 @@ returns-clause-value g c =
     value
     ∙ ap (λ (last : Option Extent). differs_from (seen_size size) last) (ap (option_map seen_size) c.get-before.ensures ∙ noted_seen p.noted c.args.document)
     ∙ ap (λ (now : Extent). differs_from now (noted_size c.args.document ((world_of p).viewports))) c.viewport_now-size.ensures.value
-    ∙ ap (λ (v : PageView). differs_from (viewport_of v.world.tree v.world.viewports.size c.args.document) (noted_size c.args.document v.world.viewports)) view_is
+    ∙ ap (λ (v : PageView). differs_from (viewport_of v.world.tree v.world.viewports.screen c.args.document) (noted_size c.args.document v.world.viewports)) view_is
 
 pub returns-clause-noted : goal.returns-clause-noted
 returns-clause-noted g c =
     let p = record (c.self.inside) { laid = c.viewport_now-size.new.laid } in
     let view_is = view_refreshed c.self.inside c.viewport_now-size.new.laid c.viewport_now-size.ensures.same c.args.self.now c.self.view_is in
     (λ i. world_of (record p { noted = c.set.ensures i }))
-    ∙ ap (λ (noted : List (Option Extent)). record (world_of p) { viewports = record { size = seen_size p.size; noted = noted } })
+    ∙ ap (λ (noted : List (Option Extent)). record (world_of p) { viewports = record { screen = seen_screen p.screen; noted = noted } })
     (map-put (option_map seen_size) None (Some c.viewport_now-size.result) c.args.document p.noted)
     ∙ ap (λ (now : Extent). record (world_of p) { viewports = with_noted c.args.document now ((world_of p).viewports) }) c.viewport_now-size.ensures.value
-    ∙ ap (λ (v : PageView). record (v.world) { viewports = with_noted c.args.document (viewport_of (v.world.tree) (v.world.viewports.size) c.args.document) (v.world.viewports) }) view_is
+    ∙ ap (λ (v : PageView). record (v.world) { viewports = with_noted c.args.document (viewport_of (v.world.tree) (v.world.viewports.screen) c.args.document) (v.world.viewports) }) view_is
 
 pub returns-clause-boxes : goal.returns-clause-boxes
 returns-clause-boxes g c =

@@ -1,0 +1,64 @@
+//! Elements with a style and a kind, for trees that are laid out.
+
+use block_layout::{Inputs, ItemKind, Styled};
+use std::process::Abort;
+use style_values::{Overflow, Style};
+
+/// What the root element has around it: a viewport of 800 by 600 pixels.
+pub const SCREEN: Inputs = Inputs {
+    width: 51200,
+    height: Some(38400),
+};
+
+#[derive(Drop)]
+pub struct Element {
+    pub style: Style,
+    pub kind: ItemKind,
+}
+
+impl Styled for Element {
+    ghost use Rattle.style_values.specs.Seen.{seen_style};
+    ghost use Rattle.block_layout.specs.Seen.{seen_kind};
+
+    ghost style = { λ e. seen_style e.style };
+
+    ghost kind = { λ e. seen_kind e.kind };
+
+    fn style(&self) -> &Style {
+        &self.style
+    }
+
+    fn kind(&self) -> ItemKind {
+        self.kind
+    }
+}
+
+impl Element {
+    /// Whether it is a scroll container, unless it is the root element.
+    pub fn scrolls(&self) -> bool {
+        let is_cut = matches!(
+            self.style.overflow,
+            Overflow::Hidden | Overflow::Scroll | Overflow::Auto
+        );
+        is_cut && self.kind == ItemKind::Block
+    }
+}
+
+fn declare(rt: &impl Abort, style: &mut Style, declaration: &str) {
+    match declaration.split_once(':') {
+        Some((property, value)) => {
+            let set = style.set(property.as_bytes(), value.as_bytes());
+            assert!(rt; set == Ok(()), "{declaration}");
+        }
+        None => assert!(rt; false, "{declaration}"),
+    }
+}
+
+/// An element with declarations as `width:1px height:50%`.
+pub fn styled(rt: &impl Abort, kind: ItemKind, declarations: &str) -> Element {
+    let mut style = Style::new();
+    for declaration in declarations.split_whitespace() {
+        declare(rt, &mut style, declaration);
+    }
+    Element { style, kind }
+}

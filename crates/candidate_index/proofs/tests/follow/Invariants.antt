@@ -1,6 +1,0 @@
-use Rattle.candidate_index.specs.Sample.{sample, AreExact}
-use Rattle.candidate_index.proofs.tests.follow.Given as goal
-
--- a clip that is handed out as it is held is exact
-abbrev pub invariant-loop-step : goal.invariant-loop-step
-invariant-loop-step g l = AreExact (sample l.page.clips l.page.boxes l.page.view) l.clips

@@ -1,7 +1,0 @@
-use Rattle.clip_chain.specs.Scenes.{Scene}
-use Rattle.candidate_index.specs.Sample.{AreExact}
-use Rattle.candidate_index.proofs.tests.hold_pairs.Given as goal
-
--- no pair's clip is computed here
-abbrev pub invariant-loop-number : goal.invariant-loop-number
-invariant-loop-number g l = (scene : Scene) → AreExact scene l.fn.clips → AreExact scene l.clips

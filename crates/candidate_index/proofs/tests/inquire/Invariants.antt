@@ -1,8 +1,0 @@
--- The ledger of a counter is the one that its blank opens.
-use Rattle.candidate_index.proofs.tests.inquire.Given as goal
-
-abbrev pub ghosts-ask : goal.ghosts-ask
-ghosts-ask g a = record { name = a.blank.name; parts = a.blank.parts }
-
-abbrev pub ghosts-find : goal.ghosts-find
-ghosts-find g a = record { name = a.blank.name; parts = a.blank.parts }

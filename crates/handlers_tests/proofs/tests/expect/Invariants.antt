@@ -1,5 +1,0 @@
--- The ledger of a test's run is the one that its blank opens.
-use Rattle.handlers_tests.proofs.tests.expect.Given as goal
-
-abbrev pub ghosts-run_text : goal.ghosts-run_text
-ghosts-run_text g a = record { name = a.blank.name; parts = a.blank.parts }

@@ -1,5 +1,0 @@
-use Rattle.kept_clips.specs.Sample.{sample}
-use Rattle.kept_clips.proofs.tests.put.Goals as goal
-
-pub returns : goal.returns
-returns g c = λ pair. c.touch.ensures.exact (sample c.args.page.now.clips) (sample c.put.new.self.clips) pair (c.requires pair) c.put.ensures

@@ -1,0 +1,51 @@
+-- What was seen last of each spot: what it stood in, what it clipped to, and its box.
+use Rattle.std.specs.Prelude.{ℕ, suc, ◌<◌, ◌-◌, Bool, nat_lt, List, ◌++◌, length, replicate, slice_set, Option, Some, None, option_and_then, option_map, unwrap_or}
+use Rattle.std.specs.List.{slice_index_or}
+use Rattle.px_units.specs.declared.Rect.{Rect}
+use Rattle.page_model.specs.Chains.{zero_rect}
+use Rattle.clip_chain.specs.declared.spot.Spot.{Spot}
+use Rattle.clip_chain.specs.declared.spot.Spot.TheVariants.{Node, View}
+use Rattle.clip_chain.specs.Scenes.{Scene}
+use Rattle.kept_clips.specs.declared.sightings.Sighting.{Sighting}
+
+-- none where a spot wasn't seen yet
+pub record Seen : Type 0 where
+  pub nodes : List (Option Sighting)
+  pub views : List (Option Sighting)
+
+abbrev pub sighting_of : Seen → Spot → Option Sighting
+sighting_of it (Node node) = slice_index_or it.nodes node.0 None
+sighting_of it (View document) = slice_index_or it.views document None
+
+-- the scene as it was seen last: a spot that wasn't seen stands in nothing and clips nothing. Containers may go in a circle, since they
+-- weren't seen at one moment
+abbrev pub scene_seen : Seen → Scene
+scene_seen it = record {
+  container = λ of. option_and_then (λ (s : Sighting). s.container) (sighting_of it of);
+  clip = λ of. option_and_then (λ (s : Sighting). s.clip) (sighting_of it of);
+  bounds = λ of. unwrap_or (option_map (λ (s : Sighting). s.bounds) (sighting_of it of)) zero_rect;
+}
+
+-- what is seen of a spot of a scene
+abbrev pub sighting_in : Scene → Spot → Sighting
+sighting_in scene of = record { container = scene.container of; clip = scene.clip of; bounds = scene.bounds of }
+
+abbrev pub with_sighting : Spot → Sighting → Seen → Seen
+with_sighting (Node node) s it = record it { nodes = slice_set (it.nodes) (node.0) (Some s) }
+with_sighting (View document) s it = record it { views = slice_set (it.views) document (Some s) }
+
+abbrev pub HasRoom : Seen → Spot → Type 0
+HasRoom it (Node node) = node.0 < length it.nodes
+HasRoom it (View document) = document < length it.views
+
+abbrev pub has_room : Seen → Spot → Bool
+has_room it (Node node) = nat_lt node.0 (length it.nodes)
+has_room it (View document) = nat_lt document (length it.views)
+
+abbrev pub up_to : ℕ → List (Option Sighting) → List (Option Sighting)
+up_to number sightings = sightings ++ replicate (suc number - length sightings) None
+
+-- with room for a spot and for all spots of its kind with lower numbers; what was seen stays as it is
+abbrev pub with_room : Spot → Seen → Seen
+with_room (Node node) it = record it { nodes = up_to (node.0) (it.nodes) }
+with_room (View document) it = record it { views = up_to document (it.views) }

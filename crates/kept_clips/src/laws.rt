@@ -1,0 +1,29 @@
+//! What scenes that agree along a pair's chain have in common: the clauses of a function that does nothing.
+
+ghost use Rattle.std.specs.Prelude.{ℕ, List};
+ghost use Rattle.clip_chain.specs.declared.spot.Spot.{Spot as SpotOf};
+ghost use Rattle.clip_chain.specs.Scenes.{Scene};
+ghost use Rattle.clip_chain.specs.Chains.{Leads};
+ghost use Rattle.kept_clips.specs.Clips.{clip_between};
+ghost use Rattle.kept_clips.specs.Held.{HeldClips, pair_of, with_clip};
+ghost use Rattle.kept_clips.specs.Chains.{IsExact, AgreesAlong};
+ghost use Rattle.kept_clips.specs.Scenes.{AgreesAt, DiffersOnlyAt};
+ghost use Rattle.kept_clips.specs.declared.sightings.Sighting.{Sighting};
+ghost use Rattle.kept_clips.specs.Seen.{Seen as SeenSpots, HasRoom, scene_seen, sighting_in, with_sighting};
+
+/// Where a scene that was seen before has the containers and clips of the present one along a pair's present chain, a clip that is exact
+/// of what was seen is so now; and once that pair's clip is computed, all clips are as exact of what was seen as before.
+
+pub fn clips_hang_on_their_chains_alone()
+    ensures now { (seen now : Scene) (it : HeldClips) (number : ℕ) → AgreesAlong seen now (pair_of it number) → IsExact seen it number → IsExact now it number }
+    ensures asked { (seen now : Scene) (it : HeldClips) (number : ℕ) (between : List SpotOf) → AgreesAlong seen now (pair_of it number) →
+        Leads now (pair_of it number).of between (pair_of it number).root → (other : ℕ) →
+        IsExact seen it other → IsExact seen (with_clip number (clip_between now between) it) other }
+{}
+
+/// Where a spot is seen anew, what was seen last differs there alone, so that a touch of the spot keeps clips exact of it; and there it
+/// is as it is now.
+pub fn a_spot_is_seen_by_itself()
+    ensures differs { (it : SeenSpots) (of : SpotOf) (sighting : Sighting) → DiffersOnlyAt of (scene_seen it) (scene_seen (with_sighting of sighting it)) }
+    ensures agrees { (it : SeenSpots) (of : SpotOf) (now : Scene) → HasRoom it of → AgreesAt (scene_seen (with_sighting of (sighting_in now of) it)) now of }
+{}

@@ -1,0 +1,202 @@
+//! What was seen last of each spot.
+
+ghost use Rattle.std.specs.Prelude.{◌≡◌, ◌↔◌, ◌<◌, ◌∷◌, ◌++◌, ℕ, List, [], None, Some, length, IsTrue, IsOk, OnOk, OnErr};
+ghost use Rattle.std.specs.List.{slice_index_or, AllByRecursion};
+ghost use Rattle.clip_chain.specs.declared.spot.Spot.{Spot as SpotOf};
+ghost use Rattle.clip_chain.specs.Chains.{Leads, IsAbove};
+ghost use Rattle.kept_clips.specs.Touches.{IsAdded, touched};
+ghost use Rattle.kept_clips.specs.Held.{HeldClips};
+ghost use Rattle.kept_clips.specs.Chains.{IsExact};
+ghost use Rattle.kept_clips.specs.Scenes.{AgreesAt};
+ghost use Rattle.kept_clips.specs.Looked.{Looked, MayBeSeen};
+ghost use Rattle.kept_clips.specs.Seen.{sighting_of, scene_seen, sighting_in, with_sighting, with_room, up_to, HasRoom, has_room};
+
+use crate::Clips;
+use crate::between::container_below;
+use clip_chain::{Geometry, Spot};
+use px_units::Rect;
+use std::alloc::{AllocError, Global};
+use std::marker::Model;
+
+/// What was seen of a spot: what it stood in, what it clipped its content to, and its box.
+#[derive(Clone, Copy, Debug, PartialEq, Eq)]
+pub struct Sighting {
+    pub container: Option<Spot>,
+    pub clip: Option<Rect>,
+    pub bounds: Rect,
+}
+
+fn is_same_rect(one: Rect, other: Rect) -> bool
+    ensures { IsTrue result ↔ (one ≡ other) }
+{
+    one.left == other.left
+        && one.top == other.top
+        && one.right == other.right
+        && one.bottom == other.bottom
+}
+
+fn is_same_clip(one: Option<Rect>, other: Option<Rect>) -> bool
+    ensures { IsTrue result ↔ (one ≡ other) }
+{
+    match (one, other) {
+        (Some(clip), Some(other_clip)) => is_same_rect(clip, other_clip),
+        (None, None) => true,
+        _ => false,
+    }
+}
+
+impl Sighting {
+    fn is_same(self, other: Sighting) -> bool
+        ensures { IsTrue result ↔ (self ≡ other) }
+    {
+        self.container == other.container
+            && is_same_clip(self.clip, other.clip)
+            && is_same_rect(self.bounds, other.bounds)
+    }
+}
+
+/// What was seen last of each spot, where there is room for it; nothing where it wasn't seen yet.
+#[derive(Drop)]
+pub struct Sightings {
+    nodes: Vec<Option<Sighting>>,
+    views: Vec<Option<Sighting>>,
+}
+
+impl Model for Sightings {
+    ghost use Rattle.kept_clips.specs.Seen.{Seen};
+
+    ghost Value = { Seen };
+
+    ghost view = { λ s. record { nodes = s.nodes.items; views = s.views.items } };
+}
+
+impl Sightings {
+    /// Nothing seen and no room, which takes no memory yet.
+    pub fn new(alloc: Global) -> Sightings
+        ensures { result ≡ record { nodes = []; views = [] } }
+    {
+        Sightings {
+            nodes: Vec::new(alloc),
+            views: Vec::new(alloc),
+        }
+    }
+
+    /// Whether there is room for what is seen of a spot.
+    pub fn has_room(&self, of: Spot) -> bool
+        ensures { result ≡ has_room self.now of }
+    {
+        match of {
+            Spot::Node(node) => (node.0 as usize) < self.nodes.len(),
+            Spot::View(document) => (document as usize) < self.views.len(),
+        }
+    }
+
+    /// Makes room for what is seen of a spot, and of all spots of its kind that have lower numbers. What was seen stays as it is.
+    /// Refused only for want of memory, and never where there is room already; nothing changes then.
+    pub fn add(&mut self, of: Spot) -> Result<(), AllocError>
+        ensures added { OnOk result (self.new ≡ with_room of self.old) }
+        ensures same { OnErr result (self.new ≡ self.old) }
+        ensures there { HasRoom self.old of → IsOk result }
+        ensures seen { (spot : SpotOf) → sighting_of self.new spot ≡ sighting_of self.old spot }
+        ensures exact { (clips : HeldClips) (number : ℕ) → IsExact (scene_seen self.old) clips number → IsExact (scene_seen self.new) clips number }
+    {
+        match of {
+            Spot::Node(node) => extend(&mut self.nodes, node.0),
+            Spot::View(document) => extend(&mut self.views, document),
+        }
+    }
+
+    /// What was seen of a spot last.
+    pub fn sighting(&self, of: Spot) -> Option<Sighting>
+        ensures { result ≡ sighting_of self.now of }
+    {
+        match of {
+            Spot::Node(node) => sighting_at(self.nodes.as_slice(), node.0),
+            Spot::View(document) => sighting_at(self.views.as_slice(), document),
+        }
+    }
+
+    // Keeps what is seen of a spot.
+    fn put(&mut self, of: Spot, sighting: Sighting)
+        requires { HasRoom self.old of }
+        ensures { self.new ≡ with_sighting of sighting self.old }
+    {
+        match of {
+            Spot::Node(node) => self.nodes[node.0 as usize] = Some(sighting),
+            Spot::View(document) => self.views[document as usize] = Some(sighting),
+        }
+    }
+
+    /// Looks at a spot: where its container, clip or box differs from what was seen last, or nothing was seen of it, it is touched.
+    /// What is seen now is kept.
+    ///
+    /// Clips that are exact of what was seen last stay exact of it. No memory.
+    pub fn look<G: Geometry>(&mut self, clips: &mut Clips, geometry: &G, of: Spot)
+        requires room { HasRoom self.old of }
+        requires added { IsAdded clips.old.touches of }
+        ensures seen { self.new ≡ with_sighting of (sighting_in (G.scene geometry.now) of) self.old }
+        ensures same { sighting_of self.old of ≡ Some (sighting_in (G.scene geometry.now) of) → clips.new ≡ clips.old }
+        ensures touched { (¬ sighting_of self.old of ≡ Some (sighting_in (G.scene geometry.now) of)) → clips.new ≡ record clips.old { touches = touched of (clips.old.touches) } }
+        ensures agrees { AgreesAt (scene_seen self.new) (G.scene geometry.now) of }
+        ensures agreed { (other : SpotOf) → AgreesAt (scene_seen self.old) (G.scene geometry.now) other → AgreesAt (scene_seen self.new) (G.scene geometry.now) other }
+        ensures exact { (number : ℕ) → IsExact (scene_seen self.old) clips.old number → IsExact (scene_seen self.new) clips.new number }
+        ensures looked { Looked (G.scene geometry.now) self.old self.new clips.old clips.new }
+    {
+        let now = Sighting {
+            container: geometry.container(of),
+            clip: geometry.clip(of),
+            bounds: geometry.bounds(of),
+        };
+        if !self.is_as_seen(of, now) {
+            clips.touch(of);
+            self.put(of, now);
+        }
+    }
+
+    /// Looks at each spot of a chain, from a spot outwards to a root, these two included. All of them are then seen as they are.
+    ///
+    /// Needs that the root is above the spot, as `clip_chain::reaches` tells. No memory.
+    pub fn look_along<G: Geometry>(&mut self, clips: &mut Clips, geometry: &G, root: Spot, of: Spot)
+        requires above { IsAbove (G.scene geometry.now) root of }
+        requires room { (between : List SpotOf) → Leads (G.scene geometry.now) of between root → AllByRecursion (MayBeSeen self.old clips.old) (of ∷ (between ++ root ∷ [])) }
+        ensures looked { Looked (G.scene geometry.now) self.old self.new clips.old clips.new }
+        ensures along { (between : List SpotOf) → Leads (G.scene geometry.now) of between root → AllByRecursion (AgreesAt (scene_seen self.new) (G.scene geometry.now)) (of ∷ (between ++ root ∷ [])) }
+    {
+        self.look(clips, geometry, of);
+        self.look(clips, geometry, root);
+        let mut spot = of;
+        while let Some(next) = container_below(geometry, spot, root) {
+            self.look(clips, geometry, next);
+            spot = next;
+        }
+    }
+
+    // Whether what is seen of a spot is what was seen last.
+    fn is_as_seen(&self, of: Spot, now: Sighting) -> bool
+        ensures { IsTrue result ↔ (sighting_of self.now of ≡ Some now) }
+    {
+        match self.sighting(of) {
+            Some(seen) => seen.is_same(now),
+            None => false,
+        }
+    }
+}
+
+// Fills a list up with nothing so that there is room for this place.
+fn extend(sightings: &mut Vec<Option<Sighting>>, place: u32) -> Result<(), AllocError>
+    ensures extended { OnOk result (sightings.new.items ≡ up_to place sightings.old.items) }
+    ensures same { OnErr result (sightings.new.items ≡ sightings.old.items) }
+    ensures there { place < length sightings.old.items → IsOk result }
+{
+    let count = place as usize + 1;
+    if sightings.len() < count {
+        sightings.resize(count, None)?;
+    }
+    Ok(())
+}
+
+fn sighting_at(sightings: &[Option<Sighting>], place: u32) -> Option<Sighting>
+    ensures { result ≡ slice_index_or sightings.now place None }
+{
+    *sightings.get(place as usize)?
+}

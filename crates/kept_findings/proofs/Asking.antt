@@ -1,0 +1,143 @@
+-- Clips that are asked for once their chains were seen: exact of what was seen, and for the same spots.
+use Rattle.std.proofs.Common.{◌≡◌, ◌∙◌, ℕ, ◌<◌, Bool, true, false, cond, List, [], ◌∷◌, length, get_or, Option, Some, Result, Ok, Err, ap, refl, sym, subst}
+use Rattle.std.specs.Prelude.{OnOk, OnErr}
+use Rattle.std.specs.FinMap.{FinMap}
+use Rattle.std.specs.Ordering.{nat_cmp}
+use Rattle.std.specs.List.{All}
+use Rattle.std.proofs.lemmas.List.Elements.{All-head, All-tail}
+use Rattle.page_model.specs.World.{Root, IntersectionObservers}
+use Rattle.clip_chain.specs.declared.spot.Spot.{Spot}
+use Rattle.clip_chain.specs.Scenes.{Scene}
+use Rattle.clip_chain.specs.Chains.{Leads, IsAbove}
+use Rattle.clip_chain.specs.Worlds.{element_spot, spot_of_root}
+use Rattle.intersection_observer.specs.Places.{IsStanding}
+use Rattle.intersection_observer.specs.Seen.{serial_numbers}
+use Rattle.intersection_observer.specs.declared.registration.RegistrationId.{RegistrationId}
+use Rattle.kept_clips.specs.Clips.{clip_between}
+use Rattle.kept_clips.specs.Held.{HeldClips, pair_of, spots_at, with_clip}
+use Rattle.kept_clips.specs.Chains.{is_current, IsExact, AgreesAlong}
+use Rattle.kept_clips.specs.Scenes.{AgreesAt}
+use Rattle.kept_clips.specs.Seen.{Seen}
+use Rattle.kept_clips.proofs.Pairs.{either, spots_computed}
+use Rattle.kept_clips.proofs.Agreeing.{exact_now, exact_asked}
+use Rattle.candidate_index.specs.declared.index.Kept.{Kept}
+use Rattle.candidate_index.specs.declared.scene.Standing.{Standing}
+use Rattle.candidate_index.specs.declared.scene.Standing.TheVariants.{Apart, NoBox, Chained}
+use Rattle.candidate_index.specs.Registrations.{observer_of, target_of, standing_for, IfChained, IsBetween, HasClip, IsReady}
+use Rattle.candidate_index.specs.Asked.{asked_if, asked_for, all_asked}
+use Rattle.candidate_index.proofs.Keeping.{if_still}
+use Rattle.kept_findings.specs.Walks.{EachAlong, AlongChain}
+use Rattle.kept_findings.specs.Registered.{spots_for, AreHeld}
+use Rattle.kept_findings.proofs.Walking.{all_serials, at_serial}
+use Rattle.kept_findings.proofs.Pairing.{IsPairOf, pair_by, standing_spots, agrees_along, leads_of}
+
+-- the same spots and touches, and clips as exact of what was seen as before
+pub record Stays (seen : Scene) (before now : HeldClips) : Type 0 where
+  pub spots : (serial : ℕ) → spots_at now serial ≡ spots_at before serial
+  pub touches : now.touches ≡ before.touches
+  pub exact : ((serial : ℕ) → IsExact seen before serial) → (serial : ℕ) → IsExact seen now serial
+
+pub stays_same : (seen : Scene) (clips : HeldClips) → Stays seen clips clips
+stays_same seen clips = record { spots = λ serial. refl; touches = refl; exact = λ all. all }
+
+stays_then : (seen : Scene) (first second third : HeldClips) → Stays seen first second → Stays seen second third → Stays seen first third
+stays_then seen first second third one two = record {
+  spots = λ serial. two.spots serial ∙ one.spots serial;
+  touches = two.touches ∙ one.touches;
+  exact = λ all. two.exact (one.exact all);
+}
+
+-- what is known of a chain that leads to the root
+pub record IsKnown (seen now : Scene) (spots : Option (Spot × Spot)) (root target : Spot) (between : List Spot) : Type 0 where
+  pub spots_are : spots ≡ Some (root, target)
+  pub agrees : EachAlong (AgreesAt seen now) now target root
+  pub leads : Leads now target between root
+
+module _ (seen now : Scene) (standings : Root → ℕ → Standing) (it : IntersectionObservers) (between : ℕ → List Spot) where
+  abbrev pub Known : ℕ → Type 0
+  Known serial =
+      IfChained (standing_for standings it serial)
+      (IsKnown seen now (spots_for it serial) (spot_of_root (observer_of it serial).root) (element_spot (target_of it serial)) (between serial))
+
+  pub known_of : (serial : ℕ) → IsStanding serial it → IfChained (standing_for standings it serial) (EachAlong (AgreesAt seen now) now (element_spot (target_of it serial)) (spot_of_root (observer_of it serial).root))
+      → IsBetween now standings it between serial → Known serial
+  known_of serial there walked leads = by_standing (standing_for standings it serial) walked leads
+    where
+      by_standing : (s : Standing) → IfChained s (EachAlong (AgreesAt seen now) now (element_spot (target_of it serial)) (spot_of_root (observer_of it serial).root))
+          → IfChained s (Leads now (element_spot (target_of it serial)) (between serial) (spot_of_root (observer_of it serial).root))
+          → IfChained s (IsKnown seen now (spots_for it serial) (spot_of_root (observer_of it serial).root) (element_spot (target_of it serial)) (between serial))
+      by_standing Apart walked leads = tt
+      by_standing NoBox walked leads = tt
+      by_standing Chained walked leads = record { spots_are = standing_spots it serial there; agrees = walked; leads = leads }
+
+  one_asked : (clips : HeldClips) (serial : ℕ) (root target : Spot) → IsPairOf clips serial root target → EachAlong (AgreesAt seen now) now target root → Leads now target (between serial) root
+      → (b : Bool) → Stays seen clips (cond b clips (with_clip serial (clip_between now (between serial)) clips))
+  one_asked clips serial root target pair agrees leads true = stays_same seen clips
+  one_asked clips serial root target pair agrees leads false = record {
+    spots = λ other. spots_computed clips serial other (clip_between now (between serial)) pair.held;
+    touches = refl;
+    exact = λ all other.
+        exact_asked seen now clips serial (agrees_along seen now clips serial root target pair agrees) (between serial)
+        (leads_of seen now clips serial root target pair (between serial) leads) other (all other);
+  }
+
+  by_standing_asked : (s : Standing) (clips : HeldClips) (serial : ℕ) (root target : Spot) → spots_at clips serial ≡ spots_for it serial → IfChained s (IsKnown seen now (spots_for it serial) root target (between serial))
+      → Stays seen clips (asked_if s now (between serial) serial clips)
+  by_standing_asked Apart clips serial root target spots known = stays_same seen clips
+  by_standing_asked NoBox clips serial root target spots known = stays_same seen clips
+  by_standing_asked Chained clips serial root target spots known =
+      one_asked clips serial root target (pair_by clips serial root target (spots ∙ known.spots_are)) known.agrees known.leads (is_current clips serial (between serial))
+
+  pub asked_stays : (clips : HeldClips) (serial : ℕ) → spots_at clips serial ≡ spots_for it serial → Known serial → Stays seen clips (asked_for now standings it between serial clips)
+  asked_stays clips serial spots known =
+      by_standing_asked (standing_for standings it serial) clips serial (spot_of_root (observer_of it serial).root) (element_spot (target_of it serial)) spots known
+
+  pub all_stay : (serials : List ℕ) (clips : HeldClips) → ((serial : ℕ) → spots_at clips serial ≡ spots_for it serial) → All Known serials → Stays seen clips (all_asked now standings it between serials clips)
+  all_stay [] clips spots known = stays_same seen clips
+  all_stay (serial ∷ serials) clips spots known =
+      let one : Stays seen clips (asked_for now standings it between serial clips) = asked_stays clips serial (spots serial) (All-head Known serial serials known) in
+      stays_then seen clips (asked_for now standings it between serial clips) (all_asked now standings it between serials (asked_for now standings it between serial clips)) one
+      (all_stay serials (asked_for now standings it between serial clips) (λ other. one.spots other ∙ spots other) (All-tail Known serial serials known))
+
+  -- what the index asks of the clips
+  pub ready_of : (clips : HeldClips) → ((serial : ℕ) → spots_at clips serial ≡ spots_for it serial) → ((serial : ℕ) → IsExact seen clips serial) → (serial : ℕ) → Known serial → IsReady now standings it clips serial
+  ready_of clips spots exact serial known =
+      let root = spot_of_root (observer_of it serial).root in
+      let target = element_spot (target_of it serial) in
+      if_still (standing_for standings it serial) (IsKnown seen now (spots_for it serial) root target (between serial)) (HasClip now clips serial (observer_of it serial).root (target_of it serial))
+      (λ this.
+      let pair : IsPairOf clips serial root target = pair_by clips serial root target (spots serial ∙ this.spots_are) in
+      record {
+        held = pair.held;
+        root_held = pair.root_held;
+        target_held = pair.target_held;
+        above = (between serial, this.leads);
+        exact = exact_now seen now clips serial (agrees_along seen now clips serial root target pair this.agrees) (exact serial);
+      })
+      known
+
+  module _ (rs : List RegistrationId) (serials : List ℕ) (same : serial_numbers rs ≡ serials) (standing : All (λ (r : RegistrationId). IsStanding r.0 it) rs)
+      (walked : All (AlongChain (AgreesAt seen now) now standings it) serials) (leads : (serial : ℕ) → IsBetween now standings it between serial) where
+    all_known : All Known serials
+    all_known =
+        all_serials Known rs serials same
+        (λ k none below.
+        known_of (get_or rs k none).0 (standing k none below) (at_serial (AlongChain (AgreesAt seen now) now standings it) rs serials same walked k none below) (leads (get_or rs k none).0))
+
+    pub all_ready : (clips : HeldClips) → ((serial : ℕ) → spots_at clips serial ≡ spots_for it serial) → ((serial : ℕ) → IsExact seen clips serial) → All (IsReady now standings it clips) serials
+    all_ready clips spots exact = λ k d below. ready_of clips spots exact (get_or serials k d) (all_known k d below)
+
+    -- through a call that asks for the clips of all of them, or is refused
+    pub stays_asked : {A E : Type 0} (result : Result A E) (clips new : HeldClips) → ((serial : ℕ) → spots_at clips serial ≡ spots_for it serial)
+        → OnOk result (new ≡ all_asked now standings it between serials clips) → OnErr result (new ≡ clips) → Stays seen clips new
+    stays_asked result clips new spots ok err =
+        either result (Stays seen clips) clips new (all_asked now standings it between serials clips) ok err (all_stay serials clips spots all_known) (stays_same seen clips)
+
+-- what is kept of the registrations through calls that ask for clips
+pub held_still : (it : IntersectionObservers) (seen : Scene) (sightings : Seen) (clips new : HeldClips) (kept : FinMap nat_cmp (Option Kept)) → Stays seen clips new
+    → AreHeld it (record { seen = sightings; clips = clips; kept = kept }) → AreHeld it (record { seen = sightings; clips = new; kept = kept })
+held_still it seen sightings clips new kept stays held = record {
+  pairs = λ serial. stays.spots serial ∙ held.pairs serial;
+  added = held.added;
+  found = held.found;
+}

@@ -1,0 +1,9 @@
+pub mod Walking
+pub mod Pairing
+pub mod Asking
+pub mod Registering
+pub mod Settled
+pub mod Stale
+pub mod Observed
+pub mod Ticking
+pub mod Finding

@@ -1,0 +1,129 @@
+-- What is kept through one more registration or one less, and through what is found of one.
+use Rattle.std.proofs.Common.{◌≡◌, ◌∙◌, ℕ, Bool, true, false, cond, ◌==◌, ◌<◌, ◌≤◌, ◌-◌, suc, List, ◌++◌, length, get_or, inl, inr, Result, Ok, Err, Option, Some, None, is_some, option_map, unwrap_or, ap, refl, sym, subst, arith, length-append}
+use Rattle.std.proofs.lemmas.Bool.{eqb-true, eq-eqb, cases_lt}
+use Rattle.std.specs.Cmp.{nat_cmp_total, unsigned_tied}
+use Rattle.std.specs.FinMap.{FinMap, get, insert, remove, contains_key, get-insert, get-remove, get-empty, empty, same_map, nat_cmp-IsAntisymmetric}
+use Rattle.std.specs.Ordering.{nat_cmp, eq_by_cmp}
+use Rattle.std.specs.Prelude.{replicate, OnOk, OnErr}
+use Rattle.std.proofs.lemmas.List.{length-replicate, get_or-replicate, get_or_past, get_or_append_left}
+use Rattle.std.proofs.Math.Seq.{get_or-append_right}
+use Rattle.page_model.specs.World.{IntersectionObservers}
+use Rattle.clip_chain.specs.declared.spot.Spot.{Spot}
+use Rattle.clip_chain.specs.declared.spot.Spot.TheVariants.{Node, View}
+use Rattle.intersection_observer.specs.Places.{Standing as Place, standing_of}
+use Rattle.kept_clips.specs.declared.pair.Pair.{Pair}
+use Rattle.kept_clips.specs.Touches.{Touched, last_touch, IsAdded, with_spot}
+use Rattle.kept_clips.specs.Held.{HeldClips, spots_of as spots_in}
+use Rattle.kept_clips.proofs.Pairs.{either}
+use Rattle.kept_clips.specs.Seen.{Seen, HasRoom, with_room}
+use Rattle.candidate_index.specs.declared.index.Kept.{Kept}
+use Rattle.candidate_index.specs.Held.{AreFound}
+use Rattle.kept_findings.specs.Held.{no_findings}
+use Rattle.kept_findings.specs.Registered.{spots_of, IsSettled, AreRegistered}
+
+module _ {A : Type 0} where
+  both_ways : (b : Bool) (v : A) (o : Option A) → cond b None (cond b (Some v) o) ≡ cond b None o
+  both_ways true v o = refl
+  both_ways false v o = refl
+
+  gone : (m : FinMap nat_cmp A) (k q : ℕ) (b : Bool) → (q == k) ≡ b → get m k ≡ None → cond b None (get m q) ≡ get m q
+  gone m k q true same none = sym (ap (get m) (eqb-true q k same) ∙ none)
+  gone m k q false same none = refl
+
+  -- what was put in where nothing was, and taken out again
+  pub undone : (m : FinMap nat_cmp A) (k : ℕ) (v : A) → get m k ≡ None → remove (insert m k v) k ≡ m
+  undone m k v none =
+      same_map nat_cmp_total nat_cmp-IsAntisymmetric (remove (insert m k v) k) m
+      (λ q.
+      get-remove nat_cmp_total (insert m k v) k q
+      ∙ ap (λ (o : Option A). cond (eq_by_cmp nat_cmp q k) None o) (get-insert nat_cmp_total m k v q)
+      ∙ both_ways (eq_by_cmp nat_cmp q k) v (get m q)
+      ∙ ap (λ b. cond b None (get m q)) (unsigned_tied q k)
+      ∙ gone m k q (q == k) refl none)
+
+  pub put_own : (m : FinMap nat_cmp A) (k : ℕ) (v : A) → contains_key (insert m k v) k ≡ true
+  put_own m k v =
+      ap (λ (o : Option A). is_some o) (get-insert nat_cmp_total m k v k ∙ ap (λ b. cond b (Some v) (get m k)) (unsigned_tied k k))
+      ∙ ap (λ b. is_some (cond b (Some v) (get m k))) (eq-eqb k k refl)
+
+  put_there : (b : Bool) (v : A) (o : Option A) → (b ≡ true → is_some o ≡ true) → is_some (cond b (Some v) o) ≡ is_some o
+  put_there true v o there = sym (there refl)
+  put_there false v o there = refl
+
+  -- a value in place of one that is there
+  pub there_still : (m : FinMap nat_cmp A) (k : ℕ) (v : A) → contains_key m k ≡ true → (q : ℕ) → contains_key (insert m k v) q ≡ contains_key m q
+  there_still m k v there q =
+      ap (λ (o : Option A). is_some o) (get-insert nat_cmp_total m k v q ∙ ap (λ b. cond b (Some v) (get m q)) (unsigned_tied q k))
+      ∙ put_there (q == k) v (get m q) (λ same. ap (contains_key m) (eqb-true q k same) ∙ there)
+
+-- nothing is kept where nothing stands
+pub none_registered : (watchers : IntersectionObservers) → ((serial : ℕ) → standing_of serial watchers ≡ None) → AreFound watchers empty → AreRegistered watchers no_findings
+none_registered watchers none found = record {
+  held = record {
+    pairs = λ serial. ap (λ (o : Option Pair). option_map spots_in o) (get-empty nat_cmp serial) ∙ ap (λ (o : Option Place). option_map (spots_of watchers) o) (sym (none serial));
+    added = λ serial. ap (λ (o : Option (Option Kept)). is_some o) (get-empty nat_cmp serial) ∙ ap (λ (o : Option Place). is_some o) (sym (none serial));
+    found = found;
+  };
+  settled = λ serial. subst (IsSettled watchers serial) (sym (ap (λ (o : Option (Option Kept)). unwrap_or o None) (get-empty nat_cmp serial))) tt;
+}
+
+-- room for more spots
+longer : {A : Type 0} (xs : List A) (n : ℕ) (x : A) → n < length (xs ++ replicate (suc n - length xs) x)
+longer xs n x = omega (arith, length-append xs (replicate (suc n - length xs) x), length-replicate (suc n - length xs) x)
+
+still : {A : Type 0} (xs ys : List A) (n : ℕ) → n < length xs → n < length (xs ++ ys)
+still xs ys n h = omega (arith, h, length-append xs ys)
+
+pub has_room_there : (of : Spot) (it : Seen) → HasRoom (with_room of it) of
+has_room_there (Node a) it = longer it.nodes a.0 None
+has_room_there (View d) it = longer it.views d None
+
+pub has_room_still : (of spot : Spot) (it : Seen) → HasRoom it spot → HasRoom (with_room of it) spot
+has_room_still (Node a) (Node b) it h = still it.nodes (replicate (suc a.0 - length it.nodes) None) b.0 h
+has_room_still (Node a) (View d) it h = h
+has_room_still (View d) (Node b) it h = h
+has_room_still (View c) (View d) it h = still it.views (replicate (suc c - length it.views) None) d h
+
+pub is_added_there : (of : Spot) (it : Touched) → IsAdded (with_spot of it) of
+is_added_there (Node a) it = longer it.nodes a.0 0
+is_added_there (View d) it = longer it.views d 0
+
+pub is_added_still : (of spot : Spot) (it : Touched) → IsAdded it spot → IsAdded (with_spot of it) spot
+is_added_still (Node a) (Node b) it h = still it.nodes (replicate (suc a.0 - length it.nodes) 0) b.0 h
+is_added_still (Node a) (View d) it h = h
+is_added_still (View d) (Node b) it h = h
+is_added_still (View c) (View d) it h = still it.views (replicate (suc c - length it.views) 0) d h
+
+-- no touch, and nothing else that was seen
+zeros : (count n : ℕ) → ◌≡◌ {A = ℕ} (get_or (replicate count 0) n 0) 0
+zeros count n = elim (cases_lt n count) [
+  | inl h ↦ get_or-replicate count n 0 0 h
+  | inr h ↦ get_or_past (replicate count 0) n 0 (subst (λ l. l ≤ n) (sym (length-replicate count 0)) h)
+]
+
+filled : (numbers : List ℕ) (count n : ℕ) → get_or (numbers ++ replicate count 0) n 0 ≡ get_or numbers n 0
+filled numbers count n = elim (cases_lt n (length numbers)) [
+  | inl h ↦ get_or_append_left numbers (replicate count 0) 0 n h
+  | inr h ↦ get_or-append_right numbers (replicate count 0) n 0 h ∙ zeros count (n - length numbers) ∙ sym (get_or_past numbers n 0 h)
+]
+
+pub same_last : (of spot : Spot) (it : Touched) → last_touch (with_spot of it) spot ≡ last_touch it spot
+same_last (Node a) (Node b) it = filled it.nodes (suc a.0 - length it.nodes) b.0
+same_last (Node a) (View d) it = refl
+same_last (View d) (Node b) it = refl
+same_last (View c) (View d) it = filled it.views (suc c - length it.views) d
+
+-- what becomes of room by both calls that make it
+module _ (of : Spot) where
+  pub once_roomy : {A E : Type 0} (result : Result A E) (seen new : Seen) → OnOk result (new ≡ with_room of seen) → OnErr result (new ≡ seen) → (spot : Spot) → HasRoom seen spot → HasRoom new spot
+  once_roomy result seen new ok err spot room = either result (λ (s : Seen). HasRoom s spot) seen new (with_room of seen) ok err (has_room_still of spot seen room) room
+
+  pub once_added : {A E : Type 0} (result : Result A E) (clips new : HeldClips) → OnOk result (new ≡ record clips { touches = with_spot of (clips.touches) }) → OnErr result (new ≡ clips) → (spot : Spot) → IsAdded clips.touches spot → IsAdded new.touches spot
+  once_added result clips new ok err spot added =
+      either result (λ (c : HeldClips). IsAdded c.touches spot) clips new (record clips { touches = with_spot of (clips.touches) }) ok err (is_added_still of spot clips.touches added) added
+
+  pub once_same : {A E : Type 0} (result : Result A E) (clips new : HeldClips) → OnOk result (new ≡ record clips { touches = with_spot of (clips.touches) }) → OnErr result (new ≡ clips)
+      → (new.pairs ≡ clips.pairs) × ((spot : Spot) → last_touch new.touches spot ≡ last_touch clips.touches spot)
+  once_same result clips new ok err =
+      either result (λ (c : HeldClips). (c.pairs ≡ clips.pairs) × ((spot : Spot) → last_touch c.touches spot ≡ last_touch clips.touches spot)) clips new (record clips { touches = with_spot of (clips.touches) }) ok err
+      (refl, λ spot. same_last of spot clips.touches) (refl, λ spot. refl)

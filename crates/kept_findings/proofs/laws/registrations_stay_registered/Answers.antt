@@ -1,0 +1,17 @@
+use Rattle.std.proofs.Common.{refl, []}
+use Rattle.kept_findings.proofs.Settled.{registered_made, registered_taken}
+use Rattle.kept_findings.proofs.Observed.{registered_observed, registered_unobserved}
+use Rattle.kept_findings.proofs.laws.registrations_stay_registered.Goals as goal
+
+pub returns-clause-made : goal.returns-clause-made
+returns-clause-made c = λ it document handler root margins thresholds kept registered.
+    registered_made it (record { document = document; handler = handler; root = root; margins = margins; thresholds = thresholds; registrations = []; queue = [] }) kept refl registered
+
+pub returns-clause-observed : goal.returns-clause-observed
+returns-clause-observed c = registered_observed
+
+pub returns-clause-unobserved : goal.returns-clause-unobserved
+returns-clause-unobserved c = registered_unobserved
+
+pub returns-clause-taken : goal.returns-clause-taken
+returns-clause-taken c = registered_taken

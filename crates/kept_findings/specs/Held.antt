@@ -1,0 +1,42 @@
+-- What is kept of registrations from update to update: what was seen last of each spot, the clips between targets and roots, and what
+-- was found last.
+use Rattle.std.specs.Prelude.{◌≡◌, ℕ, [], Option, None}
+use Rattle.std.specs.Ordering.{nat_cmp}
+use Rattle.std.specs.FinMap.{FinMap, empty, insert, remove}
+use Rattle.clip_chain.specs.declared.spot.Spot.{Spot}
+use Rattle.kept_clips.specs.Touches.{last_touch}
+use Rattle.kept_clips.specs.Held.{HeldClips, with_pair, without_pair}
+use Rattle.kept_clips.specs.Seen.{Seen, sighting_of}
+use Rattle.kept_clips.specs.Looked.{MayBeSeen}
+use Rattle.candidate_index.specs.declared.index.Kept.{Kept}
+
+pub record HeldFindings : Type 0 where
+  pub seen : Seen
+  pub clips : HeldClips
+  pub kept : FinMap nat_cmp (Option Kept)
+
+abbrev pub no_findings : HeldFindings
+no_findings = record {
+  seen = record { nodes = []; views = [] };
+  clips = record { touches = record { count = 0; nodes = []; views = [] }; pairs = empty };
+  kept = empty;
+}
+
+-- a registration with these spots that was never computed
+abbrev pub with_findings : ℕ → Spot → Spot → HeldFindings → HeldFindings
+with_findings serial root target it = record it { clips = with_pair serial root target (it.clips); kept = insert (it.kept) serial None }
+
+abbrev pub without_findings : ℕ → HeldFindings → HeldFindings
+without_findings serial it = record it { clips = without_pair serial (it.clips); kept = remove (it.kept) serial }
+
+-- a registration that counts as never computed from then on
+abbrev pub with_expired : ℕ → HeldFindings → HeldFindings
+with_expired serial it = record it { kept = insert (it.kept) serial None }
+
+-- nothing but room for more spots
+pub record IsRoomier (before now : HeldFindings) : Type 0 where
+  pub pairs : now.clips.pairs ≡ before.clips.pairs
+  pub kept : now.kept ≡ before.kept
+  pub seen : (spot : Spot) → sighting_of now.seen spot ≡ sighting_of before.seen spot
+  pub touches : (spot : Spot) → last_touch now.clips.touches spot ≡ last_touch before.clips.touches spot
+  pub room : (spot : Spot) → MayBeSeen before.seen before.clips spot → MayBeSeen now.seen now.clips spot

@@ -1,0 +1,4 @@
+pub mod Held
+pub mod Walks
+pub mod Registered
+pub mod Stale

@@ -1,0 +1,37 @@
+-- That what is kept is kept of the registrations that stand.
+use Rattle.std.specs.Prelude.{◌≡◌, ℕ, false, Option, option_map, is_some, IfSome}
+use Rattle.std.specs.FinMap.{contains_key}
+use Rattle.page_model.specs.World.{IntersectionObservers}
+use Rattle.page_model.specs.Lookups.{intersection_observer_at}
+use Rattle.clip_chain.specs.declared.spot.Spot.{Spot}
+use Rattle.clip_chain.specs.Worlds.{element_spot, spot_of_root}
+use Rattle.intersection_observer.specs.Places.{Standing, standing_of}
+use Rattle.intersection_observer.specs.Seen.{seen_finding}
+use Rattle.intersection_observer.specs.Settling.{is_news_for}
+use Rattle.kept_clips.specs.Held.{spots_at}
+use Rattle.candidate_index.specs.declared.index.Kept.{Kept}
+use Rattle.candidate_index.specs.Held.{kept_of, AreFound}
+use Rattle.kept_findings.specs.Held.{HeldFindings}
+
+-- the spots of an observer's root and of a target of it
+abbrev pub spots_of : IntersectionObservers → Standing → Spot × Spot
+spots_of watchers it = (spot_of_root (intersection_observer_at watchers it.watcher).root, element_spot (it.target))
+
+-- those of a registration, none where none stands under this serial number
+abbrev pub spots_for : IntersectionObservers → ℕ → Option (Spot × Spot)
+spots_for watchers serial = option_map (spots_of watchers) (standing_of serial watchers)
+
+-- each registration that stands has a pair for its spots and was added, and no other number has either; and what was found last was found
+-- from its basis by its observer's thresholds
+pub record AreHeld (watchers : IntersectionObservers) (it : HeldFindings) : Type 0 where
+  pub pairs : (serial : ℕ) → spots_at it.clips serial ≡ spots_for watchers serial
+  pub added : (serial : ℕ) → contains_key it.kept serial ≡ is_some (standing_of serial watchers)
+  pub found : AreFound watchers it.kept
+
+-- what was found last is settled, so that it is no news
+abbrev pub IsSettled : IntersectionObservers → ℕ → Option Kept → Type 0
+IsSettled watchers serial last = IfSome last (λ (kept : Kept). is_news_for serial (seen_finding kept.finding) watchers ≡ false)
+
+pub record AreRegistered (watchers : IntersectionObservers) (it : HeldFindings) : Type 0 where
+  pub held : AreHeld watchers it
+  pub settled : (serial : ℕ) → IsSettled watchers serial (kept_of it.kept serial)

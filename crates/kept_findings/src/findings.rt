@@ -1,0 +1,244 @@
+//! The findings that are kept.
+
+ghost use Rattle.std.specs.Prelude.{◌≡◌, ◌<◌, ◌+◌, ℕ, List, None, length, filter, Some, IsSome, IsTrue, IfOk, OnOk, OnErr};
+ghost use Rattle.std.specs.List.{All};
+ghost use Rattle.std.specs.FinMap.{insert, contains_key};
+ghost use Rattle.page_model.specs.World.{IntersectionObservers};
+ghost use Rattle.clip_chain.specs.declared.spot.Spot.{Spot as SpotOf};
+ghost use Rattle.clip_chain.specs.Scenes.{root_bounds};
+ghost use Rattle.clip_chain.specs.Worlds.{element_spot, spot_of_root};
+ghost use Rattle.intersection_observer.specs.Places.{IsStanding, standing_of};
+ghost use Rattle.intersection_observer.specs.Seen.{seen_root, seen_finding, serial_numbers};
+ghost use Rattle.kept_clips.specs.Held.{pair_at};
+ghost use Rattle.kept_clips.specs.Looked.{Looked, MayBeSeen};
+ghost use Rattle.candidate_index.specs.Ranges.{IsPlaced};
+ghost use Rattle.candidate_index.specs.Registrations.{observer_of, serials_at, basis_for, finding_for, IsBetween};
+ghost use Rattle.candidate_index.specs.Asked.{asked_for, steps_for, all_asked, all_steps};
+ghost use Rattle.candidate_index.specs.Held.{is_stale_now};
+ghost use Rattle.kept_findings.specs.Held.{no_findings, with_findings, without_findings, with_expired, IsRoomier};
+ghost use Rattle.kept_findings.specs.Walks.{AreChained, MayBeWalked, IsWalked};
+ghost use Rattle.kept_findings.specs.Registered.{AreHeld, AreRegistered};
+
+use candidate_index::{Index, Scene, Standing};
+use clip_chain::Spot;
+use element_tree::NodeId;
+use intersection_observer::{Finding, RegistrationId, Root, WatcherId, Watchers};
+use kept_clips::{Clips, Sightings};
+use std::alloc::{AllocError, Global};
+use std::marker::Model;
+use std::sync::ledger::Ledger;
+use step_count::Steps;
+
+/// What was seen last of each spot, the clips that are kept, and what was found of registrations last and from what.
+///
+/// A clip that is handed out as it is held is exact of what was seen last, at every moment: whatever was computed stays so until a spot
+/// on its chain is seen otherwise, and then it is touched.
+#[derive(Drop)]
+pub struct KeptFindings {
+    seen: Sightings,
+    clips: Clips,
+    index: Index,
+}
+
+impl Model for KeptFindings {
+    ghost use Rattle.kept_findings.specs.Held.{HeldFindings};
+
+    ghost Value = { HeldFindings };
+
+    ghost use Rattle.std.specs.Coded.{codes};
+    ghost use Rattle.kept_clips.specs.Codes.{pairs_code};
+    ghost use Rattle.candidate_index.specs.Codes.{index_code};
+
+    ghost coded = { Prim.hlevel (codes, pairs_code, index_code) };
+
+    ghost use Rattle.std.specs.Prelude.{ℕ};
+    ghost use Rattle.kept_clips.specs.Chains.{IsExact};
+    ghost use Rattle.kept_clips.specs.Seen.{scene_seen};
+
+    ghost view = { λ f. record { seen = f.seen; clips = f.clips; kept = f.index } };
+
+    ghost invariant = { λ f. (number : ℕ) → IsExact (scene_seen f.seen) f.clips number };
+}
+
+// The implicit root is the viewport of the top document.
+fn spot_of_root(root: Root) -> Spot
+    ensures { result ≡ spot_of_root (seen_root root) }
+{
+    match root {
+        Root::Implicit => Spot::View(0),
+        Root::Document(document) => Spot::View(document),
+        Root::Node(node) => Spot::Node(node),
+    }
+}
+
+// Looks along the chain of a registration, if it leads to the root.
+fn look_for<S: Scene>(
+    seen: &mut Sightings,
+    clips: &mut Clips,
+    scene: &S,
+    watchers: &Watchers,
+    registration: RegistrationId,
+)
+    requires standing { IsStanding registration.0 watchers.now.part }
+    requires chained { AreChained (S.scene scene.now) (S.standings scene.now) }
+    requires room { MayBeWalked (S.scene scene.now) (S.standings scene.now) watchers.now.part seen.old clips.old registration.0 }
+    ensures looked { Looked (S.scene scene.now) seen.old seen.new clips.old clips.new }
+    ensures walked { IsWalked (S.scene scene.now) (S.standings scene.now) watchers.now.part seen.new registration.0 }
+{
+    let root = watchers.root_of(watchers.watcher_of(registration));
+    let target = watchers.target_of(registration);
+    let Standing::Chained = scene.standing(root, target) else {
+        return;
+    };
+    seen.look_along(clips, scene, spot_of_root(root), Spot::Node(target));
+}
+
+impl KeptFindings {
+    /// Nothing is kept, which takes no memory yet.
+    pub fn new(alloc: Global) -> KeptFindings
+        ensures empty { result ≡ no_findings }
+        ensures registered { (watchers : IntersectionObservers) → ((serial : ℕ) → standing_of serial watchers ≡ None) → AreRegistered watchers result }
+    {
+        KeptFindings {
+            seen: Sightings::new(alloc),
+            clips: Clips::new(alloc),
+            index: Index::new(alloc),
+        }
+    }
+
+    /// Makes room for what is seen of a spot. Where memory is refused there may be room for more all the same; nothing else changes in
+    /// either case.
+    pub fn add(&mut self, of: Spot) -> Result<(), AllocError>
+        ensures roomier { IsRoomier self.old self.new }
+        ensures room { OnOk result (MayBeSeen self.new.seen self.new.clips of) }
+    {
+        self.seen.add(of)?;
+        self.clips.add(of)
+    }
+
+    /// Keeps a pair for a registration of which nothing is kept, by the spots of its root and its target. It counts as never computed.
+    ///
+    /// # Errors
+    /// Where there is no memory; nothing is changed then.
+    pub fn register(
+        &mut self,
+        registration: RegistrationId,
+        root: Root,
+        target: NodeId,
+    ) -> Result<(), AllocError>
+        requires { pair_at self.old.clips registration.0 ≡ None }
+        ensures registered { OnOk result (self.new ≡ with_findings registration.0 (spot_of_root (seen_root root)) (element_spot target.0) self.old) }
+        ensures same { OnErr result (self.new ≡ self.old) }
+    {
+        self.clips
+            .hold(registration.0, spot_of_root(root), Spot::Node(target))?;
+        if let Err(error) = self.index.add(registration) {
+            self.clips.release(registration.0);
+            return Err(error);
+        }
+        Ok(())
+    }
+
+    /// Forgets a registration whose pair is kept. No memory.
+    pub fn forget(&mut self, registration: RegistrationId)
+        requires { IsSome (pair_at self.old.clips registration.0) }
+        ensures { self.new ≡ without_findings registration.0 self.old }
+    {
+        self.clips.release(registration.0);
+        self.index.forget(registration);
+    }
+
+    /// Looks at each spot on the chains of an observer's registrations, both ends included: it is touched where its container, clip or
+    /// box differs from what was seen last, or nothing was seen of it, and what is seen now is kept. No memory.
+    pub fn look<S: Scene>(&mut self, scene: &S, watchers: &Watchers, watcher: WatcherId)
+        requires made { watcher.0 < length watchers.now.part.made }
+        requires chained { AreChained (S.scene scene.now) (S.standings scene.now) }
+        requires room { All (MayBeWalked (S.scene scene.now) (S.standings scene.now) watchers.now.part self.old.seen self.old.clips) (serials_at watchers.now.part watcher.0) }
+        ensures looked { Looked (S.scene scene.now) self.old.seen self.new.seen self.old.clips self.new.clips }
+        ensures kept { self.new.kept ≡ self.old.kept }
+        ensures walked { All (IsWalked (S.scene scene.now) (S.standings scene.now) watchers.now.part self.new.seen) (serials_at watchers.now.part watcher.0) }
+    {
+        let registrations = watchers.registrations(watcher);
+        for registration in registrations {
+            look_for(
+                &mut self.seen,
+                &mut self.clips,
+                scene,
+                watchers,
+                *registration,
+            );
+        }
+    }
+
+    /// The registrations of an observer that are stale, in order, once each spot of their chains was seen (`Index::stale_registrations`).
+    /// Clips that don't stand any more are computed.
+    ///
+    /// # Errors
+    /// Where there is no memory for the list.
+    pub fn stale_registrations<S: Scene, L: Ledger>(
+        &mut self,
+        scene: &S,
+        watchers: &Watchers,
+        watcher: WatcherId,
+        steps: &mut Steps<L>,
+    ) -> Result<Vec<RegistrationId>, AllocError>
+        requires made { watcher.0 < length watchers.now.part.made }
+        requires chained { AreChained (S.scene scene.now) (S.standings scene.now) }
+        requires held { AreHeld watchers.now.part self.old }
+        requires walked { All (IsWalked (S.scene scene.now) (S.standings scene.now) watchers.now.part self.old.seen) (serials_at watchers.now.part watcher.0) }
+        ensures stale { (between : ℕ → List SpotOf) → All (IsBetween (S.scene scene.now) (S.standings scene.now) watchers.now.part between) (serials_at watchers.now.part watcher.0) →
+            IfOk result (λ stale. serial_numbers stale.items
+            ≡ filter (is_stale_now (S.scene scene.now) (S.standings scene.now) watchers.now.part between self.old.kept) (serials_at watchers.now.part watcher.0)) }
+        ensures clips { (between : ℕ → List SpotOf) → All (IsBetween (S.scene scene.now) (S.standings scene.now) watchers.now.part between) (serials_at watchers.now.part watcher.0) →
+            OnOk result (self.new.clips ≡ all_asked (S.scene scene.now) (S.standings scene.now) watchers.now.part between (serials_at watchers.now.part watcher.0) self.old.clips) }
+        ensures ticks { (between : ℕ → List SpotOf) → All (IsBetween (S.scene scene.now) (S.standings scene.now) watchers.now.part between) (serials_at watchers.now.part watcher.0) →
+            OnOk result (steps.new ≡ steps.old + all_steps (S.scene scene.now) (S.standings scene.now) watchers.now.part between (serials_at watchers.now.part watcher.0) self.old.clips) }
+        ensures seen { self.new.seen ≡ self.old.seen }
+        ensures kept { self.new.kept ≡ self.old.kept }
+        ensures touches { self.new.clips.touches ≡ self.old.clips.touches }
+        ensures held { AreHeld watchers.now.part self.new }
+    {
+        // It tells that they stand.
+        watchers.registrations(watcher);
+        self.index
+            .stale_registrations(scene, &mut self.clips, watchers, watcher, steps)
+    }
+
+    /// Finds what there is to find of a registration's target, once each spot of its chain was seen, and keeps it (`Index::recompute`).
+    /// It takes one step, and those of its clip where that doesn't stand. No memory.
+    pub fn recompute<S: Scene, L: Ledger>(
+        &mut self,
+        scene: &S,
+        watchers: &Watchers,
+        registration: RegistrationId,
+        steps: &mut Steps<L>,
+    ) -> Finding
+        requires standing { IsStanding registration.0 watchers.now.part }
+        requires chained { AreChained (S.scene scene.now) (S.standings scene.now) }
+        requires held { AreHeld watchers.now.part self.old }
+        requires walked { IsWalked (S.scene scene.now) (S.standings scene.now) watchers.now.part self.old.seen registration.0 }
+        ensures finding { (between : ℕ → List SpotOf) → IsBetween (S.scene scene.now) (S.standings scene.now) watchers.now.part between registration.0 →
+            seen_finding result ≡ finding_for (S.scene scene.now) (S.standings scene.now) watchers.now.part registration.0 (between registration.0) }
+        ensures placed { IsPlaced (root_bounds (S.scene scene.now) (spot_of_root (observer_of watchers.now.part registration.0).root)) (seen_finding result) }
+        ensures clips { (between : ℕ → List SpotOf) → IsBetween (S.scene scene.now) (S.standings scene.now) watchers.now.part between registration.0 →
+            self.new.clips ≡ asked_for (S.scene scene.now) (S.standings scene.now) watchers.now.part between registration.0 self.old.clips }
+        ensures ticks { (between : ℕ → List SpotOf) → IsBetween (S.scene scene.now) (S.standings scene.now) watchers.now.part between registration.0 →
+            steps.new ≡ steps.old + steps_for (S.scene scene.now) (S.standings scene.now) watchers.now.part between registration.0 self.old.clips + 1 }
+        ensures seen { self.new.seen ≡ self.old.seen }
+        ensures touches { self.new.clips.touches ≡ self.old.clips.touches }
+        ensures kept { (between : ℕ → List SpotOf) → IsBetween (S.scene scene.now) (S.standings scene.now) watchers.now.part between registration.0 →
+            self.new.kept ≡ insert self.old.kept registration.0 (Some (record { basis = basis_for (S.scene scene.now) (S.standings scene.now) watchers.now.part registration.0 (between registration.0); finding = result })) }
+        ensures held { AreHeld watchers.now.part self.new }
+    {
+        self.index
+            .recompute(scene, &mut self.clips, watchers, registration, steps)
+    }
+
+    /// Lets a registration count as never computed. No memory.
+    pub fn expire(&mut self, registration: RegistrationId)
+        requires { IsTrue (contains_key self.old.kept registration.0) }
+        ensures { self.new ≡ with_expired registration.0 self.old }
+    {
+        self.index.expire(registration);
+    }
+}

@@ -1,0 +1,52 @@
+//! What becomes of registrations that are kept, and of the steps that their clips take: each law is the clause of a function that does
+//! nothing.
+
+ghost use Rattle.std.specs.Prelude.{◌≡◌, ◌<◌, ◌≤◌, ℕ, Bool, List, [], Option, Some, false, length, sum_by};
+ghost use Rattle.std.specs.List.{AllByRecursion};
+ghost use Rattle.script_model.specs.Margins.{Margins};
+ghost use Rattle.page_model.specs.World.{Root, Finding as ModelFinding, Registration, IntersectionObservers};
+ghost use Rattle.page_model.specs.Lookups.{intersection_observer_at};
+ghost use Rattle.page_model.specs.IntersectionObserving.{is_registered, with_intersection_observer, with_registration, without_registration, without_queue};
+ghost use Rattle.clip_chain.specs.declared.spot.Spot.{Spot as SpotOf};
+ghost use Rattle.clip_chain.specs.Scenes.{Scene as SceneOf};
+ghost use Rattle.clip_chain.specs.Worlds.{element_spot, spot_of_root};
+ghost use Rattle.intersection_observer.specs.Serials.{HasSerials, registrations_at};
+ghost use Rattle.intersection_observer.specs.Settling.{each_settled};
+ghost use Rattle.intersection_observer.specs.Watchers.{serial_of};
+ghost use Rattle.kept_clips.specs.Touches.{last_number};
+ghost use Rattle.kept_clips.specs.Held.{HeldClips};
+ghost use Rattle.kept_clips.specs.Numbers.{AreNumbered};
+ghost use Rattle.candidate_index.specs.declared.scene.Standing.{Standing as StandingOf};
+ghost use Rattle.candidate_index.specs.Asked.{asked_for, steps_for, all_steps};
+ghost use Rattle.kept_findings.specs.Held.{HeldFindings, with_findings, without_findings};
+ghost use Rattle.kept_findings.specs.Registered.{AreRegistered};
+ghost use Rattle.kept_findings.specs.Stale.{chosen, IsQuiet};
+
+/// What is kept is kept of the registrations that stand, and settled, through what commands do to intersection observers: one more
+/// observer, a registration made or taken out whose pair is kept or let go with it, a queue that is handed out.
+pub fn registrations_stay_registered()
+    ensures made { (it : IntersectionObservers) (document : ℕ) (handler : Option ℕ) (root : Root) (margins : Margins) (thresholds : List ℕ) (kept : HeldFindings) →
+        AreRegistered it kept → AreRegistered (with_intersection_observer document handler root margins thresholds it) kept }
+    ensures observed { (it : IntersectionObservers) (watcher n : ℕ) (kept : HeldFindings) → HasSerials it → watcher < length it.made → is_registered n (registrations_at it watcher) ≡ false →
+        AreRegistered it kept → AreRegistered (with_registration watcher n it) (with_findings it.given (spot_of_root (intersection_observer_at it watcher).root) (element_spot n) kept) }
+    ensures unobserved { (it : IntersectionObservers) (watcher n serial : ℕ) (kept : HeldFindings) → HasSerials it → watcher < length it.made → serial_of n (registrations_at it watcher) ≡ Some serial →
+        AreRegistered it kept → AreRegistered (without_registration watcher n it) (without_findings serial kept) }
+    ensures taken { (it : IntersectionObservers) (watcher : ℕ) (kept : HeldFindings) → AreRegistered it kept → AreRegistered (without_queue watcher it) kept }
+{}
+
+/// Where what is found of the others is no news, an observer is settled by those alone that are chosen.
+pub fn settling_the_stale_ones_settles_all()
+    ensures { (test : ℕ → Bool) (time : ℕ) (find : ℕ → ModelFinding) (watcher : ℕ) (registrations : List Registration) (it : IntersectionObservers) → HasSerials it →
+        AllByRecursion (IsQuiet test find watcher it) registrations → each_settled time find (chosen test registrations) it ≡ each_settled time find registrations it }
+{}
+
+/// The clips of several registrations that are asked for one after the other take no more steps than each alone would, and one that is
+/// asked for again takes none, unless as many touches were made as are counted.
+pub fn clips_that_are_asked_for_take_steps_once()
+    ensures together { (scene : SceneOf) (standings : Root → ℕ → StandingOf) (it : IntersectionObservers) (between : ℕ → List SpotOf) (serials : List ℕ) (clips : HeldClips) →
+        all_steps scene standings it between serials clips ≤ sum_by (λ serial. steps_for scene standings it between serial clips) serials }
+    ensures less { (scene : SceneOf) (standings : Root → ℕ → StandingOf) (it : IntersectionObservers) (between : ℕ → List SpotOf) (serial other : ℕ) (clips : HeldClips) →
+        steps_for scene standings it between other (asked_for scene standings it between serial clips) ≤ steps_for scene standings it between other clips }
+    ensures again { (scene : SceneOf) (standings : Root → ℕ → StandingOf) (it : IntersectionObservers) (between : ℕ → List SpotOf) (serial : ℕ) (clips : HeldClips) → AreNumbered clips →
+        clips.touches.count < last_number → steps_for scene standings it between serial (asked_for scene standings it between serial clips) ≡ 0 }
+{}

@@ -1,0 +1,17 @@
+//! What is kept of the registrations of intersection observers from update to update (Intersection Observer, 3.2.7 and 3.2.10): what
+//! was seen last of each spot, the clips between targets and roots, and what was found of each registration and from what.
+//!
+//! How targets stand to roots, containers, clips and boxes are asked of the caller (`candidate_index::Scene`). Rectangles are in units
+//! of 1/64 CSS pixel and in the coordinates of the top document's viewport.
+#![tactic(auto)]
+
+mod findings;
+mod laws;
+mod settling;
+
+pub use findings::KeptFindings;
+pub use laws::{
+    clips_that_are_asked_for_take_steps_once, registrations_stay_registered,
+    settling_the_stale_ones_settles_all,
+};
+pub use settling::Tells;

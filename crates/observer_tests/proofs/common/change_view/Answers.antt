@@ -1,0 +1,8 @@
+use Rattle.observer_tests.specs.Sample.{sample}
+use Rattle.observer_tests.proofs.common.change_view.Goals as goal
+
+pub returns : goal.returns
+returns g c =
+    let old = c.args.page.now in
+    let new = c.put_view.new.self in
+    c.touch.ensures (sample old.clips old.boxes old.view) (sample new.clips new.boxes new.view) c.requires c.put_view.ensures

@@ -1,0 +1,5 @@
+use Rattle.std.proofs.Common.{◌≤◌, ◌+◌}
+use Rattle.observer_tests.proofs.event_tables_tests.see_listening.Given as goal
+
+abbrev pub invariant-loop-step : goal.invariant-loop-step
+invariant-loop-step g l = l.listeners.part.given ≤ l.step-index + 3

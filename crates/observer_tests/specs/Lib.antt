@@ -1,0 +1,2 @@
+pub mod ChainSample
+pub mod Sample

@@ -1,0 +1,52 @@
+-- A page to try clips and registrations on. It has the top document alone: its first element stands in the viewport, each other
+-- one in that of half its number.
+use Rattle.std.specs.Prelude.{ℕ, suc, ◌+◌, ◌/◌, cond, ◌==◌, pos, List, Option, Some, None, option_map}
+use Rattle.std.specs.List.{slice_index_or}
+use Rattle.px_units.specs.declared.Rect.{Rect}
+use Rattle.clip_chain.specs.declared.spot.Spot.{Spot}
+use Rattle.clip_chain.specs.declared.spot.Spot.TheVariants.{Node, View}
+use Rattle.clip_chain.specs.Scenes.{Scene}
+use Rattle.clip_chain.specs.Worlds.{element_spot}
+use Rattle.kept_clips.specs.Held.{HeldClips}
+use Rattle.kept_clips.specs.Chains.{IsExact}
+use Rattle.candidate_index.specs.declared.scene.Standing.{Standing}
+use Rattle.candidate_index.specs.declared.scene.Standing.TheVariants.{Apart}
+
+-- left, top, width and height
+abbrev pub Sides : Type 0
+Sides = ℕ × ℕ × ℕ × ℕ
+
+abbrev pub rect_of : Sides → Rect
+rect_of (left, top, width, height) = record {
+  left = pos left;
+  top = pos top;
+  right = pos (left + width);
+  bottom = pos (top + height);
+}
+
+abbrev pub sample_container : Spot → Option Spot
+sample_container (View document) = None
+sample_container (Node node) = cond (node.0 == 0) (Some (View 0)) (Some (element_spot (node.0 / 2)))
+
+abbrev pub sample_rank : Spot → ℕ
+sample_rank (View document) = 0
+sample_rank (Node node) = suc node.0
+
+abbrev pub sample_clip : List (Option Sides) → Sides → Spot → Option Rect
+sample_clip clips view (View document) = cond (document == 0) (Some (rect_of view)) None
+sample_clip clips view (Node node) = option_map rect_of (slice_index_or clips node.0 None)
+
+abbrev pub sample_box : List Sides → Sides → Spot → Rect
+sample_box boxes view (View document) = rect_of view
+sample_box boxes view (Node node) = rect_of (slice_index_or boxes node.0 (0, 0, 0, 0))
+
+-- by what the elements clip to, their boxes and the viewport
+abbrev pub sample : List (Option Sides) → List Sides → Sides → Scene
+sample clips boxes view = record { container = sample_container; clip = sample_clip clips view; bounds = sample_box boxes view }
+
+-- a target stands to each root in the same way
+abbrev pub sample_standing : List Standing → ℕ → Standing
+sample_standing standings target = slice_index_or standings target Apart
+
+abbrev pub AreExact : Scene → HeldClips → Type 0
+AreExact scene clips = (pair : ℕ) → IsExact scene clips pair

@@ -1,0 +1,96 @@
+//! Scrolls by the rules of CSSOM View, with the positions of the worked examples.
+
+ghost use Rattle.scrolling.specs.Ranges.{IsRange};
+
+use element_tree::NodeId;
+use px_units::{Point, Size};
+use scrolling::{Outcome, ScrollTarget, Scrolls};
+use std::process::Abort;
+use std::test::Fail;
+
+const BOX: ScrollTarget = ScrollTarget::Node(NodeId(3));
+
+const OTHER: ScrollTarget = ScrollTarget::Node(NodeId(1));
+
+const VIEW: ScrollTarget = ScrollTarget::Document(1);
+
+const TOP: ScrollTarget = ScrollTarget::Document(0);
+
+// A range in whole pixels.
+fn range(width: u16, height: u16) -> Size
+    ensures { IsRange result }
+{
+    Size {
+        width: i64::from(width) * 64,
+        height: i64::from(height) * 64,
+    }
+}
+
+fn pixels(left: i16, top: i16) -> Point {
+    Point {
+        left: i64::from(left) * 64,
+        top: i64::from(top) * 64,
+    }
+}
+
+#[test]
+fn scrolls_keep_to_their_ranges(rt: HostRuntime) -> Result<(), Fail> {
+    let mut scrolls = Scrolls::new(rt.alloc());
+    let steps = [
+        (BOX, (0, 250), (0, 210), Outcome::Moved, (0, 210)),
+        (BOX, (0, 900), (0, 210), Outcome::Same, (0, 210)),
+        (VIEW, (0, 900), (0, 250), Outcome::Moved, (0, 250)),
+        (VIEW, (0, 50), (0, 50), Outcome::Same, (0, 50)),
+        (VIEW, (0, 250), (0, 250), Outcome::Same, (0, 250)),
+        (VIEW, (7, 40), (5, 50), Outcome::Moved, (5, 40)),
+        (OTHER, (-3, -3), (9, 9), Outcome::Same, (0, 0)),
+        (OTHER, (4, -3), (9, 9), Outcome::Moved, (4, 0)),
+        (OTHER, (8, 8), (0, 0), Outcome::Same, (0, 0)),
+        (TOP, (1, 1), (0, 0), Outcome::Same, (0, 0)),
+        (BOX, (0, -1), (0, 210), Outcome::Moved, (0, 0)),
+    ];
+    for (target, wanted, most, want, offset) in steps {
+        let within = range(most.0, most.1);
+        let outcome = scrolls.scroll_to(0, target, pixels(wanted.0, wanted.1), within)?;
+        assert_eq!(rt; outcome, want, "at {offset:?}");
+        assert_eq!(rt;
+            scrolls.offset_in_force(target, within),
+            pixels(offset.0, offset.1)
+        );
+    }
+    let narrow = range(0, 50);
+    assert_eq!(rt; scrolls.offset_in_force(VIEW, narrow), pixels(0, 40));
+    assert_eq!(rt; scrolls.offset_in_force(TOP, narrow), pixels(0, 0));
+    Ok(())
+}
+
+fn take(rt: &impl Abort, scrolls: &mut Scrolls, document: u32, want: &[ScrollTarget]) {
+    let taken = scrolls.take_pending(document);
+    assert_eq!(rt; taken.as_slice(), want);
+}
+
+#[test]
+fn pending_lists_have_an_order_and_no_doubles(rt: HostRuntime) -> Result<(), Fail> {
+    let mut scrolls = Scrolls::new(rt.alloc());
+    let steps = [
+        (0, BOX, 1),
+        (2, BOX, 2),
+        (0, VIEW, 1),
+        (0, BOX, 3),
+        (0, OTHER, 1),
+        (0, OTHER, 1),
+        (0, ScrollTarget::Node(NodeId(0)), 0),
+        (2, TOP, 9),
+    ];
+    for (document, target, top) in steps {
+        let _outcome = scrolls.scroll_to(document, target, pixels(0, top), range(9, 9))?;
+    }
+    take(&rt, &mut scrolls, 0, &[BOX, VIEW, OTHER]);
+    take(&rt, &mut scrolls, 0, &[]);
+    take(&rt, &mut scrolls, 1, &[]);
+    let _outcome = scrolls.scroll_to(0, OTHER, pixels(0, 2), range(9, 9))?;
+    take(&rt, &mut scrolls, 0, &[OTHER]);
+    take(&rt, &mut scrolls, 2, &[BOX, TOP]);
+    take(&rt, &mut scrolls, 7, &[]);
+    Ok(())
+}

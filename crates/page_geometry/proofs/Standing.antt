@@ -1,0 +1,76 @@
+-- What an element that has a box stands in: its node document is Active, its parent or the frame around has a box.
+use Rattle.std.proofs.Common.{◌≡◌, ℕ, Bool, true, false, Option, Some, None, refl, ap, sym, ◌∙◌}
+use Rattle.std.specs.Prelude.{◌&&◌, not, is_some, option_map}
+use Rattle.layout_model.specs.Boxes.{Inputs, box_in, content_size}
+use Rattle.layout_model.specs.Clips.{is_block}
+use Rattle.layout_model.specs.Reach.{inputs_in_view}
+use Rattle.page_model.specs.World.{Screen, Tree}
+use Rattle.page_model.specs.Lookups.{element_at, document_at}
+use Rattle.page_model.specs.Documents.{nodes_of, is_active, is_root_element}
+use Rattle.page_model.specs.PageBoxes.{no_view, framed_size, view_with, view_of, has_box}
+use Rattle.page_documents.specs.Frames.{AreFramed}
+use Rattle.page_documents.proofs.Lists.{number_is, its_number}
+use Rattle.page_boxes.proofs.Boxed.{boxed_below, boxed_top}
+use Rattle.page_boxes.proofs.Views.{view_idle, view_whole, view_root, view_is}
+
+none_in : (tree : Tree) (n : ℕ) → is_some (inputs_in_view (nodes_of tree) no_view n) ≡ false
+unfolding inputs_in_view
+none_in tree n = refl
+
+pub last_true : (a b c : Bool) → (a && b && c) ≡ true → c ≡ true
+last_true true true c is = is
+last_true true false c is = cc
+last_true false b c is = cc
+
+pub both_true : (a b : Bool) → (a && b) ≡ true → b ≡ true
+both_true true b is = is
+both_true false b is = cc
+
+none_found : (found : Option Inputs) → is_some found ≡ false → found ≡ None
+none_found None is = refl
+none_found (Some inputs) is = cc
+
+module _ (tree : Tree) (screen : Screen) where
+  pub boxed_in : (n : ℕ) → has_box tree screen n ≡ is_some (inputs_in_view (nodes_of tree) (view_of tree screen (element_at tree n).document) n)
+  unfolding has_box
+  boxed_in n = refl
+
+  -- a view that shows nothing
+  module _ (n : ℕ) (boxed : has_box tree screen n ≡ true) where
+    shows : view_of tree screen (element_at tree n).document ≡ no_view → ⊥
+    shows is =
+        let clash : true ≡ false = sym boxed ∙ boxed_in n ∙ ap (λ view. is_some (inputs_in_view (nodes_of tree) view n)) is ∙ none_in tree n in cc
+
+    pub active : is_active tree (element_at tree n).document ≡ true
+    active = by_state (is_active tree (element_at tree n).document) refl
+      where
+        by_state : (b : Bool) → is_active tree (element_at tree n).document ≡ b → is_active tree (element_at tree n).document ≡ true
+        by_state true is = is
+        by_state false is = absurd (shows (sym (view_whole tree screen (element_at tree n).document) ∙ view_idle tree screen 65536 (element_at tree n).document is))
+
+    module _ (framed : AreFramed tree) where
+      pub parent_boxed : (p : ℕ) → (element_at tree n).parent ≡ Some p → has_box tree screen p ≡ true
+      parent_boxed p is =
+          boxed_in p
+          ∙ ap (λ d. is_some (inputs_in_view (nodes_of tree) (view_of tree screen d) p)) (sym (framed.owners.owned n p is))
+          ∙ last_true (not (nodes_of tree n).item.style.hidden) (is_block (nodes_of tree p).item.kind) _
+          (sym (boxed_below (nodes_of tree) (view_of tree screen (element_at tree n).document) n p is (framed.trees.shallow p)) ∙ sym (boxed_in n) ∙ boxed)
+
+      pub root_is : (element_at tree n).parent ≡ None → is_root_element tree n ≡ true
+      root_is is =
+          its_number (document_at tree (element_at tree n).document).root n
+          (view_root tree screen (element_at tree n).document n
+          (number_is (view_of tree screen (element_at tree n).document).root n
+          (both_true (not (nodes_of tree n).item.style.hidden) _
+          (sym (boxed_top (nodes_of tree) (view_of tree screen (element_at tree n).document) n is) ∙ sym (boxed_in n) ∙ boxed))))
+
+      pub frame_boxed : (frame : ℕ) → (document_at tree (element_at tree n).document).frame ≡ Some frame → has_box tree screen frame ≡ true
+      frame_boxed frame is = by_box (has_box tree screen frame) refl
+        where
+          by_box : (b : Bool) → has_box tree screen frame ≡ b → has_box tree screen frame ≡ true
+          by_box true there = there
+          by_box false none = absurd (shows
+              (view_is tree framed screen (element_at tree n).document active
+              ∙ ap (λ f. view_with (document_at tree (element_at tree n).document).root (framed_size tree screen (view_of tree screen) f)) is
+              ∙ ap (λ (found : Option Inputs). view_with (document_at tree (element_at tree n).document).root (option_map (λ inputs. content_size (box_in (nodes_of tree) inputs frame)) found))
+              (none_found (inputs_in_view (nodes_of tree) (view_of tree screen (element_at tree frame).document) frame) (sym (boxed_in frame) ∙ none))))

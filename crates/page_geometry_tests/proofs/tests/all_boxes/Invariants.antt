@@ -1,5 +1,0 @@
--- The ledger of the counter is the one that its blank opens.
-use Rattle.page_geometry_tests.proofs.tests.all_boxes.Given as goal
-
-abbrev pub ghosts-renew : goal.ghosts-renew
-ghosts-renew g a = record { name = a.blank.name; parts = a.blank.parts }

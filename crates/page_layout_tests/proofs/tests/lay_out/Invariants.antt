@@ -1,5 +1,0 @@
--- The ledger of the test's counter is the one that its blank opens.
-use Rattle.page_layout_tests.proofs.tests.lay_out.Given as goal
-
-abbrev pub ghosts-renew : goal.ghosts-renew
-ghosts-renew a = record { name = a.blank.name; parts = a.blank.parts }

@@ -1,0 +1,508 @@
+//! Findings on a page with scrollers and a frame, with the numbers that an independent program for the same rules gives.
+
+ghost use Rattle.std.specs.Prelude.{◌<◌, length};
+ghost use Rattle.page_boxes.specs.Fresh.{IsFresh};
+ghost use Rattle.page_boxes.specs.Pages.{seen_screen};
+
+use crate::common::{SCREEN, all_boxes, make_elements, put, remove, set, watch};
+use clip_chain::{Spot, reaches};
+use element_tree::NodeId;
+use intersection_observer::{Finding, Root, WatcherId, Watchers};
+use kept_layout::Kept;
+use page_boxes::range_of;
+use page_geometry::{Shown, find};
+use page_tree::{Container, PageTree};
+use px_units::{Point, Rect};
+use scrolling::{ScrollTarget, Scrolls};
+use std::alloc::Global;
+use std::process::Abort;
+use std::test::Fail;
+
+/// Where elements are put: 1 is the frame of document 1. All are made in `top`.
+const PLACES: [(Container, u32); 9] = [
+    (Container::Document(0), 0),
+    (Container::Element(NodeId(0)), 2),
+    (Container::Element(NodeId(2)), 3),
+    (Container::Element(NodeId(2)), 1),
+    (Container::Element(NodeId(2)), 4),
+    (Container::Element(NodeId(0)), 8),
+    (Container::Document(1), 5),
+    (Container::Element(NodeId(5)), 6),
+    (Container::Element(NodeId(6)), 7),
+];
+
+const STYLES: [(u32, &str, &str); 24] = [
+    (0, "padding", "5px"),
+    (0, "border", "1px"),
+    (2, "width", "300px"),
+    (2, "height", "200px"),
+    (2, "padding", "4px"),
+    (2, "border", "2px"),
+    (2, "overflow", "scroll"),
+    (3, "height", "100px"),
+    (1, "width", "200px"),
+    (1, "height", "150px"),
+    (1, "padding", "3px"),
+    (1, "border", "2px"),
+    (1, "margin-left", "10px"),
+    (4, "height", "400px"),
+    (5, "margin", "4px"),
+    (6, "height", "80px"),
+    (6, "width", "90%"),
+    (6, "padding", "3px"),
+    (6, "border", "1px"),
+    (6, "margin-top", "30px"),
+    (6, "overflow", "hidden"),
+    (7, "height", "120px"),
+    (7, "width", "50%"),
+    (7, "margin-top", "10px"),
+];
+
+/// The roots and root margins of the observers.
+const WATCHED: [(Root, &str); 6] = [
+    (Root::Implicit, ""),
+    (Root::Document(1), "10px 0px"),
+    (Root::Node(NodeId(6)), "-10px"),
+    (Root::Node(NodeId(5)), "5%"),
+    (Root::Node(NodeId(2)), ""),
+    (Root::Node(NodeId(0)), "-10%"),
+];
+
+const THRESHOLDS: [i64; 4] = [0, 2500, 5000, 10000];
+
+/// The left, top, right and bottom edges.
+type Edges = (i64, i64, i64, i64);
+
+/// What is done to the page, or what is found, in 1/64 pixel.
+#[derive(Clone, Copy)]
+enum Step {
+    /// An element is scrolled downwards, as far as it can be.
+    Scroll(u32, i64),
+    Set(u32, &'static str, &'static str),
+    Remove(u32),
+    /// Of an observer and a target: the index and whether they meet, the part and the whole, and the edges of the root
+    /// rectangle, of the target's box and of what is seen of it.
+    Find(u32, u32, (u32, bool), (u128, u128), [Edges; 3]),
+}
+
+const STEPS: [Step; 32] = [
+    Step::Find(
+        0,
+        7,
+        (2, true),
+        (18046656, 42462720),
+        [
+            (0, 0, 51200, 38400),
+            (512, 3072, 6041, 10752),
+            (512, 3072, 6041, 6336),
+        ],
+    ),
+    Step::Find(
+        0,
+        1,
+        (3, true),
+        (89456640, 137625600),
+        [
+            (0, 0, 51200, 38400),
+            (1408, 7168, 14848, 17408),
+            (1408, 7168, 14848, 13824),
+        ],
+    ),
+    Step::Find(
+        0,
+        8,
+        (1, false),
+        (0, 1),
+        [(0, 0, 51200, 38400), (0, 0, 0, 0), (0, 0, 0, 0)],
+    ),
+    Step::Find(
+        0,
+        4,
+        (1, false),
+        (0, 491520000),
+        [
+            (0, 0, 51200, 38400),
+            (768, 17408, 19968, 43008),
+            (0, 0, 0, 0),
+        ],
+    ),
+    Step::Find(
+        1,
+        7,
+        (3, true),
+        (25831488, 42462720),
+        [
+            (0, -640, 12800, 10240),
+            (512, 3072, 6041, 10752),
+            (512, 3072, 6041, 7744),
+        ],
+    ),
+    Step::Find(
+        1,
+        1,
+        (0, false),
+        (0, 1),
+        [(0, -640, 12800, 10240), (0, 0, 0, 0), (0, 0, 0, 0)],
+    ),
+    Step::Find(
+        2,
+        7,
+        (2, true),
+        (20486592, 42462720),
+        [
+            (960, 2880, 11123, 7104),
+            (512, 3072, 6041, 10752),
+            (960, 3072, 6041, 7104),
+        ],
+    ),
+    Step::Find(
+        2,
+        4,
+        (0, false),
+        (0, 1),
+        [(960, 2880, 11123, 7104), (0, 0, 0, 0), (0, 0, 0, 0)],
+    ),
+    Step::Find(
+        3,
+        7,
+        (3, true),
+        (25831488, 42462720),
+        [
+            (-358, -358, 13158, 8422),
+            (512, 3072, 6041, 10752),
+            (512, 3072, 6041, 7744),
+        ],
+    ),
+    Step::Find(
+        4,
+        7,
+        (0, false),
+        (0, 1),
+        [(512, 512, 20224, 13824), (0, 0, 0, 0), (0, 0, 0, 0)],
+    ),
+    Step::Find(
+        4,
+        1,
+        (3, true),
+        (89456640, 137625600),
+        [
+            (512, 512, 20224, 13824),
+            (1408, 7168, 14848, 17408),
+            (1408, 7168, 14848, 13824),
+        ],
+    ),
+    Step::Find(
+        4,
+        8,
+        (0, false),
+        (0, 1),
+        [(512, 512, 20224, 13824), (0, 0, 0, 0), (0, 0, 0, 0)],
+    ),
+    Step::Find(
+        4,
+        2,
+        (0, false),
+        (0, 1),
+        [(512, 512, 20224, 13824), (0, 0, 0, 0), (0, 0, 0, 0)],
+    ),
+    Step::Find(
+        5,
+        1,
+        (1, true),
+        (19922944, 137625600),
+        [
+            (5120, 5120, 46080, 9216),
+            (1408, 7168, 14848, 17408),
+            (5120, 7168, 14848, 9216),
+        ],
+    ),
+    Step::Find(
+        5,
+        2,
+        (1, true),
+        (62390272, 270925824),
+        [
+            (5120, 5120, 46080, 9216),
+            (384, 384, 20352, 13952),
+            (5120, 5120, 20352, 9216),
+        ],
+    ),
+    Step::Scroll(2, 3840),
+    Step::Scroll(6, 3200),
+    Step::Find(
+        0,
+        7,
+        (3, true),
+        (30431616, 42462720),
+        [
+            (0, 0, 51200, 38400),
+            (512, 64, 6041, 7744),
+            (512, 2240, 6041, 7744),
+        ],
+    ),
+    Step::Find(
+        0,
+        4,
+        (1, true),
+        (4915200, 491520000),
+        [
+            (0, 0, 51200, 38400),
+            (768, 13568, 19968, 39168),
+            (768, 13568, 19968, 13824),
+        ],
+    ),
+    Step::Find(
+        2,
+        7,
+        (3, true),
+        (21462144, 42462720),
+        [
+            (960, 2880, 11123, 7104),
+            (512, 64, 6041, 7744),
+            (960, 2880, 6041, 7104),
+        ],
+    ),
+    Step::Find(
+        4,
+        1,
+        (4, true),
+        (137625600, 137625600),
+        [
+            (512, 512, 20224, 13824),
+            (1408, 3328, 14848, 13568),
+            (1408, 3328, 14848, 13568),
+        ],
+    ),
+    Step::Find(
+        5,
+        1,
+        (2, true),
+        (39845888, 137625600),
+        [
+            (5120, 5120, 46080, 9216),
+            (1408, 3328, 14848, 13568),
+            (5120, 5120, 14848, 9216),
+        ],
+    ),
+    Step::Set(6, "overflow", "visible"),
+    Step::Find(
+        0,
+        7,
+        (3, true),
+        (36093312, 42462720),
+        [
+            (0, 0, 51200, 38400),
+            (512, 3072, 6041, 10752),
+            (512, 3072, 6041, 9600),
+        ],
+    ),
+    Step::Find(
+        2,
+        7,
+        (2, true),
+        (21073920, 42462720),
+        [
+            (896, 2816, 11187, 7168),
+            (512, 3072, 6041, 10752),
+            (896, 3072, 6041, 7168),
+        ],
+    ),
+    Step::Find(
+        3,
+        7,
+        (3, true),
+        (29580150, 42462720),
+        [
+            (-358, -358, 13158, 8422),
+            (512, 3072, 6041, 10752),
+            (512, 3072, 6041, 8422),
+        ],
+    ),
+    Step::Remove(2),
+    Step::Find(
+        0,
+        7,
+        (1, false),
+        (0, 1),
+        [(0, 0, 51200, 38400), (0, 0, 0, 0), (0, 0, 0, 0)],
+    ),
+    Step::Find(
+        1,
+        7,
+        (1, false),
+        (0, 1),
+        [(0, -640, 0, 640), (0, 0, 0, 0), (0, 0, 0, 0)],
+    ),
+    Step::Find(
+        2,
+        7,
+        (0, false),
+        (0, 1),
+        [(640, 640, -640, -640), (0, 0, 0, 0), (0, 0, 0, 0)],
+    ),
+    Step::Find(
+        4,
+        1,
+        (0, false),
+        (0, 1),
+        [(0, 0, 0, 0), (0, 0, 0, 0), (0, 0, 0, 0)],
+    ),
+    Step::Find(
+        5,
+        4,
+        (0, false),
+        (0, 1),
+        [(5120, 5120, 46080, -4352), (0, 0, 0, 0), (0, 0, 0, 0)],
+    ),
+];
+
+fn place_and_style(rt: &impl Abort, page: &mut PageTree) {
+    for (container, node) in PLACES {
+        put(rt, page, container, node);
+    }
+    for (node, property, value) in STYLES {
+        set(rt, page, node, property, value);
+    }
+    set(rt, page, 8, "display", "none");
+}
+
+fn page_of(rt: &impl Abort, alloc: Global) -> Result<PageTree, Fail> {
+    let mut page = PageTree::new(alloc)?;
+    make_elements(rt, &mut page, 9, &[1])?;
+    place_and_style(rt, &mut page);
+    Ok(page)
+}
+
+fn watch_all(alloc: Global, watchers: &mut Watchers) -> Result<(), Fail> {
+    for (root, margins) in WATCHED {
+        watch(alloc, watchers, 0, root, margins, &THRESHOLDS)?;
+    }
+    Ok(())
+}
+
+fn watchers_of(alloc: Global) -> Result<Watchers, Fail> {
+    let mut watchers = Watchers::new(alloc, 6, 6);
+    watch_all(alloc, &mut watchers)?;
+    Ok(watchers)
+}
+
+fn scroll(
+    rt: &impl Abort,
+    alloc: Global,
+    page: &PageTree,
+    scrolls: &mut Scrolls,
+    node: u32,
+    down: i64,
+) -> Result<(), Fail> {
+    let boxes = all_boxes(rt, alloc, page, SCREEN)?;
+    let target = ScrollTarget::Node(NodeId(node));
+    let range = range_of(page, &boxes, SCREEN, target);
+    let _outcome = scrolls.scroll_to(0, target, Point { left: 0, top: down }, range)?;
+    Ok(())
+}
+
+fn edges_of(rect: Rect) -> Edges {
+    (rect.left, rect.top, rect.right, rect.bottom)
+}
+
+fn find_over(
+    rt: &impl Abort,
+    page: &PageTree,
+    boxes: &Kept,
+    scrolls: &Scrolls,
+    watchers: &Watchers,
+    watcher: WatcherId,
+    target: NodeId,
+) -> Finding
+    requires watcher { watcher.0 < length watchers.now.part.made }
+    requires fresh { IsFresh page.now.tree (seen_screen SCREEN) boxes.now }
+{
+    let shown = Shown::new(page, boxes, scrolls, SCREEN);
+    let is_chained = reaches(&shown, Spot::Node(target), Spot::View(0));
+    let finding = find(&shown, watchers, watcher, target);
+    assert!(rt; is_chained || !finding.meets);
+    finding
+}
+
+fn found(
+    rt: &impl Abort,
+    alloc: Global,
+    page: &PageTree,
+    scrolls: &Scrolls,
+    watchers: &Watchers,
+    watcher: u32,
+    target: u32,
+) -> Result<Finding, Fail> {
+    assert!(rt; watcher < watchers.count());
+    let boxes = all_boxes(rt, alloc, page, SCREEN)?;
+    Ok(find_over(
+        rt,
+        page,
+        &boxes,
+        scrolls,
+        watchers,
+        WatcherId(watcher),
+        NodeId(target),
+    ))
+}
+
+fn compare(
+    rt: &impl Abort,
+    found: Finding,
+    counts: (u32, bool),
+    areas: (u128, u128),
+    edges: [Edges; 3],
+) {
+    let [root, target, cut] = edges;
+    assert_eq!(rt; (found.index, found.meets), counts);
+    assert_eq!(rt; (found.ratio.part, found.ratio.whole), areas);
+    assert_eq!(rt; edges_of(found.root), root);
+    assert_eq!(rt; edges_of(found.target), target);
+    assert_eq!(rt; edges_of(found.cut), cut);
+}
+
+fn take_step(
+    rt: &impl Abort,
+    alloc: Global,
+    page: &mut PageTree,
+    scrolls: &mut Scrolls,
+    watchers: &Watchers,
+    step: Step,
+) -> Result<(), Fail> {
+    match step {
+        Step::Scroll(node, down) => scroll(rt, alloc, page, scrolls, node, down)?,
+        Step::Set(node, property, value) => set(rt, page, node, property, value),
+        Step::Remove(node) => remove(rt, page, node),
+        Step::Find(watcher, target, counts, areas, edges) => {
+            let it = found(rt, alloc, page, scrolls, watchers, watcher, target)?;
+            compare(rt, it, counts, areas, edges);
+        }
+    }
+    Ok(())
+}
+
+fn take_steps(
+    rt: &impl Abort,
+    alloc: Global,
+    page: &mut PageTree,
+    scrolls: &mut Scrolls,
+    watchers: &Watchers,
+    steps: &[Step],
+) -> Result<(), Fail> {
+    for step in steps {
+        take_step(rt, alloc, page, scrolls, watchers, *step)?;
+    }
+    Ok(())
+}
+
+fn follow(rt: &impl Abort, alloc: Global, steps: &[Step]) -> Result<(), Fail> {
+    let watchers = watchers_of(alloc)?;
+    let mut page = page_of(rt, alloc)?;
+    let mut scrolls = Scrolls::new(alloc);
+    take_steps(rt, alloc, &mut page, &mut scrolls, &watchers, steps)
+}
+
+#[test]
+fn targets_are_found_as_they_are(rt: HostRuntime) -> Result<(), Fail> {
+    follow(&rt, rt.alloc(), &STEPS)
+}

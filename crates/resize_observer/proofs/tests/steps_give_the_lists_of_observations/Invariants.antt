@@ -1,5 +1,0 @@
-use Rattle.std.proofs.Common.{◌≤◌, length}
-use Rattle.resize_observer.proofs.tests.steps_give_the_lists_of_observations.Given as goal
-
-abbrev pub invariant-loop-document : goal.invariant-loop-document
-invariant-loop-document g l = (l.observers.part.given ≤ l.document-index) × (length l.document-items ≤ 100)

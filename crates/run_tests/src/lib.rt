@@ -1,0 +1,17 @@
+//! The tests of whole scripts, over what the crates that run and read them offer in public.
+#![tactic(auto)]
+
+#[cfg(test)]
+mod common;
+#[cfg(test)]
+mod handlers_tests;
+#[cfg(test)]
+mod loop_lint_tests;
+#[cfg(test)]
+mod replay_run_forms;
+#[cfg(test)]
+mod replay_run_limits;
+#[cfg(test)]
+mod replay_run_scripts;
+#[cfg(test)]
+mod replay_run_tests;

@@ -1,0 +1,234 @@
+//! Each limit at its number, and one past it.
+
+use crate::replay_run_scripts::{NUMBERED, Numbered, OBSERVING, Observing};
+use crate::replay_run_tests::{WHOLE, expect};
+use replay_run::Status;
+use std::alloc::{AllocError, Global};
+use std::process::Abort;
+use std::test::Fail;
+
+// What a script that goes on writes.
+const ON: &str = "say on\n";
+
+// Appends a line so many times, each with its number from 0.
+fn push_numbered(
+    text: &mut String,
+    before: &str,
+    after: &str,
+    count: u32,
+) -> Result<(), AllocError> {
+    for k in 0..count {
+        write!(text, "{before}{k}{after}")?;
+    }
+    Ok(())
+}
+
+// Appends a text so many times.
+fn push_times(text: &mut String, line: &str, count: u32) -> Result<(), AllocError> {
+    for _ in 0..count {
+        text.push_str(line)?;
+    }
+    Ok(())
+}
+
+// Compares a text that goes on at its end.
+fn expect_on(rt: &impl Abort, alloc: Global, text: &mut String) -> Result<(), Fail> {
+    text.push_str("say on\n")?;
+    expect(rt, alloc, text, WHOLE, Status::Done, ON)
+}
+
+fn push_number(text: &mut String, it: &Numbered, count: u32) -> Result<(), AllocError> {
+    text.push_str("script 1\n")?;
+    text.push_str(it.first)?;
+    push_numbered(text, it.before, it.after, count)
+}
+
+fn see_most(rt: &impl Abort, alloc: Global, it: &Numbered) -> Result<(), Fail> {
+    let mut text = String::new(alloc);
+    push_number(&mut text, it, it.most)?;
+    expect_on(rt, alloc, &mut text)
+}
+
+fn see_too_many(rt: &impl Abort, alloc: Global, it: &Numbered) -> Result<(), Fail> {
+    let mut text = String::new(alloc);
+    push_number(&mut text, it, it.most.saturating_add(1))?;
+    expect(rt, alloc, &text, WHOLE, Status::Limit, it.told)
+}
+
+#[test]
+fn no_more_is_made_than_the_limits(rt: HostRuntime) -> Result<(), Fail> {
+    for it in &NUMBERED {
+        see_most(&rt, rt.alloc(), it)?;
+        see_too_many(&rt, rt.alloc(), it)?;
+    }
+    Ok(())
+}
+
+// Three observers, of which each observes all of 16,667 blocks, until there are so many observations.
+fn push_observed(text: &mut String, it: &Observing, count: u32) -> Result<(), AllocError> {
+    text.push_str("script 1\n")?;
+    push_numbered(text, "block b", " top\n", 16_667)?;
+    push_numbered(text, it.make, it.made, 3)?;
+    for k in 0..count {
+        write!(
+            text,
+            "{}{} b{}{}",
+            it.observe,
+            k / 16_667,
+            k % 16_667,
+            it.observed
+        )?;
+    }
+    Ok(())
+}
+
+fn see_all_observed(rt: &impl Abort, alloc: Global, it: &Observing) -> Result<(), Fail> {
+    let mut text = String::new(alloc);
+    push_observed(&mut text, it, 50_000)?;
+    expect_on(rt, alloc, &mut text)
+}
+
+fn see_too_many_observed(rt: &impl Abort, alloc: Global, it: &Observing) -> Result<(), Fail> {
+    let mut text = String::new(alloc);
+    push_observed(&mut text, it, 50_001)?;
+    expect(rt, alloc, &text, WHOLE, Status::Limit, it.told)
+}
+
+#[test]
+fn no_more_is_observed_than_the_limits(rt: HostRuntime) -> Result<(), Fail> {
+    for it in &OBSERVING {
+        see_all_observed(&rt, rt.alloc(), it)?;
+        see_too_many_observed(&rt, rt.alloc(), it)?;
+    }
+    Ok(())
+}
+
+// All kinds of events at 1,024 blocks, and then one line more; there is one block more.
+fn push_listening(text: &mut String, last: &str) -> Result<(), AllocError> {
+    text.push_str("script 1\nhandler h\nend\n")?;
+    push_numbered(text, "block b", " top\n", 1025)?;
+    for kind in [" resize h\n", " scroll h\n", " error h\n", " change h\n"] {
+        push_numbered(text, "listen b", kind, 1024)?;
+    }
+    text.push_str(last)
+}
+
+// One that is there already isn't added.
+fn see_same_listened(rt: &impl Abort, alloc: Global) -> Result<(), Fail> {
+    let mut text = String::new(alloc);
+    push_listening(&mut text, "listen b1 scroll h\n")?;
+    expect_on(rt, alloc, &mut text)
+}
+
+fn see_too_many_listened(rt: &impl Abort, alloc: Global) -> Result<(), Fail> {
+    let mut text = String::new(alloc);
+    push_listening(&mut text, "listen b1024 resize h\n")?;
+    let told = "limit listeners 5125 4096\n";
+    expect(rt, alloc, &text, WHOLE, Status::Limit, told)
+}
+
+#[test]
+fn no_more_is_listened_than_the_limit(rt: HostRuntime) -> Result<(), Fail> {
+    see_same_listened(&rt, rt.alloc())?;
+    see_too_many_listened(&rt, rt.alloc())
+}
+
+// `top` is one of the documents.
+fn push_framed(text: &mut String, count: u32) -> Result<(), AllocError> {
+    text.push_str("script 1\n")?;
+    for k in 0..count {
+        write!(text, "frame f{k} top d{k}\n")?;
+    }
+    Ok(())
+}
+
+fn see_all_framed(rt: &impl Abort, alloc: Global) -> Result<(), Fail> {
+    let mut text = String::new(alloc);
+    push_framed(&mut text, 63)?;
+    expect_on(rt, alloc, &mut text)
+}
+
+fn see_too_many_framed(rt: &impl Abort, alloc: Global) -> Result<(), Fail> {
+    let mut text = String::new(alloc);
+    push_framed(&mut text, 64)?;
+    let told = "limit documents 65 64\n";
+    expect(rt, alloc, &text, WHOLE, Status::Limit, told)
+}
+
+#[test]
+fn no_more_documents_are_made_than_the_limit(rt: HostRuntime) -> Result<(), Fail> {
+    see_all_framed(&rt, rt.alloc())?;
+    see_too_many_framed(&rt, rt.alloc())
+}
+
+// A line so many times between what comes before and after it.
+fn push_around(
+    text: &mut String,
+    first: &str,
+    line: &str,
+    count: u32,
+    last: &str,
+) -> Result<(), AllocError> {
+    text.push_str(first)?;
+    push_times(text, line, count)?;
+    text.push_str(last)
+}
+
+fn see_nested(rt: &impl Abort, alloc: Global) -> Result<(), Fail> {
+    let mut text = String::new(alloc);
+    let first = "script 1\nblock b top\n";
+    push_around(&mut text, first, "when not attached b\n", 16, "say on\n")?;
+    push_times(&mut text, "end\n", 16)?;
+    expect(rt, alloc, &text, WHOLE, Status::Done, ON)
+}
+
+fn see_nested_too_deep(rt: &impl Abort, alloc: Global) -> Result<(), Fail> {
+    let mut text = String::new(alloc);
+    push_around(&mut text, "script 1\n", "when attached top\n", 17, "")?;
+    let told = "limit nesting 18 16\n";
+    expect(rt, alloc, &text, WHOLE, Status::Limit, told)
+}
+
+#[test]
+fn blocks_are_nested_up_to_the_limit(rt: HostRuntime) -> Result<(), Fail> {
+    see_nested(&rt, rt.alloc())?;
+    see_nested_too_deep(&rt, rt.alloc())
+}
+
+fn see_longest_line(rt: &impl Abort, alloc: Global) -> Result<(), Fail> {
+    let mut text = String::new(alloc);
+    push_around(&mut text, "script 1\n", " ", 4096, "\n")?;
+    expect_on(rt, alloc, &mut text)
+}
+
+fn see_line_too_long(rt: &impl Abort, alloc: Global) -> Result<(), Fail> {
+    let mut text = String::new(alloc);
+    push_around(&mut text, "script 1\n", " ", 4097, "\n")?;
+    let told = "limit line 2 4096\n";
+    expect(rt, alloc, &text, WHOLE, Status::Limit, told)
+}
+
+#[test]
+fn lines_have_bytes_up_to_the_limit(rt: HostRuntime) -> Result<(), Fail> {
+    see_longest_line(&rt, rt.alloc())?;
+    see_line_too_long(&rt, rt.alloc())
+}
+
+fn see_longest_script(rt: &impl Abort, alloc: Global) -> Result<(), Fail> {
+    let mut text = String::new(alloc);
+    push_around(&mut text, "script 1\nsay on\n", "\n", 16_777_200, "")?;
+    expect(rt, alloc, &text, WHOLE, Status::Done, ON)
+}
+
+fn see_script_too_long(rt: &impl Abort, alloc: Global) -> Result<(), Fail> {
+    let mut text = String::new(alloc);
+    push_times(&mut text, "\n", 16_777_217)?;
+    let told = "limit script 16777217 16777216\n";
+    expect(rt, alloc, &text, WHOLE, Status::Limit, told)
+}
+
+#[test]
+fn scripts_have_bytes_up_to_the_limit(rt: HostRuntime) -> Result<(), Fail> {
+    see_longest_script(&rt, rt.alloc())?;
+    see_script_too_long(&rt, rt.alloc())
+}

@@ -1,0 +1,111 @@
+//! Lengths as texts and against a basis, and rectangles.
+
+use px_units::{
+    Length, LengthFault, Percent, Px, Rect, area, meet, print_px, read_percent, read_px, resolve,
+    shift,
+};
+use std::test::Fail;
+
+#[test]
+fn lengths_are_printed_exactly(rt: HostRuntime) -> Result<(), Fail> {
+    let rows = [
+        (0, "0"),
+        (1, "0.015625"),
+        (2, "0.03125"),
+        (63, "0.984375"),
+        (64, "1"),
+        (-32, "-0.5"),
+        (51200, "800"),
+        (-64000000, "-1000000"),
+        (2147483647, "33554431.984375"),
+        (-2251799813685248, "-35184372088832"),
+        (9223372036854775807, "144115188075855871.984375"),
+        (-9223372036854775808, "-144115188075855872"),
+    ];
+    for (units, text) in rows {
+        assert_eq!(rt;
+            print_px(rt.alloc(), Px(units))?.as_slice(),
+            text.as_bytes(),
+            "{text}"
+        );
+    }
+    Ok(())
+}
+
+#[test]
+fn texts_are_read(rt: HostRuntime) {
+    let rows = [
+        ("-0.99px", Ok(Px(-63))),
+        ("1000000px", Ok(Px(64000000))),
+        ("-12345678px", Err(LengthFault::OutOfRange)),
+        ("5%", Err(LengthFault::NotALength)),
+    ];
+    for (text, want) in rows {
+        assert!(rt; read_px(text.as_bytes()) == want, "{text}");
+    }
+    assert!(rt; read_percent(b"-12.5%") == Ok(Percent(-1250)));
+    assert!(rt; read_percent(b"10000.01%") == Err(LengthFault::OutOfRange));
+    assert!(rt; read_percent(b"%") == Err(LengthFault::NotALength));
+}
+
+#[test]
+fn lengths_are_resolved(rt: HostRuntime) {
+    assert_eq!(rt; resolve(Length::Auto, 6400), None);
+    assert_eq!(rt; resolve(Length::Px(Px(2147483648)), 5), Some(2147483647));
+    assert_eq!(rt; resolve(Length::Percent(Percent(3333)), 1000), Some(333));
+    assert_eq!(rt;
+        resolve(Length::Percent(Percent(20000)), 2147483647),
+        Some(2147483647)
+    );
+}
+
+#[test]
+fn rectangles_meet_at_their_edges(rt: HostRuntime) {
+    let a = Rect {
+        left: 0,
+        top: 0,
+        right: 64,
+        bottom: 32,
+    };
+    let touching = Rect {
+        left: 64,
+        top: -10,
+        right: 100,
+        bottom: 10,
+    };
+    let apart = Rect {
+        left: 65,
+        top: 0,
+        right: 70,
+        bottom: 32,
+    };
+    assert_eq!(rt;
+        meet(a, touching),
+        Some(Rect {
+            left: 64,
+            top: 0,
+            right: 64,
+            bottom: 10
+        })
+    );
+    assert_eq!(rt; meet(a, apart), None);
+    assert_eq!(rt;
+        shift(a, -1, 2),
+        Rect {
+            left: -1,
+            top: 2,
+            right: 63,
+            bottom: 34
+        }
+    );
+    assert_eq!(rt; area(a), 2048);
+    assert_eq!(rt;
+        area(Rect {
+            left: 1,
+            top: 5,
+            right: 0,
+            bottom: 4
+        }),
+        0
+    );
+}

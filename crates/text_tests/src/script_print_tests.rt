@@ -1,0 +1,72 @@
+//! Scripts in free form with their texts.
+
+use crate::scripts::script_of;
+use script_print::print;
+use std::alloc::Global;
+use std::process::Abort;
+use std::test::Fail;
+
+/// Each kind of word that is printed in another form than it was written in, in one script.
+const FREE: &str = "script  1
+handler show # the observer calls it
+    remove\t$target
+end
+viewport 1.50px   010px
+
+media q top  not screen  and ( min-width : 1.50px ) ,( orientation:portrait )
+set a margin-left 12.50% # wide
+io o top show root - margin 1.50px   0 threshold 0.2500 1
+tick 16";
+
+const PRINTED: &str = "script 1
+handler show
+remove $target
+end
+viewport 1.5px 10px
+
+media q top not screen and (min-width:1.5px),(orientation:portrait)
+set a margin-left 12.5%
+io o top show root - margin 1.50px 0 threshold 0.25 1
+tick 16
+";
+
+/// A script in free form, and its text.
+const ROWS: [(&str, &str); 7] = [
+    (FREE, PRINTED),
+    ("script 1", "script 1\n"),
+    (
+        "script 1\n\n  viewport 800.50px   600px # size\n",
+        "script 1\n\nviewport 800.5px 600px\n",
+    ),
+    (
+        "script 1\nhandler show\neach\nwhen not seen\nsay out\nend\n\nend\nend\ntick 16",
+        "script 1\nhandler show\neach\nwhen not seen\nsay out\nend\n\nend\nend\ntick 16\n",
+    ),
+    (
+        "script 1\nblock a top\nset a margin-left 12.50%\ngrow a width -1.0px\nset a max-width none\n",
+        "script 1\nblock a top\nset a margin-left 12.5%\ngrow a width -1px\nset a max-width none\n",
+    ),
+    (
+        "script 1\nmedia q top not screen and ( min-width : 10px ) , (width:1px) or (height:1px)\n",
+        "script 1\nmedia q top not screen and (min-width:10px),(width:1px) or (height:1px)\n",
+    ),
+    (
+        "script 1\nio o top show root - margin 10.0px  5% threshold 0 0.250 -1\nlisten @top scroll show\n",
+        "script 1\nio o top show root - margin 10.0px 5% threshold 0 0.25 -1\nlisten @top scroll show\n",
+    ),
+];
+
+fn see_print(rt: &impl Abort, alloc: Global, text: &str, form: &str) -> Result<(), Fail> {
+    let script = script_of(rt, alloc, text)?;
+    let printed = print(alloc, &script)?;
+    assert_eq!(rt; printed.as_slice(), form.as_bytes(), "{text}");
+    Ok(())
+}
+
+#[test]
+fn scripts_are_printed_in_their_one_form(rt: HostRuntime) -> Result<(), Fail> {
+    for (text, form) in ROWS {
+        see_print(&rt, rt.alloc(), text, form)?;
+    }
+    Ok(())
+}

@@ -1,0 +1,204 @@
+//! Texts that are scripts, or have a first fault or limit, and the items of a script.
+
+use crate::scripts::script_of;
+use script_syntax::{Item, ParseFault, Script, What};
+use std::alloc::{AllocError, Global};
+use std::process::Abort;
+use std::test::Fail;
+use text_io::{LimitKind, Name};
+
+/// What comes of a text.
+#[derive(Clone, Copy, Debug, PartialEq, Eq)]
+enum Outcome {
+    Script,
+    Syntax(u32, u32),
+    Limit(LimitKind, u32),
+}
+
+use Outcome::{Limit, Syntax};
+
+const EVERY_COMMAND: &str = "script 1
+viewport 800px 600px
+block a top
+image i top 80px 60.5px
+frame f top inner
+append top a
+before a i f
+remove i
+set a margin-left 12.5%
+grow a width -1px
+load i 1px 2px
+ro r top -
+ro-observe r a border
+ro-unobserve r a
+ro-disconnect r
+io o top show root - margin 10px 5% threshold 0 0.25 -1
+io-observe o $target
+io-unobserve o a
+io-disconnect o
+io-take o
+listen @top scroll show
+unlisten q change show
+media q top not screen and (min-width: 10px), (width: 1px) or (height: 1px)
+scroll top 0px -5px
+scroll-by top 0px 5px
+raf top k show
+cancel-raf top k
+timer top k 1000 show
+clear-timer top k
+post top show
+say hello
+read top
+tick 1000000000000
+handler show # the page calls it
+each
+when not seen
+say in
+end
+
+end
+end
+when wider a 1px
+end
+when matches q
+end
+handler hide
+end
+";
+
+const NESTED: &str = "script 1
+handler h
+each
+each
+each
+each
+each
+each
+each
+each
+each
+each
+each
+each
+each
+each
+each
+each
+each
+";
+
+/// A list of queries between words and a comment.
+const QUERIES: &str = "script 1\nmedia q top  all\t, print # both\n";
+
+const TEXTS: [(&str, Outcome); 25] = [
+    ("", Syntax(1, 1)),
+    ("# nothing\n\n", Syntax(3, 1)),
+    ("script 1", Outcome::Script),
+    ("script 2\n", Syntax(1, 8)),
+    ("\n script\n", Syntax(2, 8)),
+    ("scrip 1\n", Syntax(1, 1)),
+    ("script 1 1\n", Syntax(1, 10)),
+    ("script 1\nwhen wider a 5", Syntax(2, 14)),
+    ("script 1\nmedia m top (width: 5)", Syntax(2, 22)),
+    ("script 1\nset a colour red", Syntax(2, 7)),
+    ("script 1\nset a width", Syntax(2, 12)),
+    ("script 1\nset a width red", Syntax(2, 13)),
+    ("script 1\nhandler h\ntick 0\nend", Syntax(3, 1)),
+    ("script 1\nhandler h", Syntax(3, 1)),
+    ("script 1\nhandler h\nend\nhandler h\nend\n", Syntax(4, 9)),
+    ("script 1\nhandler h\nhandler i\nend\nend\n", Syntax(3, 1)),
+    ("script 1\nend\n", Syntax(2, 1)),
+    ("script 1\nappend a\n", Syntax(2, 9)),
+    ("script 1\nappend a b c\n", Syntax(2, 12)),
+    ("script 1\nwhen not not seen\nend\n", Syntax(2, 10)),
+    (
+        "script 1\nio o top - root - margin 1px thresholds 0\n",
+        Syntax(2, 42),
+    ),
+    ("script 1\nsay a\x01\nsay 1\n", Syntax(2, 6)),
+    ("script 1\nsay 1\nsay a\x01\n", Syntax(2, 5)),
+    (EVERY_COMMAND, Outcome::Script),
+    (NESTED, Limit(LimitKind::Nesting, 19)),
+];
+
+fn outcome_of(rt: &impl Abort, alloc: Global, text: &str) -> Result<Outcome, AllocError> {
+    match script_of(rt, alloc, text) {
+        Ok(_) => Ok(Outcome::Script),
+        Err(ParseFault::Syntax { line, column }) => Ok(Syntax(line, column)),
+        Err(ParseFault::ScriptLimit { kind, line }) => Ok(Limit(kind, line)),
+        Err(ParseFault::Memory) => Err(AllocError),
+    }
+}
+
+#[test]
+fn texts_are_scripts_or_have_a_first_fault(rt: HostRuntime) -> Result<(), Fail> {
+    for (text, want) in TEXTS {
+        let outcome = outcome_of(&rt, rt.alloc(), text)?;
+        assert_eq!(rt; outcome, want, "{text}");
+    }
+    Ok(())
+}
+
+/// The line of a command, or of a handler.
+fn line_of(item: &Item) -> u32 {
+    match item {
+        Item::Command(command) => command.line,
+        Item::Handler { line, .. } => *line,
+    }
+}
+
+/// How many commands a handler has.
+fn commands_of(item: &Item) -> usize {
+    match item {
+        Item::Command(_) => 0,
+        Item::Handler { commands, .. } => commands.as_slice().len(),
+    }
+}
+
+fn see_items(rt: &impl Abort, script: &Script) {
+    assert_eq!(rt; script.items().len(), 36);
+    assert_eq!(rt; script.items().last().map(line_of), Some(46));
+    assert_eq!(rt; script.handlers(), 2);
+    assert_eq!(rt; script.handler(0).map(line_of), Some(34));
+    assert_eq!(rt; script.handler(0).map(commands_of), Some(1));
+    assert_eq!(rt; script.handler(1).map(line_of), Some(46));
+    assert_eq!(rt; script.handler(2).map(line_of), None);
+}
+
+fn see_name(rt: &impl Abort, script: &Script, text: &str, number: Option<u32>) {
+    match Name::read(text.as_bytes()) {
+        Some(name) => assert_eq!(rt; script.handler_named(name), number, "{text}"),
+        None => assert!(rt; false, "{text}"),
+    }
+}
+
+#[test]
+fn a_script_has_its_items_and_handlers(rt: HostRuntime) -> Result<(), Fail> {
+    let script = script_of(&rt, rt.alloc(), EVERY_COMMAND)?;
+    see_items(&rt, &script);
+    see_name(&rt, &script, "show", Some(0));
+    see_name(&rt, &script, "hide", Some(1));
+    see_name(&rt, &script, "end", None);
+    Ok(())
+}
+
+/// Appends the list of queries of an item that has one.
+fn push_queries(item: &Item, out: &mut Vec<u8>) -> Result<(), AllocError> {
+    if let Item::Command(command) = item {
+        if let What::Media(_, _, query) = &command.what {
+            query.push_text(out)?;
+        }
+    }
+    Ok(())
+}
+
+#[test]
+fn a_query_has_its_place_in_the_line(rt: HostRuntime) -> Result<(), Fail> {
+    let mut out = Vec::new(rt.alloc());
+    let script = script_of(&rt, rt.alloc(), QUERIES)?;
+    for item in script.items() {
+        push_queries(item, &mut out)?;
+    }
+    assert_eq!(rt; out.as_slice(), b"all,print".as_slice());
+    Ok(())
+}

@@ -1,0 +1,341 @@
+//! Traces judged, sources split, and judgements written.
+
+use std::alloc::Global;
+use std::process::Abort;
+use std::test::Fail;
+use text_io::MemorySink;
+use trace_judge::{How, Judgement, Recording, judge};
+use trace_runs::RunFault;
+
+/// A block that fills its viewport, seen by a resize observer, with the trace of its first tick.
+const SCRIPT: &str =
+    "script 1\nblock r top\nappend top r\nro o top -\nro-observe o r content\ntick 0\n";
+
+const TRACE: &str = "tick 0\nresize o r rect 0 0 800 0 border 800 0\nround top 1\n";
+
+/// Recorded traces beside that one.
+const RECORDED: [(&str, Judgement); 18] = [
+    (TRACE, Judgement::Equal { lines: 3 }),
+    (
+        "tick 0\nresize o r rect 0 0 800 0 border 800 0\nround top 1\ntick 16\n",
+        Judgement::Differs {
+            line: 4,
+            how: How::Extra,
+        },
+    ),
+    (
+        "tick 0\nresize o r rect 0 0 800 0 border 800 0\nround top 1\nhello",
+        Judgement::Differs {
+            line: 4,
+            how: How::Extra,
+        },
+    ),
+    (
+        "tick 0\nresize o r rect 0 0 800 0 border 800 0\nround top 1\n\n",
+        Judgement::Differs {
+            line: 4,
+            how: How::Extra,
+        },
+    ),
+    (
+        "",
+        Judgement::Differs {
+            line: 1,
+            how: How::Missing,
+        },
+    ),
+    (
+        "tick 0\n",
+        Judgement::Differs {
+            line: 2,
+            how: How::Missing,
+        },
+    ),
+    (
+        "tick 0\nhello\n",
+        Judgement::Differs {
+            line: 2,
+            how: How::NotALine,
+        },
+    ),
+    // the width of a line is right and its height isn't; another kind; a line too early
+    (
+        "tick 0\nresize o r rect 0 0 800 1 border 800 0\nround top 1\n",
+        Judgement::Differs {
+            line: 2,
+            how: How::Text(25),
+        },
+    ),
+    (
+        "tick 0\nread o 0 0 800 0 0 0\n",
+        Judgement::Differs {
+            line: 2,
+            how: How::Text(3),
+        },
+    ),
+    (
+        "tick 0\nround top 1\n",
+        Judgement::Differs {
+            line: 2,
+            how: How::Text(2),
+        },
+    ),
+    (
+        "tick 1\n",
+        Judgement::Differs {
+            line: 1,
+            how: How::Text(6),
+        },
+    ),
+    (
+        "tick 00\n",
+        Judgement::Differs {
+            line: 1,
+            how: How::NotALine,
+        },
+    ),
+    (
+        "say tick\n",
+        Judgement::Differs {
+            line: 1,
+            how: How::Text(1),
+        },
+    ),
+    // a line as it should be, but for its end
+    (
+        "tick 0",
+        Judgement::Differs {
+            line: 1,
+            how: How::NotALine,
+        },
+    ),
+    (
+        "tick 0\r\n",
+        Judgement::Differs {
+            line: 1,
+            how: How::NotALine,
+        },
+    ),
+    (
+        "tick 0\nresize o r rect 0 0 800 0 border 800 0\nround top 1",
+        Judgement::Differs {
+            line: 3,
+            how: How::NotALine,
+        },
+    ),
+    (
+        "\n",
+        Judgement::Differs {
+            line: 1,
+            how: How::NotALine,
+        },
+    ),
+    (
+        "tick 0\n\n",
+        Judgement::Differs {
+            line: 2,
+            how: How::NotALine,
+        },
+    ),
+];
+
+/// An expected and a recorded trace.
+const PAIRS: [(&str, &str, Judgement); 7] = [
+    ("", "", Judgement::Equal { lines: 0 }),
+    (
+        "",
+        "tick 0\n",
+        Judgement::Differs {
+            line: 1,
+            how: How::Extra,
+        },
+    ),
+    (
+        "",
+        "hello",
+        Judgement::Differs {
+            line: 1,
+            how: How::Extra,
+        },
+    ),
+    (
+        "syntax 1 1\n",
+        "syntax 1 1\n",
+        Judgement::Equal { lines: 1 },
+    ),
+    // an expected rest without a line feed is a line of its own
+    ("tick 0", "tick 0", Judgement::Equal { lines: 1 }),
+    (
+        "tick 0",
+        "tick 0\n",
+        Judgement::Differs {
+            line: 1,
+            how: How::Text(7),
+        },
+    ),
+    (
+        "tick 0\nsay a",
+        "tick 0\n",
+        Judgement::Differs {
+            line: 2,
+            how: How::Missing,
+        },
+    ),
+];
+
+/// A source with its script and its recorded trace.
+const SOURCES: [(&str, &str, &str); 15] = [
+    ("script 1\ntrace\ntick 0\n", "script 1\n", "tick 0\n"),
+    ("script 1\ntrace\r\ntick 0\n", "script 1\n", "tick 0\n"),
+    ("script 1\r\ntrace\r\ntick 0", "script 1\r\n", "tick 0"),
+    // only the first such line counts
+    (
+        "script 1\ntrace\ntick 0\ntrace\nx",
+        "script 1\n",
+        "tick 0\ntrace\nx",
+    ),
+    ("script 1\ntrace\ntrace\n", "script 1\n", "trace\n"),
+    // at the end
+    ("script 1\ntrace\n", "script 1\n", ""),
+    ("script 1\ntrace\r\n", "script 1\n", ""),
+    ("script 1\ntrace", "script 1\n", ""),
+    // at the start
+    ("trace\ntick 0\n", "", "tick 0\n"),
+    ("trace", "", ""),
+    // none
+    ("", "", ""),
+    ("script 1\ntick 0\n", "script 1\ntick 0\n", ""),
+    ("script 1\ntrace\r", "script 1\ntrace\r", ""),
+    (
+        "script 1\ntrace \n trace\nxtrace\ntraces\n",
+        "script 1\ntrace \n trace\nxtrace\ntraces\n",
+        "",
+    ),
+    (
+        "trace\r\r\nTRACE\ntrace\0\n",
+        "trace\r\r\nTRACE\ntrace\0\n",
+        "",
+    ),
+];
+
+/// Judgements with the lines that tell them.
+const LINES: [(Judgement, &str); 8] = [
+    (Judgement::Equal { lines: 3 }, "equal 3\n"),
+    (Judgement::Equal { lines: 0 }, "equal 0\n"),
+    (
+        Judgement::Differs {
+            line: 4,
+            how: How::Extra,
+        },
+        "differs 4 extra\n",
+    ),
+    (
+        Judgement::Differs {
+            line: 2,
+            how: How::Missing,
+        },
+        "differs 2 missing\n",
+    ),
+    (
+        Judgement::Differs {
+            line: 2,
+            how: How::NotALine,
+        },
+        "differs 2 not-a-line\n",
+    ),
+    (
+        Judgement::Differs {
+            line: 2,
+            how: How::Text(25),
+        },
+        "differs 2 text 25\n",
+    ),
+    (
+        Judgement::Differs {
+            line: u64::MAX,
+            how: How::Text(u32::MAX),
+        },
+        "differs 18446744073709551615 text 4294967295\n",
+    ),
+    (
+        Judgement::Equal { lines: u64::MAX },
+        "equal 18446744073709551615\n",
+    ),
+];
+
+#[test]
+fn recorded_traces_differ_at_a_line_and_somehow(rt: HostRuntime) {
+    for (recorded, judgement) in &RECORDED {
+        assert_eq!(&rt;
+            judge(TRACE.as_bytes(), recorded.as_bytes()),
+            *judgement,
+            "at {recorded:?}"
+        );
+    }
+}
+
+#[test]
+fn other_traces_may_be_expected(rt: HostRuntime) {
+    for (expected, recorded, judgement) in &PAIRS {
+        assert_eq!(&rt;
+            judge(expected.as_bytes(), recorded.as_bytes()),
+            *judgement,
+            "at {expected:?}, {recorded:?}"
+        );
+    }
+}
+
+#[test]
+fn a_source_is_split_at_its_first_line_trace(rt: HostRuntime) {
+    for (source, script, trace) in &SOURCES {
+        let recording = Recording::split(source.as_bytes());
+        assert_eq!(&rt; recording.script, script.as_bytes(), "script of {source:?}");
+        assert_eq!(&rt; recording.trace, trace.as_bytes(), "trace of {source:?}");
+    }
+}
+
+#[test]
+fn a_script_with_its_trace_is_judged(rt: HostRuntime) -> Result<(), Fail> {
+    let mut source = Vec::from_slice(rt.alloc(), SCRIPT.as_bytes())?;
+    source.extend_from_slice(b"trace\n")?;
+    source.extend_from_slice(TRACE.as_bytes())?;
+    let recording = Recording::split(&source);
+    assert_eq!(&rt; recording.script, SCRIPT.as_bytes());
+    assert_eq!(&rt;
+        judge(TRACE.as_bytes(), recording.trace),
+        Judgement::Equal { lines: 3 }
+    );
+    Ok(())
+}
+
+fn written(rt: &impl Abort, alloc: Global, judgement: &Judgement, line: &str) -> Result<(), Fail> {
+    let mut sink = MemorySink::new(alloc, 100, 7, Vec::new(alloc))?;
+    assert_eq!(rt; judgement.write_to(alloc, &mut sink), Ok(()));
+    assert_eq!(rt; sink.taken(), line.as_bytes());
+    Ok(())
+}
+
+#[test]
+fn judgements_are_written_as_lines(rt: HostRuntime) -> Result<(), Fail> {
+    for (judgement, line) in &LINES {
+        written(&rt, rt.alloc(), judgement, line)?;
+    }
+    Ok(())
+}
+
+#[test]
+fn a_write_that_fails_leaves_a_first_part(rt: HostRuntime) -> Result<(), Fail> {
+    let mut failing = Vec::new(rt.alloc());
+    failing.push(2)?;
+    let mut sink = MemorySink::new(rt.alloc(), 100, 4, failing)?;
+    let judgement = Judgement::Differs {
+        line: 2,
+        how: How::NotALine,
+    };
+    assert_eq!(&rt;
+        judgement.write_to(rt.alloc(), &mut sink),
+        Err(RunFault::WriteFault)
+    );
+    assert_eq!(&rt; sink.taken(), b"differs ".as_slice());
+    Ok(())
+}
