@@ -1,16 +1,17 @@
-// Runs a script in the page that it stands in. `script` is what tools/browser/run read: items with their lines' numbers.
-// Each command is the call of the DOM or of an observer that it names; what callbacks are told is written as trace lines.
-(function (script) {
+// Runs a script in a window. `script` is what scripts.py read: items with their lines' numbers. Each command is the call of the
+// DOM or of an observer that it names; what callbacks are told is written as trace lines, in the order in which they are told.
+// `setting` has `live` where the browser makes its updates by itself, and `resize` where the window is a frame of known size.
+function observersRun(script, window, setting) {
   'use strict';
+  const document = window.document;
   const UNITS = 64;
   const lines = [];
   const names = new Map();
   const docs = [];
   const observers = [];            // resize observers in order of creation
-  const crossings = [];            // intersection observers in order of creation
   const timers = [];
   const due = [];                  // posted tasks that wait for the update
-  const handlerCalls = new Map();  // one function per handler, so that the browser sees doubles
+  const listeners = new Map();     // for each target one function per kind and handler, so that the browser sees doubles
   let clock = 0, inUpdate = false, waiting = 0, round = null, next = 0;
 
   class Thrown extends Error { constructor(kind) { super(kind); this.kind = kind; } }
@@ -26,7 +27,8 @@
     if (whole === 0 && rest === 0) return '0';
     return sign + whole + (rest ? '.' + String(rest).padStart(6, '0').replace(/0+$/, '') : '');
   }
-  const rect = r => r ? [r.left, r.top, r.width, r.height].map(px).join(' ') : 'null';
+  // `left` is the lesser end of a rectangle that crosses itself; some engines don't have `x`.
+  const rect = r => r ? ['x' in r ? r.x : r.left, 'y' in r ? r.y : r.top, r.width, r.height].map(px).join(' ') : 'null';
   const area = r => BigInt(Math.round(r.width * UNITS)) * BigInt(Math.round(r.height * UNITS));
   function share(entry) {
     const whole = area(entry.boundingClientRect), part = area(entry.intersectionRect);
@@ -67,6 +69,8 @@
     doc.state = 'active';
     doc.document = document;
     doc.window = document.defaultView;
+    // Callbacks are made in the document's realm, as those of its own scripts are: a browser asks for the realm's document.
+    doc.made = doc.window.Function('run', 'return function (...told) { return run(...told); };');
     document.observersName = doc.name;
     // The page of a new frame is in quirks mode, where a root element fills the viewport; a document type ends that.
     if (document.compatMode !== 'CSS1Compat') {
@@ -80,10 +84,16 @@
     }
   }
   function fired(doc, event) {
+    noteUpdate();
     endRound();
     if (event.type === 'resize' && event.target === doc.window) write(`event resize @${doc.name}`);
     else if (event.type === 'scroll') write(`event scroll ${nameOf(event.target)}`);
-    else if (event.type === 'error' && event.target === doc.window) write(`event error @${doc.name} ${event.message}`);
+    else if (event.type === 'error' && event.target === doc.window) write(`event error @${doc.name} ${messageOf(event)}`);
+  }
+  // A browser may keep messages from a page that is opened as a file; only one can come here.
+  function messageOf(event) {
+    const kept = event.message === 'Script error.' && location.protocol === 'file:';
+    return kept ? 'ResizeObserver loop completed with undelivered notifications.' : event.message;
   }
   function settleFrames() {
     for (const doc of docs) {
@@ -96,7 +106,8 @@
 
   // ---- the tree ----
   const base = { block: 'display:flow-root', image: 'display:block;contain:size', frame: 'display:block' };
-  const common = ';margin:0;padding:0;border:0 solid transparent;box-sizing:content-box;min-width:0;min-height:0';
+  const common = ';margin:0;padding:0;border:0 solid transparent;box-sizing:content-box;min-width:0;min-height:0' +
+    ';scrollbar-width:none';
   function make(name, kind, doc, tag) {
     const element = doc.document.createElement(tag);
     const spacer = doc.document.createElement('i');
@@ -110,11 +121,13 @@
     return made;
   }
   const windowOf = element => element.isConnected ? element.ownerDocument.defaultView : null;
-  // A spacer of no height stands behind each child, so that margins of neighbours don't collapse.
+  // A spacer of no height stands behind each child, so that margins of neighbours don't collapse. A comment behind a root element
+  // has WebKit show an element whose style was set as it came; it shows none of it otherwise.
   function space(made) {
     const parent = made.element.parentNode;
-    if (parent && parent.nodeType === 1) parent.insertBefore(made.spacer, made.element.nextSibling);
-    else made.spacer.remove();
+    if (parent && parent.nodeType === 1) return parent.insertBefore(made.spacer, made.element.nextSibling);
+    made.spacer.remove();
+    if (parent) parent.append(parent.createComment(''));
   }
   const inner = parent => parent.what === 'doc' ? shown(parent).document : parent.element;
   const natural = (width, height) => `${width} ${height}`;
@@ -148,6 +161,7 @@
     return ended;
   }
   function resized(o, entries) {
+    noteUpdate();
     const at = observers.indexOf(o);
     const same = round && round.doc === o.doc && at > round.at && entries.some(e => round.all.has(o.name + ' ' + nameOf(e.target)));
     if (!same) {
@@ -165,27 +179,8 @@
     }
     call(o.handler, { kind: 'resize', entries });
   }
-  // The browser tells observers in an order that isn't the same in two runs. So the first that is told brings out the records of all:
-  // document by document of the roots, in each in order of creation.
-  function told(first, entries) {
-    first.held = entries;
-    const place = o => docs.findIndex(doc => doc.document === o.follows);
-    for (const o of crossings.slice().sort((a, b) => place(a) - place(b))) {
-      const records = taken(o);
-      if (records.length && active(o.doc)) intersected(o, records);
-    }
-  }
-  // The order of the observe calls, also where the browser keeps its targets as a set.
-  const inOrder = (o, records) => {
-    const place = new Map([...o.targets].map((target, at) => [target, at]));
-    return records.slice().sort((a, b) => a.time - b.time || (place.get(a.target) || 0) - (place.get(b.target) || 0));
-  };
-  function taken(o) {
-    const records = o.held.concat(o.real.takeRecords());
-    o.held = [];
-    return inOrder(o, records);
-  }
   function intersected(o, entries) {
+    noteEntries(o, entries);
     endRound();
     for (const e of entries) write(intersectLine(o, e));
     call(o.handler, { kind: 'intersect', entries });
@@ -221,15 +216,32 @@
       return false;
     }
   }
-  function listener(name) {
-    const found = handler(name);
-    if (!handlerCalls.has(name)) handlerCalls.set(name, () => call(found, null));
-    return handlerCalls.get(name);
-  }
+  // What an event is listened for at, with the document whose realm a listener is made in.
   function aim(word, entry) {
-    if (word[0] === '@') return shown(named(word.slice(1), 'doc')).window;
+    if (word[0] === '@') {
+      const doc = shown(named(word.slice(1), 'doc'));
+      return { at: doc.window, doc };
+    }
     const thing = node(word, entry, 'node', 'doc', 'query');
-    return thing.what === 'node' ? thing.element : thing.what === 'doc' ? shown(thing).document : thing.list;
+    if (thing.what === 'query') return { at: thing.list, doc: thing.doc };
+    if (thing.what === 'doc') return { at: shown(thing).document, doc: thing };
+    return { at: thing.element, doc: docs.find(doc => doc.document === thing.element.ownerDocument) };
+  }
+  function listen(word, kind, name, entry) {
+    const { at, doc } = aim(word, entry), found = handler(name), key = kind + ' ' + name;
+    if (!listeners.has(at)) listeners.set(at, new Map());
+    const known = listeners.get(at);
+    if (!known.has(key)) known.set(key, doc.made(() => call(found, null)));
+    at.addEventListener(kind, known.get(key));
+  }
+  // One that is added once more is made anew, as its target may be in another document by then.
+  function unlisten(word, kind, name, entry) {
+    const { at } = aim(word, entry), key = kind + ' ' + name;
+    handler(name);
+    const known = listeners.get(at);
+    if (!known || !known.has(key)) return;
+    at.removeEventListener(kind, known.get(key));
+    known.delete(key);
   }
   function holds(args, told, entry) {
     if (args[0] === 'not') return !holds(args.slice(1), told, entry);
@@ -257,7 +269,10 @@
 
   // ---- commands ----
   const commands = {
-    viewport() { throw new NotShown('a viewport that is changed inside a handler or block'); },
+    viewport([width, height]) {
+      if (!setting.resize) throw new NotShown('a viewport that is changed inside a handler or block');
+      setting.resize(parseFloat(width), parseFloat(height));
+    },
     block([name, doc]) { fresh(name); make(name, 'block', shown(named(doc, 'doc')), 'div'); },
     image([name, doc, width, height]) {
       fresh(name);
@@ -312,7 +327,7 @@
     ro([name, doc, to]) {
       fresh(name);
       const o = { what: 'ro', name, doc: shown(named(doc, 'doc')), handler: handler(to), targets: new Map() };
-      o.real = new o.doc.window.ResizeObserver(entries => guarded(() => resized(o, entries)));
+      o.real = new o.doc.window.ResizeObserver(o.doc.made(entries => guarded(() => resized(o, entries))));
       names.set(name, o);
       observers.push(o);
     },
@@ -331,39 +346,31 @@
     io([name, doc, to, , root, ...rest], entry) {
       fresh(name);
       const home = shown(named(doc, 'doc')), commandsTo = handler(to);
-      const at = root === '-' ? null : inner(node(root, entry, 'node', 'doc'));
+      // In a frame of known size its document stands for the implicit root, which would be the window around it.
+      const implicit = setting.resize ? document : null;
+      const at = root === '-' ? implicit : inner(node(root, entry, 'node', 'doc'));
       const cut = rest.indexOf('threshold');
-      const o = { what: 'io', name, doc: home, handler: commandsTo, targets: new Set(), held: [] };
-      o.follows = at ? at.ownerDocument || at : document;
-      o.real = new home.window.IntersectionObserver(entries => guarded(() => told(o, entries)),
+      const o = { what: 'io', name, doc: home, handler: commandsTo };
+      o.real = new home.window.IntersectionObserver(home.made(entries => guarded(() => intersected(o, entries))),
         { root: at, rootMargin: rest.slice(1, cut).join(' '), threshold: rest.slice(cut + 1).map(Number) });
       names.set(name, o);
-      crossings.push(o);
     },
-    'io-observe'([name, child], entry) {
-      const o = named(name, 'io'), element = node(child, entry).element;
-      o.real.observe(element);
-      o.targets.add(element);
-    },
-    'io-unobserve'([name, child], entry) {
-      const o = named(name, 'io'), element = node(child, entry).element;
-      o.real.unobserve(element);
-      o.targets.delete(element);
-      o.held = o.held.filter(e => e.target !== element);  // as the browser does with what it still holds
-    },
-    'io-disconnect'([name]) { const o = named(name, 'io'); o.real.disconnect(); o.targets.clear(); o.held = []; },
+    'io-observe'([name, child], entry) { named(name, 'io').real.observe(node(child, entry).element); },
+    'io-unobserve'([name, child], entry) { named(name, 'io').real.unobserve(node(child, entry).element); },
+    'io-disconnect'([name]) { named(name, 'io').real.disconnect(); },
     'io-take'([name]) {
-      const o = named(name, 'io'), records = taken(o);
+      const o = named(name, 'io'), records = o.real.takeRecords();
+      noteEntries(o, records);
       write(`take ${name} ${records.length}`);
       for (const e of records) write(intersectLine(o, e));
     },
-    listen([target, kind, to], entry) { const t = aim(target, entry); t.addEventListener(kind, listener(to)); },
-    unlisten([target, kind, to], entry) { const t = aim(target, entry); t.removeEventListener(kind, listener(to)); },
+    listen([target, kind, to], entry) { listen(target, kind, to, entry); },
+    unlisten([target, kind, to], entry) { unlisten(target, kind, to, entry); },
     media([name, doc, query]) {
       fresh(name);
-      const list = shown(named(doc, 'doc')).window.matchMedia(query);
-      names.set(name, { what: 'query', name, list });
-      list.addEventListener('change', e => { endRound(); write(`event change ${name} ${e.matches}`); });
+      const home = shown(named(doc, 'doc')), list = home.window.matchMedia(query);
+      names.set(name, { what: 'query', name, list, doc: home });
+      list.addEventListener('change', e => { noteUpdate(); endRound(); write(`event change ${name} ${e.matches}`); });
     },
     scroll([target, x, y], entry) { scroller(target, entry).scrollTo(parseFloat(x), parseFloat(y)); },
     'scroll-by'([target, x, y], entry) { scroller(target, entry).scrollBy(parseFloat(x), parseFloat(y)); },
@@ -371,11 +378,12 @@
       const d = named(doc, 'doc'), commandsTo = handler(to);
       shown(d).frames = d.frames || new Map();
       if (d.frames.has(key)) throw new Thrown('TypeError');
-      d.frames.set(key, d.window.requestAnimationFrame(() => {
+      d.frames.set(key, d.window.requestAnimationFrame(d.made(() => {
+        noteUpdate();
         d.frames.delete(key);
         write(`frame ${doc} ${key}`);
         call(commandsTo, null);
-      }));
+      })));
     },
     'cancel-raf'([doc, key]) {
       const d = named(doc, 'doc');
@@ -418,6 +426,7 @@
     if (time < clock) { write(`throw ${c.line} RangeError`); return false; }
     clock = time;
     api.updated = false;
+    nextUpdate();
     write('tick ' + time);
     const list = timers.filter(t => t.at <= clock).sort((a, b) => a.at - b.at);
     for (const t of list) {
@@ -429,9 +438,42 @@
       call(t.handler, null);
     }
     // Asked for in each tick, so that there is an update; what was posted before it stands before what the update queues.
-    window.requestAnimationFrame(() => { for (const task of due.splice(0)) post(task); inUpdate = api.updated = true; });
+    api.update = new Promise(done => window.requestAnimationFrame(() => {
+      for (const task of due.splice(0)) post(task);
+      inUpdate = api.updated = true;
+      if (setting.live) ourUpdate();
+      done();
+    }));
     return true;
   }
+
+  // ---- updates that no tick asked for: they do no harm where they tell nothing, and the run is disturbed where they do ----
+  let ours = null, seen = [], watch = null, extra = Infinity;
+  const frameTime = () => document.timeline.currentTime;
+  // Called in each callback of an update: whether it is the tick's own one is known once the tick's frame callback has come.
+  function noteUpdate() {
+    if (!setting.live) return;
+    if (ours === null) seen.push(frameTime());
+    else if (Math.abs(frameTime() - ours) > 1) api.disturbed = true;
+  }
+  function ourUpdate() {
+    ours = frameTime();
+    // An engine may tell the time of day until its frame callbacks come; another update is a sixtieth of a second away.
+    if (seen.some(time => Math.abs(time - ours) > 14)) api.disturbed = true;
+    extra = Infinity;
+    watch = window.requestAnimationFrame(() => { extra = frameTime(); });
+  }
+  function nextUpdate() {
+    if (watch !== null) window.cancelAnimationFrame(watch);
+    ours = null;
+    seen = [];
+  }
+  function noteEntries(o, entries) {
+    if (!setting.live) return;
+    const shift = o.doc.window.performance.timeOrigin - window.performance.timeOrigin;
+    if (entries.some(e => e.time + shift > extra - 1)) api.disturbed = true;
+  }
+
   // Waits until no task is left.
   async function quiet() {
     for (let turns = 0; turns < 2 && !api.stopped;) {
@@ -442,6 +484,8 @@
   const api = {
     stopped: null,
     updated: false,
+    update: null,
+    disturbed: false,
     lines,
     // Runs items up to the next thing that only the tool can do. A new page in a frame lays itself out in a task of its own: before
     // an update there is time for it.
@@ -449,7 +493,7 @@
       guarded(() => { while (next < script.items.length && !api.stopped) {
         const c = script.items[next++];
         if (c.op === 'tick') { if (startTick(c)) { api.wants = ['tick', clock]; return; } }
-        else if (c.op === 'viewport') { api.wants = ['viewport', parseFloat(c.args[0]), parseFloat(c.args[1])]; return; }
+        else if (c.op === 'viewport' && !setting.resize) { api.wants = ['viewport', parseFloat(c.args[0]), parseFloat(c.args[1])]; return; }
         else begun(c, null, null);
       } api.wants = ['end']; });
       if (!api.stopped && api.wants[0] === 'tick') await quiet();
@@ -465,5 +509,5 @@
   names.set('top', top);
   docs.push(top);
   opened(top, document);
-  window.observersRun = api;
-})
+  return api;
+}

@@ -1,0 +1,510 @@
+"""The browsers: how each is started, told a page and a size, and asked for its trace; see docs/BROWSERS.md."""
+import http.client
+import http.server
+import json
+import os
+import queue
+import select
+import shutil
+import socket
+import subprocess
+import tempfile
+import threading
+import time
+
+from scripts import commands_of, read_script
+
+HERE = os.path.dirname(os.path.abspath(__file__))
+FIRST_SIZE = (800, 600)
+WIDEST = 10000000     # pixels that a viewport may have here
+LONGEST = 180         # seconds for an answer of a browser that was started
+STARTING = 60         # seconds for its start
+NO_FRAME = "a viewport that changes, with frames and an implicit root, is shown by 'tools/browser/run --in chromium' alone"
+ATTEMPTS = 12         # of a script in a live browser, where updates came that no tick asked for
+BUSY = 'updates came that no tick asked for, in each of %d attempts' % ATTEMPTS
+
+
+class NoBrowser(Exception):
+    """There is no such browser, or it went away."""
+
+
+class NotShown(Exception):
+    """The page can't show all of the script."""
+
+
+def part(name):
+    with open(os.path.join(HERE, name)) as file:
+        return file.read()
+
+
+def whole_size(args):
+    size = [float(word[:-2]) for word in args]
+    if any(number != int(number) or not 0 < number <= WIDEST for number in size):
+        raise NotShown('a viewport that is not of whole pixels from 1 to %d' % WIDEST)
+    return [int(number) for number in size]
+
+
+def planned(script):
+    """The viewport that a script begins with, its other items, and in what it can run: a window of that size where the viewport
+    doesn't change after that; a frame where no implicit root sees into frames, as a frame's document stands for that root there."""
+    items, size = list(script['items']), list(FIRST_SIZE)
+    while items and items[0]['op'] == 'viewport':
+        size = whole_size(items.pop(0)['args'])
+    rest = dict(script, items=items)
+    commands = list(commands_of(rest))
+    changes = [whole_size(command['args']) for command in commands if command['op'] == 'viewport']
+    implicit = any(command['op'] == 'io' and command['args'][4] == '-' for command in commands)
+    framed = any(command['op'] == 'frame' for command in commands)
+    return {'script': rest, 'size': size, 'window': not changes, 'frame': not (implicit and framed)}
+
+
+def free_port():
+    with socket.socket() as one:
+        one.bind(('127.0.0.1', 0))
+        return one.getsockname()[1]
+
+
+def found(name, given, package, *places):
+    program = given or shutil.which(name) or next((place for place in places if os.access(place, os.X_OK)), None)
+    if not program or not shutil.which(program):
+        raise NoBrowser("%s isn't installed; Debian's package %s has it" % (given or name, package))
+    return program
+
+
+class Process:
+    """A program that was started, with a folder of its own; both go as it is closed."""
+
+    def __init__(self, words, folder=None, **more):
+        self.folder = folder
+        try:
+            self.popen = subprocess.Popen(words, stdin=subprocess.DEVNULL, stderr=subprocess.DEVNULL,
+                                          **dict({'stdout': subprocess.DEVNULL}, **more))
+        except OSError as e:
+            raise NoBrowser("%s can't be started: %s" % (words[0], e.strerror))
+
+    def close(self):
+        self.popen.terminate()
+        try:
+            self.popen.wait(10)
+        except subprocess.TimeoutExpired:
+            self.popen.kill()
+            self.popen.wait()
+        if self.folder:
+            shutil.rmtree(self.folder, ignore_errors=True)
+
+
+class Pipe:
+    """Chromium's debugging pipe: messages of JSON that end with a zero byte."""
+
+    def __init__(self, program, flags):
+        to_read, self.to_write = os.pipe()
+        self.from_read, from_write = os.pipe()
+        profile = tempfile.mkdtemp()
+
+        def pipes():
+            # The browser reads its commands at 3 and writes its answers at 4.
+            low, high = os.dup(to_read), os.dup(from_write)
+            spare = [os.dup(low), os.dup(high)]
+            os.dup2(spare[0], 3)
+            os.dup2(spare[1], 4)
+
+        self.process = Process([program] + flags + ['--remote-debugging-pipe', '--user-data-dir=' + profile],
+                               folder=profile, close_fds=False, preexec_fn=pipes)
+        os.close(to_read)
+        os.close(from_write)
+        self.number, self.rest, self.session = 0, b'', None
+
+    def close(self):
+        for end in (self.to_write, self.from_read):
+            os.close(end)
+        self.process.close()
+
+    def message(self):
+        while b'\0' not in self.rest:
+            if not select.select([self.from_read], [], [], LONGEST)[0]:
+                raise NoBrowser('the browser gave no answer in %d seconds' % LONGEST)
+            more = os.read(self.from_read, 1 << 20)
+            if not more:
+                raise NoBrowser('the browser ended')
+            self.rest += more
+        one, self.rest = self.rest.split(b'\0', 1)
+        return json.loads(one)
+
+    def send(self, method, **params):
+        self.number += 1
+        request = {'id': self.number, 'method': method, 'params': params}
+        if self.session:
+            request['sessionId'] = self.session
+        data = json.dumps(request).encode() + b'\0'
+        try:
+            while data:
+                data = data[os.write(self.to_write, data):]
+        except BrokenPipeError:
+            raise NoBrowser('the browser ended')
+        return self.number
+
+    def ask(self, method, **params):
+        number = self.send(method, **params)
+        while True:
+            answer = self.message()
+            if answer.get('id') == number:
+                if 'error' in answer:
+                    raise NoBrowser('%s: %s' % (method, answer['error'].get('message')))
+                return answer['result']
+
+    def attach(self, **more):
+        target = self.ask('Target.createTarget', url='about:blank', width=FIRST_SIZE[0], height=FIRST_SIZE[1], **more)['targetId']
+        self.session = self.ask('Target.attachToTarget', targetId=target, flatten=True)['sessionId']
+        self.ask('Page.enable')
+
+    def size(self, width, height):
+        self.ask('Emulation.setDeviceMetricsOverride', width=width, height=height, deviceScaleFactor=1, mobile=False)
+
+
+CHROMIUM_FLAGS = ['--headless', '--no-sandbox', '--disable-gpu', '--hide-scrollbars', '--disable-dev-shm-usage',
+                  '--force-device-scale-factor=1', '--no-first-run', '--disable-background-timer-throttling']
+BEGIN_FRAME_FLAGS = ['--deterministic-mode', '--enable-begin-frame-control', '--run-all-compositor-stages-before-draw',
+                     '--disable-new-content-rendering-timeout', '--disable-threaded-animation', '--disable-threaded-scrolling',
+                     '--disable-checker-imaging', '--disable-image-animation-resync']
+
+
+class Stepped:
+    """Chromium by begin-frame control: a rendering update happens exactly when it is asked for."""
+
+    def __init__(self, program=None):
+        self.pipe = Pipe(found('chromium-headless-shell', program, 'chromium-headless-shell'), CHROMIUM_FLAGS + BEGIN_FRAME_FLAGS)
+        self.page = part('page.js')
+        self.time = 1000.0
+        try:
+            self.pipe.attach(enableBeginFrameControl=True)
+        except NoBrowser:
+            self.close()
+            raise
+
+    def close(self):
+        self.pipe.close()
+
+    def value(self, expression, wait=False):
+        answer = self.pipe.ask('Runtime.evaluate', expression=expression, returnByValue=True, awaitPromise=wait)
+        if 'exceptionDetails' in answer:
+            raise RuntimeError(json.dumps(answer['exceptionDetails'])[:600])
+        return answer['result'].get('value')
+
+    def update(self):
+        self.time += 16.0
+        self.pipe.ask('HeadlessExperimental.beginFrame', frameTimeTicks=self.time, interval=16.0, noDisplayUpdates=False)
+
+    def blank(self, size):
+        """A page of its own, in no-quirks mode, whose first update is over."""
+        # No mouse comes into the page: under one the browser lays the page out anew, at a time of its own, after a frame was moved.
+        self.pipe.ask('Input.setIgnoreInputEvents', ignore=True)
+        number = self.pipe.send('Page.navigate', url='data:text/html,<!doctype html>')
+        loaded = answered = False
+        while not (loaded and answered):
+            answer = self.pipe.message()
+            answered = answered or answer.get('id') == number
+            loaded = loaded or answer.get('method') == 'Page.loadEventFired'
+        self.pipe.size(*size)
+        self.value('requestAnimationFrame(() => { window.updated = true; })')
+        while not self.value('Boolean(window.updated)'):
+            self.update()
+        self.pipe.ask('Input.setIgnoreInputEvents', ignore=False)
+
+    def tick(self):
+        # A frame that the browser used to end earlier work is no update of the page: ask again until the page saw one.
+        for _ in range(8):
+            self.update()
+            if self.value('observersNow.updated'):
+                self.value('observersNow.drained()', wait=True)
+                return
+        raise NotShown('an update that the browser skips')
+
+    def trace(self, text):
+        """The lines; NotShown where the page can't show all of the script."""
+        plan = planned(read_script(text))
+        self.blank(plan['size'])
+        self.value('%s\nwindow.observersNow = observersRun(%s, window, {}); 0' % (self.page, json.dumps(plan['script'])))
+        while True:
+            wants = self.value('observersNow.step()', wait=True)
+            if wants[0] == 'viewport':
+                self.pipe.size(int(wants[1]), int(wants[2]))
+            elif wants[0] == 'tick':
+                self.tick()
+            elif wants[0] == 'end':
+                return self.value('observersNow.lines')
+            else:
+                raise NotShown(wants[1])
+
+
+class Loopback(http.server.ThreadingHTTPServer):
+    """Hands out one page after the other at 127.0.0.1, and takes their answers."""
+    daemon_threads = True
+
+    def __init__(self):
+        super().__init__(('127.0.0.1', 0), Exchange)
+        self.pages, self.answers, self.number = {}, queue.Queue(), 0
+        threading.Thread(target=self.serve_forever, daemon=True).start()
+
+    def close(self):
+        self.shutdown()
+        self.server_close()
+
+    def offer(self, page):
+        self.number += 1
+        self.pages = {'/%d' % self.number: page}
+        return 'http://127.0.0.1:%d/%d' % (self.server_address[1], self.number)
+
+    def answer(self):
+        end = time.time() + LONGEST
+        while time.time() < end:
+            try:
+                path, answer = self.answers.get(timeout=LONGEST)
+            except queue.Empty:
+                break
+            if path == '/%d' % self.number:
+                return json.loads(answer)
+        raise NoBrowser('the browser gave no answer in %d seconds' % LONGEST)
+
+
+class Exchange(http.server.BaseHTTPRequestHandler):
+    def do_GET(self):
+        self.reply(self.server.pages.get(self.path))
+
+    def do_POST(self):
+        self.server.answers.put((self.path, self.rfile.read(int(self.headers['Content-Length']))))
+        self.reply('')
+
+    def reply(self, text):
+        self.send_response(404 if text is None else 200)
+        data = (text or '').encode()
+        for name, value in (('Content-Type', 'text/html; charset=utf-8'), ('Cache-Control', 'no-store'), ('Content-Length', len(data))):
+            self.send_header(name, str(value))
+        self.end_headers()
+        self.wfile.write(data)
+
+    def log_message(self, *words):
+        pass
+
+
+LIVE_PAGE = '''<!doctype html><meta charset="utf-8"><link rel="icon" href="data:,"><style>body { margin: 0 }</style><body><script>
+%(page)s
+%(live)s
+addEventListener('load', async () => {
+  const answer = await observersAnswer(%(script)s, %(size)s, %(window)s).catch(e => ({ failed: String(e) }));
+  fetch(location.href, { method: 'POST', body: JSON.stringify(answer) });
+});
+async function observersAnswer(script, size, inWindow) {
+  if (!inWindow) return observersInFrame(script, size, document.body);
+  const fits = () => innerWidth === size[0] && innerHeight === size[1];
+  for (let left = 100; left > 0 && !fits(); left--) await new Promise(done => setTimeout(done, 20));
+  if (!fits()) return { sized: [innerWidth, innerHeight] };
+  await observersSettled(window);
+  return observersLive(script, window, {});
+}
+</script>'''
+
+
+def in_json(value):
+    """JSON that may stand in a script element."""
+    return json.dumps(value).replace('<', '\\u003c')
+
+
+class Live:
+    """A browser that makes its updates by itself: it is told a page and a size, and the page sends its trace."""
+
+    def __init__(self, program=None):
+        self.parts = {'page': part('page.js'), 'live': part('live.js')}
+        self.held = []
+        try:
+            self.start(program)
+            self.server = self.hold(Loopback())
+        except BaseException:
+            self.close()
+            raise
+
+    def hold(self, thing):
+        """What goes as the browser is closed, the last one first."""
+        self.held.append(thing)
+        return thing
+
+    def close(self):
+        while self.held:
+            self.held.pop().close()
+
+    def trace(self, text):
+        plan = planned(read_script(text))
+        for _ in range(ATTEMPTS):
+            answer = self.attempt(plan, plan['window'])
+            if 'sized' in answer and plan['frame']:
+                answer = self.attempt(plan, False)
+            if 'sized' in answer:
+                raise NotShown('the window is %d by %d at least' % tuple(answer['sized']))
+            if 'failed' in answer:
+                raise RuntimeError(answer['failed'])
+            if answer['stop']:
+                raise NotShown(answer['stop'][1])
+            if not answer['disturbed']:
+                return answer['lines']
+        raise NotShown(BUSY)
+
+    def attempt(self, plan, in_window):
+        if not in_window and not plan['frame']:
+            raise NotShown(NO_FRAME)
+        self.size(*(plan['size'] if in_window else FIRST_SIZE))
+        self.open(self.server.offer(LIVE_PAGE % dict(self.parts, script=in_json(plan['script']), size=in_json(plan['size']),
+                                                     window=in_json(in_window))))
+        return self.server.answer()
+
+
+class LiveChromium(Live):
+    def start(self, program):
+        self.pipe = self.hold(Pipe(found('chromium-headless-shell', program, 'chromium-headless-shell'), CHROMIUM_FLAGS))
+        self.pipe.attach()
+
+    def size(self, width, height):
+        self.pipe.size(width, height)
+
+    def open(self, url):
+        self.pipe.ask('Page.navigate', url=url)
+
+
+FIREFOX_PREFERENCES = {
+    'marionette.port': 0, 'browser.shell.checkDefaultBrowser': False, 'browser.startup.page': 0,
+    'browser.startup.homepage_override.mstone': 'ignore', 'datareporting.policy.dataSubmissionEnabled': False,
+    'app.update.auto': False, 'network.captive-portal-service.enabled': False, 'network.connectivity-service.enabled': False,
+    'ui.useOverlayScrollbars': 1, 'browser.sessionhistory.max_total_viewers': 0,
+}
+# The page's part of the window gets the size, as an engine's own tools do it.
+FIREFOX_SIZE = '''const [width, height] = arguments, style = gBrowser.selectedBrowser.style;
+for (const limit of ['', 'min-', 'max-']) {
+  style.setProperty(limit + 'width', width + 'px');
+  style.setProperty(limit + 'height', height + 'px');
+}'''
+
+
+class Firefox(Live):
+    """Firefox over Marionette: messages of JSON with their length before them."""
+
+    def start(self, program):
+        program = found('firefox-esr', program, 'firefox-esr')
+        self.profile = tempfile.mkdtemp()
+        with open(os.path.join(self.profile, 'user.js'), 'w') as file:
+            for name, value in FIREFOX_PREFERENCES.items():
+                file.write('user_pref(%s, %s);\n' % (json.dumps(name), json.dumps(value)))
+        self.process = self.hold(Process([program, '--headless', '--no-remote', '--marionette', '--remote-allow-system-access',
+                                          '--profile', self.profile], folder=self.profile))
+        self.number = 0
+        self.socket = self.hold(self.connected())
+        self.reads = self.socket.makefile('rb')
+        self.message()
+        self.ask('WebDriver:NewSession', capabilities={'pageLoadStrategy': 'none'})
+
+    def connected(self):
+        place, end = os.path.join(self.profile, 'MarionetteActivePort'), time.time() + STARTING
+        while time.time() < end and self.process.popen.poll() is None:
+            if os.path.exists(place) and open(place).read():
+                return socket.create_connection(('127.0.0.1', int(open(place).read())), LONGEST)
+            time.sleep(0.05)
+        raise NoBrowser("firefox-esr doesn't answer")
+
+    def message(self):
+        length = b''
+        try:
+            while not length.endswith(b':'):
+                more = self.reads.read(1)
+                if not more:
+                    raise NoBrowser('the browser ended')
+                length += more
+            return json.loads(self.reads.read(int(length[:-1])))
+        except OSError:
+            raise NoBrowser('the browser gave no answer in %d seconds' % LONGEST)
+
+    def ask(self, method, **params):
+        self.number += 1
+        data = json.dumps([0, self.number, method, params]).encode()
+        self.socket.sendall(b'%d:' % len(data) + data)
+        _, _, error, answer = self.message()
+        if error:
+            raise NoBrowser('%s: %s' % (method, error.get('message')))
+        return answer
+
+    def size(self, width, height):
+        self.ask('Marionette:SetContext', value='chrome')
+        self.ask('WebDriver:ExecuteScript', script=FIREFOX_SIZE, args=[width, height])
+        self.ask('Marionette:SetContext', value='content')
+
+    def open(self, url):
+        self.ask('WebDriver:Navigate', url=url)
+
+
+MINI_BROWSER = '/usr/lib/x86_64-linux-gnu/webkit2gtk-4.1/MiniBrowser'
+
+
+class WebKit(Live):
+    """WebKitGTK's small browser over its driver, on a display that nobody sees."""
+    session = None
+
+    def start(self, program):
+        driver = found('WebKitWebDriver', None, 'webkit2gtk-driver')
+        program = found('MiniBrowser', program, 'libwebkit2gtk-4.1-0', MINI_BROWSER)
+        display = self.hold(Process([found('Xvfb', None, 'xvfb'), '-displayfd', '1', '-screen', '0', '3000x3000x24', '-nolisten', 'tcp'],
+                                    stdout=subprocess.PIPE))
+        number = display.popen.stdout.readline().decode().strip()
+        self.port = free_port()
+        self.process = self.hold(Process([driver, '--port=%d' % self.port],
+                                         env=dict(os.environ, DISPLAY=':' + number, GDK_BACKEND='x11')))
+        self.started()
+        session = self.ask('POST', '', {'capabilities': {'alwaysMatch': {
+            'pageLoadStrategy': 'none', 'webkitgtk:browserOptions': {'binary': program, 'args': ['--automation']}}}})
+        self.session = '/' + session['sessionId']
+        self.around = self.measured()
+
+    def started(self):
+        end = time.time() + STARTING
+        while time.time() < end and self.process.popen.poll() is None:
+            try:
+                with socket.create_connection(('127.0.0.1', self.port), 1):
+                    return
+            except OSError:
+                time.sleep(0.05)
+        raise NoBrowser("WebKitWebDriver doesn't answer")
+
+    def measured(self):
+        """How much wider and higher the window is than the page in it, as soon as both have the size that was asked for."""
+        for _ in range(200):
+            frame = self.ask('POST', self.session + '/window/rect', {'width': FIRST_SIZE[0], 'height': FIRST_SIZE[1]})
+            inner = self.ask('POST', self.session + '/execute/sync', {'script': 'return [innerWidth, innerHeight]', 'args': []})
+            if inner[0] == frame['width'] and 0 <= frame['height'] - inner[1] < 100:
+                return [0, frame['height'] - inner[1]]
+            time.sleep(0.05)
+        raise NoBrowser("the browser's window doesn't take a size")
+
+    def close(self):
+        try:
+            if self.session:
+                self.ask('DELETE', self.session)
+        except NoBrowser:
+            pass
+        super().close()
+
+    def ask(self, method, path, body=None):
+        connection = http.client.HTTPConnection('127.0.0.1', self.port, timeout=LONGEST)
+        try:
+            connection.request(method, '/session' + path, None if body is None else json.dumps(body))
+            answer = json.loads(connection.getresponse().read())['value']
+        except (OSError, http.client.HTTPException) as e:
+            raise NoBrowser('the browser ended: %s' % e)
+        finally:
+            connection.close()
+        if isinstance(answer, dict) and 'error' in answer:
+            raise NoBrowser('%s: %s' % (path, answer.get('message') or answer['error']))
+        return answer
+
+    def size(self, width, height):
+        self.ask('POST', self.session + '/window/rect', {'width': width + self.around[0], 'height': height + self.around[1]})
+
+    def open(self, url):
+        self.ask('POST', self.session + '/url', {'url': url})
+
+
+ENGINES = {'chromium': Stepped, 'chromium-live': LiveChromium, 'firefox': Firefox, 'webkit': WebKit}
