@@ -143,7 +143,7 @@ class Explainer:
         if not blamed:
             return []
         here = blamed[0] in lines
-        return ['`tools/reference/replay --lint` foresees it: `unquiet %d`%s (docs/LOOPS.md).' % (
+        return ['`bin/replay --lint` foresees it: `unquiet %d`%s (docs/LOOPS.md).' % (
             blamed[0], ', this line' if here else ', the first of %s of loop handlers that may bring it'
             % counted(len(blamed), 'command'))]
 
