@@ -1,4 +1,4 @@
--- What a run takes back: nothing.
+-- What stays in the worlds of a run, and what only grows.
 use Rattle.std.specs.Prelude.{◌≡◌, ◌≤◌, ℕ, IsTrue, List, Some, length}
 use Rattle.page_model.specs.World.{DocumentState, Thing, World}
 use Rattle.page_model.specs.Names.{named_thing}

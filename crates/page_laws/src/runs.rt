@@ -20,8 +20,8 @@ ghost use Rattle.page_model.specs.Callbacks.{Script, Entries, presents, run_comm
 ghost use Rattle.page_model.specs.Ticks.{evaluate, media_steps, run_first, tick};
 ghost use Rattle.page_model.specs.Outcome.{opening_world, run_item, run_items, run_tick};
 
-/// Nothing in a run takes back what was before: not a command with its block, not a callback, not a tick, and not the
-/// items of a script. A throw and a limit leave a later world too.
+/// A command with its block, a callback, a tick and the items of a script leave a later world than the one before (`IsLater`): what was
+/// made, how far documents came, names, the clock and the count of commands. A throw and a limit do so too.
 pub fn runs_take_nothing_back()
     ensures commands { (script : Script) (entries : List Present) (command : Command) (present : Present) (world : World) →
         IsLater world (run_command script entries command present world).state }

@@ -1,7 +1,7 @@
 -- The words by which scripts and traces name limits, exceptions and events.
 use Rattle.std.specs.Prelude.{ℕ, List, codes}
 use Rattle.text_io.specs.declared.kinds.LimitKind.{LimitKind}
-use Rattle.text_io.specs.declared.kinds.LimitKind.TheVariants.{Script, Line, Handlers, Nesting, Commands, Nodes, Depth, Documents, ResizeObservers, IntersectionObservers, ResizeObservations, IntersectionObservations, Listeners, Timers, FrameCallbacks, Tasks, Queries}
+use Rattle.text_io.specs.declared.kinds.LimitKind.TheVariants.{Script, Line, Handlers, Nesting, Commands, Nodes, Depth, Documents, ResizeObservers, IntersectionObservers, ResizeObservations, IntersectionObservations, Listeners, Timers, FrameCallbacks, Tasks, Queries, Recorded, Pages}
 use Rattle.text_io.specs.declared.kinds.ThrowKind.{ThrowKind}
 use Rattle.text_io.specs.declared.kinds.ThrowKind.TheVariants.{ReferenceError, TypeError, HierarchyRequestError, NotFoundError, SyntaxError, RangeError}
 use Rattle.text_io.specs.declared.kinds.EventKind.{EventKind}
@@ -26,6 +26,8 @@ limit_word Timers = codes "timers"
 limit_word FrameCallbacks = codes "frame-callbacks"
 limit_word Tasks = codes "tasks"
 limit_word Queries = codes "queries"
+limit_word Recorded = codes "recorded"
+limit_word Pages = codes "pages"
 
 -- the names of the exceptions (WebIDL)
 abbrev pub throw_word : ThrowKind → List ℕ

@@ -5,7 +5,7 @@ use Rattle.text_io.specs.declared.kinds.LimitKind.TheVariants as limits
 
 -- bytes of a script; bytes of a line; handlers; blocks one in the other; commands begun; nodes, documents, observers
 -- and query lists ever made; the depth of an element; and observations, listeners, timers, frame callbacks and posted
--- tasks held at one time
+-- tasks held at one time; bytes of a source with a recorded trace; and pages of a stream
 abbrev pub limit_number : LimitKind → ℕ
 limit_number limits.Script = 16777216
 limit_number limits.Line = 4096
@@ -24,3 +24,5 @@ limit_number limits.Timers = 4096
 limit_number limits.FrameCallbacks = 4096
 limit_number limits.Tasks = 4096
 limit_number limits.Queries = 4096
+limit_number limits.Recorded = 67108864
+limit_number limits.Pages = 8

@@ -2,7 +2,8 @@ ghost use Rattle.std.specs.Prelude.{◌≡◌};
 ghost use Rattle.text_io.specs.Kinds.{limit_word, throw_word, event_word};
 ghost use Rattle.text_io.specs.Limits.{limit_number};
 
-/// What a run has a limit of. The first four are met while the script is read, the others by a command.
+/// What a run has a limit of. The first four are met while the script is read, the last two while a source of several texts is, the
+/// others by a command.
 #[derive(Clone, Copy, Debug, PartialEq, Eq, Hash)]
 pub enum LimitKind {
     /// Bytes of the script.
@@ -39,6 +40,10 @@ pub enum LimitKind {
     Tasks,
     /// Query lists made.
     Queries,
+    /// Bytes of a source with a recorded trace.
+    Recorded,
+    /// Pages of a stream.
+    Pages,
 }
 
 impl LimitKind {
@@ -64,10 +69,12 @@ impl LimitKind {
             LimitKind::FrameCallbacks => "frame-callbacks",
             LimitKind::Tasks => "tasks",
             LimitKind::Queries => "queries",
+            LimitKind::Recorded => "recorded",
+            LimitKind::Pages => "pages",
         }
     }
 
-    /// The most that a run may hold, in bytes for `Script` and `Line`, in things of the kind for the others. This project's own choice.
+    /// The most that a run may hold, in bytes for `Script`, `Line` and `Recorded`, in things of the kind for the others. This project's own choice.
     pub fn number(&self) -> u64
         ensures { result ≡ limit_number self.now }
     {
@@ -89,6 +96,8 @@ impl LimitKind {
             LimitKind::FrameCallbacks => 4_096,
             LimitKind::Tasks => 4_096,
             LimitKind::Queries => 4_096,
+            LimitKind::Recorded => 67_108_864,
+            LimitKind::Pages => 8,
         }
     }
 }

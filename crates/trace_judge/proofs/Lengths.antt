@@ -152,6 +152,8 @@ limit_short limit.Timers = word_short (limit_word limit.Timers) refl
 limit_short limit.FrameCallbacks = word_short (limit_word limit.FrameCallbacks) refl
 limit_short limit.Tasks = word_short (limit_word limit.Tasks) refl
 limit_short limit.Queries = word_short (limit_word limit.Queries) refl
+limit_short limit.Recorded = word_short (limit_word limit.Recorded) refl
+limit_short limit.Pages = word_short (limit_word limit.Pages) refl
 
 throw_short : (kind : ThrowKind) → IsShort (throw_word kind)
 throw_short throw.ReferenceError = word_short (throw_word throw.ReferenceError) refl

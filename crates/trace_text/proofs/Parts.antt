@@ -21,7 +21,7 @@ use Rattle.text_io.specs.declared.kinds.EventKind.TheVariants as event
 use Rattle.text_io.specs.declared.kinds.ThrowKind.{ThrowKind}
 use Rattle.text_io.specs.declared.kinds.ThrowKind.TheVariants.{ReferenceError, TypeError, HierarchyRequestError, NotFoundError, SyntaxError, RangeError}
 use Rattle.text_io.specs.declared.kinds.LimitKind.{LimitKind}
-use Rattle.text_io.specs.declared.kinds.LimitKind.TheVariants.{Script, Line, Handlers, Nesting, Commands, Nodes, Depth, Documents, ResizeObservers, IntersectionObservers, ResizeObservations, IntersectionObservations, Listeners, Timers, FrameCallbacks, Tasks, Queries}
+use Rattle.text_io.specs.declared.kinds.LimitKind.TheVariants.{Script, Line, Handlers, Nesting, Commands, Nodes, Depth, Documents, ResizeObservers, IntersectionObservers, ResizeObservations, IntersectionObservations, Listeners, Timers, FrameCallbacks, Tasks, Queries, Recorded, Pages}
 use Rattle.script_model.specs.TraceText.{window_text, bool_text, meets_text, rect_fields, size_fields, point_fields}
 use Rattle.trace_text.specs.Fields.{is_field_byte}
 use Rattle.trace_text.specs.Ranges.{RectReaches, SizeReaches, PointReaches, IsName}
@@ -152,6 +152,8 @@ limit_complete Timers h = (refl, refl)
 limit_complete FrameCallbacks h = (refl, refl)
 limit_complete Tasks h = (refl, refl)
 limit_complete Queries h = (refl, refl)
+limit_complete Recorded h = (refl, refl)
+limit_complete Pages h = (refl, refl)
 
 limit_exact : Exact limit_of limit_word Always
 limit_exact = record { sound = λ field kind h. (named_sound limit_word limit_kinds field kind h, tt); complete = limit_complete }

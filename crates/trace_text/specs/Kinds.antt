@@ -7,7 +7,7 @@ use Rattle.text_io.specs.declared.kinds.EventKind.TheVariants as event
 use Rattle.text_io.specs.declared.kinds.ThrowKind.{ThrowKind}
 use Rattle.text_io.specs.declared.kinds.ThrowKind.TheVariants.{ReferenceError, TypeError, HierarchyRequestError, NotFoundError, SyntaxError, RangeError}
 use Rattle.text_io.specs.declared.kinds.LimitKind.{LimitKind}
-use Rattle.text_io.specs.declared.kinds.LimitKind.TheVariants.{Script, Line, Handlers, Nesting, Commands, Nodes, Depth, Documents, ResizeObservers, IntersectionObservers, ResizeObservations, IntersectionObservations, Listeners, Timers, FrameCallbacks, Tasks, Queries}
+use Rattle.text_io.specs.declared.kinds.LimitKind.TheVariants.{Script, Line, Handlers, Nesting, Commands, Nodes, Depth, Documents, ResizeObservers, IntersectionObservers, ResizeObservations, IntersectionObservations, Listeners, Timers, FrameCallbacks, Tasks, Queries, Recorded, Pages}
 use Rattle.trace_text.specs.declared.kinds.LineKind.{LineKind}
 use Rattle.trace_text.specs.declared.kinds.LineKind.TheVariants as line
 
@@ -45,7 +45,7 @@ throw_kinds = ReferenceError ∷ TypeError ∷ HierarchyRequestError ∷ NotFoun
 abbrev pub limit_kinds : List LimitKind
 limit_kinds =
     Script ∷ Line ∷ Handlers ∷ Nesting ∷ Commands ∷ Nodes ∷ Depth ∷ Documents ∷ ResizeObservers ∷ IntersectionObservers
-    ∷ ResizeObservations ∷ IntersectionObservations ∷ Listeners ∷ Timers ∷ FrameCallbacks ∷ Tasks ∷ Queries ∷ []
+    ∷ ResizeObservations ∷ IntersectionObservations ∷ Listeners ∷ Timers ∷ FrameCallbacks ∷ Tasks ∷ Queries ∷ Recorded ∷ Pages ∷ []
 
 abbrev pub kind_of : List ℕ → Option LineKind
 kind_of word = named kind_word line_kinds word

@@ -60,7 +60,7 @@ const THROWS: [ThrowKind; 6] = [
     ThrowKind::RangeError,
 ];
 
-const LIMITS: [LimitKind; 17] = [
+const LIMITS: [LimitKind; 19] = [
     LimitKind::Script,
     LimitKind::Line,
     LimitKind::Handlers,
@@ -78,6 +78,8 @@ const LIMITS: [LimitKind; 17] = [
     LimitKind::FrameCallbacks,
     LimitKind::Tasks,
     LimitKind::Queries,
+    LimitKind::Recorded,
+    LimitKind::Pages,
 ];
 
 impl LineKind {
