@@ -3,4 +3,7 @@ pub mod Feeds
 pub mod Steps
 pub mod Ends
 pub mod Wholes
+pub mod Looks
+pub mod Pieces
+pub mod Growth
 pub mod Limit

@@ -4,21 +4,17 @@ use Rattle.std.proofs.lemmas.Bool.{eqb-true}
 use Rattle.std.proofs.lemmas.Bool.Decides.{nat_tests}
 use Rattle.std.proofs.lemmas.List.{append-nil, drop_more, drop_all}
 use Rattle.std.proofs.lemmas.List.Elements.{All-nil, All-get_or}
-use Rattle.word_model.specs.Numbers.{begins_with}
 use Rattle.script_model.specs.Lexing.{Scan, Lexed, Line as LineOfWords, Whole, BadByte, LongLine, ByteClass, LineFeedByte, LongByte, SpaceByte, WordByte, ForbiddenByte, line_start, close_word, passed, space, word_byte, add_line, ends, next_line, look_as}
 use Rattle.script_model.specs.Lexing.{Ending}
 use Rattle.script_lexer.specs.declared.places.LexFault.{LexFault}
 use Rattle.script_lexer.specs.declared.places.Span.{Span}
 use Rattle.script_lexer.specs.Texts.{InLine, LineFits, fault_seen, lines_before}
 use Rattle.script_lexer.specs.Limited.{class_within, lex_within, lexed_within}
-use Rattle.script_lexer.specs.Places.{Places, no_places, closed_from, closed, line_kept, next_line_at, begun, scan_seen, kept_seen, behind, to_come, Sound, WentOn, Scanned, lines_up_to}
+use Rattle.script_lexer.specs.Places.{Places, no_places, closed_from, closed, line_kept, next_line_at, begun, scan_seen, kept_seen, behind, to_come, class_at, Sound, WentOn, Scanned, lines_up_to}
 use Rattle.script_lexer.proofs.Steps.{closed_seen, closed_passed, closed_kept, sound_closed, sound_later, begun_seen, begun_kept, sound_begun}
 use Rattle.script_lexer.proofs.Ends.{line_added, next_closed, next_kept, sound_feed, kept_fit, ended_line}
 
--- the byte at a place, what it is there, and how the text goes on behind it
-abbrev pub class_at : ℕ → List ℕ → ℕ → Places → ByteClass
-class_at most bytes at p = class_within most (get_or bytes at 0) (begins_with 10 (drop (at + 1) bytes)) (at - p.start + 1)
-
+-- how the text goes on behind a place
 abbrev on_at : ℕ → List ℕ → ℕ → Scan → Lexed
 on_at most bytes at t = lex_within most t (drop (at + 1) bytes)
 
@@ -211,13 +207,12 @@ end_scanned most bytes p s whole =
       counted = ap (λ (l : Lexed). lines_before l.ending) (sym is) ∙ omega arith;
     }
 
-pub fault_scanned : (most : ℕ) (bytes : List ℕ) (at : ℕ) (p : Places) (fault : LexFault) (before : Lexed) → at ≤ length bytes → before ≡ lexed_within most bytes
-    → WentOn most bytes at p (Some fault) before → Scanned most bytes p (Some fault)
-fault_scanned most bytes at p fault before within same went =
-    let is : lexed_as (kept_seen bytes p) (fault_seen fault) ≡ lexed_within most bytes = sym (ended_whole (kept_seen bytes p) (fault_seen fault)) ∙ went.3 ∙ same in record {
+pub fault_scanned : (most : ℕ) (bytes : List ℕ) (at : ℕ) (p : Places) (fault : LexFault) → WentOn most bytes at p (Some fault) (lexed_within most bytes) → Scanned most bytes p (Some fault)
+fault_scanned most bytes at p fault went =
+    let is : lexed_as (kept_seen bytes p) (fault_seen fault) ≡ lexed_within most bytes = sym (ended_whole (kept_seen bytes p) (fault_seen fault)) ∙ went.3 in record {
       lines_fit = went.0;
       ended_before = went.1;
-      start_before = omega (arith, went.2);
+      start_before = went.2;
       whole = is;
       counted = ap (λ (l : Lexed). lines_before l.ending) (sym is) ∙ went.4;
     }
@@ -230,23 +225,14 @@ worded bytes at p s some =
     omega (arith, first.0, first.1, first.2)
 
 -- so its number fits
-pub last_number : (bytes : List ℕ) (at : ℕ) (p q : Places) → at ≡ length bytes → length bytes < 4294967296 → Sound bytes at p → q ≡ closed (length bytes) p
-    → q.first < length q.words → q.ended + 1 < 4294967296
-last_number bytes at p q end small s is some =
-    let sound : Sound bytes (length bytes) p = subst (λ (n : ℕ). Sound bytes n p) end s in
-    let after : Sound bytes (length bytes) q = subst (λ (r : Places). Sound bytes (length bytes) r) (sym is) (sound_closed bytes (length bytes) p p.open_word sound) in
-    omega (arith, worded bytes (length bytes) q after some, after.ended_before)
+pub last_number : (bytes : List ℕ) (p : Places) → length bytes < 4294967296 → Sound bytes (length bytes) p → p.first < length p.words → p.ended + 1 < 4294967296
+last_number bytes p small s some = omega (arith, worded bytes (length bytes) p s some, s.ended_before)
 
-pub last_scanned : (most : ℕ) (bytes : List ℕ) (at : ℕ) (p q r : Places) → at ≡ length bytes → Sound bytes at p → to_come most bytes at p ≡ lexed_within most bytes
+-- behind the last word
+pub last_sound : (bytes : List ℕ) (p q : Places) → Sound bytes (length bytes) p → q ≡ closed (length bytes) p → Sound bytes (length bytes) q
+last_sound bytes p q s is = subst (λ (r : Places). Sound bytes (length bytes) r) (sym is) (sound_closed bytes (length bytes) p p.open_word s)
+
+pub last_scanned : (most : ℕ) (bytes : List ℕ) (p q r : Places) → Sound bytes (length bytes) p → to_come most bytes (length bytes) p ≡ lexed_within most bytes
     → q ≡ closed (length bytes) p → r ≡ line_kept q → Scanned most bytes r None
-last_scanned most bytes at p q r end s whole q_is r_is =
-    let sound : Sound bytes (length bytes) p = subst (λ (n : ℕ). Sound bytes n p) end s in
-    let whole_end : to_come most bytes (length bytes) p ≡ lexed_within most bytes = subst (λ (n : ℕ). to_come most bytes n p ≡ lexed_within most bytes) end whole in
-    subst (λ (t : Places). Scanned most bytes t None) (sym (r_is ∙ ap line_kept q_is)) (end_scanned most bytes p sound whole_end)
-
-pub feed_went : (most : ℕ) (bytes : List ℕ) (at : ℕ) (p q : Places) → at < length bytes → Sound bytes at p → class_at most bytes at p ≡ LineFeedByte
-    → q ≡ next_line_at at (line_kept (closed at p)) → Sound bytes (at + 1) q × to_come most bytes (at + 1) q ≡ to_come most bytes at p
-feed_went most bytes at p q within s class is = (
-  subst (λ (t : Places). Sound bytes (at + 1) t) (sym is) (sound_end most bytes at p within class s),
-  subst (λ (t : Places). to_come most bytes (at + 1) t ≡ to_come most bytes at p) (sym is) (after_feed most bytes at p within s class),
-)
+last_scanned most bytes p q r s whole q_is r_is =
+    subst (λ (t : Places). Scanned most bytes t None) (sym (r_is ∙ ap line_kept q_is)) (end_scanned most bytes p s whole)

@@ -1,8 +1,9 @@
 -- Places kept while a text is read, what one byte does to them, and the scan that they stand for.
-use Rattle.std.specs.Prelude.{ℕ, ◌+◌, ◌-◌, ◌<◌, ◌≤◌, ◌≡◌, Bool, true, false, cond, ◌==◌, List, [], ◌∷◌, ◌++◌, length, drop, map, reverse, Option, Some, None}
+use Rattle.std.specs.Prelude.{ℕ, ◌+◌, ◌-◌, ◌<◌, ◌≤◌, ◌≡◌, ◌⊎◌, Bool, true, false, cond, ◌==◌, List, [], ◌∷◌, ◌++◌, length, take, drop, get_or, slice_index, map, reverse, Option, Some, None}
 use Rattle.std.specs.List.{All}
-use Rattle.script_model.specs.Lexing.{Scan, Lexed, Line as LineOfWords, ends}
-use Rattle.script_lexer.specs.Limited.{lex_within, lexed_within}
+use Rattle.word_model.specs.Numbers.{begins_with}
+use Rattle.script_model.specs.Lexing.{Scan, Lexed, Line as LineOfWords, ByteClass, ends}
+use Rattle.script_lexer.specs.Limited.{class_within, lex_within, lexed_within}
 use Rattle.script_lexer.specs.Texts.{part, word_seen, after_of, line_seen, InLine, feeds_before, BeginsLine, LineFits, fault_seen, ending_seen, lines_before}
 use Rattle.script_lexer.specs.declared.places.Span.{Span}
 use Rattle.script_lexer.specs.declared.places.Line.{Line}
@@ -98,8 +99,39 @@ pub record Sound (bytes : List ℕ) (at : ℕ) (p : Places) : Type 0 where
 abbrev pub WentOn : ℕ → List ℕ → ℕ → Places → Option LexFault → Lexed → Type 0
 WentOn most_line bytes at p None whole = (Sound bytes at p) × (to_come most_line bytes at p ≡ whole)
 WentOn most_line bytes at p (Some fault) whole =
-    (All (LineFits bytes p.words) p.lines) × (p.ended ≤ p.start) × (p.start ≤ at)
+    (All (LineFits bytes p.words) p.lines) × (p.ended ≤ p.start) × (p.start ≤ length bytes)
     × (behind (kept_seen bytes p) (ends (fault_seen fault)) ≡ whole) × (lines_before (fault_seen fault) ≡ p.ended)
+
+-- what the byte at a place is there
+abbrev pub class_at : ℕ → List ℕ → ℕ → Places → ByteClass
+class_at most_line bytes at p = class_within most_line (get_or bytes at 0) (begins_with 10 (drop (at + 1) bytes)) (at - p.start + 1)
+
+-- a text in which the byte at a place is that of these bytes, and is the same there
+abbrev pub SameByte : ℕ → List ℕ → List ℕ → ℕ → Places → Type 0
+SameByte most_line bytes text at p =
+    (at < length text) × (get_or text at 0 ≡ get_or bytes at 0) × (class_at most_line text at p ≡ class_at most_line bytes at p)
+
+-- the byte at a place was looked at, and each text with that byte went on
+abbrev pub Looked : ℕ → List ℕ → ℕ → Places → Places → Option LexFault → Type 0
+Looked most_line bytes at p q fault =
+    (text : List ℕ) → SameByte most_line bytes text at p → Sound text at p → WentOn most_line text (at + 1) q fault (to_come most_line text at p)
+
+-- how many of these bytes can be judged: a carriage return at the end waits for the byte behind it
+abbrev pub settled : List ℕ → ℕ
+settled bytes = cond (slice_index bytes (length bytes - 1) == 13) (length bytes - 1) (length bytes)
+
+-- so many can be judged where this stands behind them
+abbrev pub IsSettled : ℕ → List ℕ → List ℕ → Type 0
+IsSettled at bytes more = (at ≤ settled bytes) ⊎ (more ≡ [])
+
+-- the bytes before a place were read, whatever stands behind these bytes
+abbrev pub IsRead : ℕ → List ℕ → ℕ → Places → Option LexFault → Type 0
+IsRead most_line bytes at p fault =
+    (more : List ℕ) → IsSettled at bytes more → WentOn most_line (bytes ++ more) at p fault (lexed_within most_line (bytes ++ more))
+
+-- no line and no word is gone
+abbrev pub Grown : Places → Places → Type 0
+Grown p q = (take (length p.lines) q.lines ≡ p.lines) × (take (length p.words) q.words ≡ p.words)
 
 -- how many lines a text has that ends here: a last one without a line feed counts if it has a byte
 abbrev pub lines_up_to : Option LexFault → ℕ → Places → ℕ

@@ -5,29 +5,34 @@ ghost use Rattle.script_model.specs.Lexing.{lexed};
 ghost use Rattle.script_lexer.specs.Limited.{lexed_within};
 ghost use Rattle.script_lexer.specs.Texts.{text_seen, lines_before};
 
-use crate::scan::Scanner;
+use crate::places::LexFault;
+use crate::scan::{Scanner, settled};
 use crate::text::Text;
 use std::alloc::{AllocError, Global};
 use std::marker::Model;
 
-/// Takes a text in pieces and finds its lines and words. How the text is cut makes no difference: a contract sees the
-/// bytes fed so far as one text, beside the most bytes that a line may have.
+/// Takes a text in pieces and finds its lines and words as they come. How the text is cut makes no difference: a contract
+/// sees the bytes fed so far as one text, beside the most bytes that a line may have.
 #[derive(Drop)]
 pub struct Lexer {
-    alloc: Global,
     bytes: Vec<u8>,
     most_line: usize,
+    // Of all bytes, but for a carriage return at their end, which waits for the byte behind it.
+    scanner: Scanner,
+    // Behind it no byte is looked at.
+    fault: Option<LexFault>,
 }
 
 impl Model for Lexer {
     ghost use Rattle.std.specs.Prelude.{◌<◌, ◌-◌, ◌^◌, length};
     ghost use Rattle.script_lexer.specs.Texts.{Fed};
+    ghost use Rattle.script_lexer.specs.Places.{settled, IsRead};
 
     ghost Value = { Fed };
 
     ghost view = { λ lexer. record { text = lexer.bytes.items; most_line = lexer.most_line } };
 
-    ghost invariant = { λ lexer. length lexer.bytes.items < 2 ^ 32 };
+    ghost invariant = { λ lexer. (length lexer.bytes.items < 2 ^ 32) × IsRead lexer.most_line lexer.bytes.items (settled lexer.bytes.items) lexer.scanner lexer.fault };
 }
 
 impl Lexer {
@@ -37,9 +42,10 @@ impl Lexer {
         ensures { result ≡ record { text = []; most_line = most_line } }
     {
         Lexer {
-            alloc,
             bytes: Vec::new(alloc),
             most_line,
+            scanner: Scanner::new(alloc),
+            fault: None,
         }
     }
 
@@ -52,7 +58,20 @@ impl Lexer {
         ensures ok { OnOk result (self.new ≡ record self.old { text = self.old.text ++ piece.now }) }
         ensures err { OnErr result (self.new ≡ self.old) }
     {
-        self.bytes.extend_from_slice(piece)
+        let fed = self.bytes.len();
+        let from = settled(self.bytes.as_slice());
+        self.bytes.extend_from_slice(piece)?;
+        let bytes = self.bytes.as_slice();
+        match self.scanner.read(bytes, from, self.most_line, self.fault) {
+            Ok(fault) => {
+                self.fault = fault;
+                Ok(())
+            }
+            Err(refused) => {
+                self.bytes.truncate(fed);
+                Err(refused)
+            }
+        }
     }
 
     /// The lines and words of the text that was fed, up to its first fault; behind that no byte is looked at.
@@ -66,8 +85,8 @@ impl Lexer {
         ensures counted { IfOk result (λ text. text.line_count ≡ lines_before (lexed_within self.most_line self.text).ending) }
         ensures script { self.most_line ≡ limit_number limits.Line → IfOk result (λ text. text_seen text ≡ lexed self.text) }
     {
-        let mut scanner = Scanner::new(self.alloc);
-        let fault = scanner.scan(self.bytes.as_slice(), self.most_line)?;
+        let mut scanner = self.scanner;
+        let fault = scanner.end(self.bytes.as_slice(), self.most_line, self.fault)?;
         Ok(scanner.into_text(self.bytes, fault))
     }
 }

@@ -1,9 +1,9 @@
-ghost use Rattle.std.specs.Prelude.{◌≡◌, ◌<◌, ◌≤◌, ◌+◌, ◌-◌, ◌^◌, length, drop, IfOk, OnOk};
+ghost use Rattle.std.specs.Prelude.{◌≡◌, ◌<◌, ◌≤◌, ◌+◌, ◌-◌, ◌^◌, None, length, drop, IfOk, OnOk, OnErr};
 ghost use Rattle.std.specs.List.{All};
 ghost use Rattle.word_model.specs.Numbers.{begins_with};
 ghost use Rattle.script_model.specs.Lexing.{BadByte as BadByteAt};
 ghost use Rattle.script_lexer.specs.Texts.{fault_seen, LineFits};
-ghost use Rattle.script_lexer.specs.Places.{closed, line_kept, next_line_at, begun, no_places, Sound, WentOn, Scanned, to_come, lines_up_to};
+ghost use Rattle.script_lexer.specs.Places.{closed, line_kept, next_line_at, begun, no_places, settled, Looked, IsRead, Grown, Scanned, lines_up_to};
 
 use crate::class::{ByteClass, class_of};
 use crate::places::{LexFault, Line, Span};
@@ -11,20 +11,26 @@ use crate::text::Text;
 use std::alloc::{AllocError, Global};
 use std::marker::Model;
 
+/// The line that is being read.
+#[derive(Clone, Copy)]
+struct OpenLine {
+    // How many lines ended before it.
+    ended: u32,
+    // Where it begins.
+    start: usize,
+    // The number of its first word.
+    first: usize,
+    // Where the word begins that is being read.
+    word: Option<usize>,
+    in_comment: bool,
+}
+
 /// The places of lines and words so far, and of the line and the word that are being read.
 #[derive(Drop)]
 pub struct Scanner {
     lines: Vec<Line>,
     words: Vec<Span>,
-    // How many lines ended.
-    ended: u32,
-    // Where the line begins that is being read.
-    start: usize,
-    // The number of its first word.
-    first: usize,
-    // Where the word begins that is being read.
-    open_word: Option<usize>,
-    in_comment: bool,
+    line: OpenLine,
 }
 
 impl Model for Scanner {
@@ -35,11 +41,11 @@ impl Model for Scanner {
     ghost view = { λ s. record {
       lines = s.lines.items;
       words = s.words.items;
-      ended = s.ended;
-      start = s.start;
-      first = s.first;
-      open_word = s.open_word;
-      in_comment = s.in_comment;
+      ended = s.line.ended;
+      start = s.line.start;
+      first = s.line.first;
+      open_word = s.line.word;
+      in_comment = s.line.in_comment;
     } };
 }
 
@@ -51,21 +57,24 @@ impl Scanner {
         Scanner {
             lines: Vec::new(alloc),
             words: Vec::new(alloc),
-            ended: 0,
-            start: 0,
-            first: 0,
-            open_word: None,
-            in_comment: false,
+            line: OpenLine {
+                ended: 0,
+                start: 0,
+                first: 0,
+                word: None,
+                in_comment: false,
+            },
         }
     }
 
     /// The word that is being read ends before this place.
     fn close_word(&mut self, at: usize) -> Result<(), AllocError>
-        ensures { OnOk result (self.new ≡ closed at self.old) }
+        ensures closed { OnOk result (self.new ≡ closed at self.old) }
+        ensures grown { Grown self.old self.new }
     {
-        if let Some(from) = self.open_word {
+        if let Some(from) = self.line.word {
             self.words.push(Span { from, to: at })?;
-            self.open_word = None;
+            self.line.word = None;
         }
         Ok(())
     }
@@ -74,16 +83,17 @@ impl Scanner {
     fn keep_line(&mut self) -> Result<(), AllocError>
         requires first { self.old.first ≤ length self.old.words }
         requires number { self.old.first < length self.old.words → self.old.ended + 1 < 2 ^ 32 }
-        ensures { OnOk result (self.new ≡ line_kept self.old) }
+        ensures kept { OnOk result (self.new ≡ line_kept self.old) }
+        ensures grown { Grown self.old self.new }
     {
-        if self.first == self.words.len() {
+        if self.line.first == self.words.len() {
             return Ok(());
         }
         self.lines.push(Line {
-            number: self.ended + 1,
-            start: self.start,
-            first: self.first,
-            count: self.words.len() - self.first,
+            number: self.line.ended + 1,
+            start: self.line.start,
+            first: self.line.first,
+            count: self.words.len() - self.line.first,
         })?;
         Ok(())
     }
@@ -93,14 +103,15 @@ impl Scanner {
         requires first { self.old.first ≤ length self.old.words }
         requires number { self.old.ended + 1 < 2 ^ 32 }
         requires place { at + 1 < 2 ^ 32 }
-        ensures { OnOk result (self.new ≡ next_line_at at (line_kept (closed at self.old))) }
+        ensures ended { OnOk result (self.new ≡ next_line_at at (line_kept (closed at self.old))) }
+        ensures grown { Grown self.old self.new }
     {
         self.close_word(at)?;
         self.keep_line()?;
-        self.ended += 1;
-        self.start = at + 1;
-        self.first = self.words.len();
-        self.in_comment = false;
+        self.line.ended += 1;
+        self.line.start = at + 1;
+        self.line.first = self.words.len();
+        self.line.in_comment = false;
         Ok(())
     }
 
@@ -108,16 +119,16 @@ impl Scanner {
     fn word_byte(&mut self, byte: u8, at: usize)
         ensures { self.new ≡ begun byte at self.old }
     {
-        if self.in_comment {
+        if self.line.in_comment {
             return;
         }
-        if self.open_word.is_some() {
+        if self.line.word.is_some() {
             return;
         }
         if byte == b'#' {
-            self.in_comment = true;
+            self.line.in_comment = true;
         } else {
-            self.open_word = Some(at);
+            self.line.word = Some(at);
         }
     }
 
@@ -128,13 +139,12 @@ impl Scanner {
         ensures { fault_seen result ≡ BadByteAt (self.now.ended + 1) (at - self.now.start + 1) }
     {
         LexFault::BadByte {
-            line: self.ended + 1,
-            column: (at - self.start + 1) as u32,
+            line: self.line.ended + 1,
+            column: (at - self.line.start + 1) as u32,
         }
     }
 
     /// The byte at this place, which is looked at once.
-    #[tactic(auto, using(crate::proofs::Wholes::after_space, crate::proofs::Wholes::after_word, crate::proofs::Wholes::after_feed, crate::proofs::Wholes::sound_space, crate::proofs::Wholes::sound_word, crate::proofs::Wholes::sound_end, crate::proofs::Wholes::at_long, crate::proofs::Wholes::at_bad))]
     fn look(
         &mut self,
         bytes: &[u8],
@@ -143,17 +153,21 @@ impl Scanner {
     ) -> Result<Option<LexFault>, AllocError>
         requires inside { at < length bytes.now }
         requires size { length bytes.now < 2 ^ 32 }
-        requires sound { Sound bytes.now at self.old }
-        ensures { IfOk result (λ fault. WentOn most_line bytes.now (at + 1) self.new fault (to_come most_line bytes.now at self.old)) }
+        requires start { self.old.start ≤ at }
+        requires ended { self.old.ended ≤ self.old.start }
+        requires first { self.old.first ≤ length self.old.words }
+        ensures looked { IfOk result (Looked most_line bytes.now at self.old self.new) }
+        ensures grown { Grown self.old self.new }
     {
         let byte = bytes[at];
-        match class_of(byte, feed_at(bytes, at + 1), at - self.start + 1, most_line) {
+        let column = at - self.line.start + 1;
+        match class_of(byte, feed_at(bytes, at + 1), column, most_line) {
             ByteClass::LineFeed => {
                 self.end_line(at)?;
                 Ok(None)
             }
             ByteClass::Long => Ok(Some(LexFault::LineTooLong {
-                line: self.ended + 1,
+                line: self.line.ended + 1,
             })),
             ByteClass::Space => {
                 self.close_word(at)?;
@@ -167,17 +181,74 @@ impl Scanner {
         }
     }
 
-    /// Reads a whole text, up to its first fault.
-    #[tactic(auto, using(crate::proofs::Wholes::fault_scanned))]
-    pub fn scan(&mut self, bytes: &[u8], most_line: usize) -> Result<Option<LexFault>, AllocError>
+    /// Looks at the bytes from one place up to another, up to the first fault; at none where one was met before.
+    fn look_on(
+        &mut self,
+        bytes: &[u8],
+        from: usize,
+        to: usize,
+        most_line: usize,
+        fault: Option<LexFault>,
+    ) -> Result<Option<LexFault>, AllocError>
         requires size { length bytes.now < 2 ^ 32 }
-        requires blank { self.old ≡ no_places }
-        ensures { IfOk result (λ fault. Scanned most_line bytes.now self.new fault) }
+        requires order { from ≤ to }
+        requires inside { to ≤ length bytes.now }
+        requires read { IsRead most_line bytes.now from self.old fault }
+        ensures read { IfOk result (IsRead most_line bytes.now to self.new) }
+        ensures grown { Grown self.old self.new }
     {
-        for at in 0..bytes.len() {
+        if fault.is_some() {
+            return Ok(fault);
+        }
+        for at in from..to {
             if let Some(fault) = self.look(bytes, at, most_line)? {
                 return Ok(Some(fault));
             }
+        }
+        Ok(None)
+    }
+
+    /// Reads what was fed from this place on, up to its first fault.
+    ///
+    /// # Errors
+    /// Where no memory is left, all is taken back.
+    pub fn read(
+        &mut self,
+        bytes: &[u8],
+        from: usize,
+        most_line: usize,
+        fault: Option<LexFault>,
+    ) -> Result<Option<LexFault>, AllocError>
+        requires size { length bytes.now < 2 ^ 32 }
+        requires from { from ≤ settled bytes.now }
+        requires read { IsRead most_line bytes.now from self.old fault }
+        ensures read { IfOk result (IsRead most_line bytes.now (settled bytes.now) self.new) }
+        ensures err { OnErr result (self.new ≡ self.old) }
+    {
+        let (lines, words, line) = (self.lines.len(), self.words.len(), self.line);
+        let found = self.look_on(bytes, from, settled(bytes), most_line, fault);
+        if found.is_err() {
+            self.lines.truncate(lines);
+            self.words.truncate(words);
+            self.line = line;
+        }
+        found
+    }
+
+    /// The text ends here: a carriage return that waited for the byte behind it is looked at, and the last word and line are closed.
+    pub fn end(
+        &mut self,
+        bytes: &[u8],
+        most_line: usize,
+        fault: Option<LexFault>,
+    ) -> Result<Option<LexFault>, AllocError>
+        requires size { length bytes.now < 2 ^ 32 }
+        requires read { IsRead most_line bytes.now (settled bytes.now) self.old fault }
+        ensures { IfOk result (Scanned most_line bytes.now self.new) }
+    {
+        let waiting = settled(bytes);
+        if let Some(fault) = self.look_on(bytes, waiting, bytes.len(), most_line, fault)? {
+            return Ok(Some(fault));
         }
         self.close_word(bytes.len())?;
         self.keep_line()?;
@@ -192,12 +263,12 @@ impl Scanner {
         ensures { result ≡ lines_up_to fault size self.now }
     {
         match fault {
-            Some(_) => self.ended,
+            Some(_) => self.line.ended,
             None => {
-                if self.start == size {
-                    self.ended
+                if self.line.start == size {
+                    self.line.ended
                 } else {
-                    self.ended + 1
+                    self.line.ended + 1
                 }
             }
         }
@@ -230,5 +301,15 @@ fn feed_at(bytes: &[u8], at: usize) -> bool
     match bytes.get(at) {
         Some(byte) => *byte == b'\n',
         None => false,
+    }
+}
+
+/// How many of these bytes can be judged: a carriage return at the end waits for the byte behind it.
+pub fn settled(bytes: &[u8]) -> usize
+    ensures { result ≡ settled bytes.now }
+{
+    match bytes.last() {
+        Some(b'\r') => bytes.len() - 1,
+        _ => bytes.len(),
     }
 }

@@ -1,8 +1,8 @@
-//! Texts with their lines and words, cut at each place, and lines at the bound.
+//! Texts with their lines and words, cut at each place and in pieces of several sizes, and lines at the bound.
 
 ghost use Rattle.std.specs.Prelude.{◌≡◌, ◌≤◌, length};
 
-use crate::scripts::lines_of;
+use crate::scripts::{lines_in_pieces, lines_of};
 use script_lexer::{LexFault, Line, Span, Text};
 use std::alloc::{AllocError, Global};
 use std::process::Abort;
@@ -85,6 +85,25 @@ fn each_cut_gives_the_same_lines_and_words(rt: HostRuntime) -> Result<(), Fail> 
     Ok(())
 }
 
+/// Sizes of pieces that cut each row of the tests at many places, or nowhere.
+const SIZES: [usize; 4] = [1, 2, 3, 4096];
+
+fn see_pieces(rt: &impl Abort, alloc: Global, row: Row) -> Result<(), Fail> {
+    for size in SIZES {
+        let found = lines_in_pieces(rt, alloc, row.0, size)?;
+        see_text(rt, alloc, &found, row)?;
+    }
+    Ok(())
+}
+
+#[test]
+fn pieces_of_any_size_give_the_same_lines_and_words(rt: HostRuntime) -> Result<(), Fail> {
+    for row in ROWS {
+        see_pieces(&rt, rt.alloc(), row)?;
+    }
+    Ok(())
+}
+
 /// What stands before a line's bytes, how many these are, what stands behind them; how many lines have a word, and which
 /// line is too long.
 type LongRow = (&'static [u8], usize, &'static [u8], usize, Option<u32>);
@@ -108,20 +127,27 @@ fn push_line(text: &mut Vec<u8>, row: LongRow) -> Result<(), AllocError> {
     text.extend_from_slice(end)
 }
 
-fn see_long_line(rt: &impl Abort, alloc: Global, row: LongRow) -> Result<(), Fail> {
-    let mut text = Vec::new(alloc);
-    push_line(&mut text, row)?;
-    let found = lines_of(rt, alloc, text.as_slice(), 2000)?;
+fn see_long_line(rt: &impl Abort, found: &Text, row: LongRow) -> Result<(), Fail> {
     assert_eq!(rt; found.lines().len(), row.3);
     let fault = row.4.map(|line| LexFault::LineTooLong { line });
     assert_eq!(rt; found.fault(), fault);
     Ok(())
 }
 
+fn see_long_row(rt: &impl Abort, alloc: Global, row: LongRow) -> Result<(), Fail> {
+    let mut text = Vec::new(alloc);
+    push_line(&mut text, row)?;
+    see_long_line(rt, &lines_of(rt, alloc, text.as_slice(), 2000)?, row)?;
+    for size in SIZES {
+        see_long_line(rt, &lines_in_pieces(rt, alloc, text.as_slice(), size)?, row)?;
+    }
+    Ok(())
+}
+
 #[test]
 fn a_line_has_at_most_4096_bytes(rt: HostRuntime) -> Result<(), Fail> {
     for row in LONG_LINES {
-        see_long_line(&rt, rt.alloc(), row)?;
+        see_long_row(&rt, rt.alloc(), row)?;
     }
     Ok(())
 }

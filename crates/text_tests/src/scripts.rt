@@ -20,6 +20,21 @@ pub fn lines_of(rt: &impl Abort, alloc: Global, text: &[u8], cut: usize) -> Resu
     lexer.finish()
 }
 
+/// The lines and words of a text that is fed in pieces of a size.
+pub fn lines_in_pieces(rt: &impl Abort, alloc: Global, text: &[u8], size: usize) -> Result<Text, AllocError>
+    ensures { IfOk result (λ text. text_seen text ≡ lexed text.bytes) }
+{
+    assert!(rt; text.len() < 100_000 && 0 < size && size < 100_000);
+    let mut lexer = Lexer::new(alloc, 4096);
+    let mut fed = 0;
+    while fed < text.len() {
+        let end = text.len().min(fed + size);
+        lexer.feed(&text[fed..end])?;
+        fed = end;
+    }
+    lexer.finish()
+}
+
 /// The script that a text is.
 pub fn script_of(rt: &impl Abort, alloc: Global, text: &str) -> Result<Script, ParseFault> {
     let lines = lines_of(rt, alloc, text.as_bytes(), 0)?;
