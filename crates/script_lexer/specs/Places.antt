@@ -106,12 +106,12 @@ WentOn most_line bytes at p (Some fault) whole =
 abbrev pub class_at : ℕ → List ℕ → ℕ → Places → ByteClass
 class_at most_line bytes at p = class_within most_line (get_or bytes at 0) (begins_with 10 (drop (at + 1) bytes)) (at - p.start + 1)
 
--- a text in which the byte at a place is that of these bytes, and is the same there
+-- a text that has at a place the byte of these bytes, and there of the same class
 abbrev pub SameByte : ℕ → List ℕ → List ℕ → ℕ → Places → Type 0
 SameByte most_line bytes text at p =
     (at < length text) × (get_or text at 0 ≡ get_or bytes at 0) × (class_at most_line text at p ≡ class_at most_line bytes at p)
 
--- the byte at a place was looked at, and each text with that byte went on
+-- the byte at a place was looked at: each text with that byte goes on so, or ends here with this fault
 abbrev pub Looked : ℕ → List ℕ → ℕ → Places → Places → Option LexFault → Type 0
 Looked most_line bytes at p q fault =
     (text : List ℕ) → SameByte most_line bytes text at p → Sound text at p → WentOn most_line text (at + 1) q fault (to_come most_line text at p)
@@ -120,16 +120,16 @@ Looked most_line bytes at p q fault =
 abbrev pub settled : List ℕ → ℕ
 settled bytes = cond (slice_index bytes (length bytes - 1) == 13) (length bytes - 1) (length bytes)
 
--- so many can be judged where this stands behind them
+-- the bytes before a place can be judged, where this stands behind them all
 abbrev pub IsSettled : ℕ → List ℕ → List ℕ → Type 0
 IsSettled at bytes more = (at ≤ settled bytes) ⊎ (more ≡ [])
 
--- the bytes before a place were read, whatever stands behind these bytes
+-- the bytes before a place were read: so goes each text that begins with all of these bytes
 abbrev pub IsRead : ℕ → List ℕ → ℕ → Places → Option LexFault → Type 0
 IsRead most_line bytes at p fault =
     (more : List ℕ) → IsSettled at bytes more → WentOn most_line (bytes ++ more) at p fault (lexed_within most_line (bytes ++ more))
 
--- no line and no word is gone
+-- lines and words were added, and none is gone
 abbrev pub Grown : Places → Places → Type 0
 Grown p q = (take (length p.lines) q.lines ≡ p.lines) × (take (length p.words) q.words ≡ p.words)
 
