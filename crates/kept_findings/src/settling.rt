@@ -31,12 +31,16 @@ pub trait Tells: Scene {
     /// What is found of a target, told by its root.
     ghost telling: { Self → ModelRoot → ℕ → ModelFinding → ModelFinding };
 
+    /// What is so of each finding that is told, as how far it reaches.
+    ghost reaches: { ModelFinding → Type 0 };
+
     /// Tells what was found of a target. Which threshold it comes to, and whether root and target meet, is no matter of coordinates.
     fn told(&self, root: Root, target: NodeId, found: Finding) -> Finding
         requires { IsPlaced (root_bounds (Self.scene self.now) (spot_of_root (seen_root root))) (seen_finding found) }
         ensures value { seen_finding result ≡ telling self.now (seen_root root) target.0 (seen_finding found) }
         ensures index { result.index ≡ found.index }
-        ensures meets { result.meets ≡ found.meets };
+        ensures meets { result.meets ≡ found.meets }
+        ensures reach { reaches (seen_finding result) };
 }
 
 impl KeptFindings {
@@ -64,6 +68,8 @@ impl KeptFindings {
             OnOk result (watchers.new ≡ record watchers.old { part = with_settled registration.0 time (found_in (S.scene scene.now) (S.standings scene.now) chained (S.telling scene.now) (intersection_observer_at watchers.old.part watcher.0) (target_of watchers.old.part registration.0)) (watchers.old.part) }) }
         ensures queued { (chained : AreChained (S.scene scene.now) (S.standings scene.now)) →
             IfOk result (λ queued. queued ≡ is_news_for registration.0 (found_in (S.scene scene.now) (S.standings scene.now) chained (S.telling scene.now) (intersection_observer_at watchers.old.part watcher.0) (target_of watchers.old.part registration.0)) watchers.old.part) }
+        ensures reach { (chained : AreChained (S.scene scene.now) (S.standings scene.now)) →
+            S.reaches (found_in (S.scene scene.now) (S.standings scene.now) chained (S.telling scene.now) (intersection_observer_at watchers.old.part watcher.0) (target_of watchers.old.part registration.0)) }
         ensures same { OnErr result (watchers.new ≡ watchers.old) }
         ensures expired { OnErr result (kept_of self.new.kept registration.0 ≡ None) }
         ensures registered { AreRegistered watchers.new.part self.new }

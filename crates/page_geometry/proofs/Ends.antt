@@ -17,11 +17,11 @@ use Rattle.page_geometry.specs.Ranks.{level_of, rank_of}
 use Rattle.page_geometry.proofs.Standing.{active, parent_boxed}
 use Rattle.page_geometry.proofs.Levels.{level_more, level_some, level_most}
 
-leads_on : (b : Bool) (o : Option Spot) (next : Spot) → cond b o None ≡ Some next → (b ≡ true) × (o ≡ Some next)
+pub leads_on : (b : Bool) (o : Option Spot) (next : Spot) → cond b o None ≡ Some next → (b ≡ true) × (o ≡ Some next)
 leads_on true o next is = (refl, is)
 leads_on false o next is = absurd (let no : ⊥ = cc in no)
 
-same_next : (a b : Spot) → Some a ≡ Some b → a ≡ b
+pub same_next : (a b : Spot) → Some a ≡ Some b → a ≡ b
 same_next a b is = cc
 
 module _ (tree : Tree) (screen : Screen) (scrolls : Scrolls) (framed : AreFramed tree) (few : length tree.documents ≤ 64)
@@ -84,8 +84,14 @@ module _ (tree : Tree) (screen : Screen) (scrolls : Scrolls) (framed : AreFramed
       let lower = falls from next leads.0 in
       omega (arith, below, lower)
 
+  rank_most : (spot : Spot) → rank_of tree screen spot ≤ 65536
+  rank_most (Node node) = by_box (has_box tree screen (node.0))
+    where
+      by_box : (boxed : Bool) → cond boxed (257 * level_of tree (own (node.0)) + element_depth tree (node.0)) 0 ≤ 65536
+      by_box true = omega (arith, deep (node.0), level_most tree framed 64 (own (node.0)))
+      by_box false = omega arith
+  rank_most (View document) = omega (arith, level_most tree framed 64 document)
+
   -- no chain is longer than the definition of clips looks
-  pub few_between : (n : ℕ) (root : Spot) (between : List Spot) → has_box tree screen n ≡ true → Leads scene (element_spot n) between root → length between ≤ 65536
-  few_between n root between boxed leads =
-      let below = short (element_spot n) root between leads in
-      omega (arith, below, ranked n boxed, deep n, level_most tree framed 64 (own n))
+  pub few_between : (from root : Spot) (between : List Spot) → Leads scene from between root → length between ≤ 65536
+  few_between from root between leads = omega (arith, short from root between leads, rank_most from)

@@ -2,6 +2,7 @@ pub mod Standing
 pub mod Levels
 pub mod Chains
 pub mod Ends
+pub mod Scenes
 pub mod Moves
 pub mod Beginnings
 pub mod Found

@@ -8,7 +8,7 @@ use Rattle.page_model.specs.Documents.{element_depth, nodes_of}
 pub at_least : (n most : ℕ) → false ≡ nat_lt n most → most ≤ n
 at_least n most is = grind (arith, tests)
 
-past_end : {A : Type 0} (xs : List A) (n : ℕ) → length xs ≤ n → slice_get xs n ≡ None
+pub past_end : {A : Type 0} (xs : List A) (n : ℕ) → length xs ≤ n → slice_get xs n ≡ None
 past_end [] n past = refl
 past_end (x ∷ xs) zero past = absurd (omega (arith, past))
 past_end (x ∷ xs) (suc n) past = past_end xs n (omega (arith, past))

@@ -7,6 +7,7 @@
 
 mod findings;
 mod geometry;
+mod laws;
 mod origins;
 mod ratios;
 mod rects;
@@ -17,5 +18,5 @@ mod sizes;
 mod telling;
 
 pub use findings::find;
+pub use laws::{chains_lead_to_roots, what_is_told_is_found};
 pub use shown::Shown;
-pub use telling::told;

@@ -7,10 +7,9 @@ use element_tree::NodeId;
 use intersection_observer::Root;
 
 impl Scene for Shown<'_> {
-    ghost use Rattle.page_model.specs.Findings.{relation};
-    ghost use Rattle.candidate_index.specs.Worlds.{standing_in};
+    ghost use Rattle.page_geometry.specs.Scenes.{standings_of};
 
-    ghost standings = { λ it root target. standing_in (relation it root target) };
+    ghost standings = { standings_of };
 
     fn standing(&self, root: Root, target: NodeId) -> Standing {
         if is_apart(self, root, target) {

@@ -1,13 +1,12 @@
 //! What is shown of a page, lent to whoever reads it.
 
-ghost use Rattle.std.specs.Prelude.{◌≡◌, ◌≤◌, ℕ, List, length, option_map, ◌-ℤ◌};
+ghost use Rattle.std.specs.Prelude.{◌≡◌, List, length, option_map, ◌-ℤ◌};
 ghost use Rattle.px_units.specs.Rects.{InReach, RectInReach};
 ghost use Rattle.px_units.specs.declared.BoxKind.TheVariants.{Border};
 ghost use Rattle.script_model.specs.TraceLines.{ReadLine};
 ghost use Rattle.page_model.specs.World.{Name};
 ghost use Rattle.page_model.specs.Lookups.{element_at, document_at};
-ghost use Rattle.page_model.specs.Documents.{element_depth, container_of};
-ghost use Rattle.page_documents.specs.Frames.{AreFramed};
+ghost use Rattle.page_model.specs.Documents.{container_of};
 ghost use Rattle.element_tree.specs.Links.{number};
 ghost use Rattle.page_model.specs.Chains.{padding_box_at, content_corner_at};
 ghost use Rattle.page_model.specs.PageBoxes.{pair_of};
@@ -21,6 +20,7 @@ ghost use Rattle.page_tree.specs.Steps.{seen_container};
 ghost use Rattle.page_boxes.specs.Fresh.{IsFresh};
 ghost use Rattle.page_boxes.specs.Pages.{seen_screen, text_in};
 ghost use Rattle.page_boxes.specs.Ranges.{IsOffset, IsSpan, IsPlace, IsEdge, AreEdges};
+ghost use Rattle.page_geometry.specs.Scenes.{IsPageTree};
 
 use element_tree::NodeId;
 use kept_layout::Kept;
@@ -84,9 +84,7 @@ impl<'a> Shown<'a> {
     /// How many documents there are. What is so of the elements and documents of every page is told here for what rests on it.
     pub fn document_count(&self) -> u32
         ensures value { result ≡ length self.now.tree.documents }
-        ensures few { length self.now.tree.documents ≤ 64 }
-        ensures framed { AreFramed self.now.tree }
-        ensures deep { (n : ℕ) → element_depth self.now.tree n ≤ 256 }
+        ensures page { IsPageTree self.now.tree }
     {
         self.page.holds(NodeId(0));
         self.page.document_count()

@@ -1,4 +1,4 @@
-use Rattle.std.proofs.Common.{◌≤◌, ◌∷◌, sym, subst, ◌∙◌}
+use Rattle.std.proofs.Common.{◌∷◌, sym, subst, ◌∙◌}
 use Rattle.std.specs.Prelude.{IfSome}
 use Rattle.page_model.specs.Chains.{border_rect, clips_between}
 use Rattle.clip_chain.specs.Chains.{Leads, IsAbove}
@@ -15,15 +15,16 @@ pub visible_rect-requires : goal.visible_rect-requires
 visible_rect-requires c =
     let it = c.args.shown.now in
     subst (λ root. IsAbove (scene_of it) root (element_spot (c.args.target.0))) (sym c.spot_of_root.ensures)
-    (above it.tree it.screen it.scrolls c.document_count.ensures.framed (seen_root c.args.root) (c.args.target.0) c.requires.boxed c.requires.near)
+    (above it.tree it.screen it.scrolls c.document_count.ensures.page.framed (seen_root c.args.root) (c.args.target.0) c.requires.boxed c.requires.near)
 
 pub returns-clause-value : goal.returns-clause-value
 returns-clause-value c =
     let it = c.args.shown.now in
     let root = seen_root c.args.root in
     let n = c.args.target.0 in
-    let chain = above it.tree it.screen it.scrolls c.document_count.ensures.framed root n c.requires.boxed c.requires.near in
-    let few = few_between it.tree it.screen it.scrolls c.document_count.ensures.framed c.document_count.ensures.few c.document_count.ensures.deep n (spot_of_root root) chain.0 c.requires.boxed chain.1 in
+    let page = c.document_count.ensures.page in
+    let chain = above it.tree it.screen it.scrolls page.framed root n c.requires.boxed c.requires.near in
+    let few = few_between it.tree it.screen it.scrolls page.framed page.few page.deep (element_spot n) (spot_of_root root) chain.0 chain.1 in
     c.visible_rect.ensures.part chain.0 (subst (λ spot. Leads (scene_of it) (element_spot n) chain.0 spot) (sym c.spot_of_root.ensures) chain.1)
     ∙ part_is it root n chain.0 c.args.limits chain.1 few
 

@@ -48,6 +48,20 @@ returns-in-Ok-Queued-clause-queued g c =
     let news = rw c.in-Ok-Queued.field-0-is at c.in-Ok-Queued.ensures.answer in
     sym (ap (λ (f : Finding). is_news_for serial f it) (sym tells) ∙ news)
 
+pub returns-in-Ok-Queued-clause-reach : goal.returns-in-Ok-Queued-clause-reach
+returns-in-Ok-Queued-clause-reach g c =
+    let scene = g.S.Geometry.scene c.args.scene.now in
+    let standings = g.S.Scene.standings c.args.scene.now in
+    let it = c.args.watchers.now.part in
+    let serial = c.args.registration.0 in
+    let targets = looked_up (λ (p : Place). p.target) (standing_of serial it) (record { watcher = 0; target = 0 }) c.target_of-target.result.0 c.target_of-target.ensures in
+    λ chained.
+    let between = spots_between scene standings chained it in
+    let tells : seen_finding c.told-told.result ≡ found_in scene standings chained (g.S.Tells.telling c.args.scene.now) (intersection_observer_at it c.args.watcher.0) (target_of it serial) =
+    told_is scene standings chained (g.S.Tells.telling c.args.scene.now) it serial c.args.watcher.0 c.target_of-target.result.0 (target_of it serial) (seen_root c.root_of-root.result) (seen_finding c.recompute-found.result) (seen_finding c.told-told.result)
+    c.requires.stands (sym c.root_of-root.ensures) targets (c.recompute-found.ensures.finding between (is_between scene standings chained it serial)) c.told-told.ensures.value in
+    subst (g.S.Tells.reaches) tells c.told-told.ensures.reach
+
 pub returns-in-Ok-Queued-clause-registered : goal.returns-in-Ok-Queued-clause-registered
 returns-in-Ok-Queued-clause-registered g c =
     let scene = g.S.Geometry.scene c.args.scene.now in
@@ -91,6 +105,20 @@ returns-in-Ok-Kept-clause-queued g c =
     let news = rw c.in-Ok-Kept.field-0-is at c.in-Ok-Kept.ensures.answer in
     sym (ap (λ (f : Finding). is_news_for serial f it) (sym tells) ∙ news)
 
+pub returns-in-Ok-Kept-clause-reach : goal.returns-in-Ok-Kept-clause-reach
+returns-in-Ok-Kept-clause-reach g c =
+    let scene = g.S.Geometry.scene c.args.scene.now in
+    let standings = g.S.Scene.standings c.args.scene.now in
+    let it = c.args.watchers.now.part in
+    let serial = c.args.registration.0 in
+    let targets = looked_up (λ (p : Place). p.target) (standing_of serial it) (record { watcher = 0; target = 0 }) c.target_of-target.result.0 c.target_of-target.ensures in
+    λ chained.
+    let between = spots_between scene standings chained it in
+    let tells : seen_finding c.told-told.result ≡ found_in scene standings chained (g.S.Tells.telling c.args.scene.now) (intersection_observer_at it c.args.watcher.0) (target_of it serial) =
+    told_is scene standings chained (g.S.Tells.telling c.args.scene.now) it serial c.args.watcher.0 c.target_of-target.result.0 (target_of it serial) (seen_root c.root_of-root.result) (seen_finding c.recompute-found.result) (seen_finding c.told-told.result)
+    c.requires.stands (sym c.root_of-root.ensures) targets (c.recompute-found.ensures.finding between (is_between scene standings chained it serial)) c.told-told.ensures.value in
+    subst (g.S.Tells.reaches) tells c.told-told.ensures.reach
+
 pub returns-in-Ok-Kept-clause-registered : goal.returns-in-Ok-Kept-clause-registered
 returns-in-Ok-Kept-clause-registered g c =
     let scene = g.S.Geometry.scene c.args.scene.now in
@@ -103,6 +131,20 @@ returns-in-Ok-Kept-clause-registered g c =
     subst (λ (watchers : HeldWatchers). AreRegistered watchers.part c.recompute-found.new.self) (sym c.in-Ok-Kept.ensures.settled)
     (registered_found it c.args.self.now c.recompute-found.new.self serial c.args.time last (seen_finding c.told-told.result) c.requires.registered c.recompute-found.ensures.held kept c.requires.serials
     (sym c.told-told.ensures.index) (sym c.told-told.ensures.meets))
+
+pub returns-in-Err-clause-reach : goal.returns-in-Err-clause-reach
+returns-in-Err-clause-reach g c =
+    let scene = g.S.Geometry.scene c.args.scene.now in
+    let standings = g.S.Scene.standings c.args.scene.now in
+    let it = c.args.watchers.now.part in
+    let serial = c.args.registration.0 in
+    let targets = looked_up (λ (p : Place). p.target) (standing_of serial it) (record { watcher = 0; target = 0 }) c.target_of-target.result.0 c.target_of-target.ensures in
+    λ chained.
+    let between = spots_between scene standings chained it in
+    let tells : seen_finding c.told-told.result ≡ found_in scene standings chained (g.S.Tells.telling c.args.scene.now) (intersection_observer_at it c.args.watcher.0) (target_of it serial) =
+    told_is scene standings chained (g.S.Tells.telling c.args.scene.now) it serial c.args.watcher.0 c.target_of-target.result.0 (target_of it serial) (seen_root c.root_of-root.result) (seen_finding c.recompute-found.result) (seen_finding c.told-told.result)
+    c.requires.stands (sym c.root_of-root.ensures) targets (c.recompute-found.ensures.finding between (is_between scene standings chained it serial)) c.told-told.ensures.value in
+    subst (g.S.Tells.reaches) tells c.told-told.ensures.reach
 
 pub returns-in-Err-clause-expired : goal.returns-in-Err-clause-expired
 returns-in-Err-clause-expired g c =

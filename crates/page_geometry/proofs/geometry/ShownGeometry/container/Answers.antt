@@ -1,4 +1,4 @@
-use Rattle.std.proofs.Common.{◌≤◌, ◌<◌, option_map, ap, sym, subst, ◌∙◌, Some}
+use Rattle.std.proofs.Common.{◌<◌, option_map, ap, sym, subst, ◌∙◌, Some}
 use Rattle.element_tree.specs.Links.{number}
 use Rattle.clip_chain.specs.declared.spot.Spot.TheVariants.{Node, View}
 use Rattle.clip_chain.specs.Worlds.{element_spot, spot_of}
@@ -10,7 +10,7 @@ use Rattle.page_geometry.proofs.geometry.ShownGeometry.container.Goals as goal
 pub returns-in-Some-clause-end : goal.returns-in-Some-clause-end
 returns-in-Some-clause-end c =
     let it = c.args.self.now in
-    let told = c.document_count.ensures in
+    let told = c.document_count.ensures.page in
     subst (λ spot. rank_of it.tree it.screen c.spot_of.result < rank_of it.tree it.screen spot) (sym c.in-Node.is)
     (ends it.tree it.screen it.scrolls told.framed told.few told.deep (Node c.in-Node.node) (Some c.spot_of.result)
     (container_is it.tree it.screen it.scrolls (c.in-Node.node.0) (Some c.spot_of.result) (sym c.has_box.ensures ∙ c.if-not-has_box.false)
@@ -19,7 +19,7 @@ returns-in-Some-clause-end c =
 pub returns-in-Some-frame_of-clause-end : goal.returns-in-Some-frame_of-clause-end
 returns-in-Some-frame_of-clause-end c =
     let it = c.args.self.now in
-    let told = c.document_count.ensures in
+    let told = c.document_count.ensures.page in
     let frame = element_spot (c.in-Some-frame_of.frame.0) in
     subst (λ spot. rank_of it.tree it.screen frame < rank_of it.tree it.screen spot) (sym c.in-View.is)
     (ends it.tree it.screen it.scrolls told.framed told.few told.deep (View c.in-View.document) (Some frame)

@@ -1,0 +1,122 @@
+-- The chains of a page lead to the roots of its targets and no further than its elements and documents, and what is found over its scene
+-- and told is the definitions' finding.
+use Rattle.std.proofs.Common.{◌≡◌, ◌∙◌, ◌≤◌, ◌<◌, ℕ, Bool, true, false, cond, List, [], ◌∷◌, length, Option, Some, None, unwrap_or, refl, ap, sym, subst, nat_lt, arith, tests}
+use Rattle.std.specs.Prelude.{option_map}
+use Rattle.page_model.specs.World.{Element, Document, Tree, Root, IntersectionObserver}
+use Rattle.page_model.specs.Lookups.{element_at, document_at, no_element, no_document, is_listed}
+use Rattle.page_model.specs.Documents.{InElement, container_by, container_of, is_root_element}
+use Rattle.page_model.specs.Shown.{Shown, has_box}
+use Rattle.page_model.specs.Chains.{most_containers}
+use Rattle.page_model.specs.Findings.{Apart, Boxless, Chained, is_apart, finding}
+use Rattle.page_documents.proofs.Lists.{number_is, its_number}
+use Rattle.clip_chain.specs.declared.spot.Spot.{Spot}
+use Rattle.clip_chain.specs.declared.spot.Spot.TheVariants.{Node, View}
+use Rattle.clip_chain.specs.Scenes.{Scene}
+use Rattle.clip_chain.specs.Chains.{Leads, IsAbove}
+use Rattle.clip_chain.specs.Worlds.{element_spot, spot_of, spot_of_root, scene_of}
+use Rattle.candidate_index.specs.declared.scene.Standing.{Standing}
+use Rattle.candidate_index.specs.declared.scene.Standing.TheVariants as standings
+use Rattle.candidate_index.specs.Registrations.{IfChained}
+use Rattle.candidate_index.specs.Worlds.{standing_in, IsChain}
+use Rattle.candidate_index.proofs.Worlds.{world_finding}
+use Rattle.kept_findings.specs.Walks.{EachAlong, AreChained, between_by, chain_between, found_in}
+use Rattle.page_geometry.specs.Scenes.{IsPageTree, IsThere, standings_of, telling_of}
+use Rattle.page_geometry.proofs.Chains.{above}
+use Rattle.page_geometry.proofs.Ends.{leads_on, same_next, few_between}
+use Rattle.page_geometry.proofs.Missing.{at_least, past_end}
+
+-- what isn't past the end is there
+within : (n most : ℕ) → (most ≤ n → ⊥) → n < most
+within n most not_past = by_test (nat_lt n most) refl
+  where
+    by_test : (b : Bool) → nat_lt n most ≡ b → n < most
+    by_test true is = grind (arith, tests)
+    by_test false is = absurd (not_past (at_least n most (sym is)))
+
+module _ (shown : Shown) (page : IsPageTree (shown.tree)) where
+  abbrev tree : Tree
+  tree = shown.tree
+
+  abbrev scene : Scene
+  scene = scene_of shown
+
+  -- an element that differs from one that isn't there is there, and so is a document
+
+  element_there : (n : ℕ) → (element_at tree n ≡ no_element → ⊥) → n < length tree.elements
+  element_there n other =
+      within n (length tree.elements) (λ past. other (ap (λ (found : Option Element). unwrap_or found no_element) (past_end tree.elements n past)))
+
+  document_there : (document : ℕ) → (document_at tree document ≡ no_document → ⊥) → document < length tree.documents
+  document_there document other =
+      within document (length tree.documents) (λ past. other (ap (λ (found : Option Document). unwrap_or found no_document) (past_end tree.documents document past)))
+
+  child_there : (n p : ℕ) → (element_at tree n).parent ≡ Some p → n < length tree.elements
+  child_there n p is = element_there n (λ missing. let no : None ≡ Some p = sym (ap (λ (e : Element). e.parent) missing) ∙ is in cc)
+
+  parent_there : (n p : ℕ) → (element_at tree n).parent ≡ Some p → p < length tree.elements
+  parent_there n p is = element_there p (λ missing.
+      let no : false ≡ true =
+      sym (ap (λ (e : Element). is_listed n e.children) missing) ∙ page.framed.trees.children p n ∙ its_number (element_at tree n).parent p is in cc)
+
+  rooted_there : (document n : ℕ) → (document_at tree document).root ≡ Some n → document < length tree.documents
+  rooted_there document n is = document_there document (λ missing. let no : None ≡ Some n = sym (ap (λ (d : Document). d.root) missing) ∙ is in cc)
+
+  framed_there : (document n : ℕ) → (document_at tree document).frame ≡ Some n → document < length tree.documents
+  framed_there document n is = document_there document (λ missing. let no : None ≡ Some n = sym (ap (λ (d : Document). d.frame) missing) ∙ is in cc)
+
+  frame_there : (document n : ℕ) → (document_at tree document).frame ≡ Some n → n < length tree.elements
+  frame_there document n is = element_there n (λ missing.
+      let no : None ≡ Some document = sym (ap (λ (e : Element). e.framed) missing) ∙ page.framed.owners.frames document n is in cc)
+
+  -- what stands in something is there, and so is what it stands in
+
+  in_element : (n : ℕ) (parent : Option ℕ) (is_root : Bool) (next : Spot) → (element_at tree n).parent ≡ parent → is_root_element tree n ≡ is_root
+      → option_map spot_of (container_by parent is_root (element_at tree n).document) ≡ Some next → IsThere tree (element_spot n) × IsThere tree next
+  in_element n (Some p) is_root next is root leads = (child_there n p is, subst (IsThere tree) (same_next (element_spot p) next leads) (parent_there n p is))
+  in_element n None true next is root leads =
+      let own = (element_at tree n).document in
+      let rooted = number_is (document_at tree own).root n root in
+      ((page.framed.owners.roots own n rooted).known, subst (IsThere tree) (same_next (View own) next leads) (rooted_there own n rooted))
+  in_element n None false next is root leads = absurd (let no : ⊥ = cc in no)
+
+  in_document : (document : ℕ) (frame : Option ℕ) (next : Spot) → (document_at tree document).frame ≡ frame
+      → option_map spot_of (option_map InElement frame) ≡ Some next → IsThere tree (View document) × IsThere tree next
+  in_document document (Some frame) next is leads = (framed_there document frame is, subst (IsThere tree) (same_next (element_spot frame) next leads) (frame_there document frame is))
+  in_document document None next is leads = absurd (let no : ⊥ = cc in no)
+
+  both_there : (from next : Spot) → scene.container from ≡ Some next → IsThere tree from × IsThere tree next
+  both_there (Node node) next leads =
+      in_element (node.0) (element_at tree (node.0)).parent (is_root_element tree (node.0)) next refl refl
+      (leads_on (has_box shown (node.0)) (option_map spot_of (container_of tree (node.0))) next leads).1
+  both_there (View document) next leads = in_document document (document_at tree document).frame next refl leads
+
+  pub there_along : (from root : Spot) → EachAlong (IsThere tree) scene from root
+  there_along from root [] leads = let ends = both_there from root leads in (ends.0, (ends.1, tt))
+  there_along from root (next ∷ others) leads = ((both_there from next leads.0).0, there_along next root others leads.2)
+
+  pub short_of : (from root : Spot) (between : List Spot) → Leads scene from between root → length between ≤ most_containers
+  short_of from root between leads = few_between tree shown.screen shown.scrolls page.framed page.few page.deep from root between leads
+
+  -- chains lead to roots
+
+  chained_by : (root : Root) (target : ℕ) (apart boxed : Bool) → is_apart shown root target ≡ apart → has_box shown target ≡ boxed
+      → IfChained (standing_in (cond apart Apart (cond boxed Chained Boxless))) (IsAbove scene (spot_of_root root) (element_spot target))
+  chained_by root target true boxed apart there = tt
+  chained_by root target false false near none = tt
+  chained_by root target false true near there = above tree shown.screen shown.scrolls page.framed root target there near
+
+  pub chained_of : AreChained scene (standings_of shown)
+  chained_of root target = chained_by root target (is_apart shown root target) (has_box shown target) refl refl
+
+  -- what is found along them
+  chain_by : (standing : Standing) (root : Root) (target : ℕ) (leads : IfChained standing (IsAbove scene (spot_of_root root) (element_spot target)))
+      → IfChained standing (IsChain shown root target (between_by standing scene (spot_of_root root) (element_spot target) leads))
+  chain_by standings.Apart root target leads = tt
+  chain_by standings.NoBox root target leads = tt
+  chain_by standings.Chained root target leads = (leads.1, short_of (element_spot target) (spot_of_root root) leads.0 leads.1)
+
+  pub finding_is : (chained : AreChained scene (standings_of shown)) (observer : IntersectionObserver) (target : ℕ)
+      → finding shown observer target ≡ found_in scene (standings_of shown) chained (telling_of shown) observer target
+  finding_is chained observer target =
+      world_finding shown observer target (chain_between scene (standings_of shown) chained observer.root target)
+      (chain_by (standings_of shown observer.root target) observer.root target (chained observer.root target))

@@ -1,0 +1,31 @@
+-- A page as what is kept of intersection observers sees it: how targets stand to roots, how what is found of them is told, and which
+-- spots there are.
+use Rattle.std.specs.Prelude.{ℕ, ◌<◌, ◌≤◌, length}
+use Rattle.page_model.specs.World.{Tree, Root, Finding}
+use Rattle.page_model.specs.Lookups.{no_intersection_observer}
+use Rattle.page_model.specs.Documents.{element_depth}
+use Rattle.page_model.specs.Shown.{Shown}
+use Rattle.page_model.specs.Findings.{relation}
+use Rattle.page_documents.specs.Frames.{AreFramed}
+use Rattle.clip_chain.specs.declared.spot.Spot.{Spot}
+use Rattle.clip_chain.specs.declared.spot.Spot.TheVariants.{Node, View}
+use Rattle.candidate_index.specs.declared.scene.Standing.{Standing}
+use Rattle.candidate_index.specs.Worlds.{standing_in, told}
+
+-- what is so of the elements and documents of every page
+pub record IsPageTree (tree : Tree) : Type 0 where
+  pub framed : AreFramed tree
+  pub few : length tree.documents ≤ 64
+  pub deep : (n : ℕ) → element_depth tree n ≤ 256
+
+-- a spot of an element or a document that there is
+abbrev pub IsThere : Tree → Spot → Type 0
+IsThere tree (Node node) = node.0 < length tree.elements
+IsThere tree (View document) = document < length tree.documents
+
+abbrev pub standings_of : Shown → Root → ℕ → Standing
+standings_of shown root target = standing_in (relation shown root target)
+
+-- nothing of an observer but its root makes a difference to how a finding is told
+abbrev pub telling_of : Shown → Root → ℕ → Finding → Finding
+telling_of shown root target found = told shown (record no_intersection_observer { root = root }) target (relation shown root target) found

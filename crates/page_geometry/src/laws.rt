@@ -1,0 +1,26 @@
+//! What is so of the chains and findings of every page: each law is the clause of a function that does nothing.
+
+ghost use Rattle.std.specs.Prelude.{◌≡◌, ◌≤◌, ℕ, List, length};
+ghost use Rattle.page_model.specs.World.{IntersectionObserver};
+ghost use Rattle.page_model.specs.Shown.{Shown as ModelShown};
+ghost use Rattle.page_model.specs.Chains.{most_containers};
+ghost use Rattle.page_model.specs.Findings.{finding};
+ghost use Rattle.clip_chain.specs.declared.spot.Spot.{Spot as SpotOf};
+ghost use Rattle.clip_chain.specs.Chains.{Leads};
+ghost use Rattle.clip_chain.specs.Worlds.{scene_of};
+ghost use Rattle.kept_findings.specs.Walks.{EachAlong, AreChained, found_in};
+ghost use Rattle.page_geometry.specs.Scenes.{IsPageTree, IsThere, standings_of, telling_of};
+
+/// From a target that has a box and isn't apart from a root the chain of containers leads to the root. No chain is longer than the
+/// definition of clips looks along, and each spot on one is an element or a document that there is.
+pub fn chains_lead_to_roots()
+    ensures chained { (shown : ModelShown) → IsPageTree shown.tree → AreChained (scene_of shown) (standings_of shown) }
+    ensures short { (shown : ModelShown) → IsPageTree shown.tree → (from root : SpotOf) (between : List SpotOf) → Leads (scene_of shown) from between root → length between ≤ most_containers }
+    ensures there { (shown : ModelShown) → IsPageTree shown.tree → (from root : SpotOf) → EachAlong (IsThere shown.tree) (scene_of shown) from root }
+{}
+
+/// What is found over the scene of a page, as it is told, is the definitions' finding.
+pub fn what_is_told_is_found()
+    ensures { (shown : ModelShown) → IsPageTree shown.tree → (chained : AreChained (scene_of shown) (standings_of shown)) (observer : IntersectionObserver) (target : ℕ) →
+        finding shown observer target ≡ found_in (scene_of shown) (standings_of shown) chained (telling_of shown) observer target }
+{}
