@@ -1,10 +1,6 @@
 -- Adding spots changes no last touch, so that clips stand as they did.
-use Rattle.std.proofs.Common.{◌≡◌, ◌∙◌, ℕ, suc, ◌-◌, ◌≤◌, ◌&&◌, nat_le, nat_lt, List, [], ◌∷◌, ◌++◌, Option, Some, None, length, get_or, ap, refl, sym, subst, inl, inr}
-use Rattle.std.specs.Prelude.{replicate}
+use Rattle.std.proofs.Common.{◌≡◌, ◌∙◌, ℕ, suc, ◌-◌, ◌≤◌, ◌&&◌, nat_le, nat_lt, List, [], ◌∷◌, Option, Some, None, length, ap, refl, sym, subst}
 use Rattle.std.specs.List.{list_all}
-use Rattle.std.proofs.lemmas.Bool.{cases_lt}
-use Rattle.std.proofs.lemmas.List.{get_or-replicate, get_or_past, get_or_append_left, length-replicate}
-use Rattle.std.proofs.Math.Seq.{get_or-append_right}
 use Rattle.clip_chain.specs.declared.spot.Spot.{Spot}
 use Rattle.clip_chain.specs.declared.spot.Spot.TheVariants.{Node, View}
 use Rattle.clip_chain.specs.Scenes.{Scene}
@@ -13,24 +9,13 @@ use Rattle.kept_clips.specs.Touches.{Touched, last_number, last_touch, with_spot
 use Rattle.kept_clips.specs.Chains.{chain_of, is_untouched, stands, IsExact}
 use Rattle.kept_clips.specs.Held.{HeldClips, pair_of}
 use Rattle.kept_clips.specs.Numbers.{IsNumbered, AreNumbered}
+use Rattle.kept_clips.proofs.Filling.{filled}
 
-zeros : (count n : ℕ) → ◌≡◌ {A = ℕ} (get_or (replicate count 0) n 0) 0
-zeros count n = elim (cases_lt n count) [
-  | inl h ↦ get_or-replicate count n 0 0 h
-  | inr h ↦ get_or_past (replicate count 0) n 0 (subst (λ l. l ≤ n) (sym (length-replicate count 0)) h)
-]
-
-filled : (numbers : List ℕ) (count n : ℕ) → get_or (numbers ++ replicate count 0) n 0 ≡ get_or numbers n 0
-filled numbers count n = elim (cases_lt n (length numbers)) [
-  | inl h ↦ get_or_append_left numbers (replicate count 0) 0 n h
-  | inr h ↦ get_or-append_right numbers (replicate count 0) n 0 h ∙ zeros count (n - length numbers) ∙ sym (get_or_past numbers n 0 h)
-]
-
-same_last : (of spot : Spot) (it : Touched) → last_touch (with_spot of it) spot ≡ last_touch it spot
-same_last (Node a) (Node b) it = filled it.nodes (suc a.0 - length it.nodes) b.0
+pub same_last : (of spot : Spot) (it : Touched) → last_touch (with_spot of it) spot ≡ last_touch it spot
+same_last (Node a) (Node b) it = filled 0 it.nodes (suc a.0 - length it.nodes) b.0
 same_last (Node a) (View d) it = refl
 same_last (View d) (Node b) it = refl
-same_last (View c) (View d) it = filled it.views (suc c - length it.views) d
+same_last (View c) (View d) it = filled 0 it.views (suc c - length it.views) d
 
 same_tests : (of : Spot) (it : Touched) (since : ℕ) (spots : List Spot) → list_all (is_untouched (with_spot of it) since) spots ≡ list_all (is_untouched it since) spots
 same_tests of it since [] = refl

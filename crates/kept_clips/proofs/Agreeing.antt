@@ -1,5 +1,5 @@
 -- Scenes that agree along a pair's chain.
-use Rattle.std.proofs.Common.{◌≡◌, ◌∙◌, ℕ, List, [], ◌∷◌, Option, Some, None, ap, refl, sym, subst}
+use Rattle.std.proofs.Common.{◌≡◌, ◌∙◌, ℕ, List, [], ◌∷◌, Option, ap, refl, sym, subst}
 use Rattle.std.specs.Prelude.{filter_map, IfSome}
 use Rattle.std.specs.List.{AllByRecursion, cons_option}
 use Rattle.px_units.specs.declared.Rect.{Rect}

@@ -4,9 +4,9 @@ pub mod Testing
 pub mod Spots
 pub mod Points
 pub mod Pairs
+pub mod Filling
 pub mod Adding
 pub mod Touching
 pub mod Agreeing
 pub mod Seeing
 pub mod Looking
-pub mod Along

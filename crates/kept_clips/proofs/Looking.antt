@@ -1,20 +1,17 @@
 -- Spots that are looked at one after the other.
-use Rattle.std.proofs.Common.{◌≡◌, ◌∙◌, ℕ, ◌≤◌, ◌<◌, ◌≢◌, true, List, [], ◌∷◌, ◌++◌, length, Some, min, suc, ap, refl, sym, subst, inl, inr, arith, length-set}
+use Rattle.std.proofs.Common.{◌≡◌, ◌∙◌, ℕ, ◌≤◌, ◌<◌, true, List, Some, min, suc, ap, refl, sym, subst, inl, inr, arith, length-set}
 use Rattle.std.specs.Prelude.{◌⊎◌, option_and_then}
-use Rattle.std.specs.List.{AllByRecursion}
 use Rattle.clip_chain.specs.declared.spot.Spot.{Spot}
 use Rattle.clip_chain.specs.declared.spot.Spot.TheVariants.{Node, View}
 use Rattle.clip_chain.specs.Scenes.{Scene}
-use Rattle.clip_chain.specs.Chains.{Leads, IsAbove}
-use Rattle.clip_chain.proofs.Leading.{one_chain}
 use Rattle.kept_clips.specs.declared.sightings.Sighting.{Sighting}
-use Rattle.kept_clips.specs.Touches.{Touched, last_number, last_touch, IsAdded, touched, touched_at}
+use Rattle.kept_clips.specs.Touches.{Touched, last_number, IsAdded, touched, touched_at}
 use Rattle.kept_clips.specs.Held.{HeldClips, pair_of}
 use Rattle.kept_clips.specs.Chains.{stands, IsExact}
 use Rattle.kept_clips.specs.Scenes.{AgreesAt}
 use Rattle.kept_clips.specs.Seen.{Seen, sighting_of, scene_seen, sighting_in, with_sighting, HasRoom}
-use Rattle.kept_clips.specs.Looked.{IsLeft, IsSeenAnew, Looked, MayBeSeen}
-use Rattle.kept_clips.proofs.Touching.{untouched_there}
+use Rattle.kept_clips.specs.Looked.{IsLeft, IsSeenAnew, ChangesByLooks, Looked, MayBeSeen}
+use Rattle.kept_clips.proofs.Touching.{touched_here, untouched_there}
 use Rattle.kept_clips.proofs.Spots.{same_or_apart}
 use Rattle.kept_clips.proofs.Seeing.{seen_there, seen_here, agrees_as_seen}
 
@@ -32,58 +29,73 @@ added_touched it (View d) (Node b) number added = added
 added_touched it (View c) (View d) number added = subst (λ n. d < n) (sym (length-set it.views c number)) added
 
 module _ (scene : Scene) where
+  pub changes_none : (seen : Seen) (touches : Touched) → ChangesByLooks scene seen seen touches touches
+  changes_none seen touches = record { each = λ spot. inl (record { touch = refl; sighting = refl }); count = omega arith }
+
   pub looked_nowhere : (seen : Seen) (held : HeldClips) → Looked scene seen seen held held
   looked_nowhere seen held = record {
-    each = λ spot. inl (record { touch = refl; sighting = refl });
+    spots = changes_none seen held.touches;
     pairs = refl;
-    count = omega arith;
     exact = λ number exact. exact;
     stood = λ number chain current. current;
     room = λ spot room. room;
     added = λ spot added. added;
   }
 
-  seen_or_left : (seen : Seen) (was : HeldClips) (of spot : Spot) → HasRoom seen of → (¬ sighting_of seen of ≡ Some (sighting_in scene of))
-      → IsLeft seen (with_sighting of (sighting_in scene of) seen) was (record was { touches = touched of (was.touches) }) spot ⊎ IsSeenAnew scene seen (with_sighting of (sighting_in scene of) seen) spot
-  seen_or_left seen was of spot room differs = elim (same_or_apart of spot) [
-    | inl same ↦ inr (subst (λ (s : Spot). IsSeenAnew scene seen (with_sighting of (sighting_in scene of) seen) s) (sym same) (record { differs = differs; sighting = seen_here seen of (sighting_in scene of) room }))
-    | inr apart ↦ inl (record { touch = untouched_there of spot was.touches (min (suc was.touches.count) last_number) apart; sighting = seen_there seen of spot (sighting_in scene of) apart })
+  seen_or_left : (seen : Seen) (was : Touched) (of spot : Spot) → HasRoom seen of → IsAdded was of → (¬ sighting_of seen of ≡ Some (sighting_in scene of))
+      → IsLeft seen (with_sighting of (sighting_in scene of) seen) was (touched of was) spot ⊎ IsSeenAnew scene seen (with_sighting of (sighting_in scene of) seen) was (touched of was) spot
+  seen_or_left seen was of spot room added differs = elim (same_or_apart of spot) [
+    | inl same ↦ inr (subst (λ (s : Spot). IsSeenAnew scene seen (with_sighting of (sighting_in scene of) seen) was (touched of was) s) (sym same) (record {
+      differs = differs;
+      sighting = seen_here seen of (sighting_in scene of) room;
+      touch = let here = touched_here of was (min (suc was.count) last_number) added in omega arith;
+    }))
+    | inr apart ↦ inl (record { touch = untouched_there of spot was (min (suc was.count) last_number) apart; sighting = seen_there seen of spot (sighting_in scene of) apart })
   ]
 
   -- one spot that is seen anew
-  pub looked_once : (seen now : Seen) (was held : HeldClips) (of : Spot) → HasRoom seen of → (¬ sighting_of seen of ≡ Some (sighting_in scene of))
+  pub looked_once : (seen now : Seen) (was held : HeldClips) (of : Spot) → HasRoom seen of → IsAdded was.touches of → (¬ sighting_of seen of ≡ Some (sighting_in scene of))
       → now ≡ with_sighting of (sighting_in scene of) seen → held ≡ record was { touches = touched of (was.touches) }
       → was.touches.count ≤ held.touches.count
       → ((number : ℕ) → IsExact (scene_seen seen) was number → IsExact (scene_seen now) held number)
       → ((number : ℕ) (chain : List Spot) → stands held.touches (pair_of was number).computed chain ≡ true → stands was.touches (pair_of was number).computed chain ≡ true)
       → Looked scene seen now was held
-  looked_once seen now was held of room differs is is_held count exact stood = record {
-    each = λ spot.
-        subst (λ (n : Seen). IsLeft seen n was held spot ⊎ IsSeenAnew scene seen n spot) (sym is)
-        (subst (λ (h : HeldClips). IsLeft seen (with_sighting of (sighting_in scene of) seen) was h spot ⊎ IsSeenAnew scene seen (with_sighting of (sighting_in scene of) seen) spot) (sym is_held)
-        (seen_or_left seen was of spot room differs));
+  looked_once seen now was held of room added differs is is_held count exact stood = record {
+    spots = record {
+      each = λ spot.
+          subst (λ (n : Seen). IsLeft seen n was.touches held.touches spot ⊎ IsSeenAnew scene seen n was.touches held.touches spot) (sym is)
+          (subst (λ (h : HeldClips). IsLeft seen (with_sighting of (sighting_in scene of) seen) was.touches h.touches spot ⊎ IsSeenAnew scene seen (with_sighting of (sighting_in scene of) seen) was.touches h.touches spot) (sym is_held)
+          (seen_or_left seen was.touches of spot room added differs));
+      count = count;
+    };
     pairs = ap (λ (h : HeldClips). h.pairs) is_held;
-    count = count;
     exact = exact;
     stood = stood;
     room = λ spot has. subst (λ (n : Seen). HasRoom n spot) (sym is) (room_seen seen of spot (sighting_in scene of) has);
-    added = λ spot added. subst (λ (h : HeldClips). IsAdded h.touches spot) (sym is_held) (added_touched was.touches of spot (min (suc was.touches.count) last_number) added);
+    added = λ spot has. subst (λ (h : HeldClips). IsAdded h.touches spot) (sym is_held) (added_touched was.touches of spot (min (suc was.touches.count) last_number) has);
   }
 
-  each_then : (first second third : Seen) (was held last : HeldClips) (spot : Spot)
-      → IsLeft first second was held spot ⊎ IsSeenAnew scene first second spot
-      → IsLeft second third held last spot ⊎ IsSeenAnew scene second third spot
-      → IsLeft first third was last spot ⊎ IsSeenAnew scene first third spot
-  each_then first second third was held last spot (inl one) (inl two) = inl (record { touch = two.touch ∙ one.touch; sighting = two.sighting ∙ one.sighting })
-  each_then first second third was held last spot (inl one) (inr two) = inr (record { differs = λ e. two.differs (one.sighting ∙ e); sighting = two.sighting })
-  each_then first second third was held last spot (inr one) (inl two) = inr (record { differs = one.differs; sighting = two.sighting ∙ one.sighting })
-  each_then first second third was held last spot (inr one) (inr two) = inr (record { differs = one.differs; sighting = two.sighting })
+  module _ (first second third : Seen) (was held last : Touched) where
+    each_then : was.count ≤ held.count → (spot : Spot)
+        → IsLeft first second was held spot ⊎ IsSeenAnew scene first second was held spot
+        → IsLeft second third held last spot ⊎ IsSeenAnew scene second third held last spot
+        → IsLeft first third was last spot ⊎ IsSeenAnew scene first third was last spot
+    each_then count spot (inl one) (inl two) = inl (record { touch = two.touch ∙ one.touch; sighting = two.sighting ∙ one.sighting })
+    each_then count spot (inl one) (inr two) = inr (record { differs = λ e. two.differs (one.sighting ∙ e); sighting = two.sighting; touch = let later = two.touch in omega arith })
+    each_then count spot (inr one) (inl two) = inr (record { differs = one.differs; sighting = two.sighting ∙ one.sighting; touch = let then = one.touch in let same = two.touch in omega arith })
+    each_then count spot (inr one) (inr two) = inr (record { differs = one.differs; sighting = two.sighting; touch = let later = two.touch in omega arith })
+
+    -- looks one after the other
+    pub changes_then : ChangesByLooks scene first second was held → ChangesByLooks scene second third held last → ChangesByLooks scene first third was last
+    changes_then one two = record {
+      each = λ spot. each_then one.count spot (one.each spot) (two.each spot);
+      count = let a = one.count in let b = two.count in omega arith;
+    }
 
   pub looked_then : (first second third : Seen) (was held last : HeldClips) → Looked scene first second was held → Looked scene second third held last → Looked scene first third was last
   looked_then first second third was held last one two = record {
-    each = λ spot. each_then first second third was held last spot (one.each spot) (two.each spot);
+    spots = changes_then first second third was.touches held.touches last.touches one.spots two.spots;
     pairs = two.pairs ∙ one.pairs;
-    count = let a = one.count in let b = two.count in omega arith;
     exact = λ number exact. two.exact number (one.exact number exact);
     stood = λ number chain current.
         one.stood number chain
@@ -96,7 +108,7 @@ module _ (scene : Scene) where
 
   -- what agreed still does
   pub agrees_after : (before now : Seen) (was held : HeldClips) (spot : Spot) → Looked scene before now was held → AgreesAt (scene_seen before) scene spot → AgreesAt (scene_seen now) scene spot
-  agrees_after before now was held spot looked agrees = elim (looked.each spot) [
+  agrees_after before now was held spot looked agrees = elim (looked.spots.each spot) [
     | inl left ↦ record {
       container = agrees.container ∙ sym (ap (option_and_then (λ (s : Sighting). s.container)) left.sighting);
       clip = agrees.clip ∙ sym (ap (option_and_then (λ (s : Sighting). s.clip)) left.sighting);

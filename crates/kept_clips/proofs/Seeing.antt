@@ -1,6 +1,6 @@
 -- A spot that is seen anew.
-use Rattle.std.proofs.Common.{◌≡◌, ◌∙◌, ℕ, zero, suc, ◌<◌, ◌≤◌, ◌≢◌, ◌-◌, Bool, true, false, ◌==◌, List, [], ◌∷◌, ◌++◌, length, get_or, Option, Some, None, option_map, unwrap_or, ap, refl, sym, subst, inl, inr, get_or-set_other, get_or-set_same}
-use Rattle.std.specs.Prelude.{◌⊎◌, option_and_then, replicate, slice_set}
+use Rattle.std.proofs.Common.{◌≡◌, ◌∙◌, ℕ, zero, suc, ◌≤◌, ◌-◌, List, [], ◌∷◌, ◌++◌, length, get_or, Option, Some, None, option_map, unwrap_or, ap, refl, sym, subst, inl, inr, get_or-set_other, get_or-set_same}
+use Rattle.std.specs.Prelude.{option_and_then, replicate, slice_set}
 use Rattle.std.proofs.lemmas.Bool.{cases_lt}
 use Rattle.std.proofs.lemmas.List.{get_or-replicate, get_or_past, get_or_append_left, length-replicate}
 use Rattle.std.proofs.Math.Seq.{get_or-append_right}

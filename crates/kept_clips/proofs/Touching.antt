@@ -1,5 +1,5 @@
 -- A touched spot: clips that hang on it stand no more, and all others stay exact.
-use Rattle.std.proofs.Common.{◌≡◌, ◌∙◌, ℕ, suc, ◌<◌, ◌≤◌, ◌≢◌, ◌&&◌, true, nat_le, nat_lt, min, List, [], ◌∷◌, ◌++◌, Option, Some, None, ap, refl, sym, subst, inl, inr, arith, get_or-set_other, get_or-set_same}
+use Rattle.std.proofs.Common.{◌≡◌, ◌∙◌, ℕ, suc, ◌<◌, ◌≤◌, ◌&&◌, true, nat_le, nat_lt, min, List, [], ◌∷◌, ◌++◌, Option, Some, None, ap, refl, sym, subst, inl, inr, arith, get_or-set_other, get_or-set_same}
 use Rattle.std.specs.Prelude.{filter_map, IfSome}
 use Rattle.std.specs.List.{list_all, cons_option}
 use Rattle.std.proofs.lemmas.Bool.Decides.{nat_tests}

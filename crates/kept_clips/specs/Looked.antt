@@ -1,26 +1,32 @@
 -- Spots that were looked at in a scene: what differs from what was seen last is touched, and what is seen now is kept.
-use Rattle.std.specs.Prelude.{◌≡◌, ◌⊎◌, ℕ, ◌≤◌, true, List, Some}
+use Rattle.std.specs.Prelude.{◌≡◌, ◌⊎◌, ℕ, ◌<◌, ◌≤◌, true, List, Some, IfSome}
 use Rattle.clip_chain.specs.declared.spot.Spot.{Spot}
+use Rattle.clip_chain.specs.Ranges.{IsClip, IsBounds}
 use Rattle.clip_chain.specs.Scenes.{Scene}
-use Rattle.kept_clips.specs.Touches.{last_touch, IsAdded}
+use Rattle.kept_clips.specs.Touches.{Touched, last_touch, IsTouchedSince, IsAdded}
 use Rattle.kept_clips.specs.Held.{HeldClips, pair_of}
 use Rattle.kept_clips.specs.Chains.{stands, IsExact}
 use Rattle.kept_clips.specs.Seen.{Seen, sighting_of, scene_seen, sighting_in, HasRoom}
 
 -- nothing happens to a spot
-pub record IsLeft (before now : Seen) (was held : HeldClips) (spot : Spot) : Type 0 where
-  pub touch : last_touch held.touches spot ≡ last_touch was.touches spot
+pub record IsLeft (before now : Seen) (was held : Touched) (spot : Spot) : Type 0 where
+  pub touch : last_touch held spot ≡ last_touch was spot
   pub sighting : sighting_of now spot ≡ sighting_of before spot
 
--- a spot is seen of which something differs from what was seen last, or nothing was seen
-pub record IsSeenAnew (scene : Scene) (before now : Seen) (spot : Spot) : Type 0 where
+-- a spot is seen of which something differs from what was seen last, or nothing was seen, and it is touched
+pub record IsSeenAnew (scene : Scene) (before now : Seen) (was held : Touched) (spot : Spot) : Type 0 where
   pub differs : ¬ sighting_of before spot ≡ Some (sighting_in scene spot)
   pub sighting : sighting_of now spot ≡ Some (sighting_in scene spot)
+  pub touch : IsTouchedSince was held spot
+
+-- what looks change of spots; nothing else is seen, and no other spot touched
+pub record ChangesByLooks (scene : Scene) (before now : Seen) (was held : Touched) : Type 0 where
+  pub each : (spot : Spot) → IsLeft before now was held spot ⊎ IsSeenAnew scene before now was held spot
+  pub count : was.count ≤ held.count
 
 pub record Looked (scene : Scene) (before now : Seen) (was held : HeldClips) : Type 0 where
-  pub each : (spot : Spot) → IsLeft before now was held spot ⊎ IsSeenAnew scene before now spot
+  pub spots : ChangesByLooks scene before now was.touches held.touches
   pub pairs : held.pairs ≡ was.pairs
-  pub count : was.touches.count ≤ held.touches.count
   pub exact : (number : ℕ) → IsExact (scene_seen before) was number → IsExact (scene_seen now) held number
   -- what stands afterwards stood before
   pub stood : (number : ℕ) (chain : List Spot) → stands held.touches (pair_of was number).computed chain ≡ true → stands was.touches (pair_of was number).computed chain ≡ true
@@ -31,3 +37,9 @@ pub record Looked (scene : Scene) (before now : Seen) (was held : HeldClips) : T
 pub record MayBeSeen (seen : Seen) (clips : HeldClips) (spot : Spot) : Type 0 where
   pub room : HasRoom seen spot
   pub added : IsAdded clips.touches spot
+
+-- what is so of each spot of a geometry: its container is farther outwards, its clip and its box are in range
+pub record IsInRange (scene : Scene) (rank : Spot → ℕ) (spot : Spot) : Type 0 where
+  pub container : IfSome (scene.container spot) (λ (next : Spot). rank next < rank spot)
+  pub clip : IfSome (scene.clip spot) IsClip
+  pub bounds : IsBounds (scene.bounds spot)

@@ -1,7 +1,6 @@
 -- What was seen last of each spot: what it stood in, what it clipped to, and its box.
 use Rattle.std.specs.Prelude.{ℕ, suc, ◌<◌, ◌-◌, Bool, nat_lt, List, ◌++◌, length, replicate, slice_set, Option, Some, None, option_and_then, option_map, unwrap_or}
 use Rattle.std.specs.List.{slice_index_or}
-use Rattle.px_units.specs.declared.Rect.{Rect}
 use Rattle.page_model.specs.Chains.{zero_rect}
 use Rattle.clip_chain.specs.declared.spot.Spot.{Spot}
 use Rattle.clip_chain.specs.declared.spot.Spot.TheVariants.{Node, View}

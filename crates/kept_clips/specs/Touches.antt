@@ -1,5 +1,5 @@
 -- When spots were touched: touches are numbered from 1 in order, up to the last number, which all later ones get too.
-use Rattle.std.specs.Prelude.{ℕ, suc, ◌<◌, ◌-◌, min, Bool, nat_lt, List, ◌++◌, length, replicate, slice_index, slice_set}
+use Rattle.std.specs.Prelude.{ℕ, suc, ◌<◌, ◌≤◌, ◌-◌, min, Bool, nat_lt, List, ◌++◌, length, replicate, slice_index, slice_set}
 use Rattle.clip_chain.specs.declared.spot.Spot.{Spot}
 use Rattle.clip_chain.specs.declared.spot.Spot.TheVariants.{Node, View}
 
@@ -36,6 +36,10 @@ with_spot (View document) it = record it { views = up_to document (it.views) }
 abbrev pub touched_at : ℕ → Spot → Touched → Touched
 touched_at number (Node node) it = record it { count = number; nodes = slice_set (it.nodes) (node.0) number }
 touched_at number (View document) it = record it { count = number; views = slice_set (it.views) document number }
+
+-- a spot was touched after all touches that were counted before, unless as many were as are counted
+abbrev pub IsTouchedSince : Touched → Touched → Spot → Type 0
+IsTouchedSince before now spot = min (suc before.count) last_number ≤ last_touch now spot
 
 -- once a spot was touched
 abbrev pub touched : Spot → Touched → Touched

@@ -13,8 +13,8 @@ use clip_chain::{Geometry, Spot};
 use std::sync::ledger::Ledger;
 use step_count::Steps;
 
-// The container of a spot, none where that is the root.
-pub(crate) fn container_below<G: Geometry>(geometry: &G, of: Spot, root: Spot) -> Option<Spot>
+/// The container of a spot, None where that is the root or there is none. So a chain is walked outwards from a spot up to its root.
+pub fn container_below<G: Geometry>(geometry: &G, of: Spot, root: Spot) -> Option<Spot>
     ensures next { IfSome result (λ next. ((G.scene geometry.now).container of ≡ Some next) × (¬ next ≡ root)) }
     ensures none { result ≡ None → ((G.scene geometry.now).container of ≡ None) ⊎ ((G.scene geometry.now).container of ≡ Some root) }
     ensures end { IfSome result (λ next. G.rank geometry.now next < G.rank geometry.now of) }

@@ -1,18 +1,16 @@
 //! What was seen last of each spot.
 
-ghost use Rattle.std.specs.Prelude.{◌≡◌, ◌↔◌, ◌<◌, ◌∷◌, ◌++◌, ℕ, List, [], None, Some, length, IsTrue, IsOk, OnOk, OnErr};
-ghost use Rattle.std.specs.List.{slice_index_or, AllByRecursion};
+ghost use Rattle.std.specs.Prelude.{◌≡◌, ◌↔◌, ◌<◌, ℕ, [], None, Some, length, IsTrue, IsOk, OnOk, OnErr};
+ghost use Rattle.std.specs.List.{slice_index_or};
 ghost use Rattle.clip_chain.specs.declared.spot.Spot.{Spot as SpotOf};
-ghost use Rattle.clip_chain.specs.Chains.{Leads, IsAbove};
 ghost use Rattle.kept_clips.specs.Touches.{IsAdded, touched};
 ghost use Rattle.kept_clips.specs.Held.{HeldClips};
 ghost use Rattle.kept_clips.specs.Chains.{IsExact};
 ghost use Rattle.kept_clips.specs.Scenes.{AgreesAt};
-ghost use Rattle.kept_clips.specs.Looked.{Looked, MayBeSeen};
+ghost use Rattle.kept_clips.specs.Looked.{Looked, IsInRange};
 ghost use Rattle.kept_clips.specs.Seen.{sighting_of, scene_seen, sighting_in, with_sighting, with_room, up_to, HasRoom, has_room};
 
 use crate::Clips;
-use crate::between::container_below;
 use clip_chain::{Geometry, Spot};
 use px_units::Rect;
 use std::alloc::{AllocError, Global};
@@ -91,6 +89,13 @@ impl Sightings {
         }
     }
 
+    /// Of how many elements and of the viewports of how many documents there is room for what is seen.
+    pub fn room(&self) -> (usize, usize)
+        ensures { result ≡ (length self.now.nodes, length self.now.views) }
+    {
+        (self.nodes.len(), self.views.len())
+    }
+
     /// Makes room for what is seen of a spot, and of all spots of its kind that have lower numbers. What was seen stays as it is.
     /// Refused only for want of memory, and never where there is room already; nothing changes then.
     pub fn add(&mut self, of: Spot) -> Result<(), AllocError>
@@ -141,6 +146,7 @@ impl Sightings {
         ensures agreed { (other : SpotOf) → AgreesAt (scene_seen self.old) (G.scene geometry.now) other → AgreesAt (scene_seen self.new) (G.scene geometry.now) other }
         ensures exact { (number : ℕ) → IsExact (scene_seen self.old) clips.old number → IsExact (scene_seen self.new) clips.new number }
         ensures looked { Looked (G.scene geometry.now) self.old self.new clips.old clips.new }
+        ensures in_range { IsInRange (G.scene geometry.now) (G.rank geometry.now) of }
     {
         let now = Sighting {
             container: geometry.container(of),
@@ -150,24 +156,6 @@ impl Sightings {
         if !self.is_as_seen(of, now) {
             clips.touch(of);
             self.put(of, now);
-        }
-    }
-
-    /// Looks at each spot of a chain, from a spot outwards to a root, these two included. All of them are then seen as they are.
-    ///
-    /// Needs that the root is above the spot, as `clip_chain::reaches` tells. No memory.
-    pub fn look_along<G: Geometry>(&mut self, clips: &mut Clips, geometry: &G, root: Spot, of: Spot)
-        requires above { IsAbove (G.scene geometry.now) root of }
-        requires room { (between : List SpotOf) → Leads (G.scene geometry.now) of between root → AllByRecursion (MayBeSeen self.old clips.old) (of ∷ (between ++ root ∷ [])) }
-        ensures looked { Looked (G.scene geometry.now) self.old self.new clips.old clips.new }
-        ensures along { (between : List SpotOf) → Leads (G.scene geometry.now) of between root → AllByRecursion (AgreesAt (scene_seen self.new) (G.scene geometry.now)) (of ∷ (between ++ root ∷ [])) }
-    {
-        self.look(clips, geometry, of);
-        self.look(clips, geometry, root);
-        let mut spot = of;
-        while let Some(next) = container_below(geometry, spot, root) {
-            self.look(clips, geometry, next);
-            spot = next;
         }
     }
 

@@ -1,9 +1,11 @@
 -- What is found of a registration, told and settled.
-use Rattle.std.proofs.Common.{◌≡◌, ◌∙◌, ℕ, true, Option, Some, unwrap_or, ap, sym, subst}
+use Rattle.std.proofs.Common.{◌≡◌, ◌∙◌, ℕ, true, false, not, List, Option, Some, unwrap_or, ap, sym, subst}
 use Rattle.std.specs.Prelude.{IfSome}
-use Rattle.std.specs.FinMap.{insert, contains_key}
+use Rattle.std.specs.FinMap.{FinMap, insert, contains_key}
+use Rattle.std.specs.Ordering.{nat_cmp}
 use Rattle.page_model.specs.World.{Root, Finding, IntersectionObserver, IntersectionObservers}
 use Rattle.page_model.specs.Lookups.{intersection_observer_at}
+use Rattle.clip_chain.specs.declared.spot.Spot.{Spot}
 use Rattle.clip_chain.specs.Scenes.{Scene}
 use Rattle.intersection_observer.specs.Places.{Standing as Place, standing_of}
 use Rattle.intersection_observer.specs.Seen.{seen_finding}
@@ -11,8 +13,9 @@ use Rattle.intersection_observer.specs.Serials.{HasSerials}
 use Rattle.intersection_observer.specs.Settling.{with_settled}
 use Rattle.candidate_index.specs.declared.index.Kept.{Kept}
 use Rattle.candidate_index.specs.declared.scene.Standing.{Standing}
-use Rattle.candidate_index.specs.Registrations.{observer_of, target_of, finding_for}
-use Rattle.candidate_index.specs.Held.{kept_of}
+use Rattle.candidate_index.specs.Registrations.{observer_of, target_of, basis_for, finding_for}
+use Rattle.candidate_index.specs.Held.{kept_of, is_stale, is_stale_now}
+use Rattle.candidate_index.proofs.Same.{same_is}
 use Rattle.kept_findings.specs.Held.{HeldFindings, with_expired}
 use Rattle.kept_findings.specs.Walks.{AreChained, spots_between, found_in}
 use Rattle.kept_findings.specs.Registered.{AreHeld, IsSettled, AreRegistered}
@@ -48,3 +51,13 @@ module _ (it : IntersectionObservers) (before after : HeldFindings) (serial time
 
   pub registered_refused : contains_key after.kept serial ≡ true → AreRegistered it (with_expired serial after)
   registered_refused there = registered_expired it after serial held there others_settled
+
+-- what is kept of a registration once it was found
+module _ (scene : Scene) (standings : Root → ℕ → Standing) (it : IntersectionObservers) (serial : ℕ) (before after : FinMap nat_cmp (Option Kept)) (last : Kept) (kept : after ≡ insert before serial (Some last)) where
+  pub fresh_found : (between : ℕ → List Spot) → last.basis ≡ basis_for scene standings it serial (between serial) → is_stale_now scene standings it between after serial ≡ false
+  fresh_found between is =
+      let now = basis_for scene standings it serial (between serial) in
+      ap (λ o. is_stale o now) (ap (λ k. kept_of k serial) kept ∙ kept_own before serial (Some last)) ∙ ap (λ b. not b) ((same_is last.basis now).1 is)
+
+  pub others_found : (other : ℕ) → (¬ other ≡ serial) → kept_of after other ≡ kept_of before other
+  others_found other apart = ap (λ k. kept_of k other) kept ∙ kept_other before serial other (Some last) apart

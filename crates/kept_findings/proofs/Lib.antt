@@ -1,3 +1,6 @@
+pub mod Along
+pub mod Rooms
+pub mod Noting
 pub mod Walking
 pub mod Pairing
 pub mod Asking

@@ -1,12 +1,11 @@
 -- What is kept through one more registration or one less, and through what is found of one.
-use Rattle.std.proofs.Common.{◌≡◌, ◌∙◌, ℕ, Bool, true, false, cond, ◌==◌, ◌<◌, ◌≤◌, ◌-◌, suc, List, ◌++◌, length, get_or, inl, inr, Result, Option, Some, None, is_some, option_map, unwrap_or, ap, refl, sym, subst, arith, length-append}
-use Rattle.std.proofs.lemmas.Bool.{eqb-true, eq-eqb, cases_lt}
+use Rattle.std.proofs.Common.{◌≡◌, ◌∙◌, ℕ, Bool, true, false, cond, ◌==◌, ◌<◌, ◌-◌, suc, List, ◌++◌, length, Result, Option, Some, None, is_some, option_map, unwrap_or, ap, refl, sym, subst, arith, length-append}
+use Rattle.std.proofs.lemmas.Bool.{eqb-true, eq-eqb}
 use Rattle.std.specs.Cmp.{nat_cmp_total, unsigned_tied}
 use Rattle.std.specs.FinMap.{FinMap, get, insert, remove, contains_key, get-insert, get-remove, get-empty, empty, same_map, nat_cmp-IsAntisymmetric}
 use Rattle.std.specs.Ordering.{nat_cmp, eq_by_cmp}
 use Rattle.std.specs.Prelude.{replicate, OnOk, OnErr}
-use Rattle.std.proofs.lemmas.List.{length-replicate, get_or-replicate, get_or_past, get_or_append_left}
-use Rattle.std.proofs.Math.Seq.{get_or-append_right}
+use Rattle.std.proofs.lemmas.List.{length-replicate}
 use Rattle.page_model.specs.World.{IntersectionObservers}
 use Rattle.clip_chain.specs.declared.spot.Spot.{Spot}
 use Rattle.clip_chain.specs.declared.spot.Spot.TheVariants.{Node, View}
@@ -14,6 +13,7 @@ use Rattle.intersection_observer.specs.Places.{Standing as Place, standing_of}
 use Rattle.kept_clips.specs.declared.pair.Pair.{Pair}
 use Rattle.kept_clips.specs.Touches.{Touched, last_touch, IsAdded, with_spot}
 use Rattle.kept_clips.specs.Held.{HeldClips, spots_of as spots_in}
+use Rattle.kept_clips.proofs.Adding.{same_last}
 use Rattle.kept_clips.proofs.Pairs.{either}
 use Rattle.kept_clips.specs.Seen.{Seen, HasRoom, with_room}
 use Rattle.candidate_index.specs.declared.index.Kept.{Kept}
@@ -93,25 +93,6 @@ is_added_still (Node a) (Node b) it h = still it.nodes (replicate (suc a.0 - len
 is_added_still (Node a) (View d) it h = h
 is_added_still (View d) (Node b) it h = h
 is_added_still (View c) (View d) it h = still it.views (replicate (suc c - length it.views) 0) d h
-
--- no touch, and nothing else that was seen
-zeros : (count n : ℕ) → ◌≡◌ {A = ℕ} (get_or (replicate count 0) n 0) 0
-zeros count n = elim (cases_lt n count) [
-  | inl h ↦ get_or-replicate count n 0 0 h
-  | inr h ↦ get_or_past (replicate count 0) n 0 (subst (λ l. l ≤ n) (sym (length-replicate count 0)) h)
-]
-
-filled : (numbers : List ℕ) (count n : ℕ) → get_or (numbers ++ replicate count 0) n 0 ≡ get_or numbers n 0
-filled numbers count n = elim (cases_lt n (length numbers)) [
-  | inl h ↦ get_or_append_left numbers (replicate count 0) 0 n h
-  | inr h ↦ get_or-append_right numbers (replicate count 0) n 0 h ∙ zeros count (n - length numbers) ∙ sym (get_or_past numbers n 0 h)
-]
-
-pub same_last : (of spot : Spot) (it : Touched) → last_touch (with_spot of it) spot ≡ last_touch it spot
-same_last (Node a) (Node b) it = filled it.nodes (suc a.0 - length it.nodes) b.0
-same_last (Node a) (View d) it = refl
-same_last (View d) (Node b) it = refl
-same_last (View c) (View d) it = filled it.views (suc c - length it.views) d
 
 -- what becomes of room by both calls that make it
 module _ (of : Spot) where

@@ -22,9 +22,10 @@ use Rattle.intersection_observer.specs.Settling.{settled_if, settled_at, settled
 use Rattle.intersection_observer.proofs.Standing.{StandsAt, stands_at, stands-there, standing-made}
 use Rattle.intersection_observer.proofs.Subjects.{subjects_of, same-target_in, same-all, same-targets, settled-subjects}
 use Rattle.candidate_index.specs.declared.index.Kept.{Kept}
-use Rattle.candidate_index.specs.Held.{kept_of, IsFound}
+use Rattle.candidate_index.specs.Held.{kept_of, IsFound, AreFound}
 use Rattle.candidate_index.proofs.Found.{kept_inserted, found_inserted}
-use Rattle.kept_findings.specs.Held.{HeldFindings, with_expired}
+use Rattle.kept_clips.specs.Held.{spots_at}
+use Rattle.kept_findings.specs.Held.{HeldFindings, with_expired, IsRoomier}
 use Rattle.kept_findings.proofs.Registering.{there_still}
 use Rattle.kept_findings.specs.Registered.{spots_of, AreHeld, IsSettled, AreRegistered}
 
@@ -336,6 +337,21 @@ registered_expired watchers it serial held there others = record {
     | inr apart ↦ subst (IsSettled watchers other) (sym (kept_other it.kept serial other None apart)) (others other apart)
   ];
 }
+
+-- where neither pairs nor what was found differ
+pub registered_alike : (watchers : IntersectionObservers) (before now : HeldFindings) → ((serial : ℕ) → spots_at now.clips serial ≡ spots_at before.clips serial) → now.kept ≡ before.kept → AreRegistered watchers before → AreRegistered watchers now
+registered_alike watchers before now spots kept registered = record {
+  held = record {
+    pairs = λ serial. spots serial ∙ registered.held.pairs serial;
+    added = λ serial. ap (λ kept. contains_key kept serial) kept ∙ registered.held.added serial;
+    found = subst (AreFound watchers) (sym kept) registered.held.found;
+  };
+  settled = λ serial. subst (λ kept. IsSettled watchers serial (kept_of kept serial)) (sym kept) (registered.settled serial);
+}
+
+pub registered_roomier : (watchers : IntersectionObservers) (before now : HeldFindings) → IsRoomier before now → AreRegistered watchers before → AreRegistered watchers now
+registered_roomier watchers before now roomier =
+    registered_alike watchers before now (λ serial. ap (λ pairs. spots_at (record before.clips { pairs = pairs }) serial) roomier.pairs) roomier.kept
 
 -- what commands leave as it is ---------------------------------------------------------------------------------------------------------
 

@@ -8,7 +8,7 @@ use Rattle.intersection_observer.specs.Places.{Standing as Place, standing_of}
 use Rattle.intersection_observer.specs.Serials.{HasSerials}
 use Rattle.intersection_observer.specs.Settling.{with_settled, is_news_for, each_settled}
 use Rattle.intersection_observer.proofs.Settling.{quiet_settled}
-use Rattle.kept_clips.proofs.Along.{all_weaker}
+use Rattle.kept_findings.proofs.Along.{all_weaker}
 use Rattle.kept_findings.specs.Stale.{chosen, IsQuiet}
 use Rattle.kept_findings.proofs.Settled.{numbers_apart, standing_settled, serials_settled, other_quiet, own_quiet}
 

@@ -1,25 +1,28 @@
 -- The chains of registrations, and lists of registrations by their serial numbers.
-use Rattle.std.proofs.Common.{◌≡◌, ◌∙◌, ℕ, ◌<◌, List, [], ◌∷◌, ◌++◌, length, get_or, ap, refl, sym, subst}
+use Rattle.std.proofs.Common.{◌≡◌, ◌∙◌, ℕ, ◌<◌, List, [], ◌∷◌, ◌++◌, length, get_or, Some, option_map, ap, refl, sym, subst}
 use Rattle.std.specs.List.{All}
 use Rattle.std.proofs.Math.ListN.{get_or-map}
 use Rattle.std.proofs.lemmas.List.{length-map}
 use Rattle.page_model.specs.World.{Root, IntersectionObservers}
+use Rattle.page_model.specs.Lookups.{intersection_observer_at}
 use Rattle.clip_chain.specs.declared.spot.Spot.{Spot}
 use Rattle.clip_chain.specs.Scenes.{Scene}
 use Rattle.clip_chain.specs.Chains.{Leads, IsAbove}
 use Rattle.clip_chain.specs.Worlds.{element_spot, spot_of_root}
+use Rattle.intersection_observer.specs.Places.{Standing as Place, standing_of}
 use Rattle.intersection_observer.specs.Seen.{serial_numbers}
 use Rattle.intersection_observer.specs.declared.registration.RegistrationId.{RegistrationId}
 use Rattle.kept_clips.specs.Held.{HeldClips}
 use Rattle.kept_clips.specs.Scenes.{AgreesAt}
 use Rattle.kept_clips.specs.Seen.{Seen, scene_seen}
 use Rattle.kept_clips.specs.Looked.{Looked, MayBeSeen}
-use Rattle.kept_clips.proofs.Along.{all_weaker}
+use Rattle.kept_findings.proofs.Along.{all_weaker}
 use Rattle.kept_clips.proofs.Looking.{agrees_after, may_after}
 use Rattle.candidate_index.specs.declared.scene.Standing.{Standing}
 use Rattle.candidate_index.specs.declared.scene.Standing.TheVariants.{Apart, NoBox, Chained}
 use Rattle.candidate_index.specs.Registrations.{observer_of, target_of, standing_for, IfChained, IsBetween}
 use Rattle.candidate_index.proofs.Keeping.{if_still}
+use Rattle.candidate_index.proofs.Places.{looked_up}
 use Rattle.kept_findings.specs.Walks.{EachAlong, AreChained, AlongChain, MayBeWalked, IsWalked, between_by, spots_between}
 
 -- what is known of each registration of a list is known of each serial number
@@ -74,3 +77,25 @@ module _ (scene : Scene) (standings : Root → ℕ → Standing) where
     pub room_after : (before now : Seen) (was held : HeldClips) → Looked scene before now was held → (serial : ℕ) → MayBeWalked scene standings it before was serial → MayBeWalked scene standings it now held serial
     room_after before now was held looked serial room =
         along_weaker (MayBeSeen before was) (MayBeSeen now held) (λ spot. may_after scene before now was held spot looked) serial room
+
+-- the root and the target of a registration, as they are looked up
+
+module _ (it : IntersectionObservers) (serial : ℕ) where
+  pub root_known : (watcher : ℕ) (root : Root) → option_map (λ (p : Place). p.watcher) (standing_of serial it) ≡ Some watcher → root ≡ (intersection_observer_at it watcher).root → (observer_of it serial).root ≡ root
+  root_known watcher root found is =
+      ap (λ w. (intersection_observer_at it w).root) (looked_up (λ (p : Place). p.watcher) (standing_of serial it) (record { watcher = 0; target = 0 }) watcher found) ∙ sym is
+
+  pub target_known : (target : ℕ) → option_map (λ (p : Place). p.target) (standing_of serial it) ≡ Some target → target_of it serial ≡ target
+  target_known target found = looked_up (λ (p : Place). p.target) (standing_of serial it) (record { watcher = 0; target = 0 }) target found
+
+  -- a fact of its chain, by these
+  module _ (P : Spot → Type 0) (scene : Scene) (standings : Root → ℕ → Standing) where
+    abbrev pub AlongFrom : Root → ℕ → Type 0
+    AlongFrom root target = IfChained (standings root target) (EachAlong P scene (element_spot target) (spot_of_root root))
+
+    module _ (root : Root) (target : ℕ) (rooted : (observer_of it serial).root ≡ root) (targets : target_of it serial ≡ target) where
+      pub along_there : AlongChain P scene standings it serial → AlongFrom root target
+      along_there all = subst (λ r. AlongFrom r target) rooted (subst (AlongFrom (observer_of it serial).root) targets all)
+
+      pub along_here : AlongFrom root target → AlongChain P scene standings it serial
+      along_here all = subst (λ r. AlongFrom r (target_of it serial)) (sym rooted) (subst (AlongFrom root) (sym targets) all)

@@ -38,5 +38,6 @@ pub record IsRoomier (before now : HeldFindings) : Type 0 where
   pub pairs : now.clips.pairs ≡ before.clips.pairs
   pub kept : now.kept ≡ before.kept
   pub seen : (spot : Spot) → sighting_of now.seen spot ≡ sighting_of before.seen spot
+  pub count : now.clips.touches.count ≡ before.clips.touches.count
   pub touches : (spot : Spot) → last_touch now.clips.touches spot ≡ last_touch before.clips.touches spot
   pub room : (spot : Spot) → MayBeSeen before.seen before.clips spot → MayBeSeen now.seen now.clips spot

@@ -1,4 +1,6 @@
 pub mod Held
+pub mod Rooms
+pub mod Looks
 pub mod Walks
 pub mod Registered
 pub mod Stale

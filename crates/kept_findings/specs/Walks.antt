@@ -1,5 +1,5 @@
 -- The chains of registrations: where they lead, and that what is seen along them is as it is.
-use Rattle.std.specs.Prelude.{ℕ, List, [], ◌∷◌, ◌++◌}
+use Rattle.std.specs.Prelude.{◌≡◌, ℕ, List, [], ◌∷◌, ◌++◌}
 use Rattle.std.specs.List.{AllByRecursion}
 use Rattle.page_model.specs.World.{Root, Finding, IntersectionObserver, IntersectionObservers}
 use Rattle.clip_chain.specs.declared.spot.Spot.{Spot}
@@ -18,6 +18,10 @@ use Rattle.candidate_index.specs.Registrations.{observer_of, target_of, standing
 -- each spot of a chain, both ends included
 abbrev pub EachAlong : (Spot → Type 0) → Scene → Spot → Spot → Type 0
 EachAlong P scene of root = (between : List Spot) → Leads scene of between root → AllByRecursion P (of ∷ (between ++ root ∷ []))
+
+-- another spot
+abbrev pub IsNot : Spot → Spot → Type 0
+IsNot spot other = ¬ other ≡ spot
 
 -- where a chain leads from a target to a root, by how it stands to it
 abbrev pub AreChained : Scene → (Root → ℕ → Standing) → Type 0

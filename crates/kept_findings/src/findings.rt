@@ -5,23 +5,27 @@ ghost use Rattle.std.specs.List.{All};
 ghost use Rattle.std.specs.FinMap.{insert, contains_key};
 ghost use Rattle.page_model.specs.World.{IntersectionObservers};
 ghost use Rattle.clip_chain.specs.declared.spot.Spot.{Spot as SpotOf};
-ghost use Rattle.clip_chain.specs.Scenes.{root_bounds};
+ghost use Rattle.clip_chain.specs.Scenes.{Scene as SceneOf, root_bounds};
 ghost use Rattle.clip_chain.specs.Worlds.{element_spot, spot_of_root};
 ghost use Rattle.intersection_observer.specs.Places.{IsStanding, standing_of};
 ghost use Rattle.intersection_observer.specs.Seen.{seen_root, seen_finding, serial_numbers};
 ghost use Rattle.kept_clips.specs.Held.{pair_at};
 ghost use Rattle.kept_clips.specs.Chains.{IsExact};
 ghost use Rattle.kept_clips.specs.Seen.{scene_seen};
-ghost use Rattle.kept_clips.specs.Looked.{Looked, MayBeSeen};
+ghost use Rattle.kept_clips.specs.Looked.{MayBeSeen};
+ghost use Rattle.kept_clips.specs.Numbers.{AreNumbered};
 ghost use Rattle.candidate_index.specs.Ranges.{IsPlaced};
 ghost use Rattle.candidate_index.specs.Registrations.{observer_of, serials_at, basis_for, finding_for, IsBetween};
 ghost use Rattle.candidate_index.specs.Asked.{asked_for, steps_for, all_asked, all_steps};
 ghost use Rattle.candidate_index.specs.Held.{is_stale_now};
 ghost use Rattle.kept_findings.specs.Held.{no_findings, with_findings, without_findings, with_expired, IsRoomier};
-ghost use Rattle.kept_findings.specs.Walks.{AreChained, MayBeWalked, IsWalked};
+ghost use Rattle.kept_findings.specs.Looks.{AreLooked, no_looks};
+ghost use Rattle.kept_findings.specs.Walks.{AreChained, IsWalked};
 ghost use Rattle.kept_findings.specs.Registered.{AreHeld, AreRegistered};
 
-use candidate_index::{Index, Scene, Standing};
+use crate::Looks;
+use crate::seen_scene::SeenScene;
+use candidate_index::{Index, Scene};
 use clip_chain::Spot;
 use element_tree::NodeId;
 use intersection_observer::{Finding, RegistrationId, Root, WatcherId, Watchers};
@@ -37,8 +41,9 @@ use step_count::Steps;
 /// on its chain is seen otherwise, and then it is touched.
 #[derive(Drop)]
 pub struct KeptFindings {
-    seen: Sightings,
-    clips: Clips,
+    alloc: Global,
+    pub(crate) seen: Sightings,
+    pub(crate) clips: Clips,
     index: Index,
 }
 
@@ -63,7 +68,7 @@ impl Model for KeptFindings {
 }
 
 // The implicit root is the viewport of the top document.
-fn spot_of_root(root: Root) -> Spot
+pub(crate) fn spot_of_root(root: Root) -> Spot
     ensures { result ≡ spot_of_root (seen_root root) }
 {
     match root {
@@ -73,28 +78,6 @@ fn spot_of_root(root: Root) -> Spot
     }
 }
 
-// Looks along the chain of a registration, if it leads to the root.
-fn look_for<S: Scene>(
-    seen: &mut Sightings,
-    clips: &mut Clips,
-    scene: &S,
-    watchers: &Watchers,
-    registration: RegistrationId,
-)
-    requires standing { IsStanding registration.0 watchers.now.part }
-    requires chained { AreChained (S.scene scene.now) (S.standings scene.now) }
-    requires room { MayBeWalked (S.scene scene.now) (S.standings scene.now) watchers.now.part seen.old clips.old registration.0 }
-    ensures looked { Looked (S.scene scene.now) seen.old seen.new clips.old clips.new }
-    ensures walked { IsWalked (S.scene scene.now) (S.standings scene.now) watchers.now.part seen.new registration.0 }
-{
-    let root = watchers.root_of(watchers.watcher_of(registration));
-    let target = watchers.target_of(registration);
-    let Standing::Chained = scene.standing(root, target) else {
-        return;
-    };
-    seen.look_along(clips, scene, spot_of_root(root), Spot::Node(target));
-}
-
 impl KeptFindings {
     /// Nothing is kept, which takes no memory yet.
     pub fn new(alloc: Global) -> KeptFindings
@@ -102,6 +85,7 @@ impl KeptFindings {
         ensures registered { (watchers : IntersectionObservers) → ((serial : ℕ) → standing_of serial watchers ≡ None) → AreRegistered watchers result }
     {
         KeptFindings {
+            alloc,
             seen: Sightings::new(alloc),
             clips: Clips::new(alloc),
             index: Index::new(alloc),
@@ -112,7 +96,10 @@ impl KeptFindings {
     pub fn clips(&self) -> &Clips
         ensures value { result.now ≡ self.now.clips }
         ensures exact { (number : ℕ) → IsExact (scene_seen self.now.seen) self.now.clips number }
+        ensures numbered { AreNumbered self.now.clips }
     {
+        // It tells that touches are numbered.
+        self.clips.pair(0);
         &self.clips
     }
 
@@ -121,6 +108,17 @@ impl KeptFindings {
         ensures { result.now ≡ self.now.kept }
     {
         &self.index
+    }
+
+    /// Nothing was looked at yet, as an update begins.
+    ///
+    /// # Errors
+    /// Where there is no memory to note what is looked at.
+    pub fn looks(&self) -> Result<Looks, AllocError>
+        ensures none { IfOk result (λ looks. looks ≡ no_looks self.now.seen) }
+        ensures known { IfOk result (λ looks. (scene : SceneOf) (rank : SpotOf → ℕ) → AreLooked scene rank self.now.seen looks) }
+    {
+        Looks::new(self.alloc, &self.seen)
     }
 
     /// Makes room for what is seen of a spot. Where memory is refused there may be room for more all the same; nothing else changes in
@@ -165,28 +163,6 @@ impl KeptFindings {
         self.index.forget(registration);
     }
 
-    /// Looks at each spot on the chains of an observer's registrations, both ends included: it is touched where its container, clip or
-    /// box differs from what was seen last, or nothing was seen of it, and what is seen now is kept. No memory.
-    pub fn look<S: Scene>(&mut self, scene: &S, watchers: &Watchers, watcher: WatcherId)
-        requires made { watcher.0 < length watchers.now.part.made }
-        requires chained { AreChained (S.scene scene.now) (S.standings scene.now) }
-        requires room { All (MayBeWalked (S.scene scene.now) (S.standings scene.now) watchers.now.part self.old.seen self.old.clips) (serials_at watchers.now.part watcher.0) }
-        ensures looked { Looked (S.scene scene.now) self.old.seen self.new.seen self.old.clips self.new.clips }
-        ensures kept { self.new.kept ≡ self.old.kept }
-        ensures walked { All (IsWalked (S.scene scene.now) (S.standings scene.now) watchers.now.part self.new.seen) (serials_at watchers.now.part watcher.0) }
-    {
-        let registrations = watchers.registrations(watcher);
-        for registration in registrations {
-            look_for(
-                &mut self.seen,
-                &mut self.clips,
-                scene,
-                watchers,
-                *registration,
-            );
-        }
-    }
-
     /// The registrations of an observer that are stale, in order, once each spot of their chains was seen (`Index::stale_registrations`).
     /// Clips that don't stand any more are computed.
     ///
@@ -195,6 +171,7 @@ impl KeptFindings {
     pub fn stale_registrations<S: Scene, L: Ledger>(
         &mut self,
         scene: &S,
+        looks: &Looks,
         watchers: &Watchers,
         watcher: WatcherId,
         steps: &mut Steps<L>,
@@ -202,6 +179,7 @@ impl KeptFindings {
         requires made { watcher.0 < length watchers.now.part.made }
         requires chained { AreChained (S.scene scene.now) (S.standings scene.now) }
         requires held { AreHeld watchers.now.part self.old }
+        requires known { AreLooked (S.scene scene.now) (S.rank scene.now) self.old.seen looks.now }
         requires walked { All (IsWalked (S.scene scene.now) (S.standings scene.now) watchers.now.part self.old.seen) (serials_at watchers.now.part watcher.0) }
         ensures stale { (between : ℕ → List SpotOf) → All (IsBetween (S.scene scene.now) (S.standings scene.now) watchers.now.part between) (serials_at watchers.now.part watcher.0) →
             IfOk result (λ stale. serial_numbers stale.items
@@ -214,11 +192,20 @@ impl KeptFindings {
         ensures kept { self.new.kept ≡ self.old.kept }
         ensures touches { self.new.clips.touches ≡ self.old.clips.touches }
         ensures held { AreHeld watchers.now.part self.new }
+        ensures registered { AreRegistered watchers.now.part self.old → AreRegistered watchers.now.part self.new }
+        ensures same_clips { OnErr result (self.new.clips ≡ self.old.clips) }
+        ensures same_steps { OnErr result (steps.new ≡ steps.old) }
+        ensures known { AreLooked (S.scene scene.now) (S.rank scene.now) self.new.seen looks.now }
     {
         // It tells that they stand.
         watchers.registrations(watcher);
+        let scene = SeenScene {
+            scene,
+            seen: &self.seen,
+            looks,
+        };
         self.index
-            .stale_registrations(scene, &mut self.clips, watchers, watcher, steps)
+            .stale_registrations(&scene, &mut self.clips, watchers, watcher, steps)
     }
 
     /// Finds what there is to find of a registration's target, once each spot of its chain was seen, and keeps it (`Index::recompute`).
@@ -226,6 +213,7 @@ impl KeptFindings {
     pub fn recompute<S: Scene, L: Ledger>(
         &mut self,
         scene: &S,
+        looks: &Looks,
         watchers: &Watchers,
         registration: RegistrationId,
         steps: &mut Steps<L>,
@@ -233,6 +221,7 @@ impl KeptFindings {
         requires standing { IsStanding registration.0 watchers.now.part }
         requires chained { AreChained (S.scene scene.now) (S.standings scene.now) }
         requires held { AreHeld watchers.now.part self.old }
+        requires known { AreLooked (S.scene scene.now) (S.rank scene.now) self.old.seen looks.now }
         requires walked { IsWalked (S.scene scene.now) (S.standings scene.now) watchers.now.part self.old.seen registration.0 }
         ensures finding { (between : ℕ → List SpotOf) → IsBetween (S.scene scene.now) (S.standings scene.now) watchers.now.part between registration.0 →
             seen_finding result ≡ finding_for (S.scene scene.now) (S.standings scene.now) watchers.now.part registration.0 (between registration.0) }
@@ -246,9 +235,15 @@ impl KeptFindings {
         ensures kept { (between : ℕ → List SpotOf) → IsBetween (S.scene scene.now) (S.standings scene.now) watchers.now.part between registration.0 →
             self.new.kept ≡ insert self.old.kept registration.0 (Some (record { basis = basis_for (S.scene scene.now) (S.standings scene.now) watchers.now.part registration.0 (between registration.0); finding = result })) }
         ensures held { AreHeld watchers.now.part self.new }
+        ensures known { AreLooked (S.scene scene.now) (S.rank scene.now) self.new.seen looks.now }
     {
+        let scene = SeenScene {
+            scene,
+            seen: &self.seen,
+            looks,
+        };
         self.index
-            .recompute(scene, &mut self.clips, watchers, registration, steps)
+            .recompute(&scene, &mut self.clips, watchers, registration, steps)
     }
 
     /// Lets a registration count as never computed. No memory.

@@ -1,13 +1,14 @@
 //! What becomes of registrations that are kept, and of the steps that their clips take: each law is the clause of a function that does
 //! nothing.
 
-ghost use Rattle.std.specs.Prelude.{◌≡◌, ◌<◌, ◌≤◌, ℕ, Bool, List, [], Option, Some, false, length, sum_by};
+ghost use Rattle.std.specs.Prelude.{◌≡◌, ◌<◌, ◌≤◌, ◌+◌, ℕ, Bool, List, [], Option, Some, false, length, sum_by};
 ghost use Rattle.std.specs.List.{AllByRecursion};
 ghost use Rattle.script_model.specs.Margins.{Margins};
 ghost use Rattle.page_model.specs.World.{Root, Finding as ModelFinding, Registration, IntersectionObservers};
 ghost use Rattle.page_model.specs.Lookups.{intersection_observer_at};
 ghost use Rattle.page_model.specs.IntersectionObserving.{is_registered, with_intersection_observer, with_registration, without_registration, without_queue};
 ghost use Rattle.clip_chain.specs.declared.spot.Spot.{Spot as SpotOf};
+ghost use Rattle.clip_chain.specs.declared.spot.Spot.TheVariants.{View};
 ghost use Rattle.clip_chain.specs.Scenes.{Scene as SceneOf};
 ghost use Rattle.clip_chain.specs.Worlds.{element_spot, spot_of_root};
 ghost use Rattle.intersection_observer.specs.Serials.{HasSerials, registrations_at};
@@ -16,14 +17,16 @@ ghost use Rattle.intersection_observer.specs.Watchers.{serial_of};
 ghost use Rattle.kept_clips.specs.Touches.{last_number};
 ghost use Rattle.kept_clips.specs.Held.{HeldClips};
 ghost use Rattle.kept_clips.specs.Numbers.{AreNumbered};
+ghost use Rattle.kept_clips.specs.Looked.{Looked, MayBeSeen};
 ghost use Rattle.candidate_index.specs.declared.scene.Standing.{Standing as StandingOf};
 ghost use Rattle.candidate_index.specs.Asked.{asked_for, steps_for, all_steps};
-ghost use Rattle.kept_findings.specs.Held.{HeldFindings, with_findings, without_findings};
+ghost use Rattle.kept_findings.specs.Held.{HeldFindings, with_findings, without_findings, with_expired, IsRoomier};
+ghost use Rattle.kept_findings.specs.Rooms.{HaveRoom};
 ghost use Rattle.kept_findings.specs.Registered.{AreRegistered};
 ghost use Rattle.kept_findings.specs.Stale.{chosen, IsQuiet};
 
 /// What is kept is kept of the registrations that stand, and settled, through what commands do to intersection observers: one more
-/// observer, a registration made or taken out whose pair is kept or let go with it, a queue that is handed out.
+/// observer, a registration made or taken out whose pair is kept or let go with it, a queue that is handed out, room for more spots.
 pub fn registrations_stay_registered()
     ensures made { (it : IntersectionObservers) (document : ℕ) (handler : Option ℕ) (root : Root) (margins : Margins) (thresholds : List ℕ) (kept : HeldFindings) →
         AreRegistered it kept → AreRegistered (with_intersection_observer document handler root margins thresholds it) kept }
@@ -31,6 +34,7 @@ pub fn registrations_stay_registered()
         AreRegistered it kept → AreRegistered (with_registration watcher n it) (with_findings it.given (spot_of_root (intersection_observer_at it watcher).root) (element_spot n) kept) }
     ensures unobserved { (it : IntersectionObservers) (watcher n serial : ℕ) (kept : HeldFindings) → HasSerials it → watcher < length it.made → serial_of n (registrations_at it watcher) ≡ Some serial →
         AreRegistered it kept → AreRegistered (without_registration watcher n it) (without_findings serial kept) }
+    ensures roomier { (it : IntersectionObservers) (before now : HeldFindings) → IsRoomier before now → AreRegistered it before → AreRegistered it now }
     ensures taken { (it : IntersectionObservers) (watcher : ℕ) (kept : HeldFindings) → AreRegistered it kept → AreRegistered (without_queue watcher it) kept }
 {}
 
@@ -49,4 +53,23 @@ pub fn clips_that_are_asked_for_take_steps_once()
         steps_for scene standings it between other (asked_for scene standings it between serial clips) ≤ steps_for scene standings it between other clips }
     ensures again { (scene : SceneOf) (standings : Root → ℕ → StandingOf) (it : IntersectionObservers) (between : ℕ → List SpotOf) (serial : ℕ) (clips : HeldClips) → AreNumbered clips →
         clips.touches.count < last_number → steps_for scene standings it between serial (asked_for scene standings it between serial clips) ≡ 0 }
+{}
+
+/// Room for what is seen of elements and documents stays through all calls, and one more element or document has room once its spot was
+/// added.
+pub fn room_stays()
+    ensures none { (it : HeldFindings) → HaveRoom 0 0 it }
+    ensures roomier { (elements documents : ℕ) (before now : HeldFindings) → IsRoomier before now → HaveRoom elements documents before → HaveRoom elements documents now }
+    ensures element { (elements documents : ℕ) (it : HeldFindings) → MayBeSeen it.seen it.clips (element_spot elements) →
+        HaveRoom elements documents it → HaveRoom (elements + 1) documents it }
+    ensures document { (elements documents : ℕ) (it : HeldFindings) → MayBeSeen it.seen it.clips (View documents) →
+        HaveRoom elements documents it → HaveRoom elements (documents + 1) it }
+    ensures registered { (elements documents serial : ℕ) (root target : SpotOf) (it : HeldFindings) →
+        HaveRoom elements documents it → HaveRoom elements documents (with_findings serial root target it) }
+    ensures forgotten { (elements documents serial : ℕ) (it : HeldFindings) → HaveRoom elements documents it → HaveRoom elements documents (without_findings serial it) }
+    ensures expired { (elements documents serial : ℕ) (it : HeldFindings) → HaveRoom elements documents it → HaveRoom elements documents (with_expired serial it) }
+    ensures looked { (scene : SceneOf) (elements documents : ℕ) (before now : HeldFindings) → Looked scene before.seen now.seen before.clips now.clips →
+        HaveRoom elements documents before → HaveRoom elements documents now }
+    ensures same { (elements documents : ℕ) (before now : HeldFindings) → now.seen ≡ before.seen → now.clips.touches ≡ before.clips.touches →
+        HaveRoom elements documents before → HaveRoom elements documents now }
 {}

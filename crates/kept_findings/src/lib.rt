@@ -7,11 +7,15 @@
 
 mod findings;
 mod laws;
+mod looking;
+mod looks;
+mod seen_scene;
 mod settling;
 
 pub use findings::KeptFindings;
 pub use laws::{
-    clips_that_are_asked_for_take_steps_once, registrations_stay_registered,
+    clips_that_are_asked_for_take_steps_once, registrations_stay_registered, room_stays,
     settling_the_stale_ones_settles_all,
 };
+pub use looks::Looks;
 pub use settling::Tells;

@@ -1,20 +1,25 @@
 //! What is found, told and settled.
 
-ghost use Rattle.std.specs.Prelude.{◌≡◌, ◌<◌, Some, None, length, IfOk, OnOk, OnErr};
+ghost use Rattle.std.specs.Prelude.{◌≡◌, ◌+◌, ◌<◌, ℕ, List, true, false, Some, None, length, IfOk, OnOk, OnErr};
+ghost use Rattle.std.specs.FinMap.{insert};
 ghost use Rattle.page_model.specs.Lookups.{intersection_observer_at};
+ghost use Rattle.clip_chain.specs.declared.spot.Spot.{Spot as SpotOf};
 ghost use Rattle.clip_chain.specs.Scenes.{root_bounds};
 ghost use Rattle.clip_chain.specs.Worlds.{spot_of_root};
+ghost use Rattle.intersection_observer.specs.declared.entry.Finding.{Finding as FindingOf};
 ghost use Rattle.intersection_observer.specs.Places.{standing_of};
 ghost use Rattle.intersection_observer.specs.Seen.{seen_root, seen_finding};
 ghost use Rattle.intersection_observer.specs.Serials.{HasSerials};
 ghost use Rattle.intersection_observer.specs.Settling.{with_settled, is_news_for};
 ghost use Rattle.candidate_index.specs.Ranges.{IsPlaced};
-ghost use Rattle.candidate_index.specs.Registrations.{target_of};
-ghost use Rattle.candidate_index.specs.Held.{kept_of};
+ghost use Rattle.candidate_index.specs.Registrations.{target_of, basis_for, IsBetween};
+ghost use Rattle.candidate_index.specs.Asked.{asked_for, steps_for};
+ghost use Rattle.candidate_index.specs.Held.{kept_of, is_stale_now};
+ghost use Rattle.kept_findings.specs.Looks.{AreLooked};
 ghost use Rattle.kept_findings.specs.Walks.{AreChained, IsWalked, found_in};
-ghost use Rattle.kept_findings.specs.Registered.{AreRegistered};
+ghost use Rattle.kept_findings.specs.Registered.{AreHeld, AreRegistered};
 
-use crate::KeptFindings;
+use crate::{KeptFindings, Looks};
 use candidate_index::Scene;
 use element_tree::NodeId;
 use intersection_observer::{Finding, RegistrationId, Root, Settled, WatcherId, Watchers};
@@ -31,27 +36,78 @@ pub trait Tells: Scene {
     /// What is found of a target, told by its root.
     ghost telling: { Self → ModelRoot → ℕ → ModelFinding → ModelFinding };
 
-    /// What is so of each finding that is told, as how far it reaches.
+    /// How far the rectangles of what is told reach at most.
     ghost reaches: { ModelFinding → Type 0 };
 
     /// Tells what was found of a target. Which threshold it comes to, and whether root and target meet, is no matter of coordinates.
     fn told(&self, root: Root, target: NodeId, found: Finding) -> Finding
         requires { IsPlaced (root_bounds (Self.scene self.now) (spot_of_root (seen_root root))) (seen_finding found) }
         ensures value { seen_finding result ≡ telling self.now (seen_root root) target.0 (seen_finding found) }
+        ensures reach { reaches (seen_finding result) }
         ensures index { result.index ≡ found.index }
-        ensures meets { result.meets ≡ found.meets }
-        ensures reach { reaches (seen_finding result) };
+        ensures meets { result.meets ≡ found.meets };
+}
+
+// Whether an entry was queued.
+fn is_queued(settled: Settled) -> bool
+    ensures queued { settled ≡ Settled.Queued → result ≡ true }
+    ensures kept { settled ≡ Settled.Kept → result ≡ false }
+{
+    match settled {
+        Settled::Queued => true,
+        Settled::Kept => false,
+    }
 }
 
 impl KeptFindings {
-    /// Finds what there is to find of an observer's registration, once each spot of its chain was seen, and settles it as it is told.
-    /// Tells whether an entry was queued, which is where it is news.
+    // What an observer finds of its registration now, which is kept, as it is told.
+    fn tell<S: Tells, L: Ledger>(
+        &mut self,
+        scene: &S,
+        looks: &Looks,
+        watchers: &Watchers,
+        watcher: WatcherId,
+        registration: RegistrationId,
+        steps: &mut Steps<L>,
+    ) -> Finding
+        requires made { watcher.0 < length watchers.now.part.made }
+        requires stands { standing_of registration.0 watchers.now.part ≡ Some (record { watcher = watcher.0; target = target_of watchers.now.part registration.0 }) }
+        requires chained { AreChained (S.scene scene.now) (S.standings scene.now) }
+        requires held { AreHeld watchers.now.part self.old }
+        requires known { AreLooked (S.scene scene.now) (S.rank scene.now) self.old.seen looks.now }
+        requires walked { IsWalked (S.scene scene.now) (S.standings scene.now) watchers.now.part self.old.seen registration.0 }
+        ensures told { (chained : AreChained (S.scene scene.now) (S.standings scene.now)) →
+            seen_finding result ≡ found_in (S.scene scene.now) (S.standings scene.now) chained (S.telling scene.now) (intersection_observer_at watchers.now.part watcher.0) (target_of watchers.now.part registration.0) }
+        ensures reach { S.reaches (seen_finding result) }
+        ensures kept { (found : FindingOf) × ((found.index ≡ result.index) × (found.meets ≡ result.meets)
+            × ((between : ℕ → List SpotOf) → IsBetween (S.scene scene.now) (S.standings scene.now) watchers.now.part between registration.0 →
+            self.new.kept ≡ insert self.old.kept registration.0 (Some (record { basis = basis_for (S.scene scene.now) (S.standings scene.now) watchers.now.part registration.0 (between registration.0); finding = found })))) }
+        ensures clips { (between : ℕ → List SpotOf) → IsBetween (S.scene scene.now) (S.standings scene.now) watchers.now.part between registration.0 →
+            self.new.clips ≡ asked_for (S.scene scene.now) (S.standings scene.now) watchers.now.part between registration.0 self.old.clips }
+        ensures ticks { (between : ℕ → List SpotOf) → IsBetween (S.scene scene.now) (S.standings scene.now) watchers.now.part between registration.0 →
+            steps.new ≡ steps.old + steps_for (S.scene scene.now) (S.standings scene.now) watchers.now.part between registration.0 self.old.clips + 1 }
+        ensures held { AreHeld watchers.now.part self.new }
+        ensures seen { self.new.seen ≡ self.old.seen }
+        ensures touches { self.new.clips.touches ≡ self.old.clips.touches }
+        ensures known { AreLooked (S.scene scene.now) (S.rank scene.now) self.new.seen looks.now }
+    {
+        let found = self.recompute(scene, looks, watchers, registration, steps);
+        scene.told(
+            watchers.root_of(watcher),
+            watchers.target_of(registration),
+            found,
+        )
+    }
+
+    /// Finds what there is to find of an observer's registration, once each spot of its chain was looked at, and settles it as it is told.
+    /// Tells whether an entry was queued, which is where it is news. It takes the steps of `recompute`.
     ///
     /// # Errors
     /// Where there is no memory for an entry: the observers are as they were then, and the registration counts as never computed.
     pub fn settle<S: Tells, L: Ledger>(
         &mut self,
         scene: &S,
+        looks: &Looks,
         watchers: &mut Watchers,
         watcher: WatcherId,
         registration: RegistrationId,
@@ -63,6 +119,7 @@ impl KeptFindings {
         requires serials { HasSerials watchers.old.part }
         requires chained { AreChained (S.scene scene.now) (S.standings scene.now) }
         requires registered { AreRegistered watchers.old.part self.old }
+        requires known { AreLooked (S.scene scene.now) (S.rank scene.now) self.old.seen looks.now }
         requires walked { IsWalked (S.scene scene.now) (S.standings scene.now) watchers.old.part self.old.seen registration.0 }
         ensures settled { (chained : AreChained (S.scene scene.now) (S.standings scene.now)) →
             OnOk result (watchers.new ≡ record watchers.old { part = with_settled registration.0 time (found_in (S.scene scene.now) (S.standings scene.now) chained (S.telling scene.now) (intersection_observer_at watchers.old.part watcher.0) (target_of watchers.old.part registration.0)) (watchers.old.part) }) }
@@ -72,17 +129,21 @@ impl KeptFindings {
             S.reaches (found_in (S.scene scene.now) (S.standings scene.now) chained (S.telling scene.now) (intersection_observer_at watchers.old.part watcher.0) (target_of watchers.old.part registration.0)) }
         ensures same { OnErr result (watchers.new ≡ watchers.old) }
         ensures expired { OnErr result (kept_of self.new.kept registration.0 ≡ None) }
+        ensures fresh { (between : ℕ → List SpotOf) → IsBetween (S.scene scene.now) (S.standings scene.now) watchers.old.part between registration.0 →
+            OnOk result (is_stale_now (S.scene scene.now) (S.standings scene.now) watchers.old.part between self.new.kept registration.0 ≡ false) }
+        ensures others { (serial : ℕ) → (¬ serial ≡ registration.0) → kept_of self.new.kept serial ≡ kept_of self.old.kept serial }
+        ensures clips { (between : ℕ → List SpotOf) → IsBetween (S.scene scene.now) (S.standings scene.now) watchers.old.part between registration.0 →
+            self.new.clips ≡ asked_for (S.scene scene.now) (S.standings scene.now) watchers.old.part between registration.0 self.old.clips }
+        ensures ticks { (between : ℕ → List SpotOf) → IsBetween (S.scene scene.now) (S.standings scene.now) watchers.old.part between registration.0 →
+            steps.new ≡ steps.old + steps_for (S.scene scene.now) (S.standings scene.now) watchers.old.part between registration.0 self.old.clips + 1 }
         ensures registered { AreRegistered watchers.new.part self.new }
         ensures seen { self.new.seen ≡ self.old.seen }
         ensures touches { self.new.clips.touches ≡ self.old.clips.touches }
+        ensures known { AreLooked (S.scene scene.now) (S.rank scene.now) self.new.seen looks.now }
     {
-        let root = watchers.root_of(watcher);
-        let target = watchers.target_of(registration);
-        let found = self.recompute(scene, watchers, registration, steps);
-        let told = scene.told(root, target, found);
+        let told = self.tell(scene, looks, watchers, watcher, registration, steps);
         match watchers.settle(registration, time, told) {
-            Ok(Settled::Queued) => Ok(true),
-            Ok(Settled::Kept) => Ok(false),
+            Ok(settled) => Ok(is_queued(settled)),
             Err(error) => {
                 self.expire(registration);
                 Err(error)

@@ -1,5 +1,5 @@
 use Rattle.std.proofs.Common.{refl, []}
-use Rattle.kept_findings.proofs.Settled.{registered_made, registered_taken}
+use Rattle.kept_findings.proofs.Settled.{registered_made, registered_taken, registered_roomier}
 use Rattle.kept_findings.proofs.Observed.{registered_observed, registered_unobserved}
 use Rattle.kept_findings.proofs.laws.registrations_stay_registered.Goals as goal
 
@@ -15,3 +15,6 @@ returns-clause-unobserved c = registered_unobserved
 
 pub returns-clause-taken : goal.returns-clause-taken
 returns-clause-taken c = registered_taken
+
+pub returns-clause-roomier : goal.returns-clause-roomier
+returns-clause-roomier c = registered_roomier

@@ -1,5 +1,4 @@
 use Rattle.std.proofs.Common.{◌≡◌, ◌∙◌, List, Option, ap, refl}
-use Rattle.clip_chain.specs.declared.spot.Spot.{Spot}
 use Rattle.clip_chain.specs.declared.spot.Spot.TheVariants.{Node, View}
 use Rattle.kept_clips.specs.declared.sightings.Sighting.{Sighting}
 use Rattle.kept_clips.specs.Seen.{Seen, sighting_of, up_to}

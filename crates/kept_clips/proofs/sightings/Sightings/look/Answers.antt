@@ -1,12 +1,11 @@
-use Rattle.std.proofs.Common.{◌≡◌, ◌∙◌, ◌≤◌, Some, ap, sym, subst}
+use Rattle.std.proofs.Common.{◌∙◌, Some, sym, subst}
 use Rattle.std.proofs.lemmas.Bool.{false≢true}
-use Rattle.clip_chain.specs.declared.spot.Spot.{Spot}
 use Rattle.kept_clips.specs.declared.sightings.Sighting.{Sighting}
-use Rattle.kept_clips.specs.Seen.{Seen, sighting_of, scene_seen, sighting_in, with_sighting}
+use Rattle.kept_clips.specs.Seen.{Seen, scene_seen, with_sighting}
 use Rattle.kept_clips.specs.Chains.{IsExact}
 use Rattle.kept_clips.specs.Scenes.{AgreesAt}
 use Rattle.kept_clips.proofs.Looking.{looked_once}
-use Rattle.kept_clips.proofs.Seeing.{differs_there, agrees_here, seen_again, agrees_as_seen, agrees_still}
+use Rattle.kept_clips.proofs.Seeing.{differs_there, agrees_here, agrees_still}
 use Rattle.kept_clips.proofs.sightings.Sightings.look.Goals as goal
 
 pub returns-then-not-is_as_seen-clause-seen : goal.returns-then-not-is_as_seen-clause-seen
@@ -39,6 +38,6 @@ returns-then-not-is_as_seen-clause-looked g c =
     let container = c.container.ensures.container in
     let clip = c.clip.ensures.clip in
     let bounds = c.bounds.ensures.bounds in
-    looked_once (g.G.Geometry.scene c.args.geometry.now) c.args.self.now c.put.new.self c.args.clips.now c.touch.new.self c.args.of c.requires.room
+    looked_once (g.G.Geometry.scene c.args.geometry.now) c.args.self.now c.put.new.self c.args.clips.now c.touch.new.self c.args.of c.requires.room c.requires.added
     (λ e. false≢true (sym c.if-not-is_as_seen.true ∙ c.is_as_seen.ensures.1 (e ∙ (λ i. Some (record { container = sym container i; clip = sym clip i; bounds = sym bounds i })))))
     (returns-then-not-is_as_seen-clause-seen g c) c.touch.ensures.touched c.touch.ensures.count (returns-then-not-is_as_seen-clause-exact g c) c.touch.ensures.stood

@@ -1,6 +1,10 @@
 use Rattle.std.proofs.Common.{◌≡◌, ℕ, ◌<◌, get_or}
-use Rattle.kept_clips.specs.Looked.{Looked}
-use Rattle.kept_findings.specs.Walks.{IsWalked}
+use Rattle.std.specs.List.{All}
+use Rattle.clip_chain.specs.declared.spot.Spot.{Spot}
+use Rattle.kept_clips.specs.Looked.{IsLeft, Looked}
+use Rattle.candidate_index.specs.Registrations.{serials_at}
+use Rattle.kept_findings.specs.Looks.{IsNoted, AreLooked}
+use Rattle.kept_findings.specs.Walks.{AlongChain, IsNot}
 use Rattle.kept_findings.proofs.findings.KeptFindings.look.Given as goal
 
 abbrev pub invariant-loop-registration : goal.invariant-loop-registration
@@ -8,7 +12,10 @@ invariant-loop-registration g l =
     let scene = g.S.Geometry.scene l.scene in
     let standings = g.S.Scene.standings l.scene in
     record {
-      looked : Looked scene l.fn.self.seen l.self-inside.seen l.fn.self.clips l.self-inside.clips;
-      index : l.self-inside.index ≡ l.fn.self.kept;
-      walked : (k : ℕ) → k < l.registration-index → IsWalked scene standings l.watchers.part l.self-inside.seen (get_or l.registrations k (record { 0 = 0 })).0;
+      looked : Looked scene l.fn.self.seen l.self.seen l.fn.self.clips l.self.clips;
+      kept : l.self.kept ≡ l.fn.self.kept;
+      known : AreLooked scene (g.S.Geometry.rank l.scene) l.self.seen l.looks;
+      left : (spot : Spot) → All (AlongChain (IsNot spot) scene standings l.watchers.part) (serials_at l.watchers.part l.fn.watcher.0) →
+          IsLeft l.fn.self.seen l.self.seen l.fn.self.clips.touches l.self.clips.touches spot;
+      noted : (k : ℕ) → k < l.registration-index → AlongChain (IsNoted l.looks) scene standings l.watchers.part (get_or l.registrations k (record { 0 = 0 })).0;
     }

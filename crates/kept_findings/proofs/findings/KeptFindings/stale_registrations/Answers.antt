@@ -5,6 +5,7 @@ use Rattle.candidate_index.specs.Registrations.{serials_at}
 use Rattle.kept_findings.specs.Held.{HeldFindings}
 use Rattle.kept_findings.specs.Walks.{IsWalked, spots_between}
 use Rattle.kept_findings.specs.Registered.{AreHeld}
+use Rattle.kept_findings.proofs.Settled.{registered_alike}
 use Rattle.kept_findings.proofs.Walking.{is_between}
 use Rattle.kept_findings.proofs.Asking.{Stays, all_ready, stays_asked, held_still}
 use Rattle.kept_findings.proofs.findings.KeptFindings.stale_registrations.Goals as goal
@@ -73,3 +74,10 @@ returns-clause-touches g c =
     stays_asked seen now standings it between rs serials c.registrations.ensures.value c.registrations.ensures.standing walked leads c.stale_registrations.result c.self.inside.clips c.stale_registrations.new.clips held.pairs
     (c.stale_registrations.ensures.clips between (λ k d below. leads (get_or serials k d))) c.stale_registrations.ensures.same_clips in
     stays.touches ∙ ap (λ (h : HeldFindings). h.clips.touches) c.self.view_is
+
+pub returns-clause-registered : goal.returns-clause-registered
+returns-clause-registered g c = λ registered.
+    let held = returns-clause-held g c in
+    let before = c.args.self.now in
+    let now : HeldFindings = record { seen = c.self.inside.seen; clips = c.stale_registrations.new.clips; kept = c.self.inside.index } in
+    registered_alike c.args.watchers.now.part before now (λ serial. held.pairs serial ∙ sym (registered.held.pairs serial)) (ap (λ (h : HeldFindings). h.kept) c.self.view_is) registered

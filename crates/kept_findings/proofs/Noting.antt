@@ -1,0 +1,94 @@
+-- Spots that are noted as looked at, and what is known of them.
+use Rattle.std.proofs.Common.{◌≡◌, ◌∙◌, ℕ, ◌<◌, true, false, length, ap, refl, sym, subst, inl, inr, get_or-set_other, get_or-set_same, length-set}
+use Rattle.std.specs.Prelude.{Some}
+use Rattle.std.proofs.lemmas.Bool.{false≢true}
+use Rattle.std.proofs.lemmas.List.{length-replicate}
+use Rattle.clip_chain.specs.declared.spot.Spot.{Spot}
+use Rattle.clip_chain.specs.declared.spot.Spot.TheVariants.{Node, View}
+use Rattle.clip_chain.specs.Scenes.{Scene}
+use Rattle.kept_clips.specs.declared.sightings.Sighting.{Sighting}
+use Rattle.kept_clips.specs.Touches.{Touched}
+use Rattle.kept_clips.specs.Held.{HeldClips}
+use Rattle.kept_clips.specs.Scenes.{AgreesAt}
+use Rattle.kept_clips.specs.Seen.{Seen, sighting_of, scene_seen, sighting_in, with_sighting, HasRoom}
+use Rattle.kept_clips.specs.Looked.{IsLeft, Looked, IsInRange}
+use Rattle.kept_clips.proofs.Filling.{replicated}
+use Rattle.kept_clips.proofs.Spots.{other_node, other_view, same_or_apart}
+use Rattle.kept_clips.proofs.Seeing.{seen_there, seen_here, agrees_as_seen}
+use Rattle.kept_findings.specs.Looks.{LookedAt, is_looked, IsNoted, HasPlace, no_looks, noted, IsSeenNow, AreLooked}
+
+-- as an update begins
+
+place_first : (seen : Seen) (spot : Spot) → HasRoom seen spot → HasPlace (no_looks seen) spot
+place_first seen (Node a) room = subst (λ n. a.0 < n) (sym (length-replicate (length seen.nodes) false)) room
+place_first seen (View d) room = subst (λ n. d < n) (sym (length-replicate (length seen.views) false)) room
+
+not_looked : (seen : Seen) (spot : Spot) → is_looked (no_looks seen) spot ≡ false
+not_looked seen (Node a) = replicated false (length seen.nodes) a.0
+not_looked seen (View d) = replicated false (length seen.views) d
+
+pub looked_first : (scene : Scene) (rank : Spot → ℕ) (seen : Seen) → AreLooked scene rank seen (no_looks seen)
+looked_first scene rank seen = record {
+  looked = λ spot is. absurd (false≢true (sym (not_looked seen spot) ∙ is));
+  place = place_first seen;
+}
+
+-- one spot more
+
+pub noted_here : (it : LookedAt) (of : Spot) → HasPlace it of → IsNoted (noted of it) of
+noted_here it (Node a) place = get_or-set_same it.nodes a.0 true false place
+noted_here it (View d) place = get_or-set_same it.views d true false place
+
+noted_there : (it : LookedAt) (of other : Spot) → (¬ other ≡ of) → is_looked (noted of it) other ≡ is_looked it other
+noted_there it (Node a) (Node b) apart = get_or-set_other it.nodes a.0 b.0 true false (other_node b.0 a.0 apart)
+noted_there it (Node a) (View d) apart = refl
+noted_there it (View d) (Node b) apart = refl
+noted_there it (View c) (View d) apart = get_or-set_other it.views c d true false (other_view d c apart)
+
+pub noted_still : (it : LookedAt) (of other : Spot) → HasPlace it of → IsNoted it other → IsNoted (noted of it) other
+noted_still it of other place is = elim (same_or_apart of other) [
+  | inl same ↦ subst (IsNoted (noted of it)) (sym same) (noted_here it of place)
+  | inr apart ↦ noted_there it of other apart ∙ is
+]
+
+place_still : (it : LookedAt) (of spot : Spot) → HasPlace it spot → HasPlace (noted of it) spot
+place_still it (Node a) (Node b) place = subst (λ n. b.0 < n) (sym (length-set it.nodes a.0 true)) place
+place_still it (Node a) (View d) place = place
+place_still it (View d) (Node b) place = place
+place_still it (View c) (View d) place = subst (λ n. d < n) (sym (length-set it.views c true)) place
+
+room_before : (it : Seen) (of spot : Spot) (s : Sighting) → HasRoom (with_sighting of s it) spot → HasRoom it spot
+room_before it (Node a) (Node b) s room = subst (λ n. b.0 < n) (length-set it.nodes a.0 (Some s)) room
+room_before it (Node a) (View d) s room = room
+room_before it (View d) (Node b) s room = room
+room_before it (View c) (View d) s room = subst (λ n. d < n) (length-set it.views c (Some s)) room
+
+module _ (scene : Scene) (rank : Spot → ℕ) where
+  seen_more : (before : Seen) (it : LookedAt) (of : Spot) → HasRoom before of → IsInRange scene rank of → AreLooked scene rank before it → (spot : Spot) → IsNoted (noted of it) spot
+      → IsSeenNow scene rank (with_sighting of (sighting_in scene of) before) spot
+  seen_more before it of room in_range known spot is = elim (same_or_apart of spot) [
+    | inl same ↦ subst (IsSeenNow scene rank (with_sighting of (sighting_in scene of) before)) (sym same) (record { sighting = seen_here before of (sighting_in scene of) room; in_range = in_range })
+    | inr apart ↦ let was : IsSeenNow scene rank before spot = known.looked spot (sym (noted_there it of spot apart) ∙ is) in
+        record { sighting = seen_there before of spot (sighting_in scene of) apart ∙ was.sighting; in_range = was.in_range }
+  ]
+
+  pub looked_more : (before now : Seen) (it : LookedAt) (of : Spot) → HasRoom before of → now ≡ with_sighting of (sighting_in scene of) before → IsInRange scene rank of
+      → AreLooked scene rank before it → AreLooked scene rank now (noted of it)
+  looked_more before now it of room is in_range known = subst (λ (seen : Seen). AreLooked scene rank seen (noted of it)) (sym is) (record {
+    looked = seen_more before it of room in_range known;
+    place = λ spot has. place_still it of spot (known.place spot (room_before before of spot (sighting_in scene of) has));
+  })
+
+  pub agrees_noted : (seen : Seen) (it : LookedAt) → AreLooked scene rank seen it → (spot : Spot) → IsNoted it spot → AgreesAt (scene_seen seen) scene spot
+  agrees_noted seen it known spot is = agrees_as_seen seen spot scene (known.looked spot is).sighting
+
+-- spots that are left
+
+pub left_then : (first second third : Seen) (was held last : Touched) (spot : Spot) → IsLeft first second was held spot → IsLeft second third held last spot → IsLeft first third was last spot
+left_then first second third was held last spot one two = record { touch = two.touch ∙ one.touch; sighting = two.sighting ∙ one.sighting }
+
+pub left_there : (scene : Scene) (before now : Seen) (was held : HeldClips) (of spot : Spot) (s : Sighting) → Looked scene before now was held → now ≡ with_sighting of s before → (¬ of ≡ spot) → IsLeft before now was.touches held.touches spot
+left_there scene before now was held of spot s looked is apart = elim (looked.spots.each spot) [
+  | inl left ↦ left
+  | inr anew ↦ absurd (anew.differs (sym (ap (λ (seen : Seen). sighting_of seen spot) is ∙ seen_there before of spot s (λ e. apart (sym e))) ∙ anew.sighting))
+]

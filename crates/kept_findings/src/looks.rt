@@ -1,0 +1,68 @@
+//! Which spots were looked at.
+
+ghost use Rattle.std.specs.Prelude.{◌≡◌, false, IfOk};
+ghost use Rattle.std.specs.List.{slice_index_or};
+ghost use Rattle.kept_findings.specs.Looks.{is_looked, HasPlace, no_looks, noted};
+
+use clip_chain::Spot;
+use kept_clips::Sightings;
+use std::alloc::{AllocError, Global};
+use std::marker::Model;
+
+/// Which spots were looked at in an update, so that none is looked at twice: what was seen of it then is as it is until the update ends.
+#[derive(Drop)]
+pub struct Looks {
+    nodes: Vec<bool>,
+    views: Vec<bool>,
+}
+
+impl Model for Looks {
+    ghost use Rattle.kept_findings.specs.Looks.{LookedAt};
+
+    ghost Value = { LookedAt };
+
+    ghost view = { λ l. record { nodes = l.nodes.items; views = l.views.items } };
+}
+
+impl Looks {
+    // None was looked at.
+    pub(crate) fn new(alloc: Global, sightings: &Sightings) -> Result<Looks, AllocError>
+        ensures { IfOk result (λ looks. looks ≡ no_looks sightings.now) }
+    {
+        let (elements, documents) = sightings.room();
+        Ok(Looks {
+            nodes: vec![in alloc; false; elements]?,
+            views: vec![in alloc; false; documents]?,
+        })
+    }
+
+    /// Whether a spot was looked at.
+    pub fn is_looked(&self, of: Spot) -> bool
+        ensures { result ≡ is_looked self.now of }
+    {
+        match of {
+            Spot::Node(node) => is_marked(self.nodes.as_slice(), node.0),
+            Spot::View(document) => is_marked(self.views.as_slice(), document),
+        }
+    }
+
+    // Notes that a spot was looked at.
+    pub(crate) fn note(&mut self, of: Spot)
+        requires { HasPlace self.old of }
+        ensures { self.new ≡ noted of self.old }
+    {
+        match of {
+            Spot::Node(node) => self.nodes[node.0 as usize] = true,
+            Spot::View(document) => self.views[document as usize] = true,
+        }
+    }
+}
+
+fn is_marked(marks: &[bool], place: u32) -> bool
+    ensures { result ≡ slice_index_or marks.now place false }
+{
+    match marks.get(place as usize) {
+        Some(mark) => *mark,
+        None => false,
+    }
+}
