@@ -2,6 +2,13 @@ pub mod Nowhere
 pub mod Lists
 pub mod Watching
 pub mod Registrations
+pub mod Carried
+pub mod Stale
+pub mod Each
+pub mod Room
+pub mod Keeping
+pub mod Steps
+pub mod Observers
 pub mod Settled
 pub mod Updates
 pub mod Numbers

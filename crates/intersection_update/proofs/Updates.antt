@@ -12,37 +12,15 @@ use Rattle.intersection_observer.specs.Serials.{HasSerials, registrations_at}
 use Rattle.intersection_observer.specs.Settling.{each_settled}
 use Rattle.intersection_observer.specs.Watchers.{HeldWatchers}
 use Rattle.intersection_observer.proofs.Settling.{observer_settled}
-use Rattle.intersection_update.specs.Updating.{updated, has_news, IsBegun, IsStopped, first_settled, first_updated, settled_place, settled_if_rooted}
+use Rattle.intersection_update.specs.Updating.{updated, has_news, IsBegun, IsStopped, first_settled, first_updated, settled_if_rooted}
 use Rattle.intersection_update.proofs.Lists.{changed_at, changed_same, unchanged, any_more, firsts, first_at, first_more, first_all, first_none, each_place, each_first, any_place}
-use Rattle.intersection_update.proofs.Registrations.{place_more}
 
 -- whether one was queued earlier or now
 pub either_queued : (queued more : Bool) (a b c : ℕ) → queued ≡ nat_lt a b → more ≡ nat_lt b c → a ≤ b → b ≤ c → (queued || more) ≡ nat_lt a c
 either_queued queued more a b c first second le more_le = grind arith
 
-not_queued : (n : ℕ) → nat_lt n n ≡ false
+pub not_queued : (n : ℕ) → nat_lt n n ≡ false
 not_queued n = grind arith
-
--- the registrations of one observer ---------------------------------------------------------------------------------------------------
-
-module _ (shown : Shown) (time watcher : ℕ) (was : HeldWatchers) where
-  -- the first of them settled
-  abbrev pub so_far : ℕ → IntersectionObservers
-  so_far place = first_settled shown time watcher place (was.part)
-
-  pub one_more : (place : ℕ) (now next : HeldWatchers) → place < length (registrations_at was.part watcher) → now.part ≡ so_far place → next ≡ settled_place shown time watcher place now → next.part ≡ so_far (place + 1)
-  one_more place now next there is more =
-      let next_place : suc place ≡ place + 1 = omega arith in
-      ap (λ (it : HeldWatchers). it.part) more ∙ place_more shown time watcher place (was.part) (now.part) there is ∙ ap so_far next_place
-
-  pub all_of_them : (place : ℕ) (now : HeldWatchers) → HasSerials was.part → record was { part = now.part } ≡ now → length (registrations_at was.part watcher) ≤ place → now.part ≡ so_far place →
-      now ≡ record was { part = change_intersection_observer (settled_observer time (finding shown)) watcher (was.part) }
-  all_of_them place now serials rest past is =
-      sym rest
-      ∙ ap (λ (part : IntersectionObservers). record was { part = part })
-      (is
-      ∙ ap (λ (these : List Registration). each_settled time (finding shown (intersection_observer_at was.part watcher)) these (was.part)) (take_all place (registrations_at was.part watcher) past)
-      ∙ observer_settled time (finding shown) watcher (was.part) serials)
 
 -- one observer after the other ----------------------------------------------------------------------------------------------------------
 
@@ -95,6 +73,16 @@ module _ (shown : Shown) (tree : Tree) (document time : ℕ) (was : HeldWatchers
       ∙ sym (any_more no_intersection_observer tells place (was.part.made) there)
       ∙ ap first_told next_place
 
+  -- and where nothing is done
+  pub skipped_told : (place : ℕ) (now : HeldWatchers) (queued : Bool) → place < length was.part.made → length now.part.made ≡ length was.part.made → now.part.made ≡ first_observers place →
+      now ≡ record now { part = change_intersection_observer (settled_if_rooted shown tree document time) place (now.part) } → queued ≡ first_told place → queued ≡ first_told (place + 1)
+  skipped_told place now queued there count is same before =
+      no_more queued ∙ next_told place now now queued false there count is same before (sym (not_queued (length (intersection_observer_at now.part place).queue)))
+    where
+      no_more : (b : Bool) → b ≡ (b || false)
+      no_more true = refl
+      no_more false = refl
+
   pub no_observer : was.part.made ≡ first_observers 0
   no_observer = sym (first_none no_intersection_observer is_its once_settled (was.part.made))
 
@@ -132,12 +120,6 @@ module _ (shown : Shown) (tree : Tree) (document time : ℕ) (was : HeldWatchers
       ∙ ap (λ (made : List IntersectionObserver). list_any (λ n. is_longer (intersection_observer_at was.part n) (entry_or no_intersection_observer made n)) (watchers tree document was.part)) (sym all_made)
 
 -- an observer whose root is the document's, and another one ------------------------------------------------------------------------------
-
-pub or_true : (a b : Bool) → a ≡ true → true ≡ (a || b)
-or_true a b is = ap (λ it. it || b) (sym is)
-
-pub or_false : (a b : Bool) → a ≡ false → b ≡ (a || b)
-or_false a b is = ap (λ it. it || b) (sym is)
 
 pub rooted_settled : (shown : Shown) (tree : Tree) (document time watcher : ℕ) (was : HeldWatchers) → is_rooted_in tree document ((intersection_observer_at was.part watcher).root) ≡ true →
     record was { part = change_intersection_observer (settled_observer time (finding shown)) watcher (was.part) } ≡ record was { part = change_intersection_observer (settled_if_rooted shown tree document time) watcher (was.part) }

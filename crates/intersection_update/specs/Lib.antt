@@ -1,2 +1,3 @@
 pub mod Watching
 pub mod Updating
+pub mod Keeping

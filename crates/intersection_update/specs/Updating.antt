@@ -1,15 +1,17 @@
 -- What an update of a document's intersection observers comes to (Intersection Observer, 3.2.10: run the update intersection
 -- observations steps).
-use Rattle.std.specs.Prelude.{◌≡◌, ℕ, Bool, cond, length, take, slice_get, Option, Some, None}
+use Rattle.std.specs.Prelude.{◌≡◌, ℕ, ◌+◌, ◌==◌, Bool, cond, length, take, slice_get, count_by, Some}
 use Rattle.std.specs.List.{list_any}
-use Rattle.page_model.specs.World.{Registration, IntersectionObserver, IntersectionObservers, Tree}
+use Rattle.page_model.specs.World.{Finding, Entry, Registration, IntersectionObserver, IntersectionObservers, Tree}
 use Rattle.page_model.specs.Shown.{Shown}
 use Rattle.page_model.specs.Lookups.{intersection_observer_at}
 use Rattle.page_model.specs.Findings.{finding}
-use Rattle.page_model.specs.Intersections.{is_rooted_in, watchers, settled_observer, settling, has_queued}
-use Rattle.intersection_observer.specs.Serials.{registrations_at}
-use Rattle.intersection_observer.specs.Settling.{with_settled, each_settled}
+use Rattle.page_model.specs.Intersections.{is_rooted_in, watchers, is_news, settled_observer, settling, has_queued}
+use Rattle.intersection_observer.specs.Places.{standing_of}
+use Rattle.intersection_observer.specs.Serials.{HasSerials, registrations_at}
+use Rattle.intersection_observer.specs.Settling.{each_settled}
 use Rattle.intersection_observer.specs.Watchers.{HeldWatchers}
+use Rattle.candidate_index.specs.Registrations.{serials_at}
 use Rattle.intersection_update.specs.Watching.{AreWatchers}
 
 -- the observers whose roots are a document's, settled by what is found in a world
@@ -20,10 +22,25 @@ updated shown tree document time it = settling time (finding shown) (watchers tr
 abbrev pub has_news : Tree → ℕ → IntersectionObservers → IntersectionObservers → Bool
 has_news tree document before now = list_any (has_queued before now) (watchers tree document before)
 
+-- observers that find the same
+pub record AreAlike (a b : IntersectionObserver) : Type 0 where
+  pub root : b.root ≡ a.root
+  pub margins : b.margins ≡ a.margins
+  pub thresholds : b.thresholds ≡ a.thresholds
+
+-- each registration stands where it stood, in the order that there was, at an observer that finds the same, and no serial number is
+-- there twice if none was
+pub record Carried (before after : IntersectionObservers) : Type 0 where
+  pub standing : (serial : ℕ) → standing_of serial after ≡ standing_of serial before
+  pub alike : (watcher : ℕ) → AreAlike (intersection_observer_at before watcher) (intersection_observer_at after watcher)
+  pub listed : (watcher : ℕ) → serials_at after watcher ≡ serials_at before watcher
+  pub serials : HasSerials before → HasSerials after
+  pub count : length after.made ≡ length before.made
+
 -- what every change of an update leaves as it is
 pub record AreKept (elements : ℕ) (before now : HeldWatchers) : Type 0 where
   pub rest : record before { part = now.part } ≡ now
-  pub count : length now.part.made ≡ length before.part.made
+  pub carried : Carried before.part now.part
   pub given : now.part.given ≡ before.part.given
   pub written : AreWatchers elements before.part.made → AreWatchers elements now.part.made
 
@@ -48,18 +65,16 @@ pub record IsStopped (shown : Shown) (tree : Tree) (document time : ℕ) (before
   pub place : ℕ
   pub settled : now ≡ first_settled shown time number place (first_updated shown tree document time number before)
 
--- one registration of an observer settled, none where there is no such registration
-abbrev pub settled_one : Shown → ℕ → ℕ → Option Registration → IntersectionObservers → IntersectionObservers
-settled_one shown time watcher None it = it
-settled_one shown time watcher (Some registration) it =
-    with_settled (registration.serial) time (finding shown (intersection_observer_at it watcher) (registration.target)) it
-
--- the registration at a place of an observer's settled
-abbrev pub settled_place : Shown → ℕ → ℕ → ℕ → HeldWatchers → HeldWatchers
-settled_place shown time watcher place it =
-    record it { part = settled_one shown time watcher (slice_get (registrations_at (it.part) watcher) place) (it.part) }
-
 -- an observer settled if its root is a document's
 abbrev pub settled_if_rooted : Shown → Tree → ℕ → ℕ → IntersectionObserver → IntersectionObserver
 settled_if_rooted shown tree document time observer =
     cond (is_rooted_in tree document (observer.root)) (settled_observer time (finding shown) observer) observer
+
+-- whether an entry is of a target
+abbrev pub is_of : ℕ → Entry → Bool
+is_of target entry = target == entry.target
+
+-- the registration at a place holds what is found of its target, and there is one entry more of that exactly where it is news
+pub record IsSettledBy (found : Finding) (registration : Registration) (place : ℕ) (before now : IntersectionObserver) : Type 0 where
+  pub stored : slice_get now.registrations place ≡ Some (record registration { previous_index = Some (found.index); met = found.meets })
+  pub entries : count_by (is_of registration.target) now.queue ≡ count_by (is_of registration.target) before.queue + cond (is_news registration found) 1 0

@@ -2,8 +2,10 @@
 //! the update intersection observations steps). All lengths are in units of 1/64 CSS pixel, times in milliseconds.
 #![tactic(auto)]
 
+mod laws;
 mod rooted;
 mod settling;
 
+pub use laws::an_update_settles_each_registration_once;
 pub use rooted::watchers_of;
 pub use settling::update;

@@ -1,101 +1,78 @@
-//! What is found, settled registration by registration.
+//! What is stale, found anew and settled.
 
-ghost use Rattle.std.specs.Prelude.{◌≡◌, ◌<◌, ◌≤◌, length, IfOk, OnOk, OnErr};
+ghost use Rattle.std.specs.Prelude.{◌≡◌, ◌<◌, length, IfOk, OnOk, OnErr};
 ghost use Rattle.page_model.specs.Lookups.{change_intersection_observer};
 ghost use Rattle.page_model.specs.Findings.{finding};
 ghost use Rattle.page_model.specs.Intersections.{settled_observer, has_queued};
-ghost use Rattle.intersection_observer.specs.Watchers.{watcher_at};
+ghost use Rattle.kept_findings.specs.Registered.{AreRegistered};
+ghost use Rattle.kept_findings.specs.Rooms.{HaveRoom};
 ghost use Rattle.intersection_update.specs.Watching.{AreWatchers};
-ghost use Rattle.intersection_update.specs.Updating.{updated, has_news, AreKept, IsBegun, IsStopped, settled_place, settled_if_rooted};
+ghost use Rattle.intersection_update.specs.Updating.{updated, has_news, AreKept, IsBegun, IsStopped};
+ghost use Rattle.intersection_update.specs.Keeping.{HaveLooked};
 
 use crate::rooted::is_looked_at;
-use intersection_observer::{Settled, WatcherId, Watchers};
-use page_geometry::{Shown, find};
+use intersection_observer::{WatcherId, Watchers};
+use kept_findings::{KeptFindings, Looks};
+use page_geometry::Shown;
 use std::alloc::AllocError;
+use std::sync::ledger::Ledger;
+use step_count::Steps;
 
-// Settles the registration at a place of an observer's by what is found of its target, and tells whether an entry was queued.
-fn settle_at(
+// Settles the registrations of an observer that are stale, and tells whether an entry was queued.
+fn settle_stale<L: Ledger>(
     shown: &Shown<'_>,
     watchers: &mut Watchers,
-    watcher: WatcherId,
-    place: usize,
-    time: u64,
-) -> Result<bool, AllocError>
-    requires watcher { watcher.0 < length watchers.old.part.made }
-    requires place { place < length (watcher_at watchers.old watcher.0).registrations }
-    ensures settled { OnOk result (watchers.new ≡ settled_place shown.now time watcher.0 place watchers.old) }
-    ensures same { OnErr result (watchers.new ≡ watchers.old) }
-    ensures queued { IfOk result (λ queued. queued ≡ has_queued watchers.old.part watchers.new.part watcher.0) }
-    ensures longer { length (watcher_at watchers.old watcher.0).queue ≤ length (watcher_at watchers.new watcher.0).queue }
-    ensures registrations { length (watcher_at watchers.new watcher.0).registrations ≡ length (watcher_at watchers.old watcher.0).registrations }
-    ensures kept { AreKept (length shown.now.tree.elements) watchers.old watchers.new }
-{
-    let registration = watchers.registrations(watcher)[place];
-    let target = watchers.target_of(registration);
-    let found = find(shown, watchers, watcher, target);
-    match watchers.settle(registration, time, found)? {
-        Settled::Queued => Ok(true),
-        Settled::Kept => Ok(false),
-    }
-}
-
-// Settles the registrations of an observer, and tells whether an entry was queued.
-fn settle_watcher(
-    shown: &Shown<'_>,
-    watchers: &mut Watchers,
+    findings: &mut KeptFindings,
+    looks: &mut Looks,
     watcher: WatcherId,
     time: u64,
+    steps: &mut Steps<L>,
 ) -> Result<bool, AllocError>
     requires watcher { watcher.0 < length watchers.old.part.made }
+    requires registered { AreRegistered watchers.old.part findings.old }
+    requires room { HaveRoom (length shown.now.tree.elements) (length shown.now.tree.documents) findings.old }
+    requires known { HaveLooked shown.now findings.old.seen looks.old }
     ensures settled { OnOk result (watchers.new ≡ record watchers.old { part = change_intersection_observer (settled_observer time (finding shown.now)) watcher.0 (watchers.old.part) }) }
     ensures stopped { OnErr result (IsBegun shown.now time watcher.0 watchers.old.part watchers.new.part) }
     ensures queued { IfOk result (λ queued. queued ≡ has_queued watchers.old.part watchers.new.part watcher.0) }
     ensures kept { AreKept (length shown.now.tree.elements) watchers.old watchers.new }
+    ensures registered { AreRegistered watchers.new.part findings.new }
+    ensures room { HaveRoom (length shown.now.tree.elements) (length shown.now.tree.documents) findings.new }
+    ensures known { HaveLooked shown.now findings.new.seen looks.new }
 {
+    // It tells that chains lead to roots.
+    shown.document_count();
+    // It tells that each registration has a serial number of its own.
+    watchers.registrations(watcher);
+    findings.look(shown, looks, watchers, watcher);
+    let stale = findings.stale_registrations(shown, looks, watchers, watcher, steps)?;
     let mut queued = false;
-    for place in 0..watchers.registrations(watcher).len() {
-        let is_queued = settle_at(shown, watchers, watcher, place, time)?;
-        queued = queued || is_queued;
+    for registration in &stale {
+        queued |= findings.settle(shown, looks, watchers, watcher, *registration, time, steps)?;
     }
     Ok(queued)
-}
-
-// Settles an observer if its root is the document or stands in its tree, and tells whether an entry was queued.
-fn settle_if_rooted(
-    shown: &Shown<'_>,
-    watchers: &mut Watchers,
-    watcher: WatcherId,
-    document: u32,
-    time: u64,
-) -> Result<bool, AllocError>
-    requires watcher { watcher.0 < length watchers.old.part.made }
-    ensures settled { OnOk result (watchers.new ≡ record watchers.old { part = change_intersection_observer (settled_if_rooted shown.now shown.now.tree document time) watcher.0 (watchers.old.part) }) }
-    ensures stopped { OnErr result (IsBegun shown.now time watcher.0 watchers.old.part watchers.new.part) }
-    ensures queued { IfOk result (λ queued. queued ≡ has_queued watchers.old.part watchers.new.part watcher.0) }
-    ensures kept { AreKept (length shown.now.tree.elements) watchers.old watchers.new }
-{
-    if is_looked_at(shown.page(), watchers, watcher, document) {
-        settle_watcher(shown, watchers, watcher, time)
-    } else {
-        Ok(false)
-    }
 }
 
 /// Settles what is found of each registration of the observers whose root is a document or stands in its tree, at a time in
 /// milliseconds, and tells whether an entry was queued at one of them, so that the document's notify task is due (Intersection
 /// Observer, 3.2.10: run the update intersection observations steps).
 ///
-/// Only entries take memory.
+/// Only the stale registrations are computed: the spots on the chains of all of them are looked at, and what is found of the others is
+/// no news.
 ///
 /// # Errors
 ///
-/// Where there is no memory for an entry: the registrations before it are settled then, and nothing else is changed.
-pub fn update(
+/// Where there is no memory for an entry or a list: the registrations before it are settled then, and nothing else is changed.
+pub fn update<L: Ledger>(
     shown: &Shown<'_>,
     watchers: &mut Watchers,
+    findings: &mut KeptFindings,
     document: u32,
     time: u64,
+    steps: &mut Steps<L>,
 ) -> Result<bool, AllocError>
+    requires registered { AreRegistered watchers.old.part findings.old }
+    requires room { HaveRoom (length shown.now.tree.elements) (length shown.now.tree.documents) findings.old }
     ensures updated { OnOk result (watchers.new ≡ record watchers.old { part = updated shown.now shown.now.tree document time (watchers.old.part) }) }
     ensures stopped { OnErr result (IsStopped shown.now shown.now.tree document time watchers.old.part watchers.new.part) }
     ensures queued { IfOk result (λ queued. queued ≡ has_news shown.now.tree document watchers.old.part (updated shown.now shown.now.tree document time watchers.old.part)) }
@@ -103,11 +80,16 @@ pub fn update(
     ensures limits { watchers.new ≡ record watchers.old { part = watchers.new.part } }
     ensures count { length watchers.new.part.made ≡ length watchers.old.part.made }
     ensures given { watchers.new.part.given ≡ watchers.old.part.given }
+    ensures registered { AreRegistered watchers.new.part findings.new }
+    ensures room { HaveRoom (length shown.now.tree.elements) (length shown.now.tree.documents) findings.new }
 {
+    let mut looks = findings.looks()?;
     let mut queued = false;
     for number in 0..watchers.count() {
-        let is_queued = settle_if_rooted(shown, watchers, WatcherId(number), document, time)?;
-        queued = queued || is_queued;
+        let watcher = WatcherId(number);
+        if is_looked_at(shown.page(), watchers, watcher, document) {
+            queued |= settle_stale(shown, watchers, findings, &mut looks, watcher, time, steps)?;
+        }
     }
     Ok(queued)
 }

@@ -1,12 +1,18 @@
 use Rattle.std.proofs.Common.{◌≡◌, length}
+use Rattle.kept_findings.specs.Registered.{AreRegistered}
+use Rattle.kept_findings.specs.Rooms.{HaveRoom}
 use Rattle.intersection_update.specs.Updating.{AreKept}
+use Rattle.intersection_update.specs.Keeping.{HaveLooked}
 use Rattle.intersection_update.proofs.Updates.{first_observers, first_told}
 use Rattle.intersection_update.proofs.settling.update.Given as goal
 
 abbrev pub invariant-loop-number : goal.invariant-loop-number
-invariant-loop-number l = record {
+invariant-loop-number g l = record {
   settled : l.watchers.part.made ≡ first_observers l.shown l.shown.tree l.document l.time l.fn.watchers l.number;
   queued : l.queued ≡ first_told l.shown l.shown.tree l.document l.time l.fn.watchers l.number;
   kept : AreKept (length l.shown.tree.elements) l.fn.watchers l.watchers;
+  registered : AreRegistered l.watchers.part l.findings;
+  room : HaveRoom (length l.shown.tree.elements) (length l.shown.tree.documents) l.findings;
+  known : HaveLooked l.shown l.findings.seen l.looks;
   end : l.number-end ≡ length l.fn.watchers.part.made;
 }

@@ -1,0 +1,162 @@
+use Rattle.std.proofs.Common.{◌≡◌, ◌∙◌, ◌<◌, ◌≤◌, ◌||◌, length, get_or, refl, ap, sym, subst, arith}
+use Rattle.std.specs.List.{All}
+use Rattle.page_model.specs.World.{IntersectionObservers}
+use Rattle.clip_chain.specs.Worlds.{scene_of}
+use Rattle.intersection_observer.specs.declared.registration.RegistrationId.{RegistrationId}
+use Rattle.intersection_observer.specs.Watchers.{HeldWatchers, watcher_at}
+use Rattle.intersection_observer.specs.Settling.{with_settled}
+use Rattle.kept_clips.specs.Scenes.{AgreesAt}
+use Rattle.kept_clips.specs.Seen.{Seen, scene_seen}
+use Rattle.candidate_index.specs.Registrations.{serials_at, target_of}
+use Rattle.kept_findings.specs.Held.{HeldFindings}
+use Rattle.kept_findings.specs.Walks.{IsWalked, found_in}
+use Rattle.kept_findings.proofs.Rooms.{room_looked, room_same}
+use Rattle.page_geometry.specs.Scenes.{standings_of, telling_of}
+use Rattle.page_geometry.proofs.Scenes.{chained_of}
+use Rattle.intersection_update.proofs.Carried.{carried_same, along_still}
+use Rattle.intersection_update.proofs.Room.{may_be_walked}
+use Rattle.intersection_update.proofs.Keeping.{at_standing}
+use Rattle.intersection_update.proofs.Settled.{kept_same, kept_then, kept_once, longer_once, queued_is}
+use Rattle.intersection_update.proofs.Stale.{numbers_are, as_many, next_of, stands, next_settled, stale_settled, stopped_at}
+use Rattle.intersection_update.proofs.Updates.{either_queued, not_queued, on_err}
+use Rattle.intersection_update.proofs.settling.settle_stale.Goals as goal
+
+pub look-requires-clause-chained : goal.look-requires-clause-chained
+look-requires-clause-chained g c = chained_of c.args.shown.now c.document_count.ensures.page
+
+pub look-requires-clause-room : goal.look-requires-clause-room
+look-requires-clause-room g c = λ k none below. may_be_walked c.args.shown.now c.document_count.ensures.page c.args.watchers.now.part c.args.findings.now c.requires.room (get_or (serials_at c.args.watchers.now.part c.args.watcher.0) k none)
+
+pub stale_registrations-requires-clause-chained : goal.stale_registrations-requires-clause-chained
+stale_registrations-requires-clause-chained g c = chained_of c.args.shown.now c.document_count.ensures.page
+
+pub returns-in_err-stale-clause-room : goal.returns-in_err-stale-clause-room
+returns-in_err-stale-clause-room g c =
+    let elements = length c.args.shown.now.tree.elements in
+    let documents = length c.args.shown.now.tree.documents in
+    room_same elements documents c.look.new.self c.stale_registrations.new.self c.stale_registrations.ensures.seen c.stale_registrations.ensures.touches
+    (room_looked elements documents (scene_of c.args.shown.now) c.args.findings.now c.look.new.self c.look.ensures.looked c.requires.room)
+
+pub loop-registration-init : goal.loop-registration-init
+loop-registration-init g c =
+    let elements = length c.args.shown.now.tree.elements in
+    let documents = length c.args.shown.now.tree.documents in
+    let was : HeldWatchers = c.args.watchers.now in
+    record {
+      settled = λ chained. refl;
+      queued = sym (not_queued (length (watcher_at was c.args.watcher.0).queue));
+      longer = omega arith;
+      kept = kept_same elements was was refl;
+      registered = c.stale_registrations.ensures.registered (c.look.ensures.registered c.requires.registered);
+      room = room_same elements documents c.look.new.self c.stale_registrations.new.self c.stale_registrations.ensures.seen c.stale_registrations.ensures.touches
+          (room_looked elements documents (scene_of c.args.shown.now) c.args.findings.now c.look.new.self c.look.ensures.looked c.requires.room);
+      known = c.stale_registrations.ensures.known;
+      walked = subst (λ (seen : Seen). All (IsWalked (scene_of c.args.shown.now) (standings_of c.args.shown.now) was.part seen) (serials_at was.part c.args.watcher.0)) (sym c.stale_registrations.ensures.seen) c.look.ensures.walked;
+    }
+
+pub settle-requires-clause-stands : goal.settle-requires-clause-stands
+settle-requires-clause-stands g c =
+    let shown = c.args.shown.now in
+    let page = c.document_count.ensures.page in
+    let chained = chained_of shown page in
+    let was = c.args.watchers.now.part in
+    let names = c.deref-registration-items.result.now in
+    let k = c.loop-registration.registration-index in
+    let none : RegistrationId = record { 0 = 0 } in
+    let same = numbers_are shown chained c.args.time c.args.watcher.0 was c.args.findings.now names c.in_ok-stale.stale.items c.look.new.self c.deref-registration-items.ensures.value c.look.ensures.kept c.in_ok-stale.ensures.stale in
+    let below : k < length names = omega arith in
+    stands shown chained c.args.time c.args.watcher.0 was c.args.findings.now page c.registrations.ensures.serials k (get_or names k none).0 c.loop-registration.watchers.part
+    (next_of shown chained c.args.time c.args.watcher.0 was c.args.findings.now page c.registrations.ensures.serials names none k same below) c.loop-registration.invariant.kept.carried
+
+pub settle-requires-clause-chained : goal.settle-requires-clause-chained
+settle-requires-clause-chained g c = chained_of c.args.shown.now c.document_count.ensures.page
+
+pub settle-requires-clause-walked : goal.settle-requires-clause-walked
+settle-requires-clause-walked g c =
+    let shown = c.args.shown.now in
+    let page = c.document_count.ensures.page in
+    let chained = chained_of shown page in
+    let was = c.args.watchers.now.part in
+    let names = c.deref-registration-items.result.now in
+    let k = c.loop-registration.registration-index in
+    let none : RegistrationId = record { 0 = 0 } in
+    let same = numbers_are shown chained c.args.time c.args.watcher.0 was c.args.findings.now names c.in_ok-stale.stale.items c.look.new.self c.deref-registration-items.ensures.value c.look.ensures.kept c.in_ok-stale.ensures.stale in
+    let below : k < length names = omega arith in
+    let serial = (get_or names k none).0 in
+    let seen = c.loop-registration.findings.seen in
+    along_still was c.loop-registration.watchers.part c.loop-registration.invariant.kept.carried serial (scene_of shown) (standings_of shown) (AgreesAt (scene_seen seen) (scene_of shown))
+    (at_standing (IsWalked (scene_of shown) (standings_of shown) was seen) was c.args.watcher.0 serial
+    (stands shown chained c.args.time c.args.watcher.0 was c.args.findings.now page c.registrations.ensures.serials k serial was
+    (next_of shown chained c.args.time c.args.watcher.0 was c.args.findings.now page c.registrations.ensures.serials names none k same below) (carried_same was))
+    c.loop-registration.invariant.walked)
+
+pub returns-in_err-queued-clause-stopped : goal.returns-in_err-queued-clause-stopped
+returns-in_err-queued-clause-stopped g c =
+    let shown = c.args.shown.now in
+    let page = c.document_count.ensures.page in
+    let chained = chained_of shown page in
+    let was = c.args.watchers.now.part in
+    let names = c.deref-registration-items.result.now in
+    let k = c.loop-registration.registration-index in
+    let same = numbers_are shown chained c.args.time c.args.watcher.0 was c.args.findings.now names c.in_ok-stale.stale.items c.look.new.self c.deref-registration-items.ensures.value c.look.ensures.kept c.in_ok-stale.ensures.stale in
+    let below : k < length names = omega arith in
+    on_err c.from_residual-in_err-queued.result
+    (stopped_at shown chained c.args.time c.args.watcher.0 was c.args.findings.now page c.registrations.ensures.serials c.requires.registered k c.settle.new.watchers.part
+    (subst (λ n. k < n) (sym (as_many shown chained c.args.time c.args.watcher.0 was c.args.findings.now names same)) below)
+    (ap (λ (it : HeldWatchers). it.part) c.in_err-queued.ensures.same ∙ c.loop-registration.invariant.settled chained))
+
+pub loop-registration-preserved : goal.loop-registration-preserved
+loop-registration-preserved g c =
+    let shown = c.args.shown.now in
+    let page = c.document_count.ensures.page in
+    let was : HeldWatchers = c.args.watchers.now in
+    let now : HeldWatchers = c.loop-registration.watchers in
+    let next : HeldWatchers = c.settle.new.watchers in
+    let watcher = c.args.watcher.0 in
+    let names = c.deref-registration-items.result.now in
+    let k = c.loop-registration.registration-index in
+    let none : RegistrationId = record { 0 = 0 } in
+    let serial = (get_or names k none).0 in
+    let so_far = c.loop-registration.invariant in
+    let below : k < length names = omega arith in
+    let chained = chained_of shown page in
+    let same = numbers_are shown chained c.args.time watcher was.part c.args.findings.now names c.in_ok-stale.stale.items c.look.new.self c.deref-registration-items.ensures.value c.look.ensures.kept c.in_ok-stale.ensures.stale in
+    let at = next_of shown chained c.args.time watcher was.part c.args.findings.now page c.registrations.ensures.serials names none k same below in
+    let found = found_in (scene_of shown) (standings_of shown) chained (telling_of shown) (watcher_at now watcher) (target_of now.part serial) in
+    let settled : next ≡ record now { part = with_settled serial c.args.time found (now.part) } = c.in_ok-queued.ensures.settled chained in
+    let there = stands shown chained c.args.time watcher was.part c.args.findings.now page c.registrations.ensures.serials k serial now.part at so_far.kept.carried in
+    let made : watcher < length now.part.made = omega (arith, so_far.kept.carried.count, c.requires.watcher) in
+    let longer = longer_once now next serial c.args.time watcher found settled in
+    let queued = c.in_ok-queued.ensures.queued chained ∙ queued_is now next serial c.args.time watcher (target_of now.part serial) found there made settled in
+    record {
+      settled = λ any.
+          let listed = numbers_are shown any c.args.time watcher was.part c.args.findings.now names c.in_ok-stale.stale.items c.look.new.self c.deref-registration-items.ensures.value c.look.ensures.kept c.in_ok-stale.ensures.stale in
+          next_settled shown any c.args.time watcher was.part c.args.findings.now page c.registrations.ensures.serials k serial now.part next.part
+          (next_of shown any c.args.time watcher was.part c.args.findings.now page c.registrations.ensures.serials names none k listed below) (so_far.settled any)
+          (ap (λ (it : HeldWatchers). it.part) (c.in_ok-queued.ensures.settled any));
+      queued = either_queued c.loop-registration.queued c.in_ok-queued.field-0 (length (watcher_at was watcher).queue) (length (watcher_at now watcher).queue) (length (watcher_at next watcher).queue)
+          so_far.queued queued so_far.longer longer;
+      longer = omega (arith, so_far.longer, longer);
+      kept = kept_then (length shown.tree.elements) was now next so_far.kept (kept_once (length shown.tree.elements) now next serial c.args.time found (c.settle.ensures.reach chained) settled);
+      registered = c.settle.ensures.registered;
+      room = room_same (length shown.tree.elements) (length shown.tree.documents) c.loop-registration.findings c.settle.new.self c.settle.ensures.seen c.settle.ensures.touches so_far.room;
+      known = c.settle.ensures.known;
+      walked = subst (λ (seen : Seen). All (IsWalked (scene_of shown) (standings_of shown) was.part seen) (serials_at was.part watcher)) (sym c.settle.ensures.seen) so_far.walked;
+    }
+
+pub returns-clause-settled : goal.returns-clause-settled
+returns-clause-settled g c =
+    let shown = c.args.shown.now in
+    let page = c.document_count.ensures.page in
+    let chained = chained_of shown page in
+    let was : HeldWatchers = c.args.watchers.now in
+    let watcher = c.args.watcher.0 in
+    let names = c.deref-registration-items.result.now in
+    let k = c.loop-registration.registration-index in
+    let same = numbers_are shown chained c.args.time watcher was.part c.args.findings.now names c.in_ok-stale.stale.items c.look.new.self c.deref-registration-items.ensures.value c.look.ensures.kept c.in_ok-stale.ensures.stale in
+    let past : length names ≤ k = omega arith in
+    sym c.loop-registration.invariant.kept.rest
+    ∙ ap (λ (part : IntersectionObservers). record was { part = part })
+    (c.loop-registration.invariant.settled chained
+    ∙ stale_settled shown chained c.args.time watcher was.part c.args.findings.now page c.registrations.ensures.serials c.requires.registered k
+    (subst (λ n. n ≤ k) (sym (as_many shown chained c.args.time watcher was.part c.args.findings.now names same)) past))

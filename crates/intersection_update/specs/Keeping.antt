@@ -1,0 +1,69 @@
+-- What an update does to what is kept of registrations: which are looked at, which of them are stale, and what it leaves of the rest.
+use Rattle.std.specs.Prelude.{◌≡◌, ◌⊎◌, ℕ, Bool, true, false, slice_get, Option, Some, None}
+use Rattle.std.specs.Ordering.{nat_cmp}
+use Rattle.std.specs.FinMap.{FinMap}
+use Rattle.page_model.specs.Shown.{Shown}
+use Rattle.page_model.specs.World.{Tree, IntersectionObservers}
+use Rattle.page_model.specs.Intersections.{is_rooted_in}
+use Rattle.clip_chain.specs.declared.spot.Spot.{Spot}
+use Rattle.clip_chain.specs.Worlds.{scene_of}
+use Rattle.intersection_observer.specs.Places.{standing_of, IsStanding}
+use Rattle.kept_clips.specs.Seen.{Seen, sighting_of, sighting_in}
+use Rattle.candidate_index.specs.declared.index.Kept.{Kept}
+use Rattle.candidate_index.specs.Registrations.{observer_of, target_of, serials_at}
+use Rattle.candidate_index.specs.Held.{kept_of, is_stale_now}
+use Rattle.kept_findings.specs.Walks.{AreChained, AlongChain, IsNot, spots_between}
+use Rattle.kept_findings.specs.Looks.{LookedAt, AreLooked}
+use Rattle.page_geometry.specs.Ranks.{rank_of}
+use Rattle.page_geometry.specs.Scenes.{standings_of}
+use Rattle.intersection_update.specs.Updating.{IsBegun, IsStopped}
+
+-- a chain leads from each target that is chained to its root
+abbrev pub HaveChains : Shown → Type 0
+HaveChains shown = AreChained (scene_of shown) (standings_of shown)
+
+-- whether a registration is stale by what is shown
+abbrev pub is_stale_in : (shown : Shown) → HaveChains shown → IntersectionObservers → FinMap nat_cmp (Option Kept) → ℕ → Bool
+is_stale_in shown chained it kept serial =
+    is_stale_now (scene_of shown) (standings_of shown) it (spots_between (scene_of shown) (standings_of shown) chained it) kept serial
+
+-- a registration stands at this observer
+abbrev pub StandsAt : IntersectionObservers → ℕ → ℕ → Type 0
+StandsAt it watcher serial = standing_of serial it ≡ Some (record { watcher = watcher; target = target_of it serial })
+
+-- a registration stands at an observer that is looked at with a document
+pub record IsLookedAt (tree : Tree) (document : ℕ) (it : IntersectionObservers) (serial : ℕ) : Type 0 where
+  pub standing : IsStanding serial it
+  pub rooted : is_rooted_in tree document (observer_of it serial).root ≡ true
+
+-- each spot on its chain was seen last as it is shown
+abbrev pub IsSeen : Shown → IntersectionObservers → Seen → ℕ → Type 0
+IsSeen shown it seen serial = AlongChain (λ spot. sighting_of seen spot ≡ Some (sighting_in (scene_of shown) spot)) (scene_of shown) (standings_of shown) it serial
+
+-- a spot isn't on its chain
+abbrev pub IsOff : Shown → IntersectionObservers → Spot → ℕ → Type 0
+IsOff shown it spot serial = AlongChain (IsNot spot) (scene_of shown) (standings_of shown) it serial
+
+-- it was refused memory, and counts as never computed
+pub record IsExpired (it : IntersectionObservers) (watcher place : ℕ) (kept : FinMap nat_cmp (Option Kept)) (serial : ℕ) : Type 0 where
+  pub at : slice_get (serials_at it watcher) place ≡ Some serial
+  pub none : kept_of kept serial ≡ None
+
+-- each registration is kept as it was, or isn't stale any more, or it is that of this place and was refused memory
+abbrev pub AreKeptTo : (shown : Shown) → HaveChains shown → IntersectionObservers → (watcher place : ℕ) → (was kept : FinMap nat_cmp (Option Kept)) → Type 0
+AreKeptTo shown chained it watcher place was kept =
+    (serial : ℕ) → (kept_of kept serial ≡ kept_of was serial) ⊎ ((is_stale_in shown chained it kept serial ≡ false) ⊎ IsExpired it watcher place kept serial)
+
+-- an observer that was refused memory at a registration, or for the list of those that are stale
+pub record IsRefusedAt (shown : Shown) (chained : HaveChains shown) (time watcher : ℕ) (before now : IntersectionObservers) (was kept : FinMap nat_cmp (Option Kept)) : Type 0 where
+  pub begun : IsBegun shown time watcher before now
+  pub rest : AreKeptTo shown chained before watcher begun.place was kept
+
+-- an update that was
+pub record IsRefused (shown : Shown) (chained : HaveChains shown) (document time : ℕ) (before now : IntersectionObservers) (was kept : FinMap nat_cmp (Option Kept)) : Type 0 where
+  pub stopped : IsStopped shown shown.tree document time before now
+  pub rest : AreKeptTo shown chained before stopped.number stopped.place was kept
+
+-- a spot that was looked at was seen last as it is shown
+abbrev pub HaveLooked : Shown → Seen → LookedAt → Type 0
+HaveLooked shown seen looks = AreLooked (scene_of shown) (rank_of (shown.tree) (shown.screen)) seen looks
