@@ -1,8 +1,8 @@
 //! The observers of a page.
 
-ghost use Rattle.std.specs.Prelude.{◌≡◌, ◌<◌, ◌≤◌, ◌+◌, ◌-◌, All, ◌^◌, false, [], length, map, not, option_map, Ok, IfOk, OnOk, OnErr, IfSome, Some};
+ghost use Rattle.std.specs.Prelude.{◌≡◌, ◌<◌, ◌≤◌, ◌+◌, ◌-◌, All, ◌^◌, false, true, [], length, map, not, option_map, Ok, Err, IfOk, OnOk, OnErr, IfSome, Some, None};
 ghost use Rattle.page_model.specs.World.{Registration};
-ghost use Rattle.page_model.specs.IntersectionObserving.{with_intersection_observer, without_registration, without_registrations, without_queue};
+ghost use Rattle.page_model.specs.IntersectionObserving.{is_registered, with_intersection_observer, without_registration, without_registrations, without_queue};
 ghost use Rattle.intersection_observer.specs.Seen.{seen_root, seen_finding, serial_numbers};
 ghost use Rattle.intersection_observer.specs.Places.{Standing, standing_of, IsStanding};
 ghost use Rattle.intersection_observer.specs.Serials.{HasSerials};
@@ -11,6 +11,7 @@ ghost use Rattle.intersection_observer.specs.Watchers.{watcher_at, has_room, obs
 ghost use Rattle.intersection_observer.specs.Answers.{Enters, Registers, Settles};
 ghost use Rattle.intersection_observer.specs.Held.{seen_place};
 ghost use Rattle.intersection_observer.specs.declared.registration.Settled.TheVariants.{Kept};
+ghost use Rattle.intersection_observer.specs.declared.watchers.WatchFault.TheVariants.{Memory};
 
 use crate::registration::Place;
 use crate::watcher::Watcher;
@@ -133,6 +134,29 @@ impl Watchers {
         self.places.len() < self.most_registrations as usize
     }
 
+    /// The registration that `observe` makes for a target where there is memory, which has the next serial number. `None` exactly
+    /// where the target is there, so that none is made.
+    ///
+    /// `Limit` exactly where the target isn't there and `most_registrations` are held. No memory.
+    pub fn next_registration(
+        &self,
+        watcher: WatcherId,
+        target: NodeId,
+    ) -> Result<Option<RegistrationId>, WatchFault>
+        requires { watcher.0 < length self.now.part.made }
+        ensures answer { Registers result (observes watcher.0 target.0 self.now) (may_register self.now) self.now.part.given }
+        ensures memory { ¬ result ≡ Err Memory }
+        ensures serials { HasSerials self.now.part }
+    {
+        if self.made[watcher.0 as usize].observes(target) {
+            return Ok(None);
+        }
+        if !self.has_space() {
+            return Err(WatchFault::Limit);
+        }
+        Ok(Some(RegistrationId(self.given)))
+    }
+
     /// Observes a target (Intersection Observer, 2.2: `observe`): a new registration with the next serial number goes to the
     /// end of the observer's registrations. It has no previous index, so that its first update queues an entry. `None`, and
     /// nothing changes, exactly where the target is there.
@@ -185,6 +209,15 @@ impl Watchers {
         let registration = self.made[watcher.0 as usize].unobserve(target)?;
         self.places.swap_remove(&registration.0);
         Some(registration)
+    }
+
+    /// The target that was observed last of those that an observer observes; `None` exactly where it observes none.
+    pub fn last_target(&self, watcher: WatcherId) -> Option<NodeId>
+        requires { watcher.0 < length self.now.part.made }
+        ensures some { IfSome result (λ target. is_registered target.0 (watcher_at self.now watcher.0).registrations ≡ true) }
+        ensures none { result ≡ None → (watcher_at self.now watcher.0).registrations ≡ [] }
+    {
+        self.made[watcher.0 as usize].last_target()
     }
 
     /// Takes all of an observer's registrations out (Intersection Observer, 2.2: `disconnect`). The queue stays.
