@@ -68,9 +68,9 @@ fn refuse<K: Sink>(alloc: Global, line: u32, fault: PageFault, sink: &mut K) -> 
 /// size differs from its last reported one (Resize Observer, 3.4).
 ///
 /// # Errors
-/// - `Limit` exactly where a limit is met, with every line up to its own written.
-/// - `WriteFault` only where the sink's count of faults rose in this call, and `Memory` for want of memory; a first part of the
-///   lines was written.
+/// - `Limit` only where a limit is met, where it never answers Ok; every line before the limit's own was written.
+/// - `Memory`, and `WriteFault` only where the sink's count of faults rose in this call; either may come before a limit. A first
+///   part of the lines was written.
 pub fn tick<K: Sink, L: Ledger>(
     alloc: Global,
     page: &mut Page,

@@ -28,8 +28,9 @@ use trace_runs::{Flow, RunFault, write_throw};
 /// `Thrown` where it threw, which was written.
 ///
 /// # Errors
-/// - `Limit` exactly where a limit is met; all but the limit's own line was written.
-/// - `Memory`, and `WriteFault` only where the sink's count of faults rose in this call: a first part was written.
+/// - `Limit` only where a limit is met, where it never answers Ok; all but the limit's own line was written.
+/// - `Memory`, and `WriteFault` only where the sink's count of faults rose in this call; either may come before a limit. A first
+///   part was written.
 #[cycle(blocks)]
 pub fn run_command<K: Sink, L: Ledger>(
     alloc: Global,
