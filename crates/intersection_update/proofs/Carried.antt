@@ -3,7 +3,6 @@ use Rattle.std.proofs.Common.{◌≡◌, ◌∙◌, ℕ, List, [], ◌∷◌, le
 use Rattle.std.specs.FinMap.{FinMap}
 use Rattle.std.specs.Ordering.{nat_cmp}
 use Rattle.script_model.specs.Margins.{Margins}
-use Rattle.page_model.specs.Shown.{Shown}
 use Rattle.page_model.specs.World.{Root, Finding, Registration, IntersectionObserver, IntersectionObservers}
 use Rattle.page_model.specs.Chains.{moved_out}
 use Rattle.page_model.specs.Lookups.{no_intersection_observer, intersection_observer_at}
@@ -12,14 +11,13 @@ use Rattle.clip_chain.specs.declared.spot.Spot.{Spot}
 use Rattle.clip_chain.specs.Scenes.{Scene, root_bounds}
 use Rattle.clip_chain.specs.Worlds.{element_spot, spot_of_root}
 use Rattle.intersection_observer.specs.Places.{Standing as Place, standing_of}
-use Rattle.intersection_observer.specs.Serials.{HasSerials}
 use Rattle.intersection_observer.specs.Settling.{settled_at, settled_standing, with_settled, each_settled}
 use Rattle.intersection_observer.proofs.Subjects.{subjects_of, settled-subjects}
 use Rattle.candidate_index.specs.declared.scene.Standing.{Standing}
 use Rattle.candidate_index.specs.declared.basis.Basis.{Basis}
 use Rattle.candidate_index.specs.declared.index.Kept.{Kept}
 use Rattle.candidate_index.specs.Findings.{sight_over}
-use Rattle.candidate_index.specs.Registrations.{place_of, observer_of, target_of, serials_at, basis_for, IfChained}
+use Rattle.candidate_index.specs.Registrations.{place_of, observer_of, target_of, serials_at, IfChained}
 use Rattle.candidate_index.specs.Held.{kept_of, is_stale, is_stale_now}
 use Rattle.kept_findings.specs.Walks.{EachAlong, AlongChain, AreChained, chain_between, spots_between}
 use Rattle.kept_findings.proofs.Settled.{at_changed, standing_settled, serials_settled}

@@ -1,6 +1,6 @@
 -- What an update comes to, registration by registration.
-use Rattle.std.proofs.Common.{◌≡◌, ◌∙◌, ℕ, zero, suc, ◌+◌, Bool, true, false, cond, List, [], ◌∷◌, ◌++◌, length, map, ap, refl, sym, subst, arith}
-use Rattle.std.specs.Prelude.{◌==◌, nat_eq, slice_get, count_by, filter_map, Option, Some, None, option_map}
+use Rattle.std.proofs.Common.{◌≡◌, ◌∙◌, ℕ, zero, suc, ◌+◌, Bool, true, false, cond, List, [], ◌∷◌, ◌++◌, map, ap, refl, sym, subst, arith}
+use Rattle.std.specs.Prelude.{◌==◌, nat_eq, slice_get, count_by, filter_map, Some, None, option_map}
 use Rattle.std.specs.List.{IsDistinct, AllByRecursion, cons_option}
 use Rattle.std.proofs.lemmas.Bool.{eqb-true, eq-eqb, false≢true}
 use Rattle.std.proofs.lemmas.List.Sums.{sum_by-cons, sum_by-append}

@@ -1,28 +1,34 @@
 -- What is kept of registrations while those that are stale are settled.
-use Rattle.std.proofs.Common.{◌≡◌, ◌∙◌, ℕ, zero, suc, ◌<◌, ◌≤◌, ◌+◌, Bool, true, false, cond, List, [], ◌∷◌, length, filter, map, get_or, Option, Some, None, unwrap_or, refl, ap, sym, subst, inl, inr, arith}
-use Rattle.std.specs.Prelude.{◌⊎◌, All}
+use Rattle.std.proofs.Common.{◌≡◌, ◌∙◌, ℕ, ◌<◌, ◌≤◌, ◌+◌, Bool, true, false, cond, List, [], ◌∷◌, length, filter, map, get_or, Option, Some, None, unwrap_or, refl, ap, sym, subst, inl, inr, arith}
+use Rattle.std.specs.Prelude.{◌⊎◌, All, slice_get}
 use Rattle.std.specs.FinMap.{FinMap}
 use Rattle.std.specs.Ordering.{nat_cmp}
 use Rattle.std.proofs.lemmas.Bool.{false≢true}
 use Rattle.std.proofs.lemmas.List.{get_or_default}
-use Rattle.std.proofs.lemmas.List.Elements.{All-head, All-tail, All-cons, All-nil, filter_passes}
+use Rattle.std.proofs.lemmas.List.Elements.{All-head, All-tail, All-cons, All-nil, All-weaker, filter_passes}
 use Rattle.page_model.specs.Shown.{Shown}
 use Rattle.page_model.specs.World.{Registration, IntersectionObservers}
+use Rattle.clip_chain.specs.declared.spot.Spot.{Spot}
 use Rattle.clip_chain.specs.Worlds.{scene_of}
 use Rattle.intersection_observer.specs.declared.registration.RegistrationId.{RegistrationId}
-use Rattle.intersection_observer.specs.Places.{Standing as Place, target_in, standing_of}
+use Rattle.intersection_observer.specs.Places.{Standing as Place, target_in}
 use Rattle.intersection_observer.specs.Seen.{serial_numbers}
-use Rattle.intersection_observer.specs.Serials.{registrations_at}
+use Rattle.intersection_observer.specs.Serials.{HasSerials, IsFound, registrations_at}
 use Rattle.intersection_observer.proofs.Standing.{StandsAt as StandsIn, stands_at}
 use Rattle.intersection_observer.proofs.Subjects.{found-all}
+use Rattle.kept_clips.specs.Touches.{Touched, last_touch}
+use Rattle.kept_clips.specs.Seen.{Seen, sighting_of, sighting_in}
+use Rattle.kept_clips.specs.Looked.{IsLeft, ChangesByLooks, Looked}
 use Rattle.candidate_index.specs.declared.index.Kept.{Kept}
 use Rattle.candidate_index.specs.Registrations.{place_of, target_of, serials_at, basis_for}
 use Rattle.candidate_index.specs.Held.{kept_of, is_stale}
-use Rattle.kept_findings.specs.Walks.{spots_between}
+use Rattle.kept_findings.specs.Held.{HeldFindings}
+use Rattle.kept_findings.specs.Looks.{LookedAt, IsNoted}
+use Rattle.kept_findings.specs.Walks.{AlongChain, IsNot, spots_between}
 use Rattle.kept_findings.proofs.Settled.{numbers_apart}
-use Rattle.kept_findings.proofs.Walking.{all_serials, at_serial}
+use Rattle.kept_findings.proofs.Walking.{all_serials, at_serial, along_weaker}
 use Rattle.page_geometry.specs.Scenes.{standings_of}
-use Rattle.intersection_update.specs.Keeping.{HaveChains, is_stale_in, StandsAt}
+use Rattle.intersection_update.specs.Keeping.{HaveChains, is_stale_in, StandsAt, IsSeen, AreLookedAlong, AreKeptTo, HaveLooked}
 
 abbrev Map : Type 0
 Map = FinMap nat_cmp (Option Kept)
@@ -41,6 +47,9 @@ at_standing P it watcher serial stands all =
     found-all (λ each. P (each.0)) serial (target_of it serial) (registrations_at it watcher)
     (subst (λ w. target_in serial (registrations_at it w) ≡ Some (target_of it serial)) same at.target)
     (all_of_map P (registrations_at it watcher) all)
+
+pub watcher_is : (it : IntersectionObservers) (watcher serial : ℕ) → StandsAt it watcher serial → (place_of it serial).watcher ≡ watcher
+watcher_is it watcher serial stands = ap (λ (o : Option Place). (unwrap_or o (record { watcher = 0; target = 0 })).watcher) stands
 
 -- what is so of those that pass a test and of those that don't is so of all
 pub all_either : (P : ℕ → Type 0) (test : ℕ → Bool) (xs : List ℕ) → All P (filter test xs) → ((x : ℕ) → test x ≡ false → P x) → All P xs
@@ -90,6 +99,16 @@ module _ (shown : Shown) (chained : HaveChains shown) (it : IntersectionObserver
       | inr is ↦ inr (stale_by now next other false (left other apart) is)
     ]
 
+    -- all but one that was refused memory
+    pub kept_but_one : (place : ℕ) → slice_get (serials_at it watcher) place ≡ Some serial → kept_of next serial ≡ None → AreKeptTo shown chained it watcher place before next
+    kept_but_one place here none other = elim (numbers_apart other serial) [
+      | inl same ↦ inr (inr (record { at = here ∙ ap Some (sym same); none = ap (kept_of next) same ∙ none }))
+      | inr apart ↦ (elim (rest_more other apart) [
+        | inl left ↦ inl left
+        | inr is ↦ inr (inl is)
+      ])
+    ]
+
     pub one_more : serial ≡ (get_or names count (record { 0 = 0 })).0 → stale next serial ≡ false → SoFar watcher before next names (count + 1)
     one_more named is = record {
       same = same_more;
@@ -128,3 +147,45 @@ module _ (shown : Shown) (chained : HaveChains shown) (it : IntersectionObserver
       stale before (get_or names k none).0 ≡ true
   stale_at watcher before names k none same below =
       at_serial (λ s. stale before s ≡ true) names (filter (stale before) (serials_at it watcher)) same (filter_passes (stale before) (serials_at it watcher)) k none below
+
+-- the spots on the chains of an observer's registrations, once they were looked at -----------------------------------------------------
+
+all_to_map : (P : ℕ → Type 0) (xs : List Registration) → All (λ (r : Registration). P (r.serial)) xs → All P (map (λ (r : Registration). r.serial) xs)
+all_to_map P [] all = All-nil P
+all_to_map P (x ∷ xs) all =
+    All-cons P x.serial (map (λ (r : Registration). r.serial) xs) (All-head (λ (r : Registration). P (r.serial)) x xs all) (all_to_map P xs (All-tail (λ (r : Registration). P (r.serial)) x xs all))
+
+-- a fact of each registration that stands at an observer is one of all that are listed there
+pub all_standing : (P : ℕ → Type 0) (it : IntersectionObservers) (watcher : ℕ) → HasSerials it → ((serial : ℕ) → StandsAt it watcher serial → P serial) → All P (serials_at it watcher)
+all_standing P it watcher serials each =
+    all_to_map P (registrations_at it watcher) (All-weaker (IsFound it watcher) (λ (r : Registration). P (r.serial)) one (registrations_at it watcher) (serials.found watcher))
+  where
+    one : (r : Registration) → IsFound it watcher r → P (r.serial)
+    one r found = each (r.serial) (found ∙ ap (λ (o : Option Place). Some (record { watcher = watcher; target = (unwrap_or o (record { watcher = 0; target = 0 })).target })) (sym found))
+
+module _ (shown : Shown) (it : IntersectionObservers) (watcher : ℕ) (serials : HasSerials it) where
+  pub looked_still : (before now last : HeldFindings) → AreLookedAlong shown it watcher before now → last.seen ≡ now.seen → last.clips.touches ≡ now.clips.touches → AreLookedAlong shown it watcher before last
+  looked_still before now last along seen touches = record {
+    touched = subst (λ (s : Seen). ChangesByLooks (scene_of shown) before.seen s before.clips.touches last.clips.touches) (sym seen)
+        (subst (λ (t : Touched). ChangesByLooks (scene_of shown) before.seen now.seen before.clips.touches t) (sym touches) along.touched);
+    left = λ spot off. let was = along.left spot off in record {
+      touch = ap (λ (t : Touched). last_touch t spot) touches ∙ was.touch;
+      sighting = ap (λ (s : Seen). sighting_of s spot) seen ∙ was.sighting;
+    };
+    seen = λ serial stands. subst (λ (s : Seen). IsSeen shown it s serial) (sym seen) (along.seen serial stands);
+  }
+
+  pub looked_along : (before now last : HeldFindings) (looks : LookedAt) → Looked (scene_of shown) before.seen now.seen before.clips now.clips → HaveLooked shown now.seen looks →
+      All (AlongChain (IsNoted looks) (scene_of shown) (standings_of shown) it) (serials_at it watcher) →
+      ((spot : Spot) → All (AlongChain (IsNot spot) (scene_of shown) (standings_of shown) it) (serials_at it watcher) → IsLeft before.seen now.seen before.clips.touches now.clips.touches spot) →
+      last.seen ≡ now.seen → last.clips.touches ≡ now.clips.touches → AreLookedAlong shown it watcher before last
+  looked_along before now last looks looked known noted left seen touches =
+      looked_still before now last
+      (record {
+        touched = looked.spots;
+        left = λ spot off. left spot (all_standing (AlongChain (IsNot spot) (scene_of shown) (standings_of shown) it) it watcher serials off);
+        seen = λ serial stands.
+            along_weaker (scene_of shown) (standings_of shown) it (IsNoted looks) (λ spot. sighting_of now.seen spot ≡ Some (sighting_in (scene_of shown) spot)) (λ spot note. (known.looked spot note).sighting) serial
+            (at_standing (AlongChain (IsNoted looks) (scene_of shown) (standings_of shown) it) it watcher serial stands noted);
+      })
+      seen touches

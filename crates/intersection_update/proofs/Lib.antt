@@ -7,7 +7,6 @@ pub mod Stale
 pub mod Each
 pub mod Room
 pub mod Keeping
-pub mod Steps
 pub mod Observers
 pub mod Settled
 pub mod Updates

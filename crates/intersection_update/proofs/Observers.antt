@@ -1,20 +1,21 @@
 -- What an update does to what is kept of registrations, one observer after the other.
-use Rattle.std.proofs.Common.{◌≡◌, ◌∙◌, ℕ, ◌<◌, ◌+◌, Bool, true, false, Option, Some, None, is_some, unwrap_or, refl, ap, sym, subst, inl, inr, arith}
-use Rattle.std.specs.Prelude.{◌⊎◌}
+use Rattle.std.proofs.Common.{◌≡◌, ◌∙◌, ℕ, ◌<◌, ◌+◌, Bool, true, false, List, length, Option, Some, None, is_some, unwrap_or, refl, ap, sym, inl, inr, arith}
+use Rattle.std.specs.Prelude.{◌⊎◌, slice_get}
 use Rattle.std.specs.FinMap.{FinMap}
 use Rattle.std.specs.Ordering.{nat_cmp}
 use Rattle.std.proofs.lemmas.Bool.{false≢true}
 use Rattle.page_model.specs.Shown.{Shown}
-use Rattle.page_model.specs.World.{Root, IntersectionObserver, IntersectionObservers}
+use Rattle.page_model.specs.World.{IntersectionObservers}
 use Rattle.page_model.specs.Lookups.{intersection_observer_at}
 use Rattle.page_model.specs.Intersections.{is_rooted_in}
 use Rattle.clip_chain.specs.declared.spot.Spot.{Spot}
 use Rattle.clip_chain.specs.Scenes.{Scene}
 use Rattle.clip_chain.specs.Worlds.{scene_of}
 use Rattle.intersection_observer.specs.Places.{Standing as Place, standing_of}
+use Rattle.intersection_observer.proofs.Standing.{stands-there}
 use Rattle.kept_clips.specs.Touches.{Touched}
 use Rattle.kept_clips.specs.Seen.{Seen, sighting_of, sighting_in}
-use Rattle.kept_clips.specs.Looked.{IsLeft, IsSeenAnew, ChangesByLooks}
+use Rattle.kept_clips.specs.Looked.{IsLeft, ChangesByLooks}
 use Rattle.kept_clips.proofs.Looking.{changes_none, changes_then}
 use Rattle.candidate_index.specs.declared.index.Kept.{Kept}
 use Rattle.candidate_index.specs.Registrations.{place_of, observer_of, target_of}
@@ -25,7 +26,7 @@ use Rattle.kept_findings.proofs.Settled.{numbers_apart}
 use Rattle.kept_findings.proofs.Walking.{along_weaker}
 use Rattle.page_geometry.specs.Scenes.{standings_of}
 use Rattle.intersection_update.specs.Updating.{Carried}
-use Rattle.intersection_update.specs.Keeping.{HaveChains, is_stale_in, StandsAt, IsLookedAt, IsSeen, IsOff}
+use Rattle.intersection_update.specs.Keeping.{HaveChains, is_stale_in, StandsAt, IsLookedAt, IsSeen, IsOff, AreLookedAlong, AreKeptTo}
 use Rattle.intersection_update.proofs.Carried.{target_still, root_still, along_still, along_was, stale_still}
 use Rattle.intersection_update.proofs.Keeping.{stale_by}
 
@@ -67,6 +68,16 @@ module _ (shown : Shown) (document : ℕ) (was it : IntersectionObservers) (carr
       ∙ ap (λ w. is_rooted_in shown.tree document (intersection_observer_at was w).root) (sym place)
       ∙ looked.rooted
 
+-- those that are looked at afterwards were before, at an observer that there is
+pub looked_at_before : (shown : Shown) (document : ℕ) (was it : IntersectionObservers) → Carried was it → (serial : ℕ) → IsLookedAt shown.tree document it serial → IsLookedAt shown.tree document was serial
+looked_at_before shown document was it carried serial looked = record {
+  standing = ap (λ (o : Option Place). is_some o) (sym (carried.standing serial)) ∙ looked.standing;
+  rooted = ap (is_rooted_in shown.tree document) (sym (root_still was it carried serial)) ∙ looked.rooted;
+}
+
+pub there_is : (shown : Shown) (document : ℕ) (was : IntersectionObservers) (serial : ℕ) → IsLookedAt shown.tree document was serial → (place_of was serial).watcher < length was.made
+there_is shown document was serial looked = stands-there serial (was.made) (place_of was serial) (some_place (standing_of serial was) (record { watcher = 0; target = 0 }) looked.standing)
+
 -- an earlier observer or this one
 pub one_earlier : (m n : ℕ) → m < n + 1 → (m ≡ n) ⊎ (m < n)
 one_earlier m n below = elim (numbers_apart m n) [
@@ -107,19 +118,16 @@ looks_none shown document was it = record {
 
 module _ (shown : Shown) (document : ℕ) (was it : IntersectionObservers) (carried : Carried was it) (number : ℕ) where
   pub looks_more : (before now next : HeldFindings) → is_rooted_in shown.tree document (intersection_observer_at it number).root ≡ true → Looks shown document was number before now →
-      ChangesByLooks (scene_of shown) now.seen next.seen now.clips.touches next.clips.touches →
-      ((spot : Spot) → ((serial : ℕ) → StandsAt it number serial → IsOff shown it spot serial) → IsLeft now.seen next.seen now.clips.touches next.clips.touches spot) →
-      ((serial : ℕ) → StandsAt it number serial → IsSeen shown it next.seen serial) →
-      Looks shown document was (number + 1) before next
-  looks_more before now next rooted so_far touched left seen = record {
-    touched = changes_then (scene_of shown) before.seen now.seen next.seen before.clips.touches now.clips.touches next.clips.touches so_far.touched touched;
+      AreLookedAlong shown it number now next → Looks shown document was (number + 1) before next
+  looks_more before now next rooted so_far along = record {
+    touched = changes_then (scene_of shown) before.seen now.seen next.seen before.clips.touches now.clips.touches next.clips.touches so_far.touched along.touched;
     left = λ spot off.
         let first = so_far.left spot off in
-        let then = left spot (λ serial stands. along_still was it carried serial (scene_of shown) (standings_of shown) (IsNot spot) (off serial (looked_at_here shown document was it carried number rooted serial stands))) in
+        let then = along.left spot (λ serial stands. along_still was it carried serial (scene_of shown) (standings_of shown) (IsNot spot) (off serial (looked_at_here shown document was it carried number rooted serial stands))) in
         record { touch = then.touch ∙ first.touch; sighting = then.sighting ∙ first.sighting };
     seen = λ serial looked below. elim (one_earlier (place_of was serial).watcher number below) [
-      | inl here ↦ along_back serial (λ spot. sighting_of next.seen spot ≡ Some (sighting_in (scene_of shown) spot)) (seen serial (stands_here shown document was it carried number serial looked here))
-      | inr earlier ↦ all_seen_still shown was now.seen next.seen now.clips.touches next.clips.touches touched serial (so_far.seen serial looked earlier)
+      | inl here ↦ along_back serial (λ spot. sighting_of next.seen spot ≡ Some (sighting_in (scene_of shown) spot)) (along.seen serial (stands_here shown document was it carried number serial looked here))
+      | inr earlier ↦ all_seen_still shown was now.seen next.seen now.clips.touches next.clips.touches along.touched serial (so_far.seen serial looked earlier)
     ];
   }
     where
@@ -185,6 +193,17 @@ module _ (shown : Shown) (chained : HaveChains shown) (document : ℕ) (was : In
     rest_by serial left = elim (so_far.rest serial) [
       | inl first ↦ inl (left ∙ first)
       | inr is ↦ inr (fresh_next serial is)
+    ]
+
+    -- where it stops
+    pub kept_to : (place : ℕ) → AreKeptTo shown chained it number place now next → AreKeptTo shown chained was number place before next
+    kept_to place refused serial = elim (refused serial) [
+      | inl left ↦ (elim (rest_by serial left) [
+        | inl first ↦ inl first
+        | inr is ↦ inr (inl is)
+      ])
+      | inr (inl is) ↦ inr (inl (sym (still next serial) ∙ is))
+      | inr (inr expired) ↦ inr (inr (record { at = ap (λ (serials : List ℕ). slice_get serials place) (sym (carried.listed number)) ∙ expired.at; none = expired.none }))
     ]
 
     pub leaves_more : is_rooted_in shown.tree document (intersection_observer_at it number).root ≡ true →

@@ -1,14 +1,14 @@
 -- The stale registrations of an observer settled one after the other, which settles all of them.
-use Rattle.std.proofs.Common.{◌≡◌, ◌∙◌, ℕ, zero, suc, ◌<◌, ◌≤◌, ◌+◌, Bool, false, List, [], ◌∷◌, ◌++◌, length, take, filter, map, get_or, Option, Some, None, unwrap_or, refl, ap, sym, subst, arith}
+use Rattle.std.proofs.Common.{◌≡◌, ◌∙◌, ℕ, zero, suc, ◌<◌, ◌≤◌, ◌+◌, Bool, false, List, [], ◌∷◌, length, take, filter, map, get_or, Option, Some, None, option_map, unwrap_or, refl, ap, sym, subst, arith}
 use Rattle.std.specs.Prelude.{◌&&◌, ◌==◌, not, slice_get, IsSome, IfSome, All}
 use Rattle.std.specs.List.{list_any, AllByRecursion}
 use Rattle.std.specs.FinMap.{FinMap}
 use Rattle.std.specs.Ordering.{nat_cmp}
 use Rattle.std.proofs.lemmas.List.{take_all, length-map}
+use Rattle.std.proofs.lemmas.Option.{slice_get-map}
 use Rattle.std.proofs.lemmas.List.Elements.{All-head, All-tail, All-filter, All-take}
-use Rattle.script_model.specs.Margins.{Margins}
 use Rattle.page_model.specs.Shown.{Shown}
-use Rattle.page_model.specs.World.{Root, Finding, Registration, IntersectionObserver, IntersectionObservers}
+use Rattle.page_model.specs.World.{Finding, Registration, IntersectionObserver, IntersectionObservers}
 use Rattle.page_model.specs.Documents.{is_number}
 use Rattle.page_model.specs.Lookups.{intersection_observer_at, change_intersection_observer}
 use Rattle.page_model.specs.Findings.{finding}
@@ -23,7 +23,7 @@ use Rattle.intersection_observer.specs.Settling.{with_settled, each_settled, is_
 use Rattle.intersection_observer.proofs.Settling.{observer_settled}
 use Rattle.candidate_index.specs.declared.index.Kept.{Kept}
 use Rattle.candidate_index.specs.Findings.{finding_over}
-use Rattle.candidate_index.specs.Registrations.{place_of, observer_of, target_of, serials_at, finding_for, IsBetween}
+use Rattle.candidate_index.specs.Registrations.{place_of, target_of, serials_at, finding_for, IsBetween}
 use Rattle.candidate_index.specs.Held.{kept_of, is_stale_now}
 use Rattle.candidate_index.proofs.Same.{still_kept}
 use Rattle.kept_findings.specs.Held.{HeldFindings}
@@ -67,6 +67,11 @@ is_at P (n ∷ names) (x ∷ xs) zero none same all there = record {
 is_at P (n ∷ names) (x ∷ xs) (suc place) none same all there =
     let rest : IsAt xs P place ((get_or names place none).0) = is_at P names xs place none (ap tail same) (All-tail P x xs all) (omega (arith, there)) in
     record { registration = rest.registration; at = rest.at; number = rest.number; holds = rest.holds }
+
+-- where an observer stops, and the registration there
+pub record StopsAt (shown : Shown) (time watcher : ℕ) (was now : IntersectionObservers) (serial : ℕ) : Type 0 where
+  pub begun : IsBegun shown time watcher was now
+  pub here : slice_get (serials_at was watcher) begun.place ≡ Some serial
 
 -- observers that are alike find the same
 finds_alike : (shown : Shown) (a b : IntersectionObserver) (target : ℕ) → AreAlike a b → finding shown b target ≡ finding shown a target
@@ -181,14 +186,20 @@ module _ (shown : Shown) (chained : HaveChains shown) (time watcher : ℕ) (was 
           ∙ observer_settled time (finding shown) watcher was serials
 
       -- where it stops at one of them, those before it are settled
-      pub stopped_at : (k : ℕ) (now : IntersectionObservers) → k < length stale_ones → now ≡ first_stale k → IsBegun shown time watcher was now
-      stopped_at k now there is =
+      pub stopped_at : (k serial : ℕ) (now : IntersectionObservers) → IsAt stale_ones (IsFound was watcher) k serial → k < length stale_ones → now ≡ first_stale k → StopsAt shown time watcher was now serial
+      stopped_at k serial now it there is =
           let far : Reached stale (registrations_at was watcher) k = reached stale (registrations_at was watcher) k there in
           record {
-            place = far.place;
-            settled =
-                is
-                ∙ ap (λ (these : List Registration). each_settled time find these was) far.before
-                ∙ skipped stale time find watcher (take far.place (registrations_at was watcher)) was serials
-                (quiet_ones (take far.place (registrations_at was watcher)) (All-take (IsFound was watcher) far.place (registrations_at was watcher) (serials.found watcher)));
+            begun = record {
+              place = far.place;
+              settled =
+                  is
+                  ∙ ap (λ (these : List Registration). each_settled time find these was) far.before
+                  ∙ skipped stale time find watcher (take far.place (registrations_at was watcher)) was serials
+                  (quiet_ones (take far.place (registrations_at was watcher)) (All-take (IsFound was watcher) far.place (registrations_at was watcher) (serials.found watcher)));
+            };
+            here =
+                slice_get-map (λ (r : Registration). r.serial) (registrations_at was watcher) far.place
+                ∙ ap (option_map (λ (r : Registration). r.serial)) (far.here ∙ it.at)
+                ∙ ap Some it.number;
           }

@@ -4,14 +4,11 @@ use Rattle.std.specs.Prelude.{Bool, true, false, cond, ◌||◌, nat_lt, List, [
 use Rattle.std.specs.List.{list_any}
 use Rattle.std.proofs.lemmas.List.{take_all}
 use Rattle.page_model.specs.Shown.{Shown}
-use Rattle.page_model.specs.World.{Tree, Registration, IntersectionObserver, IntersectionObservers}
+use Rattle.page_model.specs.World.{Tree, IntersectionObserver}
 use Rattle.page_model.specs.Lookups.{entry_or, no_intersection_observer, intersection_observer_at, change_intersection_observer}
 use Rattle.page_model.specs.Findings.{finding}
 use Rattle.page_model.specs.Intersections.{is_rooted_in, watchers, settled_observer, has_queued}
-use Rattle.intersection_observer.specs.Serials.{HasSerials, registrations_at}
-use Rattle.intersection_observer.specs.Settling.{each_settled}
 use Rattle.intersection_observer.specs.Watchers.{HeldWatchers}
-use Rattle.intersection_observer.proofs.Settling.{observer_settled}
 use Rattle.intersection_update.specs.Updating.{updated, has_news, IsBegun, IsStopped, first_settled, first_updated, settled_if_rooted}
 use Rattle.intersection_update.proofs.Lists.{changed_at, changed_same, unchanged, any_more, firsts, first_at, first_more, first_all, first_none, each_place, each_first, any_place}
 
@@ -99,18 +96,18 @@ module _ (shown : Shown) (tree : Tree) (document time : ℕ) (was : HeldWatchers
       (is ∙ ap first_observers past ∙ first_all no_intersection_observer is_its once_settled (was.part.made) ∙ sym all_made)
 
   -- where it stops at one of them
-  pub stopped_at : (place : ℕ) (now next : HeldWatchers) → now.part.given ≡ was.part.given → now.part.made ≡ first_observers place → IsBegun shown time place now.part next.part →
-      IsStopped shown tree document time was.part next.part
-  stopped_at place now next given is begun =
+  pub stopped_settled : (place : ℕ) (now next : HeldWatchers) → now.part.given ≡ was.part.given → now.part.made ≡ first_observers place → (begun : IsBegun shown time place now.part next.part) →
+      next.part ≡ first_settled shown time place begun.place (first_updated shown tree document time place (was.part))
+  stopped_settled place now next given is begun =
       let same : now.part ≡ first_updated shown tree document time place (was.part) =
       ap (λ (given : ℕ). record { given = given; made = now.part.made }) given
       ∙ ap (λ (made : List IntersectionObserver). record (was.part) { made = made }) (is ∙ sym (each_first no_intersection_observer is_its once_settled place (was.part.made)))
       in
-      record {
-        number = place;
-        place = begun.place;
-        settled = begun.settled ∙ ap (first_settled shown time place begun.place) same;
-      }
+      begun.settled ∙ ap (first_settled shown time place begun.place) same
+
+  pub stopped_at : (place : ℕ) (now next : HeldWatchers) → now.part.given ≡ was.part.given → now.part.made ≡ first_observers place → IsBegun shown time place now.part next.part →
+      IsStopped shown tree document time was.part next.part
+  stopped_at place now next given is begun = record { number = place; place = begun.place; settled = stopped_settled place now next given is begun }
 
   pub all_told : (place : ℕ) (queued : Bool) → place ≡ length was.part.made → queued ≡ first_told place → queued ≡ has_news tree document was.part (updated shown tree document time was.part)
   all_told place queued past is =

@@ -9,9 +9,11 @@ use Rattle.clip_chain.specs.declared.spot.Spot.{Spot}
 use Rattle.clip_chain.specs.Worlds.{scene_of}
 use Rattle.intersection_observer.specs.Places.{standing_of, IsStanding}
 use Rattle.kept_clips.specs.Seen.{Seen, sighting_of, sighting_in}
+use Rattle.kept_clips.specs.Looked.{IsLeft, ChangesByLooks}
 use Rattle.candidate_index.specs.declared.index.Kept.{Kept}
 use Rattle.candidate_index.specs.Registrations.{observer_of, target_of, serials_at}
 use Rattle.candidate_index.specs.Held.{kept_of, is_stale_now}
+use Rattle.kept_findings.specs.Held.{HeldFindings}
 use Rattle.kept_findings.specs.Walks.{AreChained, AlongChain, IsNot, spots_between}
 use Rattle.kept_findings.specs.Looks.{LookedAt, AreLooked}
 use Rattle.page_geometry.specs.Ranks.{rank_of}
@@ -43,6 +45,13 @@ IsSeen shown it seen serial = AlongChain (λ spot. sighting_of seen spot ≡ Som
 -- a spot isn't on its chain
 abbrev pub IsOff : Shown → IntersectionObservers → Spot → ℕ → Type 0
 IsOff shown it spot serial = AlongChain (IsNot spot) (scene_of shown) (standings_of shown) it serial
+
+-- spots that were looked at for an observer: each is left as it was, or something differs from what was seen last and it is touched; what
+-- is on no chain of its registrations is left, and what is on one was seen last as it is shown
+pub record AreLookedAlong (shown : Shown) (it : IntersectionObservers) (watcher : ℕ) (before now : HeldFindings) : Type 0 where
+  pub touched : ChangesByLooks (scene_of shown) before.seen now.seen before.clips.touches now.clips.touches
+  pub left : (spot : Spot) → ((serial : ℕ) → StandsAt it watcher serial → IsOff shown it spot serial) → IsLeft before.seen now.seen before.clips.touches now.clips.touches spot
+  pub seen : (serial : ℕ) → StandsAt it watcher serial → IsSeen shown it now.seen serial
 
 -- it was refused memory, and counts as never computed
 pub record IsExpired (it : IntersectionObservers) (watcher place : ℕ) (kept : FinMap nat_cmp (Option Kept)) (serial : ℕ) : Type 0 where

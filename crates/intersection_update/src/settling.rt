@@ -1,14 +1,19 @@
 //! What is stale, found anew and settled.
 
-ghost use Rattle.std.specs.Prelude.{◌≡◌, ◌<◌, length, IfOk, OnOk, OnErr};
+ghost use Rattle.std.specs.Prelude.{◌≡◌, ◌⊎◌, ◌<◌, ℕ, false, length, IfOk, OnOk, OnErr};
 ghost use Rattle.page_model.specs.Lookups.{change_intersection_observer};
 ghost use Rattle.page_model.specs.Findings.{finding};
-ghost use Rattle.page_model.specs.Intersections.{settled_observer, has_queued};
+ghost use Rattle.page_model.specs.Intersections.{is_rooted_in, settled_observer, has_queued};
+ghost use Rattle.clip_chain.specs.declared.spot.Spot.{Spot as SpotOf};
+ghost use Rattle.clip_chain.specs.Worlds.{scene_of};
+ghost use Rattle.kept_clips.specs.Looked.{IsLeft, ChangesByLooks};
+ghost use Rattle.candidate_index.specs.Registrations.{place_of, observer_of};
+ghost use Rattle.candidate_index.specs.Held.{kept_of};
 ghost use Rattle.kept_findings.specs.Registered.{AreRegistered};
 ghost use Rattle.kept_findings.specs.Rooms.{HaveRoom};
 ghost use Rattle.intersection_update.specs.Watching.{AreWatchers};
 ghost use Rattle.intersection_update.specs.Updating.{updated, has_news, AreKept, IsBegun, IsStopped};
-ghost use Rattle.intersection_update.specs.Keeping.{HaveLooked};
+ghost use Rattle.intersection_update.specs.Keeping.{HaveChains, is_stale_in, StandsAt, IsLookedAt, IsSeen, IsOff, AreLookedAlong, IsRefusedAt, IsRefused, HaveLooked};
 
 use crate::rooted::is_looked_at;
 use intersection_observer::{WatcherId, Watchers};
@@ -39,6 +44,15 @@ fn settle_stale<L: Ledger>(
     ensures registered { AreRegistered watchers.new.part findings.new }
     ensures room { HaveRoom (length shown.now.tree.elements) (length shown.now.tree.documents) findings.new }
     ensures known { HaveLooked shown.now findings.new.seen looks.new }
+    ensures looked { AreLookedAlong shown.now watchers.old.part watcher.0 findings.old findings.new }
+    ensures same { (chained : HaveChains shown.now) (serial : ℕ) → is_stale_in shown.now chained watchers.old.part findings.old.kept serial ≡ false →
+        kept_of findings.new.kept serial ≡ kept_of findings.old.kept serial }
+    ensures others { (serial : ℕ) → (¬ (place_of watchers.old.part serial).watcher ≡ watcher.0) → kept_of findings.new.kept serial ≡ kept_of findings.old.kept serial }
+    ensures fresh { (chained : HaveChains shown.now) → OnOk result ((serial : ℕ) → StandsAt watchers.old.part watcher.0 serial →
+        is_stale_in shown.now chained watchers.old.part findings.new.kept serial ≡ false) }
+    ensures rest { (chained : HaveChains shown.now) → OnOk result ((serial : ℕ) →
+        (kept_of findings.new.kept serial ≡ kept_of findings.old.kept serial) ⊎ (is_stale_in shown.now chained watchers.old.part findings.new.kept serial ≡ false)) }
+    ensures refused { (chained : HaveChains shown.now) → OnErr result (IsRefusedAt shown.now chained time watcher.0 watchers.old.part watchers.new.part findings.old.kept findings.new.kept) }
 {
     // It tells that chains lead to roots.
     shown.document_count();
@@ -82,7 +96,20 @@ pub fn update<L: Ledger>(
     ensures given { watchers.new.part.given ≡ watchers.old.part.given }
     ensures registered { AreRegistered watchers.new.part findings.new }
     ensures room { HaveRoom (length shown.now.tree.elements) (length shown.now.tree.documents) findings.new }
+    ensures touched { ChangesByLooks (scene_of shown.now) findings.old.seen findings.new.seen findings.old.clips.touches findings.new.clips.touches }
+    ensures left { (spot : SpotOf) → ((serial : ℕ) → IsLookedAt shown.now.tree document watchers.old.part serial → IsOff shown.now watchers.old.part spot serial) →
+        IsLeft findings.old.seen findings.new.seen findings.old.clips.touches findings.new.clips.touches spot }
+    ensures seen { OnOk result ((serial : ℕ) → IsLookedAt shown.now.tree document watchers.new.part serial → IsSeen shown.now watchers.new.part findings.new.seen serial) }
+    ensures kept { (chained : HaveChains shown.now) (serial : ℕ) → is_stale_in shown.now chained watchers.old.part findings.old.kept serial ≡ false →
+        kept_of findings.new.kept serial ≡ kept_of findings.old.kept serial }
+    ensures others { (serial : ℕ) → is_rooted_in shown.now.tree document (observer_of watchers.old.part serial).root ≡ false →
+        kept_of findings.new.kept serial ≡ kept_of findings.old.kept serial }
+    ensures fresh { (chained : HaveChains shown.now) → OnOk result ((serial : ℕ) → IsLookedAt shown.now.tree document watchers.new.part serial →
+        is_stale_in shown.now chained watchers.new.part findings.new.kept serial ≡ false) }
+    ensures refused { (chained : HaveChains shown.now) → OnErr result (IsRefused shown.now chained document time watchers.old.part watchers.new.part findings.old.kept findings.new.kept) }
 {
+    // It tells that chains lead to roots.
+    shown.document_count();
     let mut looks = findings.looks()?;
     let mut queued = false;
     for number in 0..watchers.count() {

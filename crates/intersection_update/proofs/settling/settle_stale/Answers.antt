@@ -1,5 +1,7 @@
-use Rattle.std.proofs.Common.{◌≡◌, ◌∙◌, ◌<◌, ◌≤◌, ◌||◌, length, get_or, refl, ap, sym, subst, arith}
+use Rattle.std.proofs.Common.{◌≡◌, ◌∙◌, ◌<◌, ◌≤◌, length, get_or, Option, refl, ap, sym, subst, inl, arith}
 use Rattle.std.specs.List.{All}
+use Rattle.std.specs.FinMap.{FinMap}
+use Rattle.std.specs.Ordering.{nat_cmp}
 use Rattle.page_model.specs.World.{IntersectionObservers}
 use Rattle.clip_chain.specs.Worlds.{scene_of}
 use Rattle.intersection_observer.specs.declared.registration.RegistrationId.{RegistrationId}
@@ -7,15 +9,17 @@ use Rattle.intersection_observer.specs.Watchers.{HeldWatchers, watcher_at}
 use Rattle.intersection_observer.specs.Settling.{with_settled}
 use Rattle.kept_clips.specs.Scenes.{AgreesAt}
 use Rattle.kept_clips.specs.Seen.{Seen, scene_seen}
+use Rattle.candidate_index.specs.declared.index.Kept.{Kept}
 use Rattle.candidate_index.specs.Registrations.{serials_at, target_of}
-use Rattle.kept_findings.specs.Held.{HeldFindings}
-use Rattle.kept_findings.specs.Walks.{IsWalked, found_in}
+use Rattle.candidate_index.specs.Held.{kept_of}
+use Rattle.kept_findings.specs.Walks.{IsWalked, spots_between, found_in}
 use Rattle.kept_findings.proofs.Rooms.{room_looked, room_same}
+use Rattle.kept_findings.proofs.Walking.{is_between}
 use Rattle.page_geometry.specs.Scenes.{standings_of, telling_of}
 use Rattle.page_geometry.proofs.Scenes.{chained_of}
-use Rattle.intersection_update.proofs.Carried.{carried_same, along_still}
+use Rattle.intersection_update.proofs.Carried.{carried_same, along_still, stale_still}
 use Rattle.intersection_update.proofs.Room.{may_be_walked}
-use Rattle.intersection_update.proofs.Keeping.{at_standing}
+use Rattle.intersection_update.proofs.Keeping.{at_standing, watcher_is, SoFar, none_so_far, same_more, others_more, kept_but_one, one_more, none_stale, stale_at, looked_along, looked_still}
 use Rattle.intersection_update.proofs.Settled.{kept_same, kept_then, kept_once, longer_once, queued_is}
 use Rattle.intersection_update.proofs.Stale.{numbers_are, as_many, next_of, stands, next_settled, stale_settled, stopped_at}
 use Rattle.intersection_update.proofs.Updates.{either_queued, not_queued, on_err}
@@ -51,6 +55,11 @@ loop-registration-init g c =
       room = room_same elements documents c.look.new.self c.stale_registrations.new.self c.stale_registrations.ensures.seen c.stale_registrations.ensures.touches
           (room_looked elements documents (scene_of c.args.shown.now) c.args.findings.now c.look.new.self c.look.ensures.looked c.requires.room);
       known = c.stale_registrations.ensures.known;
+      looked = looked_along c.args.shown.now was.part c.args.watcher.0 c.registrations.ensures.serials c.args.findings.now c.look.new.self c.stale_registrations.new.self c.look.new.looks
+          c.look.ensures.looked c.look.ensures.known c.look.ensures.noted c.look.ensures.left c.stale_registrations.ensures.seen c.stale_registrations.ensures.touches;
+      so_far = λ chained.
+          subst (λ (kept : FinMap nat_cmp (Option Kept)). SoFar c.args.shown.now chained was.part c.args.watcher.0 c.args.findings.now.kept kept c.deref-registration-items.result.now 0)
+          (sym (c.stale_registrations.ensures.kept ∙ c.look.ensures.kept)) (none_so_far c.args.shown.now chained was.part c.args.watcher.0 c.args.findings.now.kept c.deref-registration-items.result.now);
       walked = subst (λ (seen : Seen). All (IsWalked (scene_of c.args.shown.now) (standings_of c.args.shown.now) was.part seen) (serials_at was.part c.args.watcher.0)) (sym c.stale_registrations.ensures.seen) c.look.ensures.walked;
     }
 
@@ -94,16 +103,104 @@ pub returns-in_err-queued-clause-stopped : goal.returns-in_err-queued-clause-sto
 returns-in_err-queued-clause-stopped g c =
     let shown = c.args.shown.now in
     let page = c.document_count.ensures.page in
-    let chained = chained_of shown page in
     let was = c.args.watchers.now.part in
+    let watcher = c.args.watcher.0 in
     let names = c.deref-registration-items.result.now in
     let k = c.loop-registration.registration-index in
-    let same = numbers_are shown chained c.args.time c.args.watcher.0 was c.args.findings.now names c.in_ok-stale.stale.items c.look.new.self c.deref-registration-items.ensures.value c.look.ensures.kept c.in_ok-stale.ensures.stale in
+    let none : RegistrationId = record { 0 = 0 } in
+    let serial = (get_or names k none).0 in
     let below : k < length names = omega arith in
+    let chained = chained_of shown page in
+    let same = numbers_are shown chained c.args.time watcher was c.args.findings.now names c.in_ok-stale.stale.items c.look.new.self c.deref-registration-items.ensures.value c.look.ensures.kept c.in_ok-stale.ensures.stale in
+    let at = next_of shown chained c.args.time watcher was c.args.findings.now page c.registrations.ensures.serials names none k same below in
+    let stops = stopped_at shown chained c.args.time watcher was c.args.findings.now page c.registrations.ensures.serials c.requires.registered k serial c.settle.new.watchers.part at
+    (subst (λ n. k < n) (sym (as_many shown chained c.args.time watcher was c.args.findings.now names same)) below)
+    (ap (λ (it : HeldWatchers). it.part) c.in_err-queued.ensures.same ∙ c.loop-registration.invariant.settled chained) in
+    on_err c.from_residual-in_err-queued.result stops.begun
+
+pub returns-in_err-queued-clause-same : goal.returns-in_err-queued-clause-same
+returns-in_err-queued-clause-same g c =
+    let shown = c.args.shown.now in
+    let page = c.document_count.ensures.page in
+    let was = c.args.watchers.now.part in
+    let watcher = c.args.watcher.0 in
+    let names = c.deref-registration-items.result.now in
+    let k = c.loop-registration.registration-index in
+    let none : RegistrationId = record { 0 = 0 } in
+    let serial = (get_or names k none).0 in
+    let below : k < length names = omega arith in
+    λ chained.
+    let same = numbers_are shown chained c.args.time watcher was c.args.findings.now names c.in_ok-stale.stale.items c.look.new.self c.deref-registration-items.ensures.value c.look.ensures.kept c.in_ok-stale.ensures.stale in
+    let stands_there = stands shown chained c.args.time watcher was c.args.findings.now page c.registrations.ensures.serials k serial was (next_of shown chained c.args.time watcher was c.args.findings.now page c.registrations.ensures.serials names none k same below) (carried_same was) in
+    same_more shown chained was watcher serial c.args.findings.now.kept c.loop-registration.findings.kept c.settle.new.self.kept names k (c.loop-registration.invariant.so_far chained)
+    (stale_at shown chained was watcher c.args.findings.now.kept names k none same below) (watcher_is was watcher serial stands_there) c.settle.ensures.others
+
+pub returns-in_err-queued-clause-others : goal.returns-in_err-queued-clause-others
+returns-in_err-queued-clause-others g c =
+    let shown = c.args.shown.now in
+    let page = c.document_count.ensures.page in
+    let was = c.args.watchers.now.part in
+    let watcher = c.args.watcher.0 in
+    let names = c.deref-registration-items.result.now in
+    let k = c.loop-registration.registration-index in
+    let none : RegistrationId = record { 0 = 0 } in
+    let serial = (get_or names k none).0 in
+    let below : k < length names = omega arith in
+    let chained = chained_of shown page in
+    let same = numbers_are shown chained c.args.time watcher was c.args.findings.now names c.in_ok-stale.stale.items c.look.new.self c.deref-registration-items.ensures.value c.look.ensures.kept c.in_ok-stale.ensures.stale in
+    let stands_there = stands shown chained c.args.time watcher was c.args.findings.now page c.registrations.ensures.serials k serial was (next_of shown chained c.args.time watcher was c.args.findings.now page c.registrations.ensures.serials names none k same below) (carried_same was) in
+    others_more shown chained was watcher serial c.args.findings.now.kept c.loop-registration.findings.kept c.settle.new.self.kept names k (c.loop-registration.invariant.so_far chained)
+    (stale_at shown chained was watcher c.args.findings.now.kept names k none same below) (watcher_is was watcher serial stands_there) c.settle.ensures.others
+
+pub returns-in_err-queued-clause-looked : goal.returns-in_err-queued-clause-looked
+returns-in_err-queued-clause-looked g c =
+    looked_still c.args.shown.now c.args.watchers.now.part c.args.watcher.0 c.registrations.ensures.serials c.args.findings.now c.loop-registration.findings c.settle.new.self c.loop-registration.invariant.looked
+    c.settle.ensures.seen c.settle.ensures.touches
+
+pub returns-in_err-queued-clause-refused : goal.returns-in_err-queued-clause-refused
+returns-in_err-queued-clause-refused g c =
+    let shown = c.args.shown.now in
+    let page = c.document_count.ensures.page in
+    let was = c.args.watchers.now.part in
+    let watcher = c.args.watcher.0 in
+    let names = c.deref-registration-items.result.now in
+    let k = c.loop-registration.registration-index in
+    let none : RegistrationId = record { 0 = 0 } in
+    let serial = (get_or names k none).0 in
+    let below : k < length names = omega arith in
+    λ chained.
+    let same = numbers_are shown chained c.args.time watcher was c.args.findings.now names c.in_ok-stale.stale.items c.look.new.self c.deref-registration-items.ensures.value c.look.ensures.kept c.in_ok-stale.ensures.stale in
+    let at = next_of shown chained c.args.time watcher was c.args.findings.now page c.registrations.ensures.serials names none k same below in
+    let stands_there = stands shown chained c.args.time watcher was c.args.findings.now page c.registrations.ensures.serials k serial was at (carried_same was) in
+    let stops = stopped_at shown chained c.args.time watcher was c.args.findings.now page c.registrations.ensures.serials c.requires.registered k serial c.settle.new.watchers.part at
+    (subst (λ n. k < n) (sym (as_many shown chained c.args.time watcher was c.args.findings.now names same)) below)
+    (ap (λ (it : HeldWatchers). it.part) c.in_err-queued.ensures.same ∙ c.loop-registration.invariant.settled chained) in
     on_err c.from_residual-in_err-queued.result
-    (stopped_at shown chained c.args.time c.args.watcher.0 was c.args.findings.now page c.registrations.ensures.serials c.requires.registered k c.settle.new.watchers.part
-    (subst (λ n. k < n) (sym (as_many shown chained c.args.time c.args.watcher.0 was c.args.findings.now names same)) below)
-    (ap (λ (it : HeldWatchers). it.part) c.in_err-queued.ensures.same ∙ c.loop-registration.invariant.settled chained))
+    (record {
+      begun = stops.begun;
+      rest = kept_but_one shown chained was watcher serial c.args.findings.now.kept c.loop-registration.findings.kept c.settle.new.self.kept names k (c.loop-registration.invariant.so_far chained)
+          (stale_at shown chained was watcher c.args.findings.now.kept names k none same below) (watcher_is was watcher serial stands_there) c.settle.ensures.others
+          stops.begun.place stops.here c.in_err-queued.ensures.expired;
+    })
+
+pub returns-in_err-stale-clause-looked : goal.returns-in_err-stale-clause-looked
+returns-in_err-stale-clause-looked g c =
+    looked_along c.args.shown.now c.args.watchers.now.part c.args.watcher.0 c.registrations.ensures.serials c.args.findings.now c.look.new.self c.stale_registrations.new.self c.look.new.looks
+    c.look.ensures.looked c.look.ensures.known c.look.ensures.noted c.look.ensures.left c.stale_registrations.ensures.seen c.stale_registrations.ensures.touches
+
+pub returns-in_err-stale-clause-same : goal.returns-in_err-stale-clause-same
+returns-in_err-stale-clause-same g c = λ chained serial is. ap (λ (kept : FinMap nat_cmp (Option Kept)). kept_of kept serial) (c.stale_registrations.ensures.kept ∙ c.look.ensures.kept)
+
+pub returns-in_err-stale-clause-others : goal.returns-in_err-stale-clause-others
+returns-in_err-stale-clause-others g c = λ serial apart. ap (λ (kept : FinMap nat_cmp (Option Kept)). kept_of kept serial) (c.stale_registrations.ensures.kept ∙ c.look.ensures.kept)
+
+pub returns-in_err-stale-clause-refused : goal.returns-in_err-stale-clause-refused
+returns-in_err-stale-clause-refused g c = λ chained.
+    on_err c.from_residual.result
+    (record {
+      begun = record { place = 0; settled = refl };
+      rest = λ serial. inl (ap (λ (kept : FinMap nat_cmp (Option Kept)). kept_of kept serial) (c.stale_registrations.ensures.kept ∙ c.look.ensures.kept));
+    })
 
 pub loop-registration-preserved : goal.loop-registration-preserved
 loop-registration-preserved g c =
@@ -141,6 +238,16 @@ loop-registration-preserved g c =
       registered = c.settle.ensures.registered;
       room = room_same (length shown.tree.elements) (length shown.tree.documents) c.loop-registration.findings c.settle.new.self c.settle.ensures.seen c.settle.ensures.touches so_far.room;
       known = c.settle.ensures.known;
+      looked = looked_still shown was.part watcher c.registrations.ensures.serials c.args.findings.now c.loop-registration.findings c.settle.new.self so_far.looked c.settle.ensures.seen c.settle.ensures.touches;
+      so_far = λ any.
+          let listed = numbers_are shown any c.args.time watcher was.part c.args.findings.now names c.in_ok-stale.stale.items c.look.new.self c.deref-registration-items.ensures.value c.look.ensures.kept c.in_ok-stale.ensures.stale in
+          let stands_there = stands shown any c.args.time watcher was.part c.args.findings.now page c.registrations.ensures.serials k serial was.part
+          (next_of shown any c.args.time watcher was.part c.args.findings.now page c.registrations.ensures.serials names none k listed below) (carried_same was.part) in
+          one_more shown any was.part watcher serial c.args.findings.now.kept c.loop-registration.findings.kept c.settle.new.self.kept names k (so_far.so_far any)
+          (stale_at shown any was.part watcher c.args.findings.now.kept names k none listed below) (watcher_is was.part watcher serial stands_there) c.settle.ensures.others
+          refl
+          (sym (stale_still was.part now.part so_far.kept.carried serial (scene_of shown) (standings_of shown) any c.settle.new.self.kept)
+          ∙ c.in_ok-queued.ensures.fresh (spots_between (scene_of shown) (standings_of shown) any now.part) (is_between (scene_of shown) (standings_of shown) any now.part serial));
       walked = subst (λ (seen : Seen). All (IsWalked (scene_of shown) (standings_of shown) was.part seen) (serials_at was.part watcher)) (sym c.settle.ensures.seen) so_far.walked;
     }
 
@@ -160,3 +267,24 @@ returns-clause-settled g c =
     (c.loop-registration.invariant.settled chained
     ∙ stale_settled shown chained c.args.time watcher was.part c.args.findings.now page c.registrations.ensures.serials c.requires.registered k
     (subst (λ n. n ≤ k) (sym (as_many shown chained c.args.time watcher was.part c.args.findings.now names same)) past))
+
+pub returns-clause-others : goal.returns-clause-others
+returns-clause-others g c = (c.loop-registration.invariant.so_far (chained_of c.args.shown.now c.document_count.ensures.page)).others
+
+pub returns-clause-fresh : goal.returns-clause-fresh
+returns-clause-fresh g c =
+    let shown = c.args.shown.now in
+    let was = c.args.watchers.now.part in
+    let watcher = c.args.watcher.0 in
+    let names = c.deref-registration-items.result.now in
+    let k = c.loop-registration.registration-index in
+    let past : length names ≤ k = omega arith in
+    λ chained.
+    none_stale shown chained was watcher c.args.findings.now.kept c.loop-registration.findings.kept names k (c.loop-registration.invariant.so_far chained) past
+    (numbers_are shown chained c.args.time watcher was c.args.findings.now names c.in_ok-stale.stale.items c.look.new.self c.deref-registration-items.ensures.value c.look.ensures.kept c.in_ok-stale.ensures.stale)
+
+pub returns-clause-same : goal.returns-clause-same
+returns-clause-same g c = λ chained. (c.loop-registration.invariant.so_far chained).same
+
+pub returns-clause-rest : goal.returns-clause-rest
+returns-clause-rest g c = λ chained. (c.loop-registration.invariant.so_far chained).rest

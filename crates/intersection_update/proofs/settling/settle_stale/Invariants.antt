@@ -9,7 +9,8 @@ use Rattle.kept_findings.specs.Registered.{AreRegistered}
 use Rattle.kept_findings.specs.Rooms.{HaveRoom}
 use Rattle.page_geometry.specs.Scenes.{standings_of}
 use Rattle.intersection_update.specs.Updating.{AreKept}
-use Rattle.intersection_update.specs.Keeping.{HaveChains, HaveLooked}
+use Rattle.intersection_update.specs.Keeping.{HaveChains, AreLookedAlong, HaveLooked}
+use Rattle.intersection_update.proofs.Keeping.{SoFar}
 use Rattle.intersection_update.proofs.Stale.{first_stale}
 use Rattle.intersection_update.proofs.settling.settle_stale.Given as goal
 
@@ -25,5 +26,7 @@ invariant-loop-registration g l =
       registered : AreRegistered l.watchers.part l.findings;
       room : HaveRoom (length l.shown.tree.elements) (length l.shown.tree.documents) l.findings;
       known : HaveLooked l.shown l.findings.seen l.looks;
+      looked : AreLookedAlong l.shown was.part watcher l.fn.findings l.findings;
+      so_far : (chained : HaveChains l.shown) → SoFar l.shown chained was.part watcher l.fn.findings.kept l.findings.kept l.registration-items l.registration-index;
       walked : All (IsWalked (scene_of l.shown) (standings_of l.shown) was.part l.findings.seen) (serials_at was.part watcher);
     }

@@ -1,23 +1,110 @@
-use Rattle.std.proofs.Common.{◌≡◌, ◌<◌, ◌∙◌, ◌||◌, length, true, false, ap, sym, subst, arith}
+use Rattle.std.proofs.Common.{◌≡◌, ◌<◌, ◌+◌, ◌∙◌, length, Some, refl, ap, sym, subst, inl, arith}
 use Rattle.page_model.specs.World.{Tree}
 use Rattle.page_model.specs.Intersections.{is_rooted_in}
+use Rattle.clip_chain.specs.Worlds.{scene_of}
 use Rattle.intersection_observer.specs.Watchers.{HeldWatchers, watcher_at}
+use Rattle.kept_clips.specs.Seen.{sighting_of, sighting_in}
+use Rattle.kept_clips.proofs.Looking.{changes_none}
 use Rattle.kept_findings.specs.Held.{HeldFindings}
 use Rattle.kept_findings.specs.Looks.{LookedAt}
 use Rattle.kept_findings.specs.Registered.{AreRegistered}
 use Rattle.kept_findings.specs.Rooms.{HaveRoom}
+use Rattle.page_geometry.specs.Scenes.{standings_of}
+use Rattle.page_geometry.proofs.Scenes.{chained_of}
 use Rattle.intersection_update.specs.Updating.{AreKept}
 use Rattle.intersection_update.specs.Keeping.{HaveLooked}
+use Rattle.intersection_update.proofs.Carried.{along_still, stale_still}
+use Rattle.intersection_update.proofs.Observers.{Looks, looks_more, looks_skip, Leaves, same_next, others_next, kept_to, leaves_more, leaves_skip, looked_at_before, there_is}
 use Rattle.intersection_update.proofs.Settled.{kept_then}
-use Rattle.intersection_update.proofs.Updates.{rooted_settled, rooted_same, next_observer, next_told, skipped_told, all_observers, all_told, stopped_at, on_err}
+use Rattle.intersection_update.proofs.Updates.{rooted_settled, rooted_same, next_observer, next_told, skipped_told, all_observers, all_told, stopped_settled, stopped_at, on_err}
 use Rattle.intersection_update.proofs.settling.update.Goals as goal
 use Rattle.intersection_update.proofs.settling.update.Goals.{then-is_looked_at+in_ok-queued, else-is_looked_at}
+
+pub returns-in_err-looks-clause-stopped : goal.returns-in_err-looks-clause-stopped
+returns-in_err-looks-clause-stopped g c = on_err c.from_residual.result (record { number = 0; place = 0; settled = refl })
+
+pub returns-in_err-looks-clause-refused : goal.returns-in_err-looks-clause-refused
+returns-in_err-looks-clause-refused g c = λ chained. on_err c.from_residual.result (record { stopped = record { number = 0; place = 0; settled = refl }; rest = λ serial. inl refl })
+
+pub returns-in_err-looks-clause-touched : goal.returns-in_err-looks-clause-touched
+returns-in_err-looks-clause-touched g c = changes_none (scene_of c.args.shown.now) c.args.findings.now.seen c.args.findings.now.clips.touches
 
 pub returns-in_err-queued-clause-stopped : goal.returns-in_err-queued-clause-stopped
 returns-in_err-queued-clause-stopped g c =
     on_err c.from_residual-in_err-queued.result
     (stopped_at c.args.shown.now c.args.shown.now.tree c.args.document c.args.time c.args.watchers.now c.loop-number.number c.loop-number.watchers c.settle_stale.new.watchers
     c.loop-number.invariant.kept.given c.loop-number.invariant.settled c.in_err-queued.ensures.stopped)
+
+pub returns-in_err-queued-clause-touched : goal.returns-in_err-queued-clause-touched
+returns-in_err-queued-clause-touched g c =
+    let shown = c.args.shown.now in
+    let document = c.args.document in
+    let was = c.args.watchers.now.part in
+    let it = c.loop-number.watchers.part in
+    let number = c.loop-number.number in
+    let so_far = c.loop-number.invariant in
+    let carried = so_far.kept.carried in
+    let rooted = sym (c.is_looked_at.ensures ∙ ap (λ (tree : Tree). is_rooted_in tree document (watcher_at c.loop-number.watchers number).root) c.page.ensures) ∙ c.if-is_looked_at.true in
+    (looks_more shown document was it carried number c.args.findings.now c.loop-number.findings c.settle_stale.new.findings rooted so_far.looks c.settle_stale.ensures.looked).touched
+
+pub returns-in_err-queued-clause-left : goal.returns-in_err-queued-clause-left
+returns-in_err-queued-clause-left g c =
+    let shown = c.args.shown.now in
+    let document = c.args.document in
+    let was = c.args.watchers.now.part in
+    let it = c.loop-number.watchers.part in
+    let number = c.loop-number.number in
+    let so_far = c.loop-number.invariant in
+    let carried = so_far.kept.carried in
+    let rooted = sym (c.is_looked_at.ensures ∙ ap (λ (tree : Tree). is_rooted_in tree document (watcher_at c.loop-number.watchers number).root) c.page.ensures) ∙ c.if-is_looked_at.true in
+    (looks_more shown document was it carried number c.args.findings.now c.loop-number.findings c.settle_stale.new.findings rooted so_far.looks c.settle_stale.ensures.looked).left
+
+pub returns-in_err-queued-clause-kept : goal.returns-in_err-queued-clause-kept
+returns-in_err-queued-clause-kept g c =
+    let shown = c.args.shown.now in
+    let document = c.args.document in
+    let was = c.args.watchers.now.part in
+    let it = c.loop-number.watchers.part in
+    let number = c.loop-number.number in
+    let so_far = c.loop-number.invariant in
+    let carried = so_far.kept.carried in
+    λ chained.
+    same_next shown chained document was it carried number c.args.findings.now.kept c.loop-number.findings.kept c.settle_stale.new.findings.kept (so_far.leaves chained) (c.settle_stale.ensures.same chained) c.settle_stale.ensures.others
+
+pub returns-in_err-queued-clause-others : goal.returns-in_err-queued-clause-others
+returns-in_err-queued-clause-others g c =
+    let shown = c.args.shown.now in
+    let document = c.args.document in
+    let was = c.args.watchers.now.part in
+    let it = c.loop-number.watchers.part in
+    let number = c.loop-number.number in
+    let so_far = c.loop-number.invariant in
+    let carried = so_far.kept.carried in
+    let rooted = sym (c.is_looked_at.ensures ∙ ap (λ (tree : Tree). is_rooted_in tree document (watcher_at c.loop-number.watchers number).root) c.page.ensures) ∙ c.if-is_looked_at.true in
+    let chained = chained_of shown c.document_count.ensures.page in
+    others_next shown chained document was it carried number c.args.findings.now.kept c.loop-number.findings.kept c.settle_stale.new.findings.kept (so_far.leaves chained) (c.settle_stale.ensures.same chained) c.settle_stale.ensures.others rooted
+
+pub returns-in_err-queued-clause-refused : goal.returns-in_err-queued-clause-refused
+returns-in_err-queued-clause-refused g c =
+    let shown = c.args.shown.now in
+    let document = c.args.document in
+    let was = c.args.watchers.now.part in
+    let it = c.loop-number.watchers.part in
+    let number = c.loop-number.number in
+    let so_far = c.loop-number.invariant in
+    let carried = so_far.kept.carried in
+    λ chained.
+    let refused = c.in_err-queued.ensures.refused chained in
+    on_err c.from_residual-in_err-queued.result
+    (record {
+      stopped = record {
+        number = number;
+        place = refused.begun.place;
+        settled = stopped_settled shown shown.tree document c.args.time c.args.watchers.now number c.loop-number.watchers c.settle_stale.new.watchers so_far.kept.given so_far.settled refused.begun;
+      };
+      rest = kept_to shown chained document was it carried number c.args.findings.now.kept c.loop-number.findings.kept c.settle_stale.new.findings.kept (so_far.leaves chained) (c.settle_stale.ensures.same chained) c.settle_stale.ensures.others
+          refused.begun.place refused.rest;
+    })
 
 pub loop-number-preserved : goal.loop-number-preserved
 loop-number-preserved g c =
@@ -45,6 +132,12 @@ loop-number-preserved g c =
             room = subst (HaveRoom elements documents) (sym w.findings-is) w.settle_stale.ensures.room;
             known = subst (λ (it : HeldFindings). HaveLooked shown it.seen c.if-is_looked_at.looks) (sym w.findings-is)
                 (subst (λ (it : LookedAt). HaveLooked shown w.settle_stale.new.findings.seen it) (sym w.looks-is) w.settle_stale.ensures.known);
+            looks = subst (Looks shown c.args.document was.part (number + 1) c.args.findings.now) (sym w.findings-is)
+                (looks_more shown c.args.document was.part now.part so_far.kept.carried number c.args.findings.now c.loop-number.findings w.settle_stale.new.findings (sym looked ∙ w.if-is_looked_at.true) so_far.looks w.settle_stale.ensures.looked);
+            leaves = λ chained.
+                subst (λ (it : HeldFindings). Leaves shown chained c.args.document was.part (number + 1) c.args.findings.now.kept it.kept) (sym w.findings-is)
+                (leaves_more shown chained c.args.document was.part now.part so_far.kept.carried number c.args.findings.now.kept c.loop-number.findings.kept w.settle_stale.new.findings.kept (so_far.leaves chained)
+                (w.settle_stale.ensures.same chained) w.settle_stale.ensures.others (sym looked ∙ w.if-is_looked_at.true) (w.in_ok-queued.ensures.fresh chained) (w.in_ok-queued.ensures.rest chained));
             end = so_far.end;
           }
       | else-is_looked_at w ↦
@@ -58,6 +151,11 @@ loop-number-preserved g c =
             room = subst (HaveRoom elements documents) (sym w.findings-is) so_far.room;
             known = subst (λ (it : HeldFindings). HaveLooked shown it.seen c.if-is_looked_at.looks) (sym w.findings-is)
                 (subst (λ (it : LookedAt). HaveLooked shown c.loop-number.findings.seen it) (sym w.looks-is) so_far.known);
+            looks = subst (Looks shown c.args.document was.part (number + 1) c.args.findings.now) (sym w.findings-is)
+                (looks_skip shown c.args.document was.part now.part so_far.kept.carried number c.args.findings.now c.loop-number.findings (sym looked ∙ w.if-is_looked_at.false) so_far.looks);
+            leaves = λ chained.
+                subst (λ (it : HeldFindings). Leaves shown chained c.args.document was.part (number + 1) c.args.findings.now.kept it.kept) (sym w.findings-is)
+                (leaves_skip shown chained c.args.document was.part now.part so_far.kept.carried number c.args.findings.now.kept c.loop-number.findings.kept (sym looked ∙ w.if-is_looked_at.false) (so_far.leaves chained));
             end = so_far.end;
           }
     ]
@@ -71,3 +169,39 @@ pub returns-clause-queued : goal.returns-clause-queued
 returns-clause-queued g c =
     all_told c.args.shown.now c.args.shown.now.tree c.args.document c.args.time c.args.watchers.now c.loop-number.number c.loop-number.queued
     (omega (arith, c.loop-number.invariant.end, c.loop-number-test.false, c.loop-number.auto.number-end)) c.loop-number.invariant.queued
+
+pub returns-clause-touched : goal.returns-clause-touched
+returns-clause-touched g c = c.loop-number.invariant.looks.touched
+
+pub returns-clause-left : goal.returns-clause-left
+returns-clause-left g c = c.loop-number.invariant.looks.left
+
+pub returns-clause-seen : goal.returns-clause-seen
+returns-clause-seen g c =
+    let shown = c.args.shown.now in
+    let was = c.args.watchers.now.part in
+    let it = c.loop-number.watchers.part in
+    let carried = c.loop-number.invariant.kept.carried in
+    λ serial looked.
+    let before = looked_at_before shown c.args.document was it carried serial looked in
+    along_still was it carried serial (scene_of shown) (standings_of shown) (λ spot. sighting_of c.loop-number.findings.seen spot ≡ Some (sighting_in (scene_of shown) spot))
+    (c.loop-number.invariant.looks.seen serial before
+    (omega (arith, there_is shown c.args.document was serial before, c.loop-number.invariant.end, c.loop-number-test.false, c.loop-number.auto.number-end)))
+
+pub returns-clause-kept : goal.returns-clause-kept
+returns-clause-kept g c = λ chained. (c.loop-number.invariant.leaves chained).same
+
+pub returns-clause-others : goal.returns-clause-others
+returns-clause-others g c = (c.loop-number.invariant.leaves (chained_of c.args.shown.now c.document_count.ensures.page)).others
+
+pub returns-clause-fresh : goal.returns-clause-fresh
+returns-clause-fresh g c =
+    let shown = c.args.shown.now in
+    let was = c.args.watchers.now.part in
+    let it = c.loop-number.watchers.part in
+    let carried = c.loop-number.invariant.kept.carried in
+    λ chained serial looked.
+    let before = looked_at_before shown c.args.document was it carried serial looked in
+    stale_still was it carried serial (scene_of shown) (standings_of shown) chained c.loop-number.findings.kept
+    ∙ (c.loop-number.invariant.leaves chained).fresh serial before
+    (omega (arith, there_is shown c.args.document was serial before, c.loop-number.invariant.end, c.loop-number-test.false, c.loop-number.auto.number-end))

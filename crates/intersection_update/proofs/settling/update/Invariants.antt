@@ -2,7 +2,8 @@ use Rattle.std.proofs.Common.{◌≡◌, length}
 use Rattle.kept_findings.specs.Registered.{AreRegistered}
 use Rattle.kept_findings.specs.Rooms.{HaveRoom}
 use Rattle.intersection_update.specs.Updating.{AreKept}
-use Rattle.intersection_update.specs.Keeping.{HaveLooked}
+use Rattle.intersection_update.specs.Keeping.{HaveChains, HaveLooked}
+use Rattle.intersection_update.proofs.Observers.{Looks, Leaves}
 use Rattle.intersection_update.proofs.Updates.{first_observers, first_told}
 use Rattle.intersection_update.proofs.settling.update.Given as goal
 
@@ -14,5 +15,7 @@ invariant-loop-number g l = record {
   registered : AreRegistered l.watchers.part l.findings;
   room : HaveRoom (length l.shown.tree.elements) (length l.shown.tree.documents) l.findings;
   known : HaveLooked l.shown l.findings.seen l.looks;
+  looks : Looks l.shown l.document l.fn.watchers.part l.number l.fn.findings l.findings;
+  leaves : (chained : HaveChains l.shown) → Leaves l.shown chained l.document l.fn.watchers.part l.number l.fn.findings.kept l.findings.kept;
   end : l.number-end ≡ length l.fn.watchers.part.made;
 }
