@@ -12,4 +12,3 @@ pub mod Nothing
 pub mod Reaching
 pub mod Edges
 pub mod InForce
-pub mod Rects

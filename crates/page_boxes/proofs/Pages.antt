@@ -68,15 +68,15 @@ module _ (tree : Tree) (screen : Screen) (n : ℕ) where
       let found = some_found (inputs_in_view (nodes_of tree) (view_at tree screen n) n) (sym boxed_is ∙ boxed) in
       held_fresh (nodes_of tree) kept n found.0 (fresh.boxes n found.0 found.1) ∙ sym (box_here found.0 found.1)
 
-no_screen : Screen
+pub no_screen : Screen
 no_screen = record { size = no_extent }
 
-pub made_if_boxed : (tree : Tree) (n : ℕ) (boxed : Bool) → ((screen : Screen) → boxed ≡ has_box tree screen n) → boxed ≡ true → n < length tree.elements
-made_if_boxed tree n boxed says is = by_test (nat_lt n (length tree.elements)) refl
+pub made_if_boxed : (tree : Tree) (screen : Screen) (n : ℕ) → has_box tree screen n ≡ true → n < length tree.elements
+made_if_boxed tree screen n boxed = by_test (nat_lt n (length tree.elements)) refl
   where
     by_test : (b : Bool) → nat_lt n (length tree.elements) ≡ b → n < length tree.elements
-    by_test true e = grind (arith, nat_tests)
-    by_test false e = let clash : true ≡ false = sym is ∙ says no_screen ∙ absent_no_box tree no_screen n e in cc
+    by_test true is = grind (arith, nat_tests)
+    by_test false is = let clash : true ≡ false = sym boxed ∙ absent_no_box tree screen n is in cc
 
 -- viewports
 both_mapped : {A B C : Type 0} (f : A → B) (g : B → C) (found : Option A) → option_map (λ x. g (f x)) found ≡ option_map g (option_map f found)

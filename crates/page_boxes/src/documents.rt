@@ -1,10 +1,10 @@
 //! What documents show: whether an element has a box, and the size of a viewport (CSS 2.2, 9.2.4 and 10.1; CSSOM View, 4).
 
-ghost use Rattle.std.specs.Prelude.{◌≡◌, ◌<◌, ◌≤◌, Some, None, IfSome, length, option_map};
+ghost use Rattle.std.specs.Prelude.{◌≡◌, IfSome, option_map};
 ghost use Rattle.element_tree.specs.Links.{number};
 ghost use Rattle.page_model.specs.World.{Screen as WorldScreen};
 ghost use Rattle.page_model.specs.Lookups.{element_at, document_at};
-ghost use Rattle.page_model.specs.PageBoxes.{pair_of, view_up, view_with, view_of, framed_size, viewport_of, has_box, box_of};
+ghost use Rattle.page_model.specs.PageBoxes.{pair_of, view_up, view_of, view_at, framed_size, viewport_of, has_box, box_of};
 ghost use Rattle.block_layout.specs.Seen.{as_size};
 ghost use Rattle.page_tree.specs.Items.{IsNatural};
 ghost use Rattle.page_boxes.specs.Fresh.{IsFreshIn, IsFreshAbove};
@@ -26,8 +26,8 @@ const NO_SIZE: Size = Size {
     height: 0,
 };
 
-// The root element that a document shows, none where it isn't Active or its frame has no box. So many frames are looked at.
-fn shown_root(page: &PageTree, document: u32, high: u32) -> Option<NodeId>
+// The root element that a document shows, where so many frames are looked at.
+fn root_up(page: &PageTree, document: u32, high: u32) -> Option<NodeId>
     ensures { (screen : WorldScreen) → option_map number result ≡ (view_up high page.now.tree screen document).root }
 {
     if high == 0 {
@@ -40,7 +40,7 @@ fn shown_root(page: &PageTree, document: u32, high: u32) -> Option<NodeId>
     let Some(frame) = page.frame_of(document) else {
         return root;
     };
-    let around = shown_root(page, page.document_of(frame), high - 1);
+    let around = root_up(page, page.document_of(frame), high - 1);
     if is_boxed(page.tree(), around, frame) {
         root
     } else {
@@ -48,18 +48,45 @@ fn shown_root(page: &PageTree, document: u32, high: u32) -> Option<NodeId>
     }
 }
 
-/// Whether an element has a box (CSS 2.2, 9.2.4): it stands in the tree of an Active document, that is `top` or its frame has a
-/// box, neither the element nor an ancestor has `display: none`, and each proper ancestor is a block.
+/// The root element that a document shows: none where it isn't Active or its frame has no box. No memory.
 ///
-/// It calls itself once for each frame around the element.
-pub fn has_box(page: &PageTree, node: NodeId) -> bool
-    ensures { (screen : WorldScreen) → result ≡ has_box page.now.tree screen node.0 }
+/// It calls itself once for each frame around the document.
+pub fn shown_root(page: &PageTree, document: u32) -> Option<NodeId>
+    ensures { (screen : WorldScreen) → option_map number result ≡ (view_of page.now.tree screen document).root }
+{
+    root_up(page, document, LEVELS)
+}
+
+/// Whether an element has a box where its document shows this root element (`has_box`). No memory.
+pub fn has_box_below(page: &PageTree, root: Option<NodeId>, node: NodeId) -> bool
+    ensures { (screen : WorldScreen) → option_map number root ≡ (view_at page.now.tree screen node.0).root → result ≡ has_box page.now.tree screen node.0 }
 {
     if !page.holds(node) {
         return false;
     }
-    let root = shown_root(page, page.document_of(node), LEVELS);
     is_boxed(page.tree(), root, node)
+}
+
+/// Whether an element has a box (CSS 2.2, 9.2.4): it stands in the tree of an Active document, that is `top` or its frame has a
+/// box, neither the element nor an ancestor has `display: none`, and each proper ancestor is a block. No memory.
+pub fn has_box(page: &PageTree, node: NodeId) -> bool
+    ensures { (screen : WorldScreen) → result ≡ has_box page.now.tree screen node.0 }
+{
+    let root = shown_root(page, page.document_of(node));
+    has_box_below(page, root, node)
+}
+
+/// The box of an element where its document shows this root element, none where it has none. It is so where the boxes of its
+/// document are held as they are now. No memory.
+pub fn box_below(page: &PageTree, boxes: &Kept, root: Option<NodeId>, node: NodeId) -> Option<BoxOf>
+    ensures { (screen : WorldScreen) → option_map number root ≡ (view_at page.now.tree screen node.0).root →
+        IsFreshIn page.now.tree screen boxes.now (element_at page.now.tree node.0).document → result ≡ box_of page.now.tree screen node.0 }
+{
+    if has_box_below(page, root, node) {
+        boxes.box_of(node)
+    } else {
+        None
+    }
 }
 
 // The box of an element, none where it has none.
@@ -67,11 +94,8 @@ pub(crate) fn own_box(page: &PageTree, boxes: &Kept, node: NodeId) -> Option<Box
     ensures { (screen : WorldScreen) → IsFreshIn page.now.tree screen boxes.now (element_at page.now.tree node.0).document →
         result ≡ box_of page.now.tree screen node.0 }
 {
-    if has_box(page, node) {
-        boxes.box_of(node)
-    } else {
-        None
-    }
+    let root = shown_root(page, page.document_of(node));
+    box_below(page, boxes, root, node)
 }
 
 // The size of a document's viewport, none where its frame has no box.
@@ -94,37 +118,13 @@ pub(crate) fn framed_size(
     }
 }
 
-// The root element that a document shows, and the size of the viewport that it is shown in.
+/// The root element that a document shows, and the size of the viewport that it is shown in.
 #[derive(Clone, Copy, Debug, PartialEq, Eq)]
-pub(crate) struct Shown {
-    pub(crate) root: NodeId,
-    pub(crate) size: Size,
-}
-
-// What a document shows: nothing where it isn't Active, has no root element, or its frame has no box.
-pub(crate) fn shown_in(
-    page: &PageTree,
-    boxes: &Kept,
-    screen: Screen,
-    document: u32,
-) -> Option<Shown>
-    ensures nothing { IsFreshAbove page.now.tree (seen_screen screen) boxes.now document → result ≡ None →
-        (view_of page.now.tree (seen_screen screen) document).root ≡ None }
-    ensures shown { IsFreshAbove page.now.tree (seen_screen screen) boxes.now document → IfSome result (λ shown.
-        view_of page.now.tree (seen_screen screen) document ≡ view_with (Some shown.root.0) (Some (seen_pair shown.size))) }
-    ensures top { IfSome result (λ shown. (element_at page.now.tree shown.root.0).parent ≡ None) }
-    ensures made { IfSome result (λ shown. shown.root.0 < length page.now.tree.elements) }
-{
-    if !page.is_active(document) {
-        return None;
-    }
-    let Some(root) = page.root(document) else {
-        return None;
-    };
-    match framed_size(page, boxes, screen, document) {
-        Some(size) => Some(Shown { root, size }),
-        None => None,
-    }
+pub struct ShownRoot {
+    /// The root element.
+    pub root: NodeId,
+    /// The size of the viewport.
+    pub size: Size,
 }
 
 /// The size of a document's viewport (CSSOM View, 4: `innerWidth`, `innerHeight`): for `top` that of its screen, and for

@@ -4,26 +4,22 @@
 ghost use Rattle.std.specs.Prelude.{◌≡◌, ◌<◌, ℕ, true, Some, None, IfSome, length, is_some};
 ghost use Rattle.layout_model.specs.Points.{IsWithin};
 ghost use Rattle.layout_model.specs.Reach.{View, inputs_in_view, offset_in_force, range_of_view};
-ghost use Rattle.page_model.specs.World.{Screen as WorldScreen, ScrolledElement, ScrolledDocument};
-ghost use Rattle.page_model.specs.Lookups.{element_at, no_extent};
+ghost use Rattle.page_model.specs.Lookups.{no_extent};
 ghost use Rattle.page_model.specs.Scrolls.{position_of, lesser_extent};
-ghost use Rattle.page_model.specs.PageBoxes.{pair_of, extent_of, view_with, stored_in, scroll_offset};
+ghost use Rattle.page_model.specs.PageBoxes.{extent_of, view_with, stored_in};
 ghost use Rattle.scrolling.specs.Seen.{seen_target, point_of};
 ghost use Rattle.block_layout.specs.Seen.{as_point};
 ghost use Rattle.block_layout.specs.Trees.{layout_tree};
-ghost use Rattle.page_tree.specs.Items.{IsNatural};
-ghost use Rattle.page_boxes.specs.Fresh.{HoldsAll, IsFresh, IsFreshIn, IsFreshAbove};
-ghost use Rattle.page_boxes.specs.Pages.{seen_screen, seen_pair};
+ghost use Rattle.page_boxes.specs.Fresh.{HoldsAll};
+ghost use Rattle.page_boxes.specs.Pages.{seen_pair};
 ghost use Rattle.page_boxes.specs.Ranges.{IsOffset};
 
-use crate::documents::{Shown, has_box, shown_in};
+use crate::documents::ShownRoot;
 use crate::least::{last_range, root_range};
 use crate::ranges::{boxed_range, shown_range};
-use crate::screens::Screen;
 use block_layout::Styled;
 use element_tree::{NodeId, Tree};
 use kept_layout::Kept;
-use page_tree::PageTree;
 use px_units::{Point, Size};
 use scrolling::{ScrollTarget, Scrolls};
 
@@ -35,8 +31,8 @@ const FARTHEST: Size = Size {
     height: 2_147_483_647,
 };
 
-// Whether the stored position of a target is the start.
-fn is_at_start(scrolls: &Scrolls, target: ScrollTarget) -> bool
+/// Whether the stored position of a target is the start, where nothing is scrolled whatever its range. No memory.
+pub fn is_at_start(scrolls: &Scrolls, target: ScrollTarget) -> bool
     ensures { result ≡ true → position_of (seen_target target) scrolls.now ≡ no_extent }
 {
     let stored = scrolls.offset_in_force(target, FARTHEST);
@@ -57,8 +53,9 @@ fn stored_within(scrolls: &Scrolls, target: ScrollTarget, least: Size) -> Option
     }
 }
 
-// The scroll offset in force of a node that has a box.
-pub(crate) fn boxed_offset<P: Styled>(
+/// The scroll offset in force of a node that has a box (CSSOM View, 6: `scrollTop`): on each axis the lesser of the stored position
+/// and of how far it can be scrolled. It is so where the boxes in its view are held as they are now. No memory.
+pub fn boxed_offset<P: Styled>(
     tree: &Tree<P>,
     boxes: &Kept,
     scrolls: &Scrolls,
@@ -83,26 +80,14 @@ pub(crate) fn boxed_offset<P: Styled>(
     }
 }
 
-// The scroll offset in force of an element.
-fn element_offset(page: &PageTree, boxes: &Kept, scrolls: &Scrolls, node: NodeId) -> Point
-    ensures value { (screen : WorldScreen) → IsFreshIn page.now.tree screen boxes.now (element_at page.now.tree node.0).document →
-        result ≡ as_point (pair_of (scroll_offset page.now.tree screen scrolls.now (ScrolledElement node.0))) }
-    ensures range { IsOffset result }
-{
-    if has_box(page, node) {
-        boxed_offset(page.tree(), boxes, scrolls, node)
-    } else {
-        ORIGIN
-    }
-}
-
-// The scroll offset in force of the viewport in which a root element is shown.
-fn shown_offset<P: Styled>(
+/// The scroll offset in force of the viewport in which a root element is shown (CSSOM View, 4: `scrollY`). It is so where the boxes
+/// in its view are held as they are now. No memory.
+pub fn shown_offset<P: Styled>(
     tree: &Tree<P>,
     boxes: &Kept,
     scrolls: &Scrolls,
     target: ScrollTarget,
-    shown: Shown,
+    shown: ShownRoot,
 ) -> Point
     requires { shown.root.0 < length tree.now.nodes }
     ensures value { let at = layout_tree P.style P.kind tree.now.nodes in (at shown.root.0).parent ≡ None → (view : View) →
@@ -113,49 +98,5 @@ fn shown_offset<P: Styled>(
     match stored_within(scrolls, target, root_range(tree, boxes, shown)) {
         Some(stored) => stored,
         None => scrolls.offset_in_force(target, shown_range(tree, boxes, shown)),
-    }
-}
-
-// The scroll offset in force of a document's viewport.
-pub(crate) fn view_offset(
-    page: &PageTree,
-    boxes: &Kept,
-    scrolls: &Scrolls,
-    screen: Screen,
-    document: u32,
-) -> Point
-    ensures value { IsFreshAbove page.now.tree (seen_screen screen) boxes.now document →
-        IsFreshIn page.now.tree (seen_screen screen) boxes.now document →
-        result ≡ as_point (pair_of (scroll_offset page.now.tree (seen_screen screen) scrolls.now (ScrolledDocument document))) }
-    ensures range { IsOffset result }
-{
-    let target = ScrollTarget::Document(document);
-    if is_at_start(scrolls, target) {
-        return ORIGIN;
-    }
-    match shown_in(page, boxes, screen, document) {
-        Some(shown) => shown_offset(page.tree(), boxes, scrolls, target, shown),
-        None => ORIGIN,
-    }
-}
-
-/// The scroll offset in force of an element or of a document's viewport (CSSOM View, 4 to 6: `scrollTop`, `scrollY`): on each
-/// axis the lesser of the stored position and of how far it can be scrolled. It is so where the boxes of the page are held as
-/// they are now with this screen of `top`. No memory.
-pub fn offset_of(
-    page: &PageTree,
-    boxes: &Kept,
-    scrolls: &Scrolls,
-    screen: Screen,
-    target: ScrollTarget,
-) -> Point
-    requires { IsNatural screen.size }
-    ensures value { IsFresh page.now.tree (seen_screen screen) boxes.now →
-        result ≡ as_point (pair_of (scroll_offset page.now.tree (seen_screen screen) scrolls.now (seen_target target))) }
-    ensures range { IsOffset result }
-{
-    match target {
-        ScrollTarget::Node(node) => element_offset(page, boxes, scrolls, node),
-        ScrollTarget::Document(document) => view_offset(page, boxes, scrolls, screen, document),
     }
 }

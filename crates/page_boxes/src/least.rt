@@ -16,7 +16,7 @@ ghost use Rattle.page_boxes.specs.Fresh.{HoldsAll};
 ghost use Rattle.page_boxes.specs.Pages.{seen_pair};
 
 use crate::climb::is_hidden;
-use crate::documents::Shown;
+use crate::documents::ShownRoot;
 use crate::ranges::{is_scroll_container, range_between};
 use block_layout::{BoxOf, Boxes, Styled};
 use element_tree::{NodeId, Tree};
@@ -53,7 +53,7 @@ fn edges(corner: Shift, own: &BoxOf, from: Point) -> Size
 }
 
 // The range of the viewport in which a root element is shown by the border box of that element alone.
-pub(crate) fn root_range<P: Styled>(tree: &Tree<P>, boxes: &Kept, shown: Shown) -> Size
+pub(crate) fn root_range<P: Styled>(tree: &Tree<P>, boxes: &Kept, shown: ShownRoot) -> Size
     requires { shown.root.0 < length tree.now.nodes }
     ensures within { let at = layout_tree P.style P.kind tree.now.nodes in (at shown.root.0).parent ≡ None → (view : View) →
         view ≡ view_with (Some shown.root.0) (Some (seen_pair shown.size)) → HoldsAll at view boxes.now →

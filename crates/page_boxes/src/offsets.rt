@@ -1,13 +1,15 @@
 //! How far what lies around a box is scrolled, and where it is then (CSS 2.2, 9.4.1; CSSOM View, 6).
 
-ghost use Rattle.std.specs.Prelude.{◌≡◌, ◌*◌, ◌<◌, ◌≤◌, true, pos, length, is_some, unsigned_abs};
+ghost use Rattle.std.specs.Prelude.{◌≡◌, ◌*◌, ◌<◌, ◌≤◌, ℕ, true, pos, length, is_some, unsigned_abs};
 ghost use Rattle.layout_model.specs.Nodes.{ancestors_of};
 ghost use Rattle.layout_model.specs.Points.{plus, moved, moved_back, sum_points};
-ghost use Rattle.layout_model.specs.Reach.{View, inputs_in_view, offset_in_force};
+ghost use Rattle.layout_model.specs.Places.{place_in};
+ghost use Rattle.layout_model.specs.Reach.{View, inputs_in_view, offset_in_force, view_in_force};
+ghost use Rattle.block_layout.specs.Seen.{as_point};
 ghost use Rattle.block_layout.specs.Trees.{layout_tree};
 ghost use Rattle.page_model.specs.PageBoxes.{point_of, stored_in};
 ghost use Rattle.page_boxes.specs.Fresh.{HoldsAll};
-ghost use Rattle.page_boxes.specs.Ranges.{IsPlace};
+ghost use Rattle.page_boxes.specs.Ranges.{IsOffset, IsPlace};
 
 use crate::in_force::boxed_offset;
 use block_layout::Styled;
@@ -16,7 +18,7 @@ use kept_layout::{Kept, Shift};
 use px_units::Point;
 use scrolling::Scrolls;
 
-pub(crate) fn unsigned(offset: Point) -> Shift
+fn unsigned(offset: Point) -> Shift
     ensures across { result.across ≡ unsigned_abs offset.left }
     ensures down { result.down ≡ unsigned_abs offset.top }
 {
@@ -39,12 +41,7 @@ fn own_scroll<P: Styled>(tree: &Tree<P>, boxes: &Kept, scrolls: &Scrolls, node: 
 }
 
 // How far the ancestors of a node are scrolled.
-pub(crate) fn scrolled<P: Styled>(
-    tree: &Tree<P>,
-    boxes: &Kept,
-    scrolls: &Scrolls,
-    node: NodeId,
-) -> Shift
+fn scrolled<P: Styled>(tree: &Tree<P>, boxes: &Kept, scrolls: &Scrolls, node: NodeId) -> Shift
     ensures value { let at = layout_tree P.style P.kind tree.now.nodes in (view : View) →
         HoldsAll at view boxes.now → is_some (inputs_in_view at view node.0) ≡ true →
         (result.across, result.down) ≡ sum_points (offset_in_force at (stored_in scrolls.now) view) (ancestors_of at node.0) }
@@ -65,7 +62,7 @@ pub(crate) fn scrolled<P: Styled>(
 }
 
 // A place from the corner of a viewport, where what it is in and the viewport are scrolled so far.
-pub(crate) fn moved_back(place: Shift, inner: Shift, view: Shift) -> Point
+fn moved_back(place: Shift, inner: Shift, view: Shift) -> Point
     requires across { place.across ≤ 2147483647 * 256 }
     requires down { place.down ≤ 2147483647 * 256 }
     requires inner_across { inner.across ≤ 2147483647 * 256 }
@@ -81,4 +78,32 @@ pub(crate) fn moved_back(place: Shift, inner: Shift, view: Shift) -> Point
         left: place.across as i64 - (inner.across + view.across) as i64,
         top: place.down as i64 - (inner.down + view.down) as i64,
     }
+}
+
+/// The place of the border box of a node that has a box, in its document's viewport that is scrolled so far (CSSOM View, 6:
+/// `getBoundingClientRect`). It is so where the boxes in its view are held as they are now. No memory.
+///
+/// It goes up to the root by the boxes of the node and its ancestors alone, with the heights that are kept above each; what is
+/// scrolled on the way is measured.
+pub fn place_in<P: Styled>(
+    tree: &Tree<P>,
+    boxes: &Kept,
+    scrolls: &Scrolls,
+    view: Point,
+    node: NodeId,
+) -> Point
+    requires depth { tree.now.most_depth ≤ 256 }
+    requires view { IsOffset view }
+    ensures value { let at = layout_tree P.style P.kind tree.now.nodes in (inside : View) (scrolled : ℕ × ℕ) →
+        HoldsAll at inside boxes.now → is_some (inputs_in_view at inside node.0) ≡ true →
+        view ≡ as_point (view_in_force at (record inside { scrolled = scrolled })) →
+        result ≡ point_of (place_in at (stored_in scrolls.now) (record inside { scrolled = scrolled }) node.0) }
+    ensures left { IsPlace result.left }
+    ensures top { IsPlace result.top }
+{
+    moved_back(
+        boxes.unscrolled_place_of(tree, node),
+        scrolled(tree, boxes, scrolls, node),
+        unsigned(view),
+    )
 }

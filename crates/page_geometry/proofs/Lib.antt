@@ -10,3 +10,6 @@ pub mod Containers
 pub mod Results
 pub mod Ancestors
 mod Missing
+pub mod Boxes
+pub mod Looked
+pub mod Viewports

@@ -1,3 +1,4 @@
 pub mod Ranks
 pub mod Ranges
 pub mod Scenes
+pub mod Found

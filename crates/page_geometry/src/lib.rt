@@ -1,22 +1,26 @@
-//! The containers, clips and boxes of a page as they are now, in the coordinates of the top document's viewport, and what an
-//! intersection observer finds of a target (Intersection Observer, 2.2, 3.2.7 and 3.2.10). All lengths are in units of 1/64 CSS
-//! pixel.
+//! What is shown of a page as it is now: boxes, sizes, places, how far elements and viewports can be scrolled and are scrolled, the
+//! containers, clips and boxes in the coordinates of the top document's viewport, and what an intersection observer finds of a target
+//! (CSS 2.2, 8 to 11; CSSOM View, 4 to 6; Intersection Observer, 2.2, 3.2.7 and 3.2.10). All lengths are in units of 1/64 CSS pixel.
 //!
-//! Boxes, elements and scroll positions are lent, nothing is kept, and nothing takes memory.
+//! Boxes, elements and scroll positions are lent, and nothing takes memory.
 #![tactic(auto)]
 
+mod documents;
 mod findings;
 mod geometry;
 mod laws;
 mod origins;
 mod ratios;
+mod readings;
 mod rects;
 mod relations;
 mod scene;
+mod scrolled;
 mod shown;
 mod sizes;
 mod telling;
 
 pub use findings::find;
 pub use laws::{chains_lead_to_roots, what_is_told_is_found};
+pub use readings::Reading;
 pub use shown::Shown;

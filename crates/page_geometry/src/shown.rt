@@ -1,33 +1,28 @@
 //! What is shown of a page, lent to whoever reads it.
 
-ghost use Rattle.std.specs.Prelude.{◌≡◌, List, length, option_map, ◌-ℤ◌};
-ghost use Rattle.px_units.specs.Rects.{InReach, RectInReach};
-ghost use Rattle.px_units.specs.declared.BoxKind.TheVariants.{Border};
-ghost use Rattle.script_model.specs.TraceLines.{ReadLine};
-ghost use Rattle.page_model.specs.World.{Name};
+ghost use Rattle.std.specs.Prelude.{◌≡◌, ◌<◌, ◌≤◌, length, option_map, IfSome};
 ghost use Rattle.page_model.specs.Lookups.{element_at, document_at};
-ghost use Rattle.page_model.specs.Documents.{container_of};
+ghost use Rattle.page_model.specs.Documents.{container_of, nodes_of};
+ghost use Rattle.page_model.specs.PageBoxes.{pair_of, view_of};
+ghost use Rattle.page_model.specs.Shown.{has_box, box_of};
 ghost use Rattle.element_tree.specs.Links.{number};
-ghost use Rattle.page_model.specs.Chains.{padding_box_at, content_corner_at};
-ghost use Rattle.page_model.specs.PageBoxes.{pair_of};
-ghost use Rattle.page_model.specs.Readings.{point_at, rect_of, reading_of};
-ghost use Rattle.page_model.specs.Shown.{has_box, box_of, size_of, corner_of, viewport_of, place_of, scroll_range, scroll_offset};
-ghost use Rattle.scrolling.specs.Seen.{seen_target};
-ghost use Rattle.scrolling.specs.Ranges.{IsRange};
-ghost use Rattle.block_layout.specs.Seen.{as_size, as_point};
-ghost use Rattle.page_tree.specs.Items.{IsNatural};
+ghost use Rattle.block_layout.specs.Trees.{layout_tree};
+ghost use Rattle.page_tree.specs.Items.{IsNatural, style_in, kind_in};
 ghost use Rattle.page_tree.specs.Steps.{seen_container};
 ghost use Rattle.page_boxes.specs.Fresh.{IsFresh};
-ghost use Rattle.page_boxes.specs.Pages.{seen_screen, text_in};
-ghost use Rattle.page_boxes.specs.Ranges.{IsOffset, IsSpan, IsPlace, IsEdge, AreEdges};
+ghost use Rattle.page_boxes.specs.Pages.{seen_screen, seen_pair};
+ghost use Rattle.page_geometry.specs.Found.{IsFound};
 ghost use Rattle.page_geometry.specs.Scenes.{IsPageTree};
 
-use element_tree::NodeId;
+use crate::documents::{FoundDocument, FoundDocuments};
+use crate::origins::origin;
+use block_layout::BoxOf;
+use element_tree::{NodeId, Tree};
 use kept_layout::Kept;
-use page_boxes::{Reading, Screen};
-use page_tree::{Container, PageTree};
-use px_units::{BoxKind, Point, Rect, Size};
-use scrolling::{ScrollTarget, Scrolls};
+use page_boxes::{Screen, box_below, has_box_below};
+use page_tree::{Container, Element, PageTree};
+use px_units::Size;
+use scrolling::Scrolls;
 use std::marker::Model;
 
 /// A page whose boxes are all held as they are now, with its scroll positions and the screen of `top`. A contract sees
@@ -38,6 +33,7 @@ pub struct Shown<'a> {
     boxes: &'a Kept,
     scrolls: &'a Scrolls,
     screen: Screen,
+    found: FoundDocuments,
 }
 
 impl<'a> Model for Shown<'a> {
@@ -45,13 +41,15 @@ impl<'a> Model for Shown<'a> {
 
     ghost Value = { ModelShown };
 
+    ghost use Rattle.page_model.specs.Shown.{shown_with};
     ghost use Rattle.page_tree.specs.Items.{IsNatural};
     ghost use Rattle.page_boxes.specs.Fresh.{IsFresh};
     ghost use Rattle.page_boxes.specs.Pages.{seen_screen};
+    ghost use Rattle.page_geometry.specs.Found.{AreFound};
 
-    ghost view = { λ s. record { tree = s.page.now.tree; screen = seen_screen s.screen; scrolls = s.scrolls.now } };
+    ghost view = { λ s. shown_with s.page.now.tree (seen_screen s.screen) s.scrolls.now };
 
-    ghost invariant = { λ s. IsNatural s.screen.size × IsFresh s.page.now.tree (seen_screen s.screen) s.boxes.now };
+    ghost invariant = { λ s. IsNatural s.screen.size × IsFresh s.page.now.tree (seen_screen s.screen) s.boxes.now × AreFound (shown_with s.page.now.tree (seen_screen s.screen) s.scrolls.now) s.found };
 }
 
 impl<'a> Shown<'a> {
@@ -71,6 +69,43 @@ impl<'a> Shown<'a> {
             boxes,
             scrolls,
             screen,
+            found: FoundDocuments::new(),
+        }
+    }
+
+    /// The same, for a reading of many elements: what each document shows, and where its viewport begins, is found here once, and not
+    /// by a climb from frame to frame for each element. No memory.
+    pub fn with_documents(self) -> Shown<'a>
+        ensures { result ≡ self.entry }
+    {
+        let mut shown = self;
+        let count = shown.document_count();
+        for document in 0..count {
+            shown.look(document);
+        }
+        shown
+    }
+
+    // Finds what a document shows and where its viewport begins, and keeps it.
+    fn look(&mut self, document: u32)
+        requires { document < 64 }
+        ensures { self.new ≡ self.old }
+    {
+        let found = FoundDocument {
+            root: self.shown_root(document),
+            origin: origin(self, document),
+        };
+        self.found.put(document, found);
+    }
+
+    // What was found of a document, none where it wasn't looked at.
+    pub(crate) fn found(&self, document: u32) -> Option<FoundDocument>
+        ensures { IfSome result (IsFound self.now document) }
+    {
+        if document < 64 {
+            self.found.of(document)
+        } else {
+            None
         }
     }
 
@@ -79,6 +114,35 @@ impl<'a> Shown<'a> {
         ensures { result.now.tree ≡ self.now.tree }
     {
         self.page
+    }
+
+    // The elements as layout reads them.
+    pub(crate) fn elements(&self) -> &Tree<Element>
+        ensures nodes { nodes_of self.now.tree ≡ layout_tree style_in kind_in result.now.nodes }
+        ensures count { length result.now.nodes ≡ length self.now.tree.elements }
+        ensures depth { result.now.most_depth ≤ 256 }
+    {
+        self.page.tree()
+    }
+
+    pub(crate) fn boxes(&self) -> &Kept
+        ensures { IsFresh self.now.tree self.now.screen result.now }
+    {
+        self.boxes
+    }
+
+    pub(crate) fn scrolls(&self) -> &Scrolls
+        ensures { result.now ≡ self.now.scrolls }
+    {
+        self.scrolls
+    }
+
+    // The size of the viewport of `top`.
+    pub(crate) fn screen_size(&self) -> Size
+        ensures value { seen_pair result ≡ pair_of self.now.screen.size }
+        ensures range { IsNatural result }
+    {
+        self.screen.size
     }
 
     /// How many documents there are. What is so of the elements and documents of every page is told here for what rests on it.
@@ -111,102 +175,29 @@ impl<'a> Shown<'a> {
         self.page.container_of(node)
     }
 
+    // The root element that a document shows, none where it isn't shown.
+    pub(crate) fn shown_root(&self, document: u32) -> Option<NodeId>
+        ensures { option_map number result ≡ (view_of self.now.tree self.now.screen document).root }
+    {
+        match self.found(document) {
+            Some(found) => found.root,
+            None => page_boxes::shown_root(self.page, document),
+        }
+    }
+
     /// Whether an element has a box (CSS 2.2, 9.2.4).
     pub fn has_box(&self, node: NodeId) -> bool
         ensures { result ≡ has_box self.now node.0 }
     {
-        page_boxes::has_box(self.page, node)
+        let root = self.shown_root(self.document_of(node));
+        has_box_below(self.page, root, node)
     }
 
-    /// The size of a document's viewport (CSSOM View, 4).
-    pub fn viewport_of(&self, document: u32) -> Size
-        ensures value { result ≡ as_size (pair_of (viewport_of self.now document)) }
-        ensures range { IsNatural result }
+    // The box of an element, none where it has none.
+    pub(crate) fn box_of(&self, node: NodeId) -> Option<BoxOf>
+        ensures { result ≡ box_of self.now node.0 }
     {
-        page_boxes::viewport_of(self.page, self.boxes, self.screen, document)
-    }
-
-    /// The size of an element's content box or border box (CSS 2.2, 8.1), 0 by 0 without a box.
-    pub fn size_of(&self, node: NodeId, kind: BoxKind) -> Size
-        ensures value { result ≡ as_size (pair_of (size_of self.now node.0 kind)) }
-        ensures width { IsSpan result.width }
-        ensures height { IsSpan result.height }
-    {
-        page_boxes::size_of(self.page, self.boxes, node, kind)
-    }
-
-    /// The corner of an element's content in its padding box (Resize Observer, 3.2), zeros without a box.
-    pub fn corner_of(&self, node: NodeId) -> Point
-        ensures value { result ≡ point_at (corner_of self.now node.0) }
-        ensures left { IsSpan result.left }
-        ensures top { IsSpan result.top }
-    {
-        page_boxes::corner_of(self.page, self.boxes, node)
-    }
-
-    /// The place of an element's border box in the viewport of its document (CSSOM View, 6), zeros without a box.
-    pub fn place_of(&self, node: NodeId) -> Point
-        ensures value { result ≡ place_of self.now node.0 }
-        ensures left { IsPlace result.left }
-        ensures top { IsPlace result.top }
-    {
-        page_boxes::place_of(self.page, self.boxes, self.scrolls, self.screen, node)
-    }
-
-    /// The border box of an element in the viewport of its document, all zeros without a box.
-    pub fn border_rect(&self, node: NodeId) -> Rect
-        ensures value { result ≡ rect_of (place_of self.now node.0) (size_of self.now node.0 Border) }
-        ensures edges { AreEdges result }
-        ensures width { IsSpan (result.right -ℤ result.left) }
-        ensures height { IsSpan (result.bottom -ℤ result.top) }
-    {
-        page_boxes::border_rect(self.page, self.boxes, self.scrolls, self.screen, node)
-    }
-
-    /// The padding box of an element in the viewport of its document, all zeros without a box.
-    pub fn padding_rect(&self, node: NodeId) -> Rect
-        ensures value { result ≡ padding_box_at (place_of self.now node.0) (box_of self.now node.0) }
-        ensures edges { AreEdges result }
-        ensures width { IsSpan (result.right -ℤ result.left) }
-        ensures height { IsSpan (result.bottom -ℤ result.top) }
-    {
-        page_boxes::padding_rect(self.page, self.boxes, self.scrolls, self.screen, node)
-    }
-
-    /// The corner of the content box of an element in the viewport of its document, zeros without a box.
-    pub fn content_origin(&self, node: NodeId) -> Point
-        ensures value { result ≡ content_corner_at (place_of self.now node.0) (box_of self.now node.0) }
-        ensures left { IsEdge result.left }
-        ensures top { IsEdge result.top }
-    {
-        page_boxes::content_origin(self.page, self.boxes, self.scrolls, self.screen, node)
-    }
-
-    /// How far an element or the viewport of a document can be scrolled (CSS Overflow 3, 2.2).
-    pub fn range_of(&self, target: ScrollTarget) -> Size
-        ensures value { result ≡ as_size (pair_of (scroll_range self.now (seen_target target))) }
-        ensures range { IsRange result }
-    {
-        page_boxes::range_of(self.page, self.boxes, self.screen, target)
-    }
-
-    /// The scroll offset in force of an element or of a document's viewport (CSSOM View, 4 to 6).
-    pub fn offset_of(&self, target: ScrollTarget) -> Point
-        ensures value { result ≡ as_point (pair_of (scroll_offset self.now (seen_target target))) }
-        ensures range { IsOffset result }
-    {
-        page_boxes::offset_of(self.page, self.boxes, self.scrolls, self.screen, target)
-    }
-
-    /// What the command `read` shows.
-    pub fn read(&self, container: Container) -> Reading
-        ensures value { (names : List Name) → reading_of names self.now.tree self.now.screen self.now.scrolls (seen_container container)
-            ≡ ReadLine (text_in names (seen_container container)) result.rect result.scroll }
-        ensures edges { RectInReach result.rect }
-        ensures width { InReach (result.rect.right -ℤ result.rect.left) }
-        ensures height { InReach (result.rect.bottom -ℤ result.rect.top) }
-        ensures scroll { IsOffset result.scroll }
-    {
-        page_boxes::read(self.page, self.boxes, self.scrolls, self.screen, container)
+        let root = self.shown_root(self.document_of(node));
+        box_below(self.page, self.boxes, root, node)
     }
 }

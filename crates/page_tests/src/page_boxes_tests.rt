@@ -2,16 +2,16 @@
 
 ghost use Rattle.std.specs.Prelude.{◌≡◌, ◌<◌};
 ghost use Rattle.page_tree.specs.Items.{IsKind, IsNatural};
+ghost use Rattle.page_boxes.specs.Fresh.{IsFresh};
 ghost use Rattle.page_boxes.specs.Kept.{AreKept};
+ghost use Rattle.page_boxes.specs.Pages.{seen_screen};
 
 use crate::common::{all_boxes, any_name, empty_slots, make_elements, put, remove, set};
 use block_layout::ItemKind;
 use element_tree::NodeId;
 use kept_layout::Kept;
-use page_boxes::{
-    Reading, Screen, border_rect, content_origin, corner_of, has_box, is_scroller,
-    nothing_kept_fits, offset_of, padding_rect, range_of, read, refresh_for, size_of,
-};
+use page_boxes::{Screen, has_box, is_scroller, nothing_kept_fits, refresh_for, size_of};
+use page_geometry::{Reading, Shown};
 use page_tree::{Container, PageTree};
 use px_units::{BoxKind, Point, Rect, Size};
 use scrolling::{ScrollTarget, Scrolls};
@@ -163,17 +163,11 @@ fn screen_of(is_narrow: bool) -> Screen
     }
 }
 
-fn see_content(
-    rt: &impl Abort,
-    page: &PageTree,
-    boxes: &Kept,
-    node: u32,
-    content: (i64, i64, i64, i64),
-) {
+fn see_content(rt: &impl Abort, shown: &Shown<'_>, node: u32, content: (i64, i64, i64, i64)) {
     let (left, top, width, height) = content;
-    let corner = corner_of(page, boxes, NodeId(node));
+    let corner = shown.corner_of(NodeId(node));
     assert_eq!(rt; corner, Point { left, top }, "{node}");
-    let size = size_of(page, boxes, NodeId(node), BoxKind::Content);
+    let size = shown.size_of(NodeId(node), BoxKind::Content);
     assert_eq!(rt; size, Size { width, height }, "{node}");
 }
 
@@ -186,18 +180,19 @@ fn see(
     screen: Screen,
     step: Step,
 )
-    requires { IsNatural screen.size }
+    requires natural { IsNatural screen.size }
+    requires fresh { IsFresh page.now.tree (seen_screen screen) boxes.now }
 {
+    let shown = Shown::new(page, boxes, scrolls, screen).with_documents();
     match step {
         Step::Read(node, edges) => {
-            let at = Container::Element(NodeId(node));
-            let found = read(page, boxes, scrolls, screen, at);
+            let found = shown.read(Container::Element(NodeId(node)));
             assert_eq!(rt; found, reading(edges, 0), "{node}");
             assert_eq!(rt; has_box(page, NodeId(node)), edges.2 != 0, "{node}");
         }
-        Step::Content(node, content) => see_content(rt, page, boxes, node, content),
+        Step::Content(node, content) => see_content(rt, &shown, node, content),
         Step::Top(width, height) => {
-            let found = read(page, boxes, scrolls, screen, Container::Document(0));
+            let found = shown.read(Container::Document(0));
             assert_eq!(rt; found, reading((0, 0, width, height), 0));
         }
         _ => {}
@@ -460,26 +455,38 @@ fn read_all(
     requires { IsNatural screen.size }
 {
     let all = all_boxes(rt, alloc, page, screen)?;
-    let found = read(
-        page,
-        &all,
-        scrolls,
-        screen,
-        Container::Element(NodeId(node)),
-    );
-    let rect = border_rect(page, &all, scrolls, screen, NodeId(node));
+    let shown = Shown::new(page, &all, scrolls, screen);
+    let found = shown.read(Container::Element(NodeId(node)));
+    let rect = shown.border_rect(NodeId(node));
     Ok((found, rect))
 }
 
-// What is read of an element, from the boxes of its document and of those around it.
-fn read_some(
+// What is read of an element where documents are looked at first, and its border rectangle.
+fn read_looked(
     rt: &impl Abort,
     alloc: Global,
     page: &PageTree,
     scrolls: &Scrolls,
     screen: Screen,
     node: u32,
-) -> Result<Reading, Fail>
+) -> Result<(Reading, Rect), Fail>
+    requires { IsNatural screen.size }
+{
+    let all = all_boxes(rt, alloc, page, screen)?;
+    let shown = Shown::new(page, &all, scrolls, screen).with_documents();
+    let found = shown.read(Container::Element(NodeId(node)));
+    let rect = shown.border_rect(NodeId(node));
+    Ok((found, rect))
+}
+
+// The size of an element's border box, from the boxes of its document and of those around it.
+fn size_some(
+    rt: &impl Abort,
+    alloc: Global,
+    page: &PageTree,
+    screen: Screen,
+    node: u32,
+) -> Result<Size, Fail>
     requires { IsNatural screen.size }
 {
     assert!(rt; !page.holds(NodeId(9)));
@@ -487,10 +494,10 @@ fn read_some(
     let mut some = empty_slots(alloc)?;
     nothing_kept_fits();
     renew_for::<Brand>(Blank::new(1), &mut some, page, screen, container);
-    Ok(read(page, &some, scrolls, screen, container))
+    Ok(size_of(page, &some, NodeId(node), BoxKind::Border))
 }
 
-// What is read of an element, the same in both ways.
+// What is read of an element, the same in all ways.
 fn read_twice(
     rt: &impl Abort,
     alloc: Global,
@@ -501,9 +508,17 @@ fn read_twice(
 ) -> Result<Reading, Fail> {
     let screen = screen_of(is_narrow);
     let (found, rect) = read_all(rt, alloc, page, scrolls, screen, node)?;
-    let again = read_some(rt, alloc, page, scrolls, screen, node)?;
-    assert_eq!(rt; found, again);
     assert_eq!(rt; rect, found.rect);
+    let again = read_looked(rt, alloc, page, scrolls, screen, node)?;
+    assert_eq!(rt; again, (found, rect));
+    let size = size_some(rt, alloc, page, screen, node)?;
+    assert_eq!(rt;
+        (size.width, size.height),
+        (
+            rect.right.wrapping_sub(rect.left),
+            rect.bottom.wrapping_sub(rect.top)
+        )
+    );
     Ok(found)
 }
 
@@ -518,7 +533,8 @@ fn read_viewport(
     let screen = screen_of(is_narrow);
     let boxes = all_boxes(rt, alloc, page, screen)?;
     let container = Container::Document(document);
-    Ok(read(page, &boxes, scrolls, screen, container))
+    let shown = Shown::new(page, &boxes, scrolls, screen);
+    Ok(shown.read(container))
 }
 
 // Scrolls downwards to a position, as far as it goes.
@@ -531,15 +547,16 @@ fn scroll_over(
     target: ScrollTarget,
     down: u16,
 ) -> Result<(), Fail>
-    requires { IsNatural screen.size }
+    requires natural { IsNatural screen.size }
+    requires fresh { IsFresh page.now.tree (seen_screen screen) boxes.now }
 {
-    let range = range_of(page, boxes, screen, target);
+    let range = Shown::new(page, boxes, scrolls, screen).range_of(target);
     let wanted = Point {
         left: 0,
         top: i64::from(down),
     };
     let _outcome = scrolls.scroll_to(0, target, wanted, range)?;
-    let offset = offset_of(page, boxes, scrolls, screen, target);
+    let offset = Shown::new(page, boxes, scrolls, screen).offset_of(target);
     assert_eq!(rt; offset.top, i64::from(down).min(range.height));
     Ok(())
 }
@@ -626,15 +643,20 @@ const FRAMES: [Frame; 2] = [
     (3, (800, 4076, 16620, 13676), (800, 4076)),
 ];
 
-fn see_frame(rt: &impl Abort, page: &PageTree, boxes: &Kept, scrolls: &Scrolls, frame: Frame) {
+fn see_frame(rt: &impl Abort, shown: &Shown<'_>, frame: Frame) {
     let (number, edges, (left, top)) = frame;
-    let screen = screen_of(false);
     let node = NodeId(number);
-    let padding = padding_rect(page, boxes, scrolls, screen, node);
+    let padding = shown.padding_rect(node);
     assert_eq!(rt; padding, reading(edges, 0).rect, "{number}");
-    let corner = content_origin(page, boxes, scrolls, screen, node);
+    let corner = shown.content_origin(node);
     assert_eq!(rt; corner, Point { left, top }, "{number}");
-    assert!(rt; !is_scroller(page, node), "{number}");
+    assert!(rt; !is_scroller(shown.page(), node), "{number}");
+}
+
+fn see_each_frame(rt: &impl Abort, shown: &Shown<'_>) {
+    for frame in FRAMES {
+        see_frame(rt, shown, frame);
+    }
 }
 
 fn see_frames(
@@ -645,10 +667,9 @@ fn see_frames(
 ) -> Result<(), Fail> {
     assert!(rt; is_scroller(page, NodeId(5)));
     scroll(rt, alloc, page, scrolls, false, OUTER, 688)?;
-    let boxes = all_boxes(rt, alloc, page, screen_of(false))?;
-    for frame in FRAMES {
-        see_frame(rt, page, &boxes, scrolls, frame);
-    }
+    let screen = screen_of(false);
+    let boxes = all_boxes(rt, alloc, page, screen)?;
+    see_each_frame(rt, &Shown::new(page, &boxes, scrolls, screen));
     Ok(())
 }
 

@@ -9,7 +9,6 @@ use clip_chain::{Spot, reaches};
 use element_tree::NodeId;
 use intersection_observer::{Finding, Root, WatcherId, Watchers};
 use kept_layout::Kept;
-use page_boxes::range_of;
 use page_geometry::{Shown, find};
 use page_tree::{Container, PageTree};
 use px_units::{Point, Rect};
@@ -396,7 +395,7 @@ fn scroll(
 ) -> Result<(), Fail> {
     let boxes = all_boxes(rt, alloc, page, SCREEN)?;
     let target = ScrollTarget::Node(NodeId(node));
-    let range = range_of(page, &boxes, SCREEN, target);
+    let range = Shown::new(page, &boxes, scrolls, SCREEN).range_of(target);
     let _outcome = scrolls.scroll_to(0, target, Point { left: 0, top: down }, range)?;
     Ok(())
 }

@@ -1,12 +1,7 @@
-use Rattle.std.proofs.Common.{sym, ◌∙◌}
-use Rattle.page_boxes.proofs.Pages.{no_box, own_held}
+use Rattle.std.proofs.Common.{ap, ◌∙◌}
+use Rattle.page_model.specs.PageBoxes.{view_of}
 use Rattle.page_boxes.proofs.documents.own_box.Goals as goal
 
-pub returns-then-has_box : goal.returns-then-has_box
-returns-then-has_box c screen fresh =
-    c.box_of.ensures
-    ∙ own_held c.args.page.now.tree screen (c.args.node.0) c.args.boxes.now fresh (sym (c.has_box.ensures screen) ∙ c.if-has_box.true)
-
-pub returns-else-has_box : goal.returns-else-has_box
-returns-else-has_box c screen fresh =
-    sym (no_box c.args.page.now.tree screen (c.args.node.0) (sym (c.has_box.ensures screen) ∙ c.if-has_box.false))
+pub returns : goal.returns
+returns c screen fresh =
+    c.box_below.ensures screen (c.shown_root-root.ensures screen ∙ ap (λ document. (view_of c.args.page.now.tree screen document).root) c.document_of.ensures) fresh

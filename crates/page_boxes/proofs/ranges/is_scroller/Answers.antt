@@ -1,12 +1,12 @@
 use Rattle.std.proofs.Common.{ap, sym, ◌∙◌, arith}
 use Rattle.layout_model.specs.Clips.{is_scroll_container}
-use Rattle.page_boxes.proofs.Pages.{made_if_boxed, count_here}
+use Rattle.page_boxes.proofs.Pages.{no_screen, made_if_boxed, count_here}
 use Rattle.page_boxes.proofs.Reaching.{scroller_is, no_scroller}
 use Rattle.page_boxes.proofs.ranges.is_scroller.Goals as goal
 
 pub is_scroll_container-requires : goal.is_scroll_container-requires
 is_scroll_container-requires c =
-    let made = made_if_boxed c.args.page.now.tree (c.args.node.0) c.has_box.result c.has_box.ensures c.if-has_box.true in
+    let made = made_if_boxed c.args.page.now.tree no_screen (c.args.node.0) (sym (c.has_box.ensures no_screen) ∙ c.if-has_box.true) in
     omega (arith, made, count_here c.args.page.now c.tree.result.now c.tree.ensures.value)
 
 pub returns-then-has_box : goal.returns-then-has_box

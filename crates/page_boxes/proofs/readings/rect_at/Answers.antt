@@ -1,7 +1,0 @@
-use Rattle.std.proofs.Common.{arith}
-use Rattle.std.proofs.lemmas.Int.{ints}
-use Rattle.page_boxes.proofs.Rects.{rect_is}
-use Rattle.page_boxes.proofs.readings.rect_at.Goals as goal
-
-pub returns-clause-value : goal.returns-clause-value
-returns-clause-value c = rect_is _ _ _ _ _ _ _ _ (omega (arith, ints)) (omega (arith, ints)) (omega (arith, ints)) (omega (arith, ints))

@@ -1,0 +1,22 @@
+-- What was found of documents: the root element that each shows, and where its viewport begins.
+use Rattle.std.specs.Prelude.{◌≡◌, ℕ, List, Option, None, IfSome, option_map}
+use Rattle.element_tree.specs.Links.{number}
+use Rattle.page_model.specs.Lookups.{entry_or}
+use Rattle.page_model.specs.PageBoxes.{view_of}
+use Rattle.page_model.specs.Shown.{Shown}
+use Rattle.page_model.specs.Chains.{origin}
+use Rattle.page_geometry.specs.declared.documents.FoundDocument.{FoundDocument}
+use Rattle.page_geometry.specs.Ranges.{IsOrigin}
+
+-- none where a document wasn't looked at
+abbrev pub found_at : List (Option FoundDocument) → ℕ → Option FoundDocument
+found_at found document = entry_or None found document
+
+pub record IsFound (shown : Shown) (document : ℕ) (it : FoundDocument) : Type 0 where
+  pub root : option_map number it.root ≡ (view_of shown.tree shown.screen document).root
+  pub begins : it.origin ≡ origin shown document
+  pub range : IsOrigin 64 it.origin
+
+-- so it is of each document that was looked at
+abbrev pub AreFound : Shown → List (Option FoundDocument) → Type 0
+AreFound shown found = (document : ℕ) → IfSome (found_at found document) (IsFound shown document)

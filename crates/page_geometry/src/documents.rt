@@ -1,0 +1,57 @@
+//! What was found of the documents that were looked at.
+
+ghost use Rattle.std.specs.Prelude.{◌≡◌, ◌<◌, Some, None, replicate, slice_set};
+ghost use Rattle.page_geometry.specs.Found.{found_at};
+
+use element_tree::NodeId;
+use px_units::Point;
+use std::marker::Model;
+
+// As many documents as a page may have.
+const MOST_DOCUMENTS: usize = 64;
+
+// The root element that a document shows, none where it isn't shown, and where its viewport begins in that of `top`.
+#[derive(Clone, Copy, Debug, PartialEq, Eq)]
+pub(crate) struct FoundDocument {
+    pub(crate) root: Option<NodeId>,
+    pub(crate) origin: Point,
+}
+
+// None for a document that wasn't looked at. It takes no memory.
+#[derive(Drop)]
+pub(crate) struct FoundDocuments {
+    documents: [Option<FoundDocument>; MOST_DOCUMENTS],
+}
+
+impl Model for FoundDocuments {
+    ghost use Rattle.std.specs.Prelude.{Option, List};
+    ghost use Rattle.page_geometry.specs.declared.documents.FoundDocument.{FoundDocument};
+
+    ghost Value = { List (Option FoundDocument) };
+
+    ghost view = { λ f. f.documents };
+}
+
+impl FoundDocuments {
+    pub(crate) fn new() -> FoundDocuments
+        ensures { result ≡ replicate 64 None }
+    {
+        FoundDocuments {
+            documents: [None; MOST_DOCUMENTS],
+        }
+    }
+
+    pub(crate) fn of(&self, document: u32) -> Option<FoundDocument>
+        requires { document < 64 }
+        ensures { result ≡ found_at self.now document }
+    {
+        self.documents[document as usize]
+    }
+
+    pub(crate) fn put(&mut self, document: u32, found: FoundDocument)
+        requires { document < 64 }
+        ensures { self.new ≡ slice_set self.old document (Some found) }
+    {
+        self.documents[document as usize] = Some(found);
+    }
+}

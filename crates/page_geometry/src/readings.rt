@@ -1,0 +1,198 @@
+//! What is read of an element's box: sizes, places and rectangles, and what the command `read` shows.
+
+ghost use Rattle.std.specs.Prelude.{◌≡◌, List, ◌+ℤ◌, ◌-ℤ◌};
+ghost use Rattle.px_units.specs.Rects.{InReach, RectInReach};
+ghost use Rattle.px_units.specs.declared.BoxKind.TheVariants.{Border};
+ghost use Rattle.script_model.specs.TraceLines.{ReadLine};
+ghost use Rattle.page_model.specs.World.{Name};
+ghost use Rattle.page_model.specs.Chains.{padding_box_at, content_corner_at};
+ghost use Rattle.page_model.specs.PageBoxes.{pair_of};
+ghost use Rattle.page_model.specs.Readings.{point_at, rect_of, reading_of};
+ghost use Rattle.page_model.specs.Shown.{box_of, size_of, corner_of, viewport_of, place_of};
+ghost use Rattle.block_layout.specs.Seen.{as_size};
+ghost use Rattle.page_tree.specs.Items.{IsNatural};
+ghost use Rattle.page_tree.specs.Steps.{seen_container};
+ghost use Rattle.page_boxes.specs.Pages.{text_in};
+ghost use Rattle.page_boxes.specs.Ranges.{IsOffset, IsSpan, IsPlace, IsEdge, AreEdges};
+
+use crate::origins::NOWHERE;
+use crate::rects::NO_RECT;
+use crate::shown::Shown;
+use element_tree::NodeId;
+use page_boxes::place_in;
+use page_tree::Container;
+use px_units::{BoxKind, Point, Rect, Size};
+use scrolling::ScrollTarget;
+
+/// What the command `read` shows of an element or a document.
+#[derive(Clone, Copy, Debug, PartialEq, Eq)]
+pub struct Reading {
+    /// An element's border box in the viewport of its document, or the viewport itself.
+    pub rect: Rect,
+    /// The scroll offset in force.
+    pub scroll: Point,
+}
+
+pub(crate) const NO_SIZE: Size = Size {
+    width: 0,
+    height: 0,
+};
+
+// The point that lies so far to the right of a place and below it.
+fn beside(place: Point, by: Point) -> Point
+    requires left { IsPlace place.left }
+    requires top { IsPlace place.top }
+    requires right { IsSpan by.left }
+    requires down { IsSpan by.top }
+    ensures left { result.left ≡ place.left +ℤ by.left }
+    ensures top { result.top ≡ place.top +ℤ by.top }
+    ensures left_edge { IsEdge result.left }
+    ensures top_edge { IsEdge result.top }
+{
+    Point {
+        left: place.left + by.left,
+        top: place.top + by.top,
+    }
+}
+
+// The rectangle at a corner and of a size.
+fn rect_at(corner: Point, size: Size) -> Rect
+    requires left { IsEdge corner.left }
+    requires top { IsEdge corner.top }
+    requires right { IsEdge (corner.left +ℤ size.width) }
+    requires bottom { IsEdge (corner.top +ℤ size.height) }
+    requires width { IsSpan size.width }
+    requires height { IsSpan size.height }
+    ensures value { result ≡ record {
+      left = corner.left;
+      top = corner.top;
+      right = corner.left +ℤ size.width;
+      bottom = corner.top +ℤ size.height;
+    } }
+    ensures edges { AreEdges result }
+    ensures width { IsSpan (result.right -ℤ result.left) }
+    ensures height { IsSpan (result.bottom -ℤ result.top) }
+{
+    Rect {
+        left: corner.left,
+        top: corner.top,
+        right: corner.left + size.width,
+        bottom: corner.top + size.height,
+    }
+}
+
+impl Shown<'_> {
+    /// The size of a document's viewport (CSSOM View, 4: `innerWidth`, `innerHeight`): for `top` that of its screen, and for another
+    /// document the content box of its frame, 0 by 0 where that has no box.
+    pub fn viewport_of(&self, document: u32) -> Size
+        ensures value { result ≡ as_size (pair_of (viewport_of self.now document)) }
+        ensures range { IsNatural result }
+    {
+        let Some(frame) = self.frame_of(document) else {
+            return self.screen_size();
+        };
+        match self.box_of(frame) {
+            Some(own) => own.size(BoxKind::Content),
+            None => NO_SIZE,
+        }
+    }
+
+    /// The size of an element's content box or border box (CSS 2.2, 8.1), 0 by 0 without a box.
+    pub fn size_of(&self, node: NodeId, kind: BoxKind) -> Size
+        ensures value { result ≡ as_size (pair_of (size_of self.now node.0 kind)) }
+        ensures width { IsSpan result.width }
+        ensures height { IsSpan result.height }
+    {
+        match self.box_of(node) {
+            Some(own) => own.size(kind),
+            None => NO_SIZE,
+        }
+    }
+
+    /// The corner of an element's content in its padding box, which is its left and top paddings (Resize Observer, 3.2:
+    /// `contentRect`), zeros without a box.
+    pub fn corner_of(&self, node: NodeId) -> Point
+        ensures value { result ≡ point_at (corner_of self.now node.0) }
+        ensures left { IsSpan result.left }
+        ensures top { IsSpan result.top }
+    {
+        match self.box_of(node) {
+            Some(own) => own.content_corner(),
+            None => NOWHERE,
+        }
+    }
+
+    /// The place of an element's border box in the viewport of its document (CSSOM View, 6: `getBoundingClientRect`), zeros
+    /// without a box.
+    pub fn place_of(&self, node: NodeId) -> Point
+        ensures value { result ≡ place_of self.now node.0 }
+        ensures left { IsPlace result.left }
+        ensures top { IsPlace result.top }
+    {
+        if !self.has_box(node) {
+            return NOWHERE;
+        }
+        let view = self.view_offset(self.document_of(node));
+        place_in(self.elements(), self.boxes(), self.scrolls(), view, node)
+    }
+
+    /// The border box of an element in the viewport of its document, all zeros without a box.
+    pub fn border_rect(&self, node: NodeId) -> Rect
+        ensures value { result ≡ rect_of (place_of self.now node.0) (size_of self.now node.0 Border) }
+        ensures edges { AreEdges result }
+        ensures width { IsSpan (result.right -ℤ result.left) }
+        ensures height { IsSpan (result.bottom -ℤ result.top) }
+    {
+        rect_at(self.place_of(node), self.size_of(node, BoxKind::Border))
+    }
+
+    /// The padding box of an element in the viewport of its document (CSS 2.2, 8.1), all zeros without a box.
+    pub fn padding_rect(&self, node: NodeId) -> Rect
+        ensures value { result ≡ padding_box_at (place_of self.now node.0) (box_of self.now node.0) }
+        ensures edges { AreEdges result }
+        ensures width { IsSpan (result.right -ℤ result.left) }
+        ensures height { IsSpan (result.bottom -ℤ result.top) }
+    {
+        let Some(own) = self.box_of(node) else {
+            return NO_RECT;
+        };
+        let place = self.place_of(node);
+        rect_at(beside(place, own.padding_corner()), own.padding_size())
+    }
+
+    /// The corner of the content box of an element in the viewport of its document (CSS 2.2, 8.1), which for a frame is where the
+    /// viewport of the document in it begins; zeros without a box.
+    pub fn content_origin(&self, node: NodeId) -> Point
+        ensures value { result ≡ content_corner_at (place_of self.now node.0) (box_of self.now node.0) }
+        ensures left { IsEdge result.left }
+        ensures top { IsEdge result.top }
+    {
+        let place = self.place_of(node);
+        match self.box_of(node) {
+            Some(own) => beside(place, own.inner()),
+            None => place,
+        }
+    }
+
+    /// What the command `read` shows: an element's border box in the viewport of its document, all zeros without a box, or the
+    /// viewport of the document; and the scroll offset in force.
+    pub fn read(&self, container: Container) -> Reading
+        ensures value { (names : List Name) → reading_of names self.now.tree self.now.screen self.now.scrolls (seen_container container)
+            ≡ ReadLine (text_in names (seen_container container)) result.rect result.scroll }
+        ensures edges { RectInReach result.rect }
+        ensures width { InReach (result.rect.right -ℤ result.rect.left) }
+        ensures height { InReach (result.rect.bottom -ℤ result.rect.top) }
+        ensures scroll { IsOffset result.scroll }
+    {
+        match container {
+            Container::Element(node) => Reading {
+                rect: self.border_rect(node),
+                scroll: self.offset_of(ScrollTarget::Node(node)),
+            },
+            Container::Document(document) => Reading {
+                rect: rect_at(NOWHERE, self.viewport_of(document)),
+                scroll: self.offset_of(ScrollTarget::Document(document)),
+            },
+        }
+    }
+}
