@@ -4,8 +4,6 @@
 #[cfg(test)]
 mod common;
 #[cfg(test)]
-mod intersection_update_tests;
-#[cfg(test)]
 mod page_boxes_tests;
 #[cfg(test)]
 mod page_documents_tests;

@@ -1,7 +1,7 @@
 //! Scripts with their traces.
 
 /// Scripts that run to their end, and what each writes.
-pub(crate) const RUNS: [(&str, &str); 30] = [
+pub(crate) const RUNS: [(&str, &str); 31] = [
     // A block is told its size in its first tick, and nothing in a second one.
     (
         "script 1\nblock r top\nappend top r\nro o top -\nro-observe o r content\ntick 0\ntick 16\n",
@@ -142,6 +142,12 @@ pub(crate) const RUNS: [(&str, &str); 30] = [
     (
         "script 1\nhandler deeper\nset c width 40px\nset r width 90px\nend\nblock r top\nappend top r\nblock c top\nappend r c\nset r height 10px\nset c height 5px\nro o top deeper\nro-observe o r content\nro p top -\nro-observe p c border\ntick 0\nro-unobserve o r\nset r width 80px\ntick 1\nro-disconnect p\nset c width 20px\ntick 2\n",
         "tick 0\nresize o r rect 0 0 800 10 border 800 10\nresize p c rect 0 0 40 5 border 40 5\nround top 1\nevent error @top ResizeObserver loop completed with undelivered notifications.\ntick 1\ntick 2\n",
+    ),
+    // Observers of two documents whose roots are the viewport, the frame's document and an element: each update looks at those whose root is
+    // of its document, and what isn't news isn't told again.
+    (
+        "script 1\nblock r top\nblock a top\nframe f top d\nappend top r\nappend r a\nappend r f\nset a height 50px\nio o0 top - root - margin threshold 0\nio o1 top - root d margin threshold 0\nio o2 d - root r margin threshold 0\nio-observe o0 a\nio-observe o1 a\nio-observe o2 a\nio-observe o2 r\ntick 16\ntick 32\nset a display none\ntick 64\nremove r\ntick 80\n",
+        "tick 16\nintersect o0 a 16 yes 163840000/163840000 root 0 0 800 600 box 0 0 800 50 cut 0 0 800 50\nintersect o2 a 16 yes 163840000/163840000 root 0 0 800 200 box 0 0 800 50 cut 0 0 800 50\nintersect o2 r 16 no 0/1 root 0 0 800 200 box 0 0 0 0 cut 0 0 0 0\nintersect o1 a 16 no 0/1 root 0 0 300 150 box 0 0 0 0 cut 0 0 0 0\ntick 32\ntick 64\nintersect o0 a 64 no 0/1 root 0 0 800 600 box 0 0 0 0 cut 0 0 0 0\nintersect o2 a 64 no 0/1 root 0 0 800 150 box 0 0 0 0 cut 0 0 0 0\ntick 80\n",
     ),
 ];
 
