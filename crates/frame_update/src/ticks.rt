@@ -68,7 +68,8 @@ fn refuse<K: Sink>(alloc: Global, line: u32, fault: PageFault, sink: &mut K) -> 
 /// size differs from its last reported one (Resize Observer, 3.4).
 ///
 /// # Errors
-/// - `Limit` exactly where a limit is met, with every line up to its own written.
+/// - `Limit` only where a limit is met, and there unless memory is wanted or the sink fails before; every line up to its own was
+///   written.
 /// - `WriteFault` only where the sink's count of faults rose in this call, and `Memory` for want of memory; a first part of the
 ///   lines was written.
 pub fn tick<K: Sink, L: Ledger>(

@@ -28,7 +28,8 @@ use trace_runs::{Flow, RunFault, write_throw};
 /// `Thrown` where it threw, which was written.
 ///
 /// # Errors
-/// - `Limit` exactly where a limit is met; all but the limit's own line was written.
+/// - `Limit` only where a limit is met, and there unless memory is wanted or the sink fails before; all but the limit's own line was
+///   written.
 /// - `Memory`, and `WriteFault` only where the sink's count of faults rose in this call: a first part was written.
 #[cycle(blocks)]
 pub fn run_command<K: Sink, L: Ledger>(

@@ -68,7 +68,8 @@ fn run_named<K: Sink, L: Ledger>(
 /// the handler's block, if there is a handler. An exception ends the block alone.
 ///
 /// # Errors
-/// - `Limit` exactly where a limit is met; all but the limit's own line was written.
+/// - `Limit` only where a limit is met, and there unless memory is wanted or the sink fails before; all but the limit's own line was
+///   written.
 /// - `Memory`, and `WriteFault` only where the sink's count of faults rose in this call: a first part was written.
 pub fn run_handler<K: Sink, L: Ledger>(
     alloc: Global,
