@@ -34,7 +34,7 @@ use Rattle.page_model.specs.Gathering.{gathering, sight_of}
 use Rattle.page_model.specs.Loop.{gather}
 use Rattle.page_state.specs.Faults.{misplaced}
 use Rattle.page_state.specs.declared.page.Page.TheInside.{Inside}
-use Rattle.page_state.specs.Worlds.{world_of}
+use Rattle.page_state.specs.Worlds.{world_of, view_of}
 use Rattle.page_state.specs.declared.answers.PageFault.{PageFault}
 use Rattle.page_state.specs.Views.{PageView}
 use Rattle.page_state.specs.Answers.{Applied, Keeps, Kept}
@@ -97,9 +97,9 @@ done_so : (old : World) (step : Step Tree) (tree : Tree) → step ≡ Did tree �
 unfolding with_tree ◌>>=◌
 done_so old step tree e = ap (with_tree old) e
 
-module _ (inside : Inside) (now : PageView) (view_is : record { world = world_of inside; begun = inside.begun; kept = inside.laid.kept } ≡ now) (after : LaidElements) (step : Tree → Step Tree) where
+module _ (inside : Inside) (now : PageView) (view_is : view_of inside ≡ now) (after : LaidElements) (step : Tree → Step Tree) where
   abbrev then_is : PageView
-  then_is = record { world = world_of (record inside { laid = after }); begun = inside.begun; kept = after.kept }
+  then_is = view_of (record inside { laid = after })
 
   pub edit_refused : (result : PageFault) (fault : PlaceFault) → result ≡ misplaced fault → step (inside.laid.elements.tree) ≡ refusal fault → after ≡ inside.laid
       → Keeps now then_is (Err result) (λ handlers. with_tree now.world (step now.world.tree))
@@ -124,12 +124,12 @@ takes : (handlers : Handlers) (world : World) (present : Present) (name : List �
 unfolding does
 takes handlers world present name o found = λ i. found i >>= λ (m : ℕ). taking world m (intersection_observer_at (world.intersection_observers) m).queue
 
-module _ (page : Inside) (now : PageView) (view_is : record { world = world_of page; begun = page.begun; kept = page.laid.kept } ≡ now) (is : IsPage page) (present : Present) (name : List ℕ)
+module _ (page : Inside) (now : PageView) (view_is : view_of page ≡ now) (is : IsPage page) (present : Present) (name : List ℕ)
     (watcher : WatcherId) (entries : List Entry) (after : HeldWatchers) (found : intersection_observer_named now.world.names name ≡ Did watcher.0)
     (there : watcher.0 < length now.world.intersection_observers.made) (taken : entries ≡ (intersection_observer_at page.watchers.part watcher.0).queue)
     (emptied : after ≡ record (page.watchers) { part = without_queue watcher.0 (page.watchers.part) }) (count : length after.part.made ≡ length page.watchers.part.made) where
   abbrev emptied_is : PageView
-  emptied_is = record { world = world_of (record page { watchers = after }); begun = page.begun; kept = page.laid.kept }
+  emptied_is = view_of (record page { watchers = after })
 
   names_here : intersection_observer_named page.names.list name ≡ Did watcher.0
   names_here = subst (λ (v : PageView). intersection_observer_named v.world.names name ≡ Did watcher.0) (sym view_is) found

@@ -16,6 +16,14 @@ use Rattle.intersection_update.proofs.Watching.{kept_grown, kept_made}
 use Rattle.page_tree.specs.declared.page.Container.{Container}
 use Rattle.page_tree.specs.declared.page.Container.TheVariants.{Element, Document}
 use Rattle.page_layout.specs.Views.{LaidElements}
+use Rattle.page_tree.specs.Views.{PageElements}
+use Rattle.clip_chain.specs.declared.spot.Spot.TheVariants.{View}
+use Rattle.clip_chain.specs.Worlds.{element_spot}
+use Rattle.kept_clips.specs.Looked.{MayBeSeen}
+use Rattle.kept_findings.specs.Held.{HeldFindings, IsRoomier}
+use Rattle.kept_findings.specs.Rooms.{HaveRoom}
+use Rattle.kept_findings.proofs.Rooms.{room_roomier, room_element, room_document}
+use Rattle.kept_findings.proofs.Settled.{registered_made}
 use Rattle.page_state.specs.Known.{KnownNames}
 use Rattle.page_state.specs.Things.{IsContainerBelow}
 use Rattle.page_state.specs.Labels.{IsIn}
@@ -23,6 +31,7 @@ use Rattle.page_state.specs.Whole.{AreKnown, AreElementNames, AreAsked, IsPage}
 use Rattle.page_state.specs.Worlds.{world_of, counts_in}
 use Rattle.page_state.specs.declared.page.Page.TheInside.{Inside}
 use Rattle.page_state.specs.declared.queries.QueryList.{QueryList}
+use Rattle.page_state.proofs.Findings.{registered_roomier}
 use Rattle.page_state.proofs.Parts.{known_more, names_made, names_more, next_document, next_element, next_observer, next_watcher, next_query}
 
 pub container_in : (inside : Inside) (found : Result Container ThrowKind) → IfOk found (IsContainerBelow (counts_in inside)) → IfOk found (λ container. IsIn (world_of inside) container)
@@ -48,11 +57,39 @@ edited page after is kept count framed = record {
   frame_callbacks = is.frame_callbacks;
   timers = is.timers;
   watched = subst (λ (n : ℕ). AreWatchers n page.watchers.part.made) (sym count) is.watched;
+  registered = is.registered;
+  room = subst (λ (n : ℕ). HaveRoom n (length after.elements.tree.documents) page.findings) (sym count)
+      (subst (λ (n : ℕ). HaveRoom (length page.laid.elements.tree.elements) n page.findings) (sym framed) is.room);
   asked = subst (λ (n : ℕ). AreAsked page.queries.items n) (sym framed) is.asked;
   sized = is.sized;
   noted = is.noted;
   time = is.time;
 }
+
+-- there is room for an element and for what is seen of more spots
+pub prepared : (page : Inside) (after : LaidElements) (names : KnownNames) (findings : HeldFindings) → IsPage page → after.elements ≡ record (page.laid.elements) { ready = after.elements.ready } → names.list ≡ page.names.list
+    → IsRoomier page.findings findings → IsPage (record page { laid = after; names = names; findings = findings })
+prepared page after names findings is same listed roomier =
+    let elements : length after.elements.tree.elements ≡ length page.laid.elements.tree.elements = ap (λ (it : PageElements). length it.tree.elements) same in
+    let documents : length after.elements.tree.documents ≡ length page.laid.elements.tree.documents = ap (λ (it : PageElements). length it.tree.documents) same in
+    let is' : IsPage (record page { laid = after }) = edited page after is (ap (λ (it : PageElements). it.names) same) elements documents in
+    record {
+      known = subst (λ (list : List Name). AreKnown list (counts_in (record page { laid = after }))) (sym listed) is'.known;
+      elements = subst (λ (list : List Name). AreElementNames list after.elements) (sym listed) is'.elements;
+      limited = is.limited;
+      observations = is.observations;
+      registrations = is.registrations;
+      listeners = is.listeners;
+      frame_callbacks = is.frame_callbacks;
+      timers = is.timers;
+      watched = is'.watched;
+      registered = registered_roomier page.watchers.part roomier is.registered;
+      room = room_roomier (length after.elements.tree.elements) (length after.elements.tree.documents) page.findings findings roomier is'.room;
+      asked = is'.asked;
+      sized = is.sized;
+      noted = is.noted;
+      time = is.time;
+    }
 
 asked_grown : (queries : List QueryList) (documents more : ℕ) → documents ≤ more → AreAsked queries documents → AreAsked queries more
 asked_grown queries documents more grown asked = record { documents = all queries asked.documents; few = asked.few }
@@ -62,7 +99,7 @@ asked_grown queries documents more grown asked = record { documents = all querie
     all (first ∷ others) are = (omega (arith, are.0, grown), all others are.1)
 
 -- an element is made, last, with its name, and a document with its own where it is a frame
-module _ (page : Inside) (is : IsPage page) (after : LaidElements) (names : KnownNames) (text : List ℕ)
+module _ (page : Inside) (is : IsPage page) (after : LaidElements) (names : KnownNames) (findings : HeldFindings) (roomier : IsRoomier page.findings findings) (text : List ℕ)
     (last : after.elements.names ≡ page.laid.elements.names ++ text ∷ []) (count : length after.elements.tree.elements ≡ length page.laid.elements.tree.elements + 1) where
   abbrev elements : ℕ
   elements = length page.laid.elements.tree.elements
@@ -79,10 +116,15 @@ module _ (page : Inside) (is : IsPage page) (after : LaidElements) (names : Know
   names_one : AreElementNames one after.elements
   names_one = names_made page.names.list page.laid.elements after.elements is.elements (counts_in page) refl is.known text last count
 
+  room_one : (n : ℕ) → n ≡ elements → MayBeSeen findings.seen findings.clips (element_spot n) → HaveRoom (elements + 1) documents findings
+  room_one n number seen =
+      room_element elements documents findings (subst (λ (m : ℕ). MayBeSeen findings.seen findings.clips (element_spot m)) number seen)
+      (room_roomier elements documents page.findings findings roomier is.room)
+
   grown : (list : List Name) (framed : ℕ) → documents ≤ framed → names.list ≡ list → length after.elements.tree.documents ≡ framed
-      → AreKnown list (record (counts_in page) { elements = elements + 1; documents = framed }) → AreElementNames list after.elements
-      → IsPage (record page { names = names; laid = after })
-  grown list framed more listed are known named = record {
+      → AreKnown list (record (counts_in page) { elements = elements + 1; documents = framed }) → AreElementNames list after.elements → HaveRoom (elements + 1) framed findings
+      → IsPage (record page { names = names; laid = after; findings = findings })
+  grown list framed more listed are known named room = record {
     known = subst (λ (it : List Name). AreKnown it (record (counts_in page) { elements = length after.elements.tree.elements; documents = length after.elements.tree.documents })) (sym listed)
         (subst (λ (n : ℕ). AreKnown list (record (counts_in page) { elements = n; documents = length after.elements.tree.documents })) (sym count)
         (subst (λ (n : ℕ). AreKnown list (record (counts_in page) { elements = elements + 1; documents = n })) (sym are) known));
@@ -94,6 +136,8 @@ module _ (page : Inside) (is : IsPage page) (after : LaidElements) (names : Know
     frame_callbacks = is.frame_callbacks;
     timers = is.timers;
     watched = subst (λ (n : ℕ). AreWatchers n page.watchers.part.made) (sym count) (kept_grown elements (elements + 1) (omega arith) page.watchers.part.made is.watched);
+    registered = registered_roomier page.watchers.part roomier is.registered;
+    room = subst (λ (n : ℕ). HaveRoom n (length after.elements.tree.documents) findings) (sym count) (subst (λ (n : ℕ). HaveRoom (elements + 1) n findings) (sym are) room);
     asked = subst (λ (n : ℕ). AreAsked page.queries.items n) (sym are) (asked_grown page.queries.items documents framed more is.asked);
     sized = is.sized;
     noted = is.noted;
@@ -101,20 +145,23 @@ module _ (page : Inside) (is : IsPage page) (after : LaidElements) (names : Know
   }
 
   pub enlarged : (n : ℕ) → n ≡ elements → names.list ≡ page.names.list ++ record { text = text; thing = ElementThing n } ∷ []
-      → length after.elements.tree.documents ≡ documents → IsPage (record page { names = names; laid = after })
-  enlarged n number given same =
+      → length after.elements.tree.documents ≡ documents → MayBeSeen findings.seen findings.clips (element_spot n) → IsPage (record page { names = names; laid = after; findings = findings })
+  enlarged n number given same seen =
       grown one documents (omega arith) (given ∙ ap (λ (m : ℕ). page.names.list ++ record { text = text; thing = ElementThing m } ∷ []) number) same known_one names_one
+      (room_one n number seen)
 
   pub framed_page : (n document : ℕ) (inside : List ℕ) → n ≡ elements → document ≡ documents
       → names.list ≡ (page.names.list ++ record { text = text; thing = ElementThing n } ∷ []) ++ record { text = inside; thing = DocumentThing document } ∷ []
-      → length after.elements.tree.documents ≡ documents + 1 → IsPage (record page { names = names; laid = after })
-  framed_page n document inside number framed given more =
+      → length after.elements.tree.documents ≡ documents + 1 → MayBeSeen findings.seen findings.clips (element_spot n) → MayBeSeen findings.seen findings.clips (View document)
+      → IsPage (record page { names = names; laid = after; findings = findings })
+  framed_page n document inside number framed given more seen shown =
       let counts : Counts = record (counts_in page) { elements = elements + 1 } in
       grown (one ++ record { text = inside; thing = DocumentThing documents } ∷ []) (documents + 1) (omega arith)
       (given ∙ (λ i. (page.names.list ++ record { text = text; thing = ElementThing (number i) } ∷ []) ++ record { text = inside; thing = DocumentThing (framed i) } ∷ []))
       more
       (known_more one inside (DocumentThing documents) counts (record counts { documents = documents + 1 }) (next_document counts) known_one)
       (names_more one after.elements counts (record { text = inside; thing = DocumentThing documents }) (sym count) known_one names_one)
+      (room_document (elements + 1) documents findings (subst (λ (d : ℕ). MayBeSeen findings.seen findings.clips (View d)) framed shown) (room_one n number seen))
 
 one_longer : {A : Type 0} (xs : List A) (x : A) → length (xs ++ x ∷ []) ≡ length xs + 1
 one_longer [] x = refl
@@ -153,6 +200,8 @@ watched_page page names after text document n handler is given number made =
       frame_callbacks = is.frame_callbacks;
       timers = is.timers;
       watched = is.watched;
+      registered = is.registered;
+      room = is.room;
       asked = is.asked;
       sized = is.sized;
       noted = is.noted;
@@ -191,6 +240,8 @@ seeing_page page names after text document n handler root margins thresholds is 
       frame_callbacks = is.frame_callbacks;
       timers = is.timers;
       watched = kept_made (length page.laid.elements.tree.elements) document handler root margins thresholds page.watchers.part is.watched;
+      registered = registered_made page.watchers.part _ page.findings refl is.registered;
+      room = is.room;
       asked = is.asked;
       sized = is.sized;
       noted = is.noted;

@@ -3,6 +3,9 @@ mod Finding
 mod Found
 mod Named
 mod Parts
+mod Findings
+mod Exact
+mod Disconnecting
 mod Inside
 mod Laid
 mod Marked

@@ -3,6 +3,11 @@ use Rattle.std.proofs.Common.{◌≡◌, ℕ, ◌==◌, List, [], ◌∷◌, Opt
 use Rattle.page_model.specs.World.{Thing, DocumentThing, ElementThing, ResizeObserverThing, IntersectionObserverThing, QueryListThing, Name}
 use Rattle.page_model.specs.Names.{is_same_thing}
 use Rattle.page_model.specs.Ranges.{Counts, IsThingIn}
+use Rattle.clip_chain.specs.declared.spot.Spot.TheVariants.{View}
+use Rattle.kept_clips.specs.Looked.{MayBeSeen}
+use Rattle.kept_findings.specs.Held.{HeldFindings}
+use Rattle.kept_findings.specs.Rooms.{HaveRoom}
+use Rattle.kept_findings.proofs.Rooms.{room_none, room_document}
 use Rattle.page_tree.specs.Views.{PageElements}
 use Rattle.page_state.specs.Whole.{AreKnown, AreElementNames, AreAsked}
 use Rattle.page_state.specs.declared.queries.QueryList.{QueryList}
@@ -40,6 +45,10 @@ no_elements names tree none count = record {
   count = ap (λ (it : List (List ℕ)). length it) none ∙ sym count;
   each = λ n below. absurd (omega (arith, below, count));
 }
+
+pub room_first : (elements documents : ℕ) (it : HeldFindings) → elements ≡ 0 → documents ≡ 1 → MayBeSeen it.seen it.clips (View 0) → HaveRoom elements documents it
+room_first elements documents it none one may =
+    subst (λ (n : ℕ). HaveRoom n documents it) (sym none) (subst (λ (d : ℕ). HaveRoom 0 d it) (sym one) (room_document 0 0 it may (room_none it)))
 
 pub none_asked : (queries : List QueryList) (documents : ℕ) → queries ≡ [] → AreAsked queries documents
 none_asked queries documents none = subst (λ (it : List QueryList). AreAsked it documents) (sym none) (record { documents = tt; few = omega arith })

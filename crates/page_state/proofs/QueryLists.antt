@@ -19,7 +19,7 @@ use Rattle.page_boxes.specs.Pages.{seen_screen}
 use Rattle.page_state.specs.Answers.{Keeps}
 use Rattle.page_state.specs.Queries.{seen_query_list, is_changed, changed_from, next_changed, once_evaluated}
 use Rattle.page_state.specs.Views.{PageView}
-use Rattle.page_state.specs.Worlds.{world_of}
+use Rattle.page_state.specs.Worlds.{world_of, view_of}
 use Rattle.page_state.specs.declared.answers.Effect.TheVariants.{Nothing}
 use Rattle.page_state.specs.declared.page.Page.TheInside.{Inside}
 use Rattle.page_state.specs.declared.queries.QueryList.{QueryList}
@@ -96,7 +96,7 @@ module _ (inside : Inside) (query : ℕ) (list : QueryList) (below : query < len
       ∙ state_written inside.queries.items query list matched below
 
 -- the same seen from outside
-module _ (inside : Inside) (now : PageView) (view_is : record { world = world_of inside; begun = inside.begun; kept = inside.laid.kept } ≡ now)
+module _ (inside : Inside) (now : PageView) (view_is : view_of inside ≡ now)
     (query : ℕ) (list : QueryList) (below : query < length inside.queries.items) (is : list ≡ slice_index_or inside.queries.items query list)
     (document : ℕ) (viewport : Extent) (changed : is_changed document viewport (query_list_at (map seen_query_list inside.queries.items) query) ≡ true)
     (here : viewport ≡ viewport_of now.world.tree now.world.viewports.screen document) where
@@ -110,10 +110,10 @@ module _ (inside : Inside) (now : PageView) (view_is : record { world = world_of
   page_changed = changed_matches (now.world) query (seen_query_list list) viewport seen_list document turns here
 
   pub page_evaluated : (place : ℕ) → Some query ≡ changed_from document place viewport (map seen_query_list inside.queries.items)
-      → record { world = record (world_of inside) { queries = map seen_query_list (slice_set inside.queries.items query (record list { matched = not list.matched })) }; begun = inside.begun; kept = inside.laid.kept }
+      → record (view_of inside) { world = record (world_of inside) { queries = map seen_query_list (slice_set inside.queries.items query (record list { matched = not list.matched })) } }
       ≡ record now { world = once_evaluated document (next_changed document place (now.world)) (now.world) }
   page_evaluated place found =
-      ap (λ (queries : List ModelQueryList). record { world = record (world_of inside) { queries = queries }; begun = inside.begun; kept = inside.laid.kept }) (list_written inside query list below is (not list.matched))
+      ap (λ (queries : List ModelQueryList). record (view_of inside) { world = record (world_of inside) { queries = queries } }) (list_written inside query list below is (not list.matched))
       ∙ ap (λ (v : PageView). record v { world = record (v.world) { queries = with_state (not list.matched) query (v.world.queries) } }) view_is
       ∙ ap (λ (world : World). record now { world = world })
       (evaluated (now.world) query (seen_query_list list) viewport seen_list document turns here place
@@ -148,12 +148,12 @@ module _ (inside : Inside) (text : List ℕ) (query : List MediaQuery) (owner : 
       ∙ ap (λ (asked : List MediaQuery). with_query_list owner asked matched (map seen_query_list inside.queries.items)) copied
       ∙ ap (λ (first : Bool). with_query_list owner query first (map seen_query_list inside.queries.items)) matches_first
 
-  pub asks_page : (now : PageView) → record { world = world_of inside; begun = inside.begun; kept = inside.laid.kept } ≡ now → (present : Present) (document : List ℕ)
+  pub asks_page : (now : PageView) → view_of inside ≡ now → (present : Present) (document : List ℕ)
       → new_name inside.names.list text ≡ Did tt → document_named now.world.names document ≡ Did owner → length inside.queries.items < 4096
-      → Keeps now (record { world = record (world_of inside) { names = names; queries = map seen_query_list queries }; begun = inside.begun; kept = inside.laid.kept }) (Ok Nothing)
+      → Keeps now (record (view_of inside) { world = record (world_of inside) { names = names; queries = map seen_query_list queries } }) (Ok Nothing)
       (λ handlers. does handlers now.world present (MakeQueryList text document query))
   asks_page now view_is present document free there few =
-      let then_is : PageView = record { world = record (world_of inside) { names = names; queries = map seen_query_list queries }; begun = inside.begun; kept = inside.laid.kept } in
+      let then_is : PageView = record (view_of inside) { world = record (world_of inside) { names = names; queries = map seen_query_list queries } } in
       let found : document_named inside.names.list document ≡ Did owner = subst (λ (v : PageView). document_named v.world.names document ≡ Did owner) (sym view_is) there in
       let room : nat_lt (length (map seen_query_list inside.queries.items)) 4096 ≡ true =
       subst (λ (count : ℕ). nat_lt count 4096 ≡ true) (sym (length-map inside.queries.items seen_query_list)) (search (rules, tests, few)) in

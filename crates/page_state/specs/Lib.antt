@@ -6,6 +6,7 @@ pub mod Worlds
 pub mod Faults
 pub mod Answers
 pub mod Boxes
+pub mod Findings
 pub mod Whole
 pub mod Labels
 pub mod Rounds

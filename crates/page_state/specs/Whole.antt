@@ -16,6 +16,8 @@ use Rattle.px_units.specs.declared.Size.{Size}
 use Rattle.page_tree.specs.Views.{PageElements}
 use Rattle.page_state.specs.Things.{AreIn}
 use Rattle.intersection_update.specs.Watching.{AreWatchers}
+use Rattle.kept_findings.specs.Registered.{AreRegistered}
+use Rattle.kept_findings.specs.Rooms.{HaveRoom}
 use Rattle.page_state.specs.Worlds.{counts_in}
 use Rattle.page_state.specs.declared.page.Page.TheInside.{Inside}
 use Rattle.page_state.specs.declared.queries.QueryList.{QueryList}
@@ -61,6 +63,8 @@ pub record IsPage (page : Inside) : Type 0 where
   pub frame_callbacks : IsCounted page.frame_callbacks.part.given page.count page.begun
   pub timers : IsCounted page.timers.part.given page.count page.begun
   pub watched : AreWatchers (length page.laid.elements.tree.elements) page.watchers.part.made
+  pub registered : AreRegistered page.watchers.part page.findings
+  pub room : HaveRoom (length page.laid.elements.tree.elements) (length page.laid.elements.tree.documents) page.findings
   pub asked : AreAsked page.queries.items (length page.laid.elements.tree.documents)
   pub sized : IsNatural page.screen.size
   pub noted : AllByRecursion (λ (it : Option Size). ForSome it IsNatural) page.noted

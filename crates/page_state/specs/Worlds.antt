@@ -1,9 +1,10 @@
--- The world that a page's parts are.
+-- The world that a page's parts are, and what a page is seen as.
 use Rattle.std.specs.Prelude.{map, length, option_map}
 use Rattle.page_model.specs.World.{World}
 use Rattle.page_model.specs.Ranges.{Counts}
 use Rattle.page_boxes.specs.Pages.{seen_size, seen_screen}
 use Rattle.page_state.specs.Queries.{seen_query_list}
+use Rattle.page_state.specs.Views.{PageView}
 use Rattle.page_state.specs.declared.page.Page.TheInside.{Inside}
 
 abbrev pub world_of : Inside → World
@@ -23,6 +24,9 @@ world_of p = record {
   clock = p.clock;
   begun = p.count;
 }
+
+abbrev pub view_of : Inside → PageView
+view_of p = record { world = world_of p; begun = p.begun; kept = p.laid.kept; found = p.findings }
 
 -- how much there is of what has a name
 abbrev pub counts_in : Inside → Counts

@@ -14,6 +14,7 @@ ghost use Rattle.script_syntax.specs.Allowed.{IsSize};
 ghost use Rattle.script_syntax.specs.Seen.{operand_of, dimension_of};
 ghost use Rattle.element_tree.specs.Links.{number};
 ghost use Rattle.page_layout.specs.Marks.{element_of, is_over, MarksOnly, MarksNone};
+ghost use Rattle.kept_findings.specs.Held.{IsRoomier};
 ghost use Rattle.page_state.specs.Answers.{Keeps};
 ghost use Rattle.page_state.specs.Boxes.{Marks, found, inside, is_moved, meant, parent};
 ghost use Rattle.page_state.specs.Faults.{misplaced};
@@ -24,6 +25,7 @@ use crate::answers::{Effect, PageFault};
 use crate::names::Thing;
 use crate::page::Page;
 use block_layout::ItemKind;
+use clip_chain::Spot;
 use element_tree::NodeId;
 use page_tree::{Container, PlaceFault};
 use px_units::{Px, Size};
@@ -37,6 +39,7 @@ impl Page {
         requires { IsSize size }
         ensures done { (present : Present) → Keeps self.old self.new result (λ handlers. does handlers self.old.world present (Viewport (unsigned_abs size.width) (unsigned_abs size.height))) }
         ensures boxes { self.new.kept ≡ self.old.kept }
+        ensures findings { self.new.found ≡ self.old.found }
     {
         self.screen.size = size;
         Ok(Effect::Nothing)
@@ -45,6 +48,7 @@ impl Page {
     pub(crate) fn make_block(&mut self, name: Name, document: Name) -> Result<Effect, PageFault>
         ensures done { (present : Present) → Keeps self.old self.new result (λ handlers. does handlers self.old.world present (MakeBlock name document)) }
         ensures boxes { MarksNone self.old.kept self.new.kept }
+        ensures findings { IsRoomier self.old.found self.new.found }
     {
         self.make(name, document, ItemKind::Block)
     }
@@ -58,25 +62,29 @@ impl Page {
         requires { IsSize size }
         ensures done { (present : Present) → Keeps self.old self.new result (λ handlers. does handlers self.old.world present (MakeImage name document (unsigned_abs size.width) (unsigned_abs size.height))) }
         ensures boxes { MarksNone self.old.kept self.new.kept }
+        ensures findings { IsRoomier self.old.found self.new.found }
     {
         self.make(name, document, ItemKind::Image(size))
     }
 
-    // The room for the element and its box comes first, then its name, which is the last thing that may be refused.
+    // The room for the element, its box and what is seen of it comes first, then its name, which is the last thing that may be refused.
     fn make(&mut self, name: Name, document: Name, kind: ItemKind) -> Result<Effect, PageFault>
         requires { IsMade kind }
         ensures done { Keeps self.old self.new result (λ handlers. making self.old.world name document (seen_kind kind)) }
         ensures boxes { MarksNone self.old.kept self.new.kept }
+        ensures findings { IsRoomier self.old.found self.new.found }
     {
         self.names.check_free(name)?;
         let document = self.document(document)?;
         let node = self.laid.reserve()?;
+        self.findings.add(Spot::Node(node))?;
         self.names.insert(name, Thing::Element(node))?;
         let _node = self.laid.make(document, name, kind)?;
         Ok(Effect::Nothing)
     }
 
-    // The room for the frame, its box and both names comes first, so that nothing is refused behind it.
+    // The room for the frame, its box, what is seen of it and of its document, and both names comes first, so that nothing is refused
+    // behind it.
     pub(crate) fn make_frame(
         &mut self,
         name: Name,
@@ -85,6 +93,7 @@ impl Page {
     ) -> Result<Effect, PageFault>
         ensures done { (present : Present) → Keeps self.old self.new result (λ handlers. does handlers self.old.world present (MakeFrame name document inside)) }
         ensures boxes { MarksNone self.old.kept self.new.kept }
+        ensures findings { IsRoomier self.old.found self.new.found }
     {
         self.names.check_free(name)?;
         let document = self.document(document)?;
@@ -97,8 +106,10 @@ impl Page {
             return Err(PageFault::Limit(LimitKind::Documents));
         }
         let node = self.laid.reserve()?;
-        self.names.reserve(2)?;
         let framed = self.laid.page().document_count();
+        self.findings.add(Spot::Node(node))?;
+        self.findings.add(Spot::View(framed))?;
+        self.names.reserve(2)?;
         self.names.insert(name, Thing::Element(node))?;
         self.names.insert(inside, Thing::Document(framed))?;
         let _made = self.laid.make_frame(document, name)?;
@@ -114,6 +125,7 @@ impl Page {
         requires { IsSubject (length self.old.world.tree.elements) subject }
         ensures done { Keeps self.old self.new result (λ handlers. does handlers self.old.world (present_of subject) (Append (operand_of parent) (operand_of node))) }
         ensures boxes { Marks (is_moved self.old.world.tree self.new.world.tree (meant self.old.world (present_of subject) (operand_of node)) (inside (found (container_meant self.old.world.names (present_of subject) (operand_of parent))))) result self.old.kept self.new.kept }
+        ensures findings { self.new.found ≡ self.old.found }
     {
         let container = self.container(parent, subject)?;
         let node = self.element(node, subject)?;
@@ -130,6 +142,7 @@ impl Page {
         requires { IsSubject (length self.old.world.tree.elements) subject }
         ensures done { Keeps self.old self.new result (λ handlers. does handlers self.old.world (present_of subject) (Before (operand_of parent) (operand_of node) (operand_of sibling))) }
         ensures boxes { Marks (is_moved self.old.world.tree self.new.world.tree (meant self.old.world (present_of subject) (operand_of node)) (inside (found (container_meant self.old.world.names (present_of subject) (operand_of parent))))) result self.old.kept self.new.kept }
+        ensures findings { self.new.found ≡ self.old.found }
     {
         let container = self.container(parent, subject)?;
         let node = self.element(node, subject)?;
@@ -150,6 +163,7 @@ impl Page {
         ensures done { Keeps self.old self.new result
             (λ handlers. with_tree self.old.world (placing (seen_container container) node.0 (option_map number sibling) (self.old.world.tree))) }
         ensures boxes { Marks (is_moved self.old.world.tree self.new.world.tree (Some node.0) (element_of (seen_container container))) result self.old.kept self.new.kept }
+        ensures findings { self.new.found ≡ self.old.found }
     {
         if let Err(fault) = self.laid.place(container, node, sibling) {
             return Err(refused(fault));
@@ -165,6 +179,7 @@ impl Page {
         requires { IsSubject (length self.old.world.tree.elements) subject }
         ensures done { Keeps self.old self.new result (λ handlers. does handlers self.old.world (present_of subject) (Remove (operand_of node))) }
         ensures boxes { Marks (is_over self.new.world.tree (parent self.old.world.tree (meant self.old.world (present_of subject) (operand_of node)))) result self.old.kept self.new.kept }
+        ensures findings { self.new.found ≡ self.old.found }
     {
         let node = self.element(node, subject)?;
         self.take_out(node);
@@ -190,6 +205,7 @@ impl Page {
         requires subject { IsSubject (length self.old.world.tree.elements) subject }
         ensures done { Keeps self.old self.new result (λ handlers. does handlers self.old.world (present_of subject) (SetStyle (operand_of node) (seen_declaration declaration))) }
         ensures boxes { Marks (is_over self.new.world.tree (meant self.old.world (present_of subject) (operand_of node))) result self.old.kept self.new.kept }
+        ensures findings { self.new.found ≡ self.old.found }
     {
         let node = self.element(node, subject)?;
         self.laid.set(node, declaration);
@@ -206,6 +222,7 @@ impl Page {
         requires { IsSubject (length self.old.world.tree.elements) subject }
         ensures done { Keeps self.old self.new result (λ handlers. does handlers self.old.world (present_of subject) (Grow (operand_of node) (dimension_of axis) by.0)) }
         ensures boxes { Marks (is_over self.new.world.tree (meant self.old.world (present_of subject) (operand_of node))) result self.old.kept self.new.kept }
+        ensures findings { self.new.found ≡ self.old.found }
     {
         let node = self.element(node, subject)?;
         self.laid.grow(node, side(axis), by)?;
@@ -222,6 +239,7 @@ impl Page {
         requires subject { IsSubject (length self.old.world.tree.elements) subject }
         ensures done { Keeps self.old self.new result (λ handlers. does handlers self.old.world (present_of subject) (Load (operand_of node) (unsigned_abs size.width) (unsigned_abs size.height))) }
         ensures boxes { Marks (is_over self.new.world.tree (meant self.old.world (present_of subject) (operand_of node))) result self.old.kept self.new.kept }
+        ensures findings { self.new.found ≡ self.old.found }
     {
         let node = self.element(node, subject)?;
         self.laid.load(node, size)?;

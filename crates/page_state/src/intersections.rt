@@ -1,16 +1,20 @@
 //! Commands on the intersection observers of a page (Intersection Observer, 2.2).
 
-ghost use Rattle.std.specs.Prelude.{◌≡◌, ◌<◌, false, length, IfOk};
+ghost use Rattle.std.specs.Prelude.{◌≡◌, ◌<◌, ℕ, false, length, IfOk};
 ghost use Rattle.script_model.specs.Scripts.{handlers_in};
 ghost use Rattle.script_model.specs.MarginText.{margins_of};
 ghost use Rattle.script_model.specs.Syntax.{MakeIntersectionObserver, ObserveIntersection, UnobserveIntersection, DisconnectIntersection, TakeIntersections};
 ghost use Rattle.text_io.specs.declared.kinds.ThrowKind.TheVariants.{SyntaxError};
 ghost use Rattle.page_model.specs.Callbacks.{handler_names};
 ghost use Rattle.page_model.specs.Commands.{does};
+ghost use Rattle.page_model.specs.IntersectionObserving.{without_registration};
 ghost use Rattle.page_model.specs.Operands.{Present};
 ghost use Rattle.page_model.specs.Steps.{required};
 ghost use Rattle.script_syntax.specs.Seen.{operand_of, making_of};
+ghost use Rattle.intersection_observer.specs.Places.{IsStanding};
 ghost use Rattle.page_state.specs.Answers.{Finds, Gives, Keeps, Kept};
+ghost use Rattle.page_state.specs.Faults.{unwatched};
+ghost use Rattle.page_state.specs.Findings.{KeepsFindings};
 ghost use Rattle.page_state.specs.Things.{present_of, IsSubject};
 ghost use Rattle.page_state.specs.Watchers.{new_thresholds};
 
@@ -19,7 +23,7 @@ use crate::lookups::handler_given;
 use crate::names::Thing;
 use crate::page::Page;
 use element_tree::NodeId;
-use intersection_observer::WatchFault;
+use intersection_observer::{WatchFault, WatcherId};
 use script_syntax::{IoMaking, MarginText, Operand, Script};
 use text_io::{LimitKind, Name, ThrowKind};
 use thresholds::{Margins, ThresholdFault, Thresholds};
@@ -35,6 +39,7 @@ impl Page {
         requires { IsSubject (length self.old.world.tree.elements) subject }
         ensures done { Kept self.old self.new result (does (handler_names (handlers_in script.now)) self.old.world (present_of subject) (MakeIntersectionObserver (making_of making.now))) }
         ensures boxes { self.new.kept ≡ self.old.kept }
+        ensures findings { self.new.found ≡ self.old.found }
     {
         self.names.check_free(making.name)?;
         let document = self.document(making.document)?;
@@ -81,14 +86,22 @@ impl Page {
         requires subject { IsSubject (length self.old.world.tree.elements) subject }
         ensures done { Keeps self.old self.new result (λ handlers. does handlers self.old.world (present_of subject) (ObserveIntersection observer (operand_of node))) }
         ensures boxes { self.new.kept ≡ self.old.kept }
+        ensures findings { KeepsFindings self.old.world.intersection_observers self.new.world.intersection_observers self.old.found self.new.found }
     {
         let watcher = self.watcher(observer)?;
         let node = self.element(node, subject)?;
-        match self.watchers.observe(watcher, node) {
-            Ok(_) => Ok(Effect::Nothing),
-            Err(WatchFault::Limit) => Err(PageFault::Limit(LimitKind::IntersectionObservations)),
-            Err(WatchFault::Memory) => Err(PageFault::Memory),
+        let registration = match self.watchers.next_registration(watcher, node) {
+            Ok(Some(registration)) => registration,
+            Ok(None) => return Ok(Effect::Nothing),
+            Err(fault) => return Err(refused(fault)),
+        };
+        let root = self.watchers.root_of(watcher);
+        self.findings.register(registration, root, node)?;
+        if let Err(fault) = self.watchers.observe(watcher, node) {
+            self.findings.forget(registration);
+            return Err(refused(fault));
         }
+        Ok(Effect::Nothing)
     }
 
     pub(crate) fn unregister(
@@ -100,28 +113,63 @@ impl Page {
         requires { IsSubject (length self.old.world.tree.elements) subject }
         ensures done { Keeps self.old self.new result (λ handlers. does handlers self.old.world (present_of subject) (UnobserveIntersection observer (operand_of node))) }
         ensures boxes { self.new.kept ≡ self.old.kept }
+        ensures findings { KeepsFindings self.old.world.intersection_observers self.new.world.intersection_observers self.old.found self.new.found }
     {
         let watcher = self.watcher(observer)?;
         let node = self.element(node, subject)?;
-        self.watchers.unobserve(watcher, node);
+        self.forget_target(watcher, node);
         Ok(Effect::Nothing)
     }
 
     pub(crate) fn unregister_all(&mut self, observer: Name) -> Result<Effect, PageFault>
         ensures done { (present : Present) → Keeps self.old self.new result (λ handlers. does handlers self.old.world present (DisconnectIntersection observer)) }
         ensures boxes { self.new.kept ≡ self.old.kept }
+        ensures findings { KeepsFindings self.old.world.intersection_observers self.new.world.intersection_observers self.old.found self.new.found }
     {
         let watcher = self.watcher(observer)?;
-        self.watchers.disconnect(watcher);
+        // From the last one on, so that none has to move.
+        while let Some(target) = self.watchers.last_target(watcher) {
+            self.forget_target(watcher, target);
+        }
         Ok(Effect::Nothing)
+    }
+
+    // Takes the registration of a target out, if there is one, with what is kept of it.
+    fn forget_target(&mut self, watcher: WatcherId, target: NodeId)
+        requires { watcher.0 < length self.old.world.intersection_observers.made }
+        ensures unobserved { self.new ≡ record self.old {
+          world = record (self.old.world) { intersection_observers = without_registration watcher.0 target.0 (self.old.world.intersection_observers) };
+          found = self.new.found;
+        } }
+        ensures findings { KeepsFindings self.old.world.intersection_observers self.new.world.intersection_observers self.old.found self.new.found }
+        ensures count { length self.new.world.intersection_observers.made ≡ length self.old.world.intersection_observers.made }
+        ensures fewer { (serial : ℕ) → IsStanding serial self.new.world.intersection_observers → IsStanding serial self.old.world.intersection_observers }
+    {
+        // It tells that serial numbers name registrations.
+        self.watchers.registrations(watcher);
+        let Some(taken) = self.watchers.unobserve(watcher, target) else {
+            return;
+        };
+        self.findings.forget(taken);
     }
 
     pub(crate) fn take_entries(&mut self, observer: Name) -> Result<Effect, PageFault>
         ensures done { (present : Present) → Keeps self.old self.new result (λ handlers. does handlers self.old.world present (TakeIntersections observer)) }
         ensures boxes { self.new.kept ≡ self.old.kept }
+        ensures findings { self.new.found ≡ self.old.found }
     {
         let watcher = self.watcher(observer)?;
         Ok(Effect::Taken(watcher, self.watchers.take_records(watcher)))
+    }
+}
+
+// What a refused registration comes to on the page.
+fn refused(fault: WatchFault) -> PageFault
+    ensures { result ≡ unwatched fault }
+{
+    match fault {
+        WatchFault::Limit => PageFault::Limit(LimitKind::IntersectionObservations),
+        WatchFault::Memory => PageFault::Memory,
     }
 }
 

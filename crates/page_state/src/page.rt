@@ -15,16 +15,23 @@ ghost use Rattle.page_tree.specs.Items.{IsNatural};
 ghost use Rattle.script_syntax.specs.Allowed.{ActionAllowed, IsTime};
 ghost use Rattle.script_syntax.specs.Seen.{action_of};
 ghost use Rattle.page_state.specs.Answers.{Applied, Moved, Kept, IsHanded};
+ghost use Rattle.clip_chain.specs.declared.spot.Spot.TheVariants.{View};
+ghost use Rattle.kept_findings.specs.Held.{no_findings, IsRoomier};
 ghost use Rattle.page_state.specs.Boxes.{Computes, BoxesAfter};
+ghost use Rattle.kept_findings.specs.Registered.{AreRegistered};
+ghost use Rattle.intersection_update.specs.Keeping.{HaveChains, is_stale_in};
+ghost use Rattle.page_state.specs.Findings.{KeepsFindings, IsFound};
 ghost use Rattle.page_state.specs.Things.{present_of, IsSubject};
 
 use crate::answers::{Effect, PageFault};
 use crate::by_document::ByDocument;
 use crate::names::{Names, Thing};
 use crate::queries::QueryList;
+use clip_chain::Spot;
 use element_tree::NodeId;
 use event_tables::{FrameCallbacks, Listeners, Tasks, Timers};
 use intersection_observer::{WatcherId, Watchers};
+use kept_findings::KeptFindings;
 use page_boxes::{Screen, viewport_of};
 use page_geometry::Shown;
 use page_layout::LaidTree;
@@ -78,6 +85,8 @@ pub struct Page {
     pub(crate) laid: LaidTree,
     pub(crate) observers: Observers,
     pub(crate) watchers: Watchers,
+    // What was found of their registrations last, and what was seen for it.
+    pub(crate) findings: KeptFindings,
     // Whether a notify task of a document is queued.
     pub(crate) notifying: ByDocument<bool>,
     pub(crate) scrolls: Scrolls,
@@ -96,12 +105,19 @@ pub struct Page {
 
 impl Model for Page {
     ghost use Rattle.page_state.specs.Views.{PageView};
-    ghost use Rattle.page_state.specs.Worlds.{world_of};
-    ghost use Rattle.page_state.specs.Whole.{IsPage};
 
     ghost Value = { PageView };
 
-    ghost view = { λ p. record { world = world_of p; begun = p.begun; kept = p.laid.kept } };
+    ghost use Rattle.std.specs.Coded.{codes};
+    ghost use Rattle.kept_clips.specs.Codes.{pairs_code};
+    ghost use Rattle.candidate_index.specs.Codes.{index_code};
+
+    ghost coded = { Prim.hlevel (codes, pairs_code, index_code) };
+
+    ghost use Rattle.page_state.specs.Worlds.{view_of};
+    ghost use Rattle.page_state.specs.Whole.{IsPage};
+
+    ghost view = { view_of };
 
     ghost invariant = { IsPage };
 }
@@ -109,7 +125,8 @@ impl Model for Page {
 impl Page {
     /// A page with the document `top` alone, which has no element, and with a viewport of 800 by 600 pixels.
     pub fn new(alloc: Global) -> Result<Page, AllocError>
-        ensures { IfOk result (λ page. page ≡ record { world = opening_world; begun = false; kept = [] }) }
+        ensures opened { IfOk result (λ page. page ≡ record { world = opening_world; begun = false; kept = []; found = page.found }) }
+        ensures findings { IfOk result (λ page. IsRoomier no_findings page.found) }
     {
         let Some(top) = Name::read(b"top") else {
             return Err(AllocError);
@@ -118,6 +135,8 @@ impl Page {
         let laid = LaidTree::new(alloc)?;
         let notifying = ByDocument::new(alloc)?;
         let noted = ByDocument::new(alloc)?;
+        let mut findings = KeptFindings::new(alloc);
+        findings.add(Spot::View(0))?;
         let mut names = Names::new(alloc);
         if let Err(error) = names.insert(top, Thing::Document(0)) {
             return Err(error);
@@ -127,6 +146,7 @@ impl Page {
             laid,
             observers: Observers::new(alloc, MOST_OBSERVERS, MOST_OBSERVATIONS),
             watchers: Watchers::new(alloc, MOST_WATCHERS, MOST_REGISTRATIONS),
+            findings,
             notifying,
             scrolls: Scrolls::new(alloc),
             queries: Vec::new(alloc),
@@ -150,6 +170,7 @@ impl Page {
     pub fn begin_command(&mut self) -> Result<(), PageFault>
         ensures counted { Moved result self.old.world self.new.world (begun_in self.old.world) }
         ensures boxes { self.new.kept ≡ self.old.kept }
+        ensures findings { self.new.found ≡ self.old.found }
         ensures begun { OnOk result (self.new.begun ≡ true) }
         ensures same { OnErr result (self.new ≡ self.old) }
     {
@@ -169,6 +190,7 @@ impl Page {
         requires { IsTime time }
         ensures set { Moved result self.old.world self.new.world (time_set time self.old.world) }
         ensures boxes { self.new.kept ≡ self.old.kept }
+        ensures findings { self.new.found ≡ self.old.found }
         ensures begun { self.new.begun ≡ self.old.begun }
         ensures same { OnErr result (self.new ≡ self.old) }
     {
@@ -199,6 +221,7 @@ impl Page {
         ensures begun { self.new.begun ≡ false }
         ensures handed { IfOk result (IsHanded self.new.world) }
         ensures boxes { BoxesAfter (present_of subject) (action_of command.now.what) result self.old.world self.new.world.tree self.old.kept self.new.kept steps.old steps.new }
+        ensures findings { KeepsFindings self.old.world.intersection_observers self.new.world.intersection_observers self.old.found self.new.found }
     {
         self.begun = false;
         self.act(script, &command.what, subject, steps)
@@ -223,6 +246,7 @@ impl Page {
         requires subject { IsSubject (length self.old.world.tree.elements) subject }
         ensures done { Kept self.old self.new result (does (handler_names (handlers_in script.now)) self.old.world (present_of subject) (action_of what.now)) }
         ensures boxes { BoxesAfter (present_of subject) (action_of what.now) result self.old.world self.new.world.tree self.old.kept self.new.kept steps.old steps.new }
+        ensures findings { KeepsFindings self.old.world.intersection_observers self.new.world.intersection_observers self.old.found self.new.found }
     {
         match what {
             What::Viewport(size) => self.set_viewport(*size),
@@ -292,6 +316,22 @@ impl Page {
         ensures exact { IsExact self.now.world.tree self.now.world.viewports.screen self.now.kept }
     {
         self.laid.boxes()
+    }
+
+    /// What is kept of registrations: of exactly those that stand. Of one that isn't stale it is what is found of it now, in the coordinates of
+    /// `top` (`telling_of` tells it as an entry does). Its clips are exact of what was seen last of the spots (`KeptFindings::clips`).
+    pub fn findings(&self) -> &KeptFindings
+        ensures value { result.now ≡ self.now.found }
+        ensures registered { AreRegistered self.now.world.intersection_observers self.now.found }
+        ensures chains { HaveChains (shown_of self.now.world) }
+        ensures exact { (chained : HaveChains (shown_of self.now.world)) (serial : ℕ) → is_stale_in (shown_of self.now.world) chained self.now.world.intersection_observers self.now.found.kept serial ≡ false →
+            IsFound (shown_of self.now.world) self.now.world.intersection_observers self.now.found serial }
+    {
+        // These tell what is so of the elements and documents of every page.
+        let page = self.laid.page();
+        page.holds(NodeId(0));
+        page.document_count();
+        &self.findings
     }
 
     /// What is shown of the page as it is now: boxes, places, containers and clips (Intersection Observer, 3.2.7), in units of 1/64

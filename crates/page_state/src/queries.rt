@@ -75,6 +75,7 @@ impl Page {
     ) -> Result<Effect, PageFault>
         ensures done { (present : Present) → Keeps self.old self.new result (λ handlers. does handlers self.old.world present (MakeQueryList name document query.now)) }
         ensures boxes { Computes self.old.world self.old.kept self.new.kept steps.old steps.new }
+        ensures findings { self.new.found ≡ self.old.found }
     {
         self.names.check_free(name)?;
         let document = self.document(document)?;

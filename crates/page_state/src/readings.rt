@@ -35,6 +35,7 @@ impl Page {
         requires { IsSubject (length self.old.world.tree.elements) subject }
         ensures done { Keeps self.old self.new result (λ handlers. does handlers self.old.world (present_of subject) (Read (operand_of target))) }
         ensures boxes { Computes self.old.world self.old.kept self.new.kept steps.old steps.new }
+        ensures findings { self.new.found ≡ self.old.found }
     {
         let container = self.container(target, subject)?;
         Ok(Effect::Line(self.reading(container, steps)))

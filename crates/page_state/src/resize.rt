@@ -31,6 +31,7 @@ impl Page {
     ) -> Result<Effect, PageFault>
         ensures done { (present : Present) → Kept self.old self.new result (does (handler_names (handlers_in script.now)) self.old.world present (MakeResizeObserver name document handler)) }
         ensures boxes { self.new.kept ≡ self.old.kept }
+        ensures findings { self.new.found ≡ self.old.found }
     {
         self.names.check_free(name)?;
         let document = self.document(document)?;
@@ -60,6 +61,7 @@ impl Page {
         requires subject { IsSubject (length self.old.world.tree.elements) subject }
         ensures done { Keeps self.old self.new result (λ handlers. does handlers self.old.world (present_of subject) (ObserveResize observer (operand_of node) observed)) }
         ensures boxes { self.new.kept ≡ self.old.kept }
+        ensures findings { self.new.found ≡ self.old.found }
     {
         let observer = self.observer(observer)?;
         let node = self.element(node, subject)?;
@@ -82,6 +84,7 @@ impl Page {
         requires { IsSubject (length self.old.world.tree.elements) subject }
         ensures done { Keeps self.old self.new result (λ handlers. does handlers self.old.world (present_of subject) (UnobserveResize observer (operand_of node))) }
         ensures boxes { self.new.kept ≡ self.old.kept }
+        ensures findings { self.new.found ≡ self.old.found }
     {
         let observer = self.observer(observer)?;
         let node = self.element(node, subject)?;
@@ -92,6 +95,7 @@ impl Page {
     pub(crate) fn disconnect(&mut self, observer: Name) -> Result<Effect, PageFault>
         ensures done { (present : Present) → Keeps self.old self.new result (λ handlers. does handlers self.old.world present (DisconnectResize observer)) }
         ensures boxes { self.new.kept ≡ self.old.kept }
+        ensures findings { self.new.found ≡ self.old.found }
     {
         let observer = self.observer(observer)?;
         self.observers.disconnect(observer);

@@ -49,6 +49,7 @@ impl Page {
         requires { IsSubject (length self.old.world.tree.elements) subject }
         ensures done { Keeps self.old self.new result (λ handlers. does handlers self.old.world (present_of subject) (ScrollTo (operand_of of) to.left to.top)) }
         ensures boxes { Computes self.old.world self.old.kept self.new.kept steps.old steps.new }
+        ensures findings { self.new.found ≡ self.old.found }
     {
         let container = self.container(of, subject)?;
         let Some(target) = self.scrolled_thing(container) else {
@@ -69,6 +70,7 @@ impl Page {
         requires subject { IsSubject (length self.old.world.tree.elements) subject }
         ensures done { Keeps self.old self.new result (λ handlers. does handlers self.old.world (present_of subject) (ScrollBy (operand_of of) by.left by.top)) }
         ensures boxes { Computes self.old.world self.old.kept self.new.kept steps.old steps.new }
+        ensures findings { self.new.found ≡ self.old.found }
     {
         let container = self.container(of, subject)?;
         let Some(target) = self.scrolled_thing(container) else {
@@ -136,6 +138,7 @@ impl Page {
         requires bound { IsRange range }
         ensures done { Keeps self.old self.new result (λ handlers. becomes (scrolled_to to.left to.top (Some (seen_target target)) self.old.world)) }
         ensures boxes { self.new.kept ≡ self.old.kept }
+        ensures findings { self.new.found ≡ self.old.found }
     {
         let document = match target {
             ScrollTarget::Node(node) => self.laid.page().document_of(node),

@@ -35,6 +35,7 @@ impl Page {
         requires subject { IsSubject (length self.old.world.tree.elements) subject }
         ensures done { Kept self.old self.new result (does (handler_names (handlers_in script.now)) self.old.world (present_of subject) (Listen (aim_of aim) event handler)) }
         ensures boxes { self.new.kept ≡ self.old.kept }
+        ensures findings { self.new.found ≡ self.old.found }
     {
         let target = self.event_target(aim, subject)?;
         let handler = handler_named(script, handler)?;
@@ -55,6 +56,7 @@ impl Page {
         requires { IsSubject (length self.old.world.tree.elements) subject }
         ensures done { Kept self.old self.new result (does (handler_names (handlers_in script.now)) self.old.world (present_of subject) (Unlisten (aim_of aim) event handler)) }
         ensures boxes { self.new.kept ≡ self.old.kept }
+        ensures findings { self.new.found ≡ self.old.found }
     {
         let target = self.event_target(aim, subject)?;
         let handler = handler_named(script, handler)?;
@@ -73,6 +75,7 @@ impl Page {
         requires flag { self.old.begun ≡ false }
         ensures done { (present : Present) → Kept self.old self.new result (does (handler_names (handlers_in script.now)) self.old.world present (RequestFrame document key handler)) }
         ensures boxes { self.new.kept ≡ self.old.kept }
+        ensures findings { self.new.found ≡ self.old.found }
     {
         let document = self.document(document)?;
         let handler = handler_named(script, handler)?;
@@ -85,6 +88,7 @@ impl Page {
     pub(crate) fn cancel_frame(&mut self, document: Name, key: Name) -> Result<Effect, PageFault>
         ensures done { (present : Present) → Keeps self.old self.new result (λ handlers. does handlers self.old.world present (CancelFrame document key)) }
         ensures boxes { self.new.kept ≡ self.old.kept }
+        ensures findings { self.new.found ≡ self.old.found }
     {
         let document = self.document(document)?;
         self.frame_callbacks.cancel(document, key);
@@ -105,6 +109,7 @@ impl Page {
         requires delay { IsTime delay }
         ensures done { (present : Present) → Kept self.old self.new result (does (handler_names (handlers_in script.now)) self.old.world present (SetTimer document key delay handler)) }
         ensures boxes { self.new.kept ≡ self.old.kept }
+        ensures findings { self.new.found ≡ self.old.found }
     {
         let document = self.document(document)?;
         let handler = handler_named(script, handler)?;
@@ -117,6 +122,7 @@ impl Page {
     pub(crate) fn clear_timer(&mut self, document: Name, key: Name) -> Result<Effect, PageFault>
         ensures done { (present : Present) → Keeps self.old self.new result (λ handlers. does handlers self.old.world present (ClearTimer document key)) }
         ensures boxes { self.new.kept ≡ self.old.kept }
+        ensures findings { self.new.found ≡ self.old.found }
     {
         let document = self.document(document)?;
         self.timers.clear(document, key);
@@ -131,6 +137,7 @@ impl Page {
     ) -> Result<Effect, PageFault>
         ensures done { (present : Present) → Kept self.old self.new result (does (handler_names (handlers_in script.now)) self.old.world present (Post document handler)) }
         ensures boxes { self.new.kept ≡ self.old.kept }
+        ensures findings { self.new.found ≡ self.old.found }
     {
         let document = self.document(document)?;
         let handler = handler_named(script, handler)?;

@@ -6,8 +6,11 @@ ghost use Rattle.page_model.specs.Intersections.{update_intersections, watchers}
 ghost use Rattle.page_model.specs.IntersectionObserving.{without_queue};
 ghost use Rattle.page_model.specs.Lookups.{intersection_observer_at};
 ghost use Rattle.page_model.specs.PageBoxes.{viewport_of};
+ghost use Rattle.page_model.specs.Shown.{shown_of};
 ghost use Rattle.page_model.specs.Tasks.{without_notifying};
 ghost use Rattle.page_model.specs.Viewports.{noted_size, with_noted, differs_from};
+ghost use Rattle.page_boxes.specs.Kept.{FillsOnly};
+ghost use Rattle.intersection_update.specs.Updating.{IsStopped};
 ghost use Rattle.intersection_update.specs.Watching.{AreWritten, watcher_numbers};
 ghost use Rattle.page_state.specs.Boxes.{Computes};
 
@@ -44,6 +47,7 @@ impl Page {
         } }
         ensures begun { self.new.begun ≡ self.old.begun }
         ensures boxes { Computes self.old.world self.old.kept self.new.kept steps.old steps.new }
+        ensures findings { self.new.found ≡ self.old.found }
     {
         let size = viewport_now(&mut self.laid, self.screen, document, steps);
         // There are at most 64 documents.
@@ -58,24 +62,32 @@ impl Page {
 
     /// Updates the intersection observations of a document (Intersection Observer, 3.2.10): what is found of each target of
     /// the observers whose root is the document or stands in it is stored, entries are queued where something differs, and a
-    /// notify task where an entry was.
+    /// notify task where an entry was. Only what is stale of it is computed.
     ///
     /// # Errors
-    /// Want of memory. Nothing but registrations and queues of intersection observers is changed then: those that came first are
-    /// settled.
+    /// Want of memory. The registrations that come before the refused one are settled then, and all others and every queue but theirs
+    /// are as they were; where only the notify task is refused, all are settled.
     pub fn update_intersections<L: Ledger>(
         &mut self,
         document: u32,
         steps: &mut Steps<L>,
     ) -> Result<(), AllocError>
         requires { document < length self.old.world.tree.documents }
-        ensures updated { IfOk result (λ _. self.new ≡ record self.old { world = update_intersections document (self.old.world); kept = self.new.kept }) }
-        ensures rest { OnErr result (self.new ≡ record self.old { world = record (self.old.world) { intersection_observers = self.new.world.intersection_observers }; kept = self.new.kept }) }
-        ensures boxes { Computes self.old.world self.old.kept self.new.kept steps.old steps.new }
+        ensures updated { IfOk result (λ _. self.new ≡ record self.old { world = update_intersections document (self.old.world); kept = self.new.kept; found = self.new.found }) }
+        ensures rest { OnErr result (self.new ≡ record self.old { world = record (self.old.world) { intersection_observers = self.new.world.intersection_observers }; kept = self.new.kept; found = self.new.found }) }
+        ensures stopped { OnErr result (IsStopped (shown_of self.old.world) self.old.world.tree document self.old.world.clock self.old.world.intersection_observers self.new.world.intersection_observers) }
+        ensures boxes { FillsOnly self.old.kept self.new.kept }
     {
         self.laid.refresh(self.screen, steps);
         let shown = shown_now(&self.laid, &self.scrolls, self.screen);
-        let queued = update(&shown, &mut self.watchers, document, self.clock)?;
+        let queued = update(
+            &shown,
+            &mut self.watchers,
+            &mut self.findings,
+            document,
+            self.clock,
+            steps,
+        )?;
         if !queued || self.notifying.get(document, false) {
             return Ok(());
         }

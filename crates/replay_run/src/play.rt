@@ -87,7 +87,8 @@ fn run_item<K: Sink, L: Ledger>(
 /// Runs the items of a script, and writes each line as it is said.
 ///
 /// # Errors
-/// - `Limit` exactly where a limit is met, with every line up to its own written.
+/// - `Limit` only where a limit is met, and there unless memory is wanted or the sink fails before; every line up to its own was
+///   written.
 /// - `WriteFault` only where the sink's count of faults rose in this call, and `Memory` for want of memory; a first part of the
 ///   lines was written.
 pub fn play<K: Sink, L: Ledger>(

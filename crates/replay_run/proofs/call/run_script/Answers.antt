@@ -9,7 +9,7 @@ use Rattle.replay_run.proofs.Endings.{memory_answers}
 use Rattle.replay_run.proofs.call.run_script.Goals as goal
 
 pub run_on-status-requires : goal.run_on-status-requires
-run_on-status-requires g c = record { opening = ap (λ (page : PageView). page.world) c.in-Ok.ensures }
+run_on-status-requires g c = record { opening = ap (λ (page : PageView). page.world) c.in-Ok.ensures.opened }
 
 pub returns-in-Ok-clause-answers : goal.returns-in-Ok-clause-answers
 returns-in-Ok-clause-answers g c = rw c.with_page.ensures.status c.run_on-status.ensures.answers

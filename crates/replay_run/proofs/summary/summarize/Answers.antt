@@ -7,7 +7,7 @@ use Rattle.replay_run.proofs.Asking.{if_done}
 use Rattle.replay_run.proofs.summary.summarize.Goals as goal
 
 pub summarize_on-status-requires : goal.summarize_on-status-requires
-summarize_on-status-requires g c = record { opening = ap (λ (page : PageView). page.world) c.in-Ok.ensures }
+summarize_on-status-requires g c = record { opening = ap (λ (page : PageView). page.world) c.in-Ok.ensures.opened }
 
 pub returns-in-Ok-clause-tells : goal.returns-in-Ok-clause-tells
 returns-in-Ok-clause-tells g c = rw c.with_page.ensures.status c.summarize_on-status.ensures.tells

@@ -6,7 +6,7 @@ use Rattle.page_model.specs.Shown.{Shown}
 use Rattle.page_model.specs.Gathering.{gathering, sight_in}
 use Rattle.resize_observer.specs.Observers.{HeldObservers}
 use Rattle.page_state.specs.Views.{PageView}
-use Rattle.page_state.specs.Worlds.{world_of}
+use Rattle.page_state.specs.Worlds.{world_of, view_of}
 use Rattle.page_state.proofs.Doing.{gathers}
 use Rattle.page_state.proofs.Laid.{view_refreshed, computed}
 use Rattle.page_state.proofs.page.Page.gather.Goals as goal
@@ -14,10 +14,10 @@ use Rattle.page_state.proofs.page.Page.gather.Goals as goal
 pub returns-clause-gathered : goal.returns-clause-gathered
 returns-clause-gathered g c =
     let p = record (c.self.inside) { laid = c.refresh.new.self } in
-    ap (λ (it : HeldObservers). record { world = record (world_of p) { resize_observers = it.part }; begun = p.begun; kept = p.laid.kept }) (c.gather.ensures.gathered
+    ap (λ (it : HeldObservers). record (view_of p) { world = record (world_of p) { resize_observers = it.part } }) (c.gather.ensures.gathered
     ∙ ap (λ (s : Shown). record (c.self.inside.observers) { part = gathering (sight_in s.tree s.screen) c.args.document c.args.depth (c.self.inside.observers.part) }) c.shown_now-sizes.ensures)
-    ∙ ap (λ (world : World). record { world = world; begun = p.begun; kept = p.laid.kept }) (gathers c.args.document c.args.depth (world_of p))
-    ∙ ap (λ (v : PageView). record { world = gather c.args.document c.args.depth (v.world); begun = v.begun; kept = v.kept })
+    ∙ ap (λ (world : World). record (view_of p) { world = world }) (gathers c.args.document c.args.depth (world_of p))
+    ∙ ap (λ (v : PageView). record v { world = gather c.args.document c.args.depth (v.world) })
     (view_refreshed c.self.inside c.refresh.new.self c.refresh.ensures.same c.args.self.now c.self.view_is)
 
 pub returns-clause-boxes : goal.returns-clause-boxes

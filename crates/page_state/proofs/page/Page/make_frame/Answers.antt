@@ -1,11 +1,26 @@
 -- A frame is made with its name, and the document in it with its own.
-use Rattle.std.proofs.Common.{◌+◌, ◌++◌, ◌∷◌, [], List, length, ap, ◌∙◌}
+use Rattle.std.proofs.Common.{◌+◌, ◌++◌, ◌∷◌, [], List, length, ap, refl, ◌∙◌}
 use Rattle.page_model.specs.World.{DocumentThing, ElementThing, Name, Tree}
 use Rattle.page_model.specs.Names.{named_thing}
 use Rattle.page_tree.specs.Views.{PageElements}
+use Rattle.clip_chain.specs.Worlds.{element_spot}
+use Rattle.page_state.proofs.Findings.{roomier_then}
 use Rattle.page_state.proofs.Found.{still_free}
-use Rattle.page_state.proofs.Inside.{framed_page}
+use Rattle.page_state.proofs.Inside.{prepared, framed_page}
 use Rattle.page_state.proofs.page.Page.make_frame.Goals as goal
+
+pub invariant_of-self-in_err-add : goal.invariant_of-self-in_err-add
+invariant_of-self-in_err-add c = prepared c.self.inside c.reserve.new.self c.self.inside.names c.add.new.self c.self.invariant c.reserve.ensures.same refl c.add.ensures.roomier
+
+pub invariant_of-self-in_err-add-2 : goal.invariant_of-self-in_err-add-2
+invariant_of-self-in_err-add-2 c =
+    prepared c.self.inside c.reserve.new.self c.self.inside.names c.add-2.new.self c.self.invariant c.reserve.ensures.same refl
+    (roomier_then c.add.ensures.roomier c.add-2.ensures.roomier)
+
+pub invariant_of-self-in_err-reserve : goal.invariant_of-self-in_err-reserve
+invariant_of-self-in_err-reserve c =
+    prepared c.self.inside c.reserve.new.self c.reserve-2.new.self c.add-2.new.self c.self.invariant c.reserve.ensures.same c.reserve-2.ensures.same
+    (roomier_then c.add.ensures.roomier c.add-2.ensures.roomier)
 
 pub insert-requires-2 : goal.insert-requires-2
 insert-requires-2 c =
@@ -17,7 +32,7 @@ pub invariant_of-self-2 : goal.invariant_of-self-2
 invariant_of-self-2 c =
     let p = c.self.inside in
     let before = c.in_ok-node.ensures.same in
-    framed_page p c.self.invariant c.make_frame.new.self c.insert-2.new.self c.args.name
+    framed_page p c.self.invariant c.make_frame.new.self c.insert-2.new.self c.add-2.new.self (roomier_then c.add.ensures.roomier c.add-2.ensures.roomier) c.args.name
     (ap (λ (it : PageElements). it.names) c.in_ok-_made.ensures.made ∙ ap (λ (it : PageElements). it.names ++ c.args.name ∷ []) before)
     (c.in_ok-_made.ensures.count ∙ ap (λ (it : PageElements). length it.tree.elements + 1) before)
     c.in_ok-node.node.0 c.document_count-framed.result c.args.inside c.in_ok-node.ensures.node
@@ -26,3 +41,5 @@ invariant_of-self-2 c =
     ∙ ap (λ (list : List Name). list ++ record { text = c.args.inside; thing = DocumentThing c.document_count-framed.result } ∷ [])
     (c.in_ok-insert.ensures.given ∙ ap (λ (list : List Name). list ++ record { text = c.args.name; thing = ElementThing c.in_ok-node.node.0 } ∷ []) c.in_ok-reserve.ensures.same))
     (c.in_ok-_made.ensures.documents ∙ ap (λ (it : PageElements). length it.tree.documents + 1) before)
+    (c.add-2.ensures.roomier.room (element_spot c.in_ok-node.node.0) c.in_ok-add.ensures.room)
+    c.in_ok-add-2.ensures.room

@@ -1,7 +1,8 @@
 -- A page keeps its facts as it opens.
 use Rattle.std.proofs.Common.{rules, List, [], ◌∷◌, ◌++◌, ap, ◌∙◌}
 use Rattle.page_model.specs.World.{Name, DocumentThing}
-use Rattle.page_state.proofs.Opening.{known_first, no_elements}
+use Rattle.page_state.proofs.Findings.{registered_roomier}
+use Rattle.page_state.proofs.Opening.{known_first, no_elements, room_first}
 use Rattle.page_state.proofs.page.Page.new.Goals as goal
 
 pub invariant_of-result : goal.invariant_of-result
@@ -17,6 +18,8 @@ invariant_of-result c =
       frame_callbacks = search rules;
       timers = search rules;
       watched = search rules;
+      registered = registered_roomier _ (c.add.ensures.roomier) (c.new-findings.ensures.registered _ (λ serial. search rules));
+      room = room_first _ _ _ (search rules) (search rules) c.in_ok-add.ensures.room;
       asked = search rules;
       sized = search rules;
       noted = search rules;

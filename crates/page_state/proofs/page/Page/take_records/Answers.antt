@@ -2,6 +2,8 @@
 use Rattle.std.proofs.Common.{List, length, rules, sym, subst}
 use Rattle.page_model.specs.World.{Entry}
 use Rattle.intersection_observer.specs.Watchers.{HeldWatchers}
+use Rattle.kept_findings.specs.Registered.{AreRegistered}
+use Rattle.kept_findings.proofs.Settled.{registered_taken}
 use Rattle.intersection_update.specs.Watching.{AreWritten, AreWatchers}
 use Rattle.intersection_update.proofs.Watching.{kept_taken, queue_written}
 use Rattle.page_state.specs.Views.{PageView}
@@ -13,6 +15,9 @@ invariant_of-self c =
     let watched : AreWatchers elements c.take_records.new.self.part.made =
     subst (λ (it : HeldWatchers). AreWatchers elements it.part.made) (sym c.take_records.ensures.emptied)
     (kept_taken elements c.args.watcher.0 c.self.inside.watchers.part c.self.invariant.watched) in
+    let registered : AreRegistered c.take_records.new.self.part c.self.inside.findings =
+    subst (λ (it : HeldWatchers). AreRegistered it.part c.self.inside.findings) (sym c.take_records.ensures.emptied)
+    (registered_taken c.self.inside.watchers.part c.args.watcher.0 c.self.inside.findings c.self.invariant.registered) in
     search rules
 
 pub returns-clause-written : goal.returns-clause-written

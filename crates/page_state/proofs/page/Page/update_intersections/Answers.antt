@@ -3,12 +3,13 @@ use Rattle.std.proofs.Common.{◌≡◌, ◌<◌, ◌≤◌, length, sym, ap, su
 use Rattle.page_model.specs.World.{World, Tree}
 use Rattle.page_model.specs.Shown.{Shown}
 use Rattle.page_model.specs.Intersections.{update_intersections}
-use Rattle.intersection_update.specs.Updating.{updated, has_news}
+use Rattle.intersection_observer.specs.Watchers.{HeldWatchers}
+use Rattle.intersection_update.specs.Updating.{updated, has_news, IsStopped}
 use Rattle.event_tables.specs.Tasks.{WaitingTasks}
 use Rattle.page_state.specs.Views.{PageView}
-use Rattle.page_state.specs.Worlds.{world_of}
+use Rattle.page_state.specs.Worlds.{world_of, view_of}
 use Rattle.page_state.proofs.Laid.{view_refreshed}
-use Rattle.page_state.proofs.Updated.{not_told, still_told, now_told}
+use Rattle.page_state.proofs.Updated.{not_told, still_told, now_told, at_world, if_refused, stopped_last}
 use Rattle.page_state.proofs.page.Page.update_intersections.Goals.{then-not-queued-via-then-not-queued, then-not-queued-via-else-not-queued+then-get}
 use Rattle.page_state.proofs.page.Page.update_intersections.Goals as goal
 
@@ -24,8 +25,8 @@ returns-then-not-queued-clause-updated g c =
       | then-not-queued-via-then-not-queued w ↦ not_told p c.args.document c.update.new.watchers c.in_ok-queued.queued is news (grind (arith, tests, w.if-not-queued.true))
       | then-not-queued-via-else-not-queued+then-get w ↦ still_told p c.args.document c.update.new.watchers c.in_ok-queued.queued is news (sym w.get.ensures ∙ w.if-get.true)
     ] in
-    ap (λ (world : World). record { world = world; begun = p.begun; kept = p.laid.kept }) same
-    ∙ ap (λ (v : PageView). record v { world = update_intersections c.args.document (v.world) }) view_is
+    ap (λ (world : World). record (view_of p) { world = world; found = c.update.new.findings }) same
+    ∙ ap (λ (v : PageView). record v { world = update_intersections c.args.document (v.world); found = c.update.new.findings }) view_is
 
 pub set-requires : goal.set-requires
 set-requires g c =
@@ -42,7 +43,19 @@ returns-clause-updated g c =
     ∙ ap (λ (s : Shown). record (p.watchers) { part = updated s s.tree c.args.document (p.clock) (p.watchers.part) }) c.shown_now-shown.ensures in
     let news = c.in_ok-queued.ensures.queued
     ∙ ap (λ (s : Shown). has_news s.tree c.args.document p.watchers.part (updated s s.tree c.args.document (p.clock) (p.watchers.part))) c.shown_now-shown.ensures in
-    ap (λ (world : World). record { world = world; begun = p.begun; kept = p.laid.kept })
+    ap (λ (world : World). record (view_of p) { world = world; found = c.update.new.findings })
     (now_told p c.args.document c.update.new.watchers c.in_ok-queued.queued is news (grind (arith, tests, c.if-not-queued.false)) (sym c.get.ensures ∙ c.if-get.false) c.push.new.self c.set.new.self
     (ap (λ (it : WaitingTasks). it.part) c.in-Ok.ensures.queued) c.set.ensures)
-    ∙ ap (λ (v : PageView). record v { world = update_intersections c.args.document (v.world) }) view_is
+    ∙ ap (λ (v : PageView). record v { world = update_intersections c.args.document (v.world); found = c.update.new.findings }) view_is
+
+pub returns-in_err-queued-clause-stopped : goal.returns-in_err-queued-clause-stopped
+returns-in_err-queued-clause-stopped g c =
+    if_refused c.from_residual.result
+    (at_world c.self.inside c.refresh.new.self c.refresh.ensures.same c.args.self.now c.self.view_is c.shown_now-shown.ensures
+    (λ (s : Shown) (v : PageView). IsStopped s s.tree c.args.document v.world.clock v.world.intersection_observers c.update.new.watchers.part) c.in_err-queued.ensures.stopped)
+
+pub returns-in_default-clause-stopped : goal.returns-in_default-clause-stopped
+returns-in_default-clause-stopped g c =
+    at_world c.self.inside c.refresh.new.self c.refresh.ensures.same c.args.self.now c.self.view_is c.shown_now-shown.ensures
+    (λ (s : Shown) (v : PageView). IsStopped s s.tree c.args.document v.world.clock v.world.intersection_observers c.update.new.watchers.part)
+    (stopped_last _ _ c.args.document _ _ _ (ap (λ (it : HeldWatchers). it.part) c.in_ok-queued.ensures.updated))
