@@ -400,3 +400,16 @@ pub(crate) fn shown_now<'a>(laid: &'a LaidTree, scrolls: &'a Scrolls, screen: Sc
 {
     Shown::new(laid.page(), laid.boxes(), scrolls, screen)
 }
+
+// The same for a reading of many elements, for which it is found once what each document shows.
+pub(crate) fn shown_at_once<'a>(
+    laid: &'a LaidTree,
+    scrolls: &'a Scrolls,
+    screen: Screen,
+) -> Shown<'a>
+    requires natural { IsNatural screen.size }
+    requires done { (n : ℕ) → is_due laid.now.elements.tree (seen_screen screen) laid.now.kept n ≡ false }
+    ensures { result ≡ shown_with laid.now.elements.tree (seen_screen screen) scrolls.now }
+{
+    shown_now(laid, scrolls, screen).with_documents()
+}

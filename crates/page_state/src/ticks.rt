@@ -14,7 +14,7 @@ ghost use Rattle.intersection_update.specs.Updating.{IsStopped};
 ghost use Rattle.intersection_update.specs.Watching.{AreWritten, watcher_numbers};
 ghost use Rattle.page_state.specs.Boxes.{Computes};
 
-use crate::page::{Page, shown_now, viewport_now};
+use crate::page::{Page, shown_at_once, viewport_now};
 use event_tables::Task;
 use intersection_observer::{EntryList, WatcherId};
 use intersection_update::{update, watchers_of};
@@ -79,7 +79,7 @@ impl Page {
         ensures boxes { FillsOnly self.old.kept self.new.kept }
     {
         self.laid.refresh(self.screen, steps);
-        let shown = shown_now(&self.laid, &self.scrolls, self.screen);
+        let shown = shown_at_once(&self.laid, &self.scrolls, self.screen);
         let queued = update(
             &shown,
             &mut self.watchers,

@@ -18,9 +18,9 @@ returns-then-not-queued-clause-updated g c =
     let p = record (c.self.inside) { laid = c.refresh.new.self } in
     let view_is = view_refreshed c.self.inside c.refresh.new.self c.refresh.ensures.same c.args.self.now c.self.view_is in
     let is = c.in_ok-queued.ensures.updated
-    ∙ ap (λ (s : Shown). record (p.watchers) { part = updated s s.tree c.args.document (p.clock) (p.watchers.part) }) c.shown_now-shown.ensures in
+    ∙ ap (λ (s : Shown). record (p.watchers) { part = updated s s.tree c.args.document (p.clock) (p.watchers.part) }) c.shown_at_once-shown.ensures in
     let news = c.in_ok-queued.ensures.queued
-    ∙ ap (λ (s : Shown). has_news s.tree c.args.document p.watchers.part (updated s s.tree c.args.document (p.clock) (p.watchers.part))) c.shown_now-shown.ensures in
+    ∙ ap (λ (s : Shown). has_news s.tree c.args.document p.watchers.part (updated s s.tree c.args.document (p.clock) (p.watchers.part))) c.shown_at_once-shown.ensures in
     let same : world_of (record p { watchers = c.update.new.watchers }) ≡ update_intersections c.args.document (world_of p) = elim c.then-not-queued.branch [
       | then-not-queued-via-then-not-queued w ↦ not_told p c.args.document c.update.new.watchers c.in_ok-queued.queued is news (grind (arith, tests, w.if-not-queued.true))
       | then-not-queued-via-else-not-queued+then-get w ↦ still_told p c.args.document c.update.new.watchers c.in_ok-queued.queued is news (sym w.get.ensures ∙ w.if-get.true)
@@ -40,9 +40,9 @@ returns-clause-updated g c =
     let p = record (c.self.inside) { laid = c.refresh.new.self } in
     let view_is = view_refreshed c.self.inside c.refresh.new.self c.refresh.ensures.same c.args.self.now c.self.view_is in
     let is = c.in_ok-queued.ensures.updated
-    ∙ ap (λ (s : Shown). record (p.watchers) { part = updated s s.tree c.args.document (p.clock) (p.watchers.part) }) c.shown_now-shown.ensures in
+    ∙ ap (λ (s : Shown). record (p.watchers) { part = updated s s.tree c.args.document (p.clock) (p.watchers.part) }) c.shown_at_once-shown.ensures in
     let news = c.in_ok-queued.ensures.queued
-    ∙ ap (λ (s : Shown). has_news s.tree c.args.document p.watchers.part (updated s s.tree c.args.document (p.clock) (p.watchers.part))) c.shown_now-shown.ensures in
+    ∙ ap (λ (s : Shown). has_news s.tree c.args.document p.watchers.part (updated s s.tree c.args.document (p.clock) (p.watchers.part))) c.shown_at_once-shown.ensures in
     ap (λ (world : World). record (view_of p) { world = world; found = c.update.new.findings })
     (now_told p c.args.document c.update.new.watchers c.in_ok-queued.queued is news (grind (arith, tests, c.if-not-queued.false)) (sym c.get.ensures ∙ c.if-get.false) c.push.new.self c.set.new.self
     (ap (λ (it : WaitingTasks). it.part) c.in-Ok.ensures.queued) c.set.ensures)
@@ -51,11 +51,11 @@ returns-clause-updated g c =
 pub returns-in_err-queued-clause-stopped : goal.returns-in_err-queued-clause-stopped
 returns-in_err-queued-clause-stopped g c =
     if_refused c.from_residual.result
-    (at_world c.self.inside c.refresh.new.self c.refresh.ensures.same c.args.self.now c.self.view_is c.shown_now-shown.ensures
+    (at_world c.self.inside c.refresh.new.self c.refresh.ensures.same c.args.self.now c.self.view_is c.shown_at_once-shown.ensures
     (λ (s : Shown) (v : PageView). IsStopped s s.tree c.args.document v.world.clock v.world.intersection_observers c.update.new.watchers.part) c.in_err-queued.ensures.stopped)
 
 pub returns-in_default-clause-stopped : goal.returns-in_default-clause-stopped
 returns-in_default-clause-stopped g c =
-    at_world c.self.inside c.refresh.new.self c.refresh.ensures.same c.args.self.now c.self.view_is c.shown_now-shown.ensures
+    at_world c.self.inside c.refresh.new.self c.refresh.ensures.same c.args.self.now c.self.view_is c.shown_at_once-shown.ensures
     (λ (s : Shown) (v : PageView). IsStopped s s.tree c.args.document v.world.clock v.world.intersection_observers c.update.new.watchers.part)
     (stopped_last _ _ c.args.document _ _ _ (ap (λ (it : HeldWatchers). it.part) c.in_ok-queued.ensures.updated))
