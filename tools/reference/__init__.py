@@ -23,7 +23,7 @@ proof rests on it. Each module follows one part of the rules, in the plainest wa
     shrinking     cuts a script down while something still holds of it
     random_scripts  random scripts by kind
 
-Three modules are of words that the proved program doesn't have yet: `inspector` (`--inspect`, `--hit`), `judge` (`--judge`) and
-`streams` (`--pages`). So is version 2 of the language: positions and insets, the pixel ratio,
+Two modules are of words that the proved program doesn't have yet: `inspector` (`--inspect`, `--hit`) and `streams` (`--pages`). So is
+version 2 of the language: positions and insets, the pixel ratio,
 the box `device` and scroll margins. `available` says what the proved program has.
 """

@@ -1,4 +1,4 @@
-"""A recorded trace beside the one of its script (`--judge`). The proved program doesn't have this word yet.
+"""A recorded trace beside the one of its script (`--judge`).
 
 The source is a script, a line `trace` and the recorded trace.
 """
