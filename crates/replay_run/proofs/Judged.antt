@@ -117,7 +117,7 @@ pub trace_judged : {A : Type 0} (r : Result A RunFault) (it : Judgement) (status
 trace_judged r it status result gathered script recorded before after f g judged told by is wrote =
     subst (λ (s : Status). Tells s (judgement_reply (judgement (trace script) recorded)) before after f g) (sym is)
     (subst (λ (j : Judgement). Tells (status_after r status) (judgement_reply j) before after f g) (judged ∙ ap (λ t. judgement t recorded) told)
-      (judgement_tells r it status before after f g by wrote))
+    (judgement_tells r it status before after f g by wrote))
 
 -- and of a script's first bytes
 pub source_judged : (status : Status) (source script recorded : List ℕ) (before after : Option (List ℕ)) (f g : ℕ) → length source ≤ 67108864
@@ -126,5 +126,5 @@ pub source_judged : (status : Status) (source script recorded : List ℕ) (befor
 source_judged status source script recorded before after f g fits first behind told =
     subst (λ (reply : Reply). Tells status reply before after f g)
     (ap (λ t. judgement_reply (judgement t recorded)) (ap trace first ∙ first_bytes_told (script_of source))
-      ∙ ap (λ t. judgement_reply (judgement (trace (script_of source)) t)) behind ∙ judged_within source fits)
+    ∙ ap (λ t. judgement_reply (judgement (trace (script_of source)) t)) behind ∙ judged_within source fits)
     told

@@ -117,9 +117,9 @@ module _ (script : List Item) (world : World) (opening : world ≡ opening_world
       → Tells status (record { text = summary_text lines; status = ended }) before after f g → Tells status (script_reply job.Summary script) before after f g
   run_tells status ended lines before after f g ends same told =
       let by-run : Tells status (record { text = summary_text (said.lines); status = ended }) before after f g =
-          subst (λ (told : List TraceLine). Tells status (record { text = summary_text told; status = ended }) before after f g) (sym same) told in
+      subst (λ (told : List TraceLine). Tells status (record { text = summary_text told; status = ended }) before after f g) (sym same) told in
       let by-end : Tells status (summary_reply said) before after f g =
-          subst (λ (end : Status). Tells status (record { text = summary_text (said.lines); status = end }) before after f g) (sym ends) by-run in
+      subst (λ (end : Status). Tells status (record { text = summary_text (said.lines); status = end }) before after f g) (sym ends) by-run in
       subst (λ (reply : Reply). Tells status reply before after f g) (ap (λ (w : World). summary_reply (run_items script w)) opening ∙ summary-is script) by-end
 
   ended-so : {new : World} {b a : Option (List ℕ)} {f g : ℕ} → Run.Ended runs.Next new b a f g said → status_at (ending_of (said.flow)) ≡ Done

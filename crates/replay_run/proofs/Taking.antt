@@ -35,7 +35,7 @@ refused text more =
 
 pub first_bytes_read : (text : List ℕ) → reading (take 16777217 text) ≡ reading text
 first_bytes_read text = elim (cases_lt 16777216 (length text)) [
-    inl long ↦
+  | inl long ↦
       let whole : length (take 16777217 text) ≡ 16777217 = length-take-le 16777217 text (omega (arith, long)) in
       refused (take 16777217 text) (omega (arith, whole))
       ∙ ap (λ (line : ℕ). let read : Reading = Err (LimitAt limits.Script line) in read) (same-line text)

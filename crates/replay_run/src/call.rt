@@ -78,12 +78,7 @@ fn write_limit<K: Sink>(
 }
 
 /// A limit that was met while the source was read.
-pub(crate) fn meet_limit<K: Sink>(
-    alloc: Global,
-    kind: LimitKind,
-    line: u32,
-    sink: &mut K,
-) -> Status
+pub(crate) fn meet_limit<K: Sink>(alloc: Global, kind: LimitKind, line: u32, sink: &mut K) -> Status
     ensures tells { Tells result (refused_with (LimitAt kind line)) (K.taken sink.old) (K.taken sink.new) (K.faults sink.old) (K.faults sink.new) }
     ensures done { is_done result ≡ false }
 {
