@@ -1,53 +1,54 @@
 -- What is asked for, by its reading.
-use Rattle.std.proofs.Common.{◌≡◌, sym, subst, ℕ, ◌+◌, List, [], ◌∷◌, Option}
-use Rattle.std.specs.Prelude.{Some, None, Err, IfSome, Result, is_some, true}
-use Rattle.text_io.specs.Streams.{PassesLimit, Rose}
-use Rattle.text_io.specs.declared.kinds.LimitKind.TheVariants as limits
-use Rattle.script_model.specs.Reading.{LimitAt, SyntaxAt, Reading, reading, refusal_line}
-use Rattle.page_model.specs.Outcome.{Ending}
-use Rattle.trace_runs.specs.declared.faults.RunFault.{RunFault}
-use Rattle.trace_runs.specs.Writes.{Told}
-use Rattle.replay_run.specs.Answers.{Tells, Ends}
-use Rattle.replay_run.specs.Statuses.{is_done, status_after}
-use Rattle.replay_run.specs.Words.{ending_by, written_by}
+use Rattle.std.proofs.Common.{◌≡◌, ◌∙◌, ap, refl, sym, subst, ℕ, List, Option}
+use Rattle.std.specs.Prelude.{Some, None, Ok, Err, IfSome, is_some, true}
+use Rattle.text_io.specs.Streams.{Rose}
+use Rattle.script_model.specs.Syntax.{Item}
+use Rattle.script_model.specs.Reading.{Refusal, Reading}
+use Rattle.replay_run.specs.Answers.{Tells}
+use Rattle.replay_run.specs.Replies.{Reply, read_reply, refused_with, script_reply}
+use Rattle.replay_run.specs.Statuses.{is_done}
 use Rattle.replay_run.specs.declared.words.Job.{Job}
 use Rattle.replay_run.specs.declared.status.Status.{Status}
-use Rattle.replay_run.specs.declared.status.Status.TheVariants.{Syntax, ReadFault, WriteFault, Usage}
-use Rattle.replay_run.proofs.Endings.{tells_end}
-use Rattle.replay_run.proofs.Summaries.{refused_tells, reading_tells}
-use Rattle.replay_run.proofs.Taking.{long_reading}
+use Rattle.replay_run.specs.declared.status.Status.TheVariants.{ReadFault, WriteFault, Usage}
 
--- a fault of the text
-pub syntax_tells : {A : Type 0} (r : Result A RunFault) (line column : ℕ) (read : Reading) (before after : Option (List ℕ)) (f g : ℕ) → read ≡ Err (SyntaxAt line column)
-    → Told r before after f g (refusal_line (SyntaxAt line column) ∷ []) → (it : Job) → Tells (status_after r Syntax) (ending_by it read) (written_by it read) before after f g
-syntax_tells r line column read before after f g is told it =
-    reading_tells (status_after r Syntax) it (Err (SyntaxAt line column)) read before after f g (sym is) (refused_tells r (SyntaxAt line column) before after f g told it)
+-- a text by its reading
+
+refused-reply : (job : Job) (refusal : Refusal) → refused_with refusal ≡ read_reply job (Err refusal)
+unfolding read_reply
+refused-reply job refusal = refl
+
+script-reply : (job : Job) (items : List Item) → script_reply job items ≡ read_reply job (Ok items)
+unfolding read_reply
+script-reply job items = refl
+
+pub reply_tells : (status : Status) (reply other : Reply) (before after : Option (List ℕ)) (f g : ℕ) → reply ≡ other → Tells status reply before after f g → Tells status other before after f g
+reply_tells status reply other before after f g is told = subst (λ (it : Reply). Tells status it before after f g) is told
+
+pub refusal_tells : (status : Status) (job : Job) (refusal : Refusal) (read : Reading) (before after : Option (List ℕ)) (f g : ℕ) → read ≡ Err refusal
+    → Tells status (refused_with refusal) before after f g → Tells status (read_reply job read) before after f g
+refusal_tells status job refusal read before after f g is told =
+    reply_tells status (refused_with refusal) (read_reply job read) before after f g (refused-reply job refusal ∙ ap (read_reply job) (sym is)) told
+
+pub script_tells : (status : Status) (job : Job) (items : List Item) (read : Reading) (before after : Option (List ℕ)) (f g : ℕ) → read ≡ Ok items
+    → Tells status (script_reply job items) before after f g → Tells status (read_reply job read) before after f g
+script_tells status job items read before after f g is told =
+    reply_tells status (script_reply job items) (read_reply job read) before after f g (script-reply job items ∙ ap (read_reply job) (sym is)) told
 
 -- what is done is the job
-pub job_tells : (status : Status) (it other : Job) (read : Reading) (before after : Option (List ℕ)) (f g : ℕ) → it ≡ other
-    → Tells status (ending_by other read) (written_by other read) before after f g → Tells status (ending_by it read) (written_by it read) before after f g
-job_tells status it other read before after f g is told = subst (λ (j : Job). Tells status (ending_by j read) (written_by j read) before after f g) (sym is) told
-
--- the answer of a text that is too long
-pub long_tells : (status : Status) (it : Job) (left rest : Option (List ℕ)) (feeds : ℕ) (before after : Option (List ℕ)) (f g : ℕ) → IfSome left (λ text. PassesLimit text rest 16777216 feeds)
-    → Tells status (ending_by it (Err (LimitAt limits.Script (feeds + 1)))) (written_by it (Err (LimitAt limits.Script (feeds + 1)))) before after f g
-    → IfSome left (λ text. Ends status (ending_by it (reading text)) (written_by it (reading text)) before after f g)
-long_tells status it None rest feeds before after f g passes told = tt
-long_tells status it (Some text) rest feeds before after f g passes told =
-    tells_end status (ending_by it (reading text)) (written_by it (reading text)) before after f g
-    (reading_tells status it (Err (LimitAt limits.Script (feeds + 1))) (reading text) before after f g (sym (long_reading text rest feeds passes)) told)
+pub job_tells : (status : Status) (it other : Job) (items : List Item) (before after : Option (List ℕ)) (f g : ℕ) → it ≡ other
+    → Tells status (script_reply other items) before after f g → Tells status (script_reply it items) before after f g
+job_tells status it other items before after f g is told = subst (λ (job : Job). Tells status (script_reply job items) before after f g) (sym is) told
 
 -- statuses that don't come
-pub not_usage : (status : Status) (ending : Ending) (text : List ℕ) (before after : Option (List ℕ)) (f g : ℕ) → Tells status ending text before after f g → status ≡ Usage → ⊥
-not_usage status ending text before after f g told is = subst (λ (s : Status). Tells s ending text before after f g) is told
+pub not_usage : (status : Status) (reply : Reply) (before after : Option (List ℕ)) (f g : ℕ) → Tells status reply before after f g → status ≡ Usage → ⊥
+not_usage status reply before after f g told is = subst (λ (s : Status). Tells s reply before after f g) is told
 
-pub not_read_fault : (status : Status) (ending : Ending) (text : List ℕ) (before after : Option (List ℕ)) (f g : ℕ) → Tells status ending text before after f g → status ≡ ReadFault → ⊥
-not_read_fault status ending text before after f g told is = subst (λ (s : Status). Tells s ending text before after f g) is told
+pub not_read_fault : (status : Status) (reply : Reply) (before after : Option (List ℕ)) (f g : ℕ) → Tells status reply before after f g → status ≡ ReadFault → ⊥
+not_read_fault status reply before after f g told is = subst (λ (s : Status). Tells s reply before after f g) is told
 
-pub write_fault_rose : (status : Status) (ending : Ending) (text : List ℕ) (before after : Option (List ℕ)) (f g : ℕ) → Tells status ending text before after f g → status ≡ WriteFault
-    → Rose f g
-write_fault_rose status ending text before after f g told is =
-    let failed : Tells WriteFault ending text before after f g = subst (λ (s : Status). Tells s ending text before after f g) is told in failed.rose
+pub write_fault_rose : (status : Status) (reply : Reply) (before after : Option (List ℕ)) (f g : ℕ) → Tells status reply before after f g → status ≡ WriteFault → Rose f g
+write_fault_rose status reply before after f g told is =
+    let failed : Tells WriteFault reply before after f g = subst (λ (s : Status). Tells s reply before after f g) is told in failed.rose
 
 -- what holds of the one value that there may be, where it is there for this status alone
 pub if_done : {A : Type 0} (P : A → Type 0) (status : Status) (found : Option A) (value : A) → is_some found ≡ is_done status → IfSome found (λ it. it ≡ value)

@@ -1,9 +1,11 @@
 mod Playing
 mod Endings
+mod Reading
 mod Taking
-mod Feeding
+mod Unread
 pub mod CommandCounts
 pub mod Summaries
 pub mod Written
 mod Wordless
+mod Judged
 pub mod Asking

@@ -7,7 +7,7 @@ use Rattle.std.specs.Prelude.{Ok, codes, slice_get}
 use Rattle.word_model.specs.Numbers.{decimal}
 use Rattle.script_model.specs.Syntax.{Item}
 use Rattle.script_model.specs.Scripts.{command_count}
-use Rattle.page_model.specs.Outcome.{Ended, check_read}
+use Rattle.page_model.specs.Outcome.{check_read}
 use Rattle.trace_runs.specs.Writes.{AppendsPart}
 use Rattle.trace_runs.proofs.Writes.{both, part_begins, part_behind, part_taken}
 use Rattle.trace_summary.specs.Lines.{first_line, behind_line}
@@ -16,6 +16,7 @@ use Rattle.trace_summary.proofs.Splits.{line_splits}
 use Rattle.loop_lint.specs.LoopHandlers.{loop_handler_lines}
 use Rattle.loop_lint.specs.Verdicts.{moves, disturbs}
 use Rattle.replay_run.specs.Answers.{Tells}
+use Rattle.replay_run.specs.Replies.{done_with}
 use Rattle.replay_run.specs.Certificates.{certificate_text, lint_text}
 use Rattle.replay_run.specs.declared.status.Status.TheVariants.{Done, WriteFault}
 
@@ -36,7 +37,7 @@ line_written {before} {mid} {after} rest line behind is left here wrote unfailed
 
 -- a line that failed
 pub line_failed : (before mid after : Option (List ℕ)) (f fm g : ℕ) (whole rest line behind : List ℕ) → line ≡ first_line rest → behind ≡ behind_line rest
-    → Writing before mid f fm whole rest → TakesPart mid after line → Rose fm g → Tells WriteFault Ended whole before after f g
+    → Writing before mid f fm whole rest → TakesPart mid after line → Rose fm g → Tells WriteFault (done_with whole) before after f g
 line_failed before mid after f fm g whole rest line behind is left here took rose = record {
   part = subst (λ (text : List ℕ). AppendsPart before after text) whole-is (part_behind before here.part here.written (part_begins behind (part_taken mid after line took)));
   rose = subst (λ (count : ℕ). Rose count g) here.unfailed rose;
@@ -50,7 +51,7 @@ line_failed before mid after f fm g whole rest line behind is left here took ros
         ∙ here.makes
 
 -- no line is left
-pub lines_written : (before now : Option (List ℕ)) (f g : ℕ) (whole rest : List ℕ) → length rest ≤ 0 → Writing before now f g whole rest → Tells Done Ended whole before now f g
+pub lines_written : (before now : Option (List ℕ)) (f g : ℕ) (whole rest : List ℕ) → length rest ≤ 0 → Writing before now f g whole rest → Tells Done (done_with whole) before now f g
 lines_written before now f g whole [] none here = (refl, subst (λ (text : List ℕ). Appends before now text) (sym (append-nil here.part) ∙ here.makes) here.written)
 lines_written before now f g whole (b ∷ bs) none here = absurd (omega arith)
 

@@ -4,7 +4,7 @@ use Rattle.trace_runs.specs.declared.faults.RunFault.{RunFault}
 use Rattle.trace_runs.specs.declared.faults.RunFault.TheVariants as fault
 use Rattle.page_model.specs.Outcome.{Ending, Ended, Faulty, LimitMet}
 use Rattle.replay_run.specs.declared.status.Status.{Status}
-use Rattle.replay_run.specs.declared.status.Status.TheVariants.{Done, Syntax, Limit, NoMemory, ReadFault, WriteFault, Usage}
+use Rattle.replay_run.specs.declared.status.Status.TheVariants.{Done, Syntax, Limit, NoMemory, ReadFault, WriteFault, Usage, Differs}
 
 -- the exit status of the program
 abbrev pub code_of : Status → ℕ
@@ -15,6 +15,7 @@ code_of NoMemory = 3
 code_of ReadFault = 4
 code_of WriteFault = 5
 code_of Usage = 6
+code_of Differs = 7
 
 abbrev pub is_done : Status → Bool
 is_done Done = true
@@ -24,6 +25,18 @@ is_done NoMemory = false
 is_done ReadFault = false
 is_done WriteFault = false
 is_done Usage = false
+is_done Differs = false
+
+-- whether all was written
+abbrev pub is_whole : Status → Bool
+is_whole Done = true
+is_whole Syntax = true
+is_whole Limit = true
+is_whole NoMemory = false
+is_whole ReadFault = false
+is_whole WriteFault = false
+is_whole Usage = false
+is_whole Differs = true
 
 abbrev pub status_at : Ending → Status
 status_at Ended = Done

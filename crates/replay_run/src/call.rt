@@ -9,26 +9,27 @@ ghost use Rattle.script_model.specs.Reading.{Reading, reading, LimitAt};
 ghost use Rattle.script_syntax.specs.Parsing.{Parses};
 ghost use Rattle.page_model.specs.Outcome.{opening_world, outcome_read};
 ghost use Rattle.trace_runs.specs.Writes.{Told};
-ghost use Rattle.replay_run.specs.Answers.{Answers, Ends, IsTaken, Tells};
-ghost use Rattle.replay_run.specs.Statuses.{is_done, status_after};
-ghost use Rattle.replay_run.specs.Words.{asked, ending_by, given, has_page, is_run, is_source, written_by};
+ghost use Rattle.replay_run.specs.Answers.{Ends, IsTaken, Tells};
+ghost use Rattle.replay_run.specs.Replies.{outcome_reply, read_reply, refused_with, reply, script_reply, script_text};
+ghost use Rattle.replay_run.specs.Statuses.{is_done};
+ghost use Rattle.replay_run.specs.Words.{asked, has_page, is_run, looked_at, seen};
 
 use crate::certificates::write_certificates;
 use crate::check::check;
-use crate::input::feed_all;
+use crate::input::{ScriptText, read_script};
+use crate::judging::judge_source;
 use crate::play::play;
 use crate::printing::write_script;
 use crate::status::Status;
 use crate::summary::{status_of, summarize};
-use crate::words::{Job, Origin, Words};
+use crate::words::{Job, Words};
 use page_state::Page;
 use script_generator::make;
-use script_lexer::Lexer;
-use script_syntax::{ParseFault, Script, parse};
+use script_syntax::{ParseFault, Script};
 use std::alloc::Global;
 use std::sync::ledger::{Blank, Ledger};
 use step_count::Steps;
-use text_io::{LimitKind, Sink, Source, TextFault};
+use text_io::{LimitKind, Sink, Source};
 use trace_runs::{RunFault, write_one};
 use trace_text::TraceLine;
 
@@ -63,15 +64,6 @@ pub(crate) fn with_page(status: Status, page: Page) -> Report
     }
 }
 
-// The end of a run whose whole text is one line.
-fn conclude(wrote: Result<(), RunFault>, status: Status) -> Report
-    requires { is_done status ≡ false }
-    ensures report { result ≡ record { status = status_after wrote status; page = None } }
-    ensures done { is_done result.status ≡ false }
-{
-    without_page(status_of(wrote, status))
-}
-
 fn write_limit<K: Sink>(
     alloc: Global,
     kind: LimitKind,
@@ -85,40 +77,27 @@ fn write_limit<K: Sink>(
     write_one(alloc, &line, sink)
 }
 
-// A limit that was met while the text was read.
-fn meet_limit<K: Sink>(alloc: Global, kind: LimitKind, line: u32, sink: &mut K) -> Report
-    ensures tells { (job : Job) → Tells result.status (ending_by job (Err (LimitAt kind line))) (written_by job (Err (LimitAt kind line)))
-        (K.taken sink.old) (K.taken sink.new) (K.faults sink.old) (K.faults sink.new) }
-    ensures page { result.page ≡ None }
-    ensures done { is_done result.status ≡ false }
+/// A limit that was met while the source was read.
+pub(crate) fn meet_limit<K: Sink>(alloc: Global, kind: LimitKind, line: u32, sink: &mut K) -> Status
+    ensures tells { Tells result (refused_with (LimitAt kind line)) (K.taken sink.old) (K.taken sink.new) (K.faults sink.old) (K.faults sink.new) }
+    ensures done { is_done result ≡ false }
 {
-    conclude(write_limit(alloc, kind, line, sink), Status::Limit)
-}
-
-fn parse_text(alloc: Global, lexer: Lexer) -> Result<Script, ParseFault>
-    requires { lexer.most_line ≡ 4096 }
-    ensures { Parses result (reading lexer.text) }
-{
-    let Ok(text) = lexer.finish() else {
-        return Err(ParseFault::Memory);
-    };
-    parse(alloc, &text)
+    status_of(write_limit(alloc, kind, line, sink), Status::Limit)
 }
 
 // A text that is no script.
-fn refuse_text<K: Sink>(alloc: Global, fault: ParseFault, sink: &mut K) -> Report
-    ensures tells { (job : Job) (read : Reading) → Parses (Err fault) read → Tells result.status (ending_by job read) (written_by job read)
+fn refuse_text<K: Sink>(alloc: Global, fault: ParseFault, sink: &mut K) -> Status
+    ensures tells { (job : Job) (read : Reading) → Parses (Err fault) read → Tells result (read_reply job read)
         (K.taken sink.old) (K.taken sink.new) (K.faults sink.old) (K.faults sink.new) }
-    ensures page { result.page ≡ None }
-    ensures done { is_done result.status ≡ false }
+    ensures done { is_done result ≡ false }
 {
     match fault {
         ParseFault::Syntax { line, column } => {
             let wrote = write_one(alloc, &TraceLine::Syntax(line, column), sink);
-            conclude(wrote, Status::Syntax)
+            status_of(wrote, Status::Syntax)
         }
         ParseFault::ScriptLimit { kind, line } => meet_limit(alloc, kind, line, sink),
-        ParseFault::Memory => without_page(Status::NoMemory),
+        ParseFault::Memory => Status::NoMemory,
     }
 }
 
@@ -131,7 +110,7 @@ fn run_on<K: Sink, L: Ledger>(
     steps: &mut Steps<L>,
 ) -> Status
     requires opening { page.old.world ≡ opening_world }
-    ensures answers { Answers result (outcome_read (Ok script.now)) (K.taken sink.old) (K.taken sink.new) (K.faults sink.old) (K.faults sink.new) }
+    ensures answers { Tells result (outcome_reply (outcome_read (Ok script.now))) (K.taken sink.old) (K.taken sink.new) (K.faults sink.old) (K.faults sink.new) }
     ensures world { is_done result ≡ true → page.new.world ≡ (outcome_read (Ok script.now)).world }
 {
     match play(alloc, page, script, sink, steps) {
@@ -151,7 +130,7 @@ fn run_script<K: Sink, L: Ledger>(
     sink: &mut K,
     steps: &mut Steps<L>,
 ) -> Report
-    ensures answers { Answers result.status (outcome_read (Ok script.now)) (K.taken sink.old) (K.taken sink.new) (K.faults sink.old) (K.faults sink.new) }
+    ensures answers { Tells result.status (outcome_reply (outcome_read (Ok script.now))) (K.taken sink.old) (K.taken sink.new) (K.faults sink.old) (K.faults sink.new) }
     ensures page { is_some result.page ≡ is_done result.status }
     ensures world { IfSome result.page (λ page. page.world ≡ (outcome_read (Ok script.now)).world) }
 {
@@ -172,7 +151,7 @@ fn perform<K: Sink, L: Ledger>(
     sink: &mut K,
     steps: &mut Steps<L>,
 ) -> Report
-    ensures tells { Tells result.status (ending_by job (Ok script.now)) (written_by job (Ok script.now)) (K.taken sink.old) (K.taken sink.new) (K.faults sink.old) (K.faults sink.new) }
+    ensures tells { Tells result.status (script_reply job script.now) (K.taken sink.old) (K.taken sink.new) (K.faults sink.old) (K.faults sink.new) }
     ensures page { is_some result.page ≡ (is_run job && is_done result.status) }
     ensures world { IfSome result.page (λ page. page.world ≡ (outcome_read (Ok script.now)).world) }
 {
@@ -194,22 +173,21 @@ fn perform<K: Sink, L: Ledger>(
     }
 }
 
-// The same with the script of a text.
-fn perform_on_text<K: Sink, L: Ledger>(
+/// The same with the script of a text.
+pub(crate) fn perform_on_text<K: Sink, L: Ledger>(
     alloc: Global,
     job: Job,
-    lexer: Lexer,
+    text: ScriptText,
     sink: &mut K,
     steps: &mut Steps<L>,
 ) -> Report
-    requires { lexer.most_line ≡ 4096 }
-    ensures tells { Tells result.status (ending_by job (reading lexer.text)) (written_by job (reading lexer.text)) (K.taken sink.old) (K.taken sink.new) (K.faults sink.old) (K.faults sink.new) }
+    ensures tells { Tells result.status (read_reply job (reading text)) (K.taken sink.old) (K.taken sink.new) (K.faults sink.old) (K.faults sink.new) }
     ensures page { is_some result.page ≡ (is_run job && is_done result.status) }
-    ensures world { IfSome result.page (λ page. page.world ≡ (outcome_read (reading lexer.text)).world) }
+    ensures world { IfSome result.page (λ page. page.world ≡ (outcome_read (reading text)).world) }
 {
-    match parse_text(alloc, lexer) {
+    match text.parse(alloc) {
         Ok(script) => perform(alloc, job, &script, sink, steps),
-        Err(fault) => refuse_text(alloc, fault, sink),
+        Err(fault) => without_page(refuse_text(alloc, fault, sink)),
     }
 }
 
@@ -223,18 +201,16 @@ fn perform_on_source<S: Source, K: Sink, L: Ledger>(
 ) -> Report
     ensures usage { result.status ≡ Status.Usage → ⊥ }
     ensures ends { IfSome (S.left source.old) (λ text.
-        Ends result.status (ending_by job (reading text)) (written_by job (reading text)) (K.taken sink.old) (K.taken sink.new) (K.faults sink.old) (K.faults sink.new)) }
-    ensures read { IfSome (S.left source.old) (λ text. IsTaken result.status text (S.left source.new)) }
+        Ends result.status (read_reply job (reading text)) (K.taken sink.old) (K.taken sink.new) (K.faults sink.old) (K.faults sink.new)) }
+    ensures read { IfSome (S.left source.old) (λ text. IsTaken result.status 16777217 text (S.left source.new)) }
     ensures read_fault { result.status ≡ Status.ReadFault → Rose (S.faults source.old) (S.faults source.new) × (sink.new ≡ sink.old) }
     ensures write_fault { result.status ≡ Status.WriteFault → Rose (K.faults sink.old) (K.faults sink.new) }
     ensures page { is_some result.page ≡ (is_run job && is_done result.status) }
     ensures world { IfSome result.page (λ page. IfSome (S.left source.old) (λ text. page.world ≡ (outcome_read (reading text)).world)) }
 {
-    match feed_all(alloc, source) {
-        Ok(lexer) => perform_on_text(alloc, job, lexer, sink, steps),
-        Err(TextFault::TooLong { feeds }) => meet_limit(alloc, LimitKind::Script, feeds + 1, sink),
-        Err(TextFault::ReadFault) => without_page(Status::ReadFault),
-        Err(_) => without_page(Status::NoMemory),
+    match read_script(alloc, source) {
+        Ok(text) => perform_on_text(alloc, job, text, sink, steps),
+        Err(status) => without_page(status),
     }
 }
 
@@ -246,7 +222,7 @@ fn perform_on_number<K: Sink, L: Ledger>(
     sink: &mut K,
     steps: &mut Steps<L>,
 ) -> Report
-    ensures tells { Tells result.status (ending_by job (reading (generated number))) (written_by job (reading (generated number))) (K.taken sink.old) (K.taken sink.new) (K.faults sink.old) (K.faults sink.new) }
+    ensures tells { Tells result.status (read_reply job (reading (generated number))) (K.taken sink.old) (K.taken sink.new) (K.faults sink.old) (K.faults sink.new) }
     ensures page { is_some result.page ≡ (is_run job && is_done result.status) }
     ensures world { IfSome result.page (λ page. page.world ≡ (outcome_read (reading (generated number))).world) }
 {
@@ -263,14 +239,16 @@ fn perform_on_number<K: Sink, L: Ledger>(
 /// - `--lint`: reads it, and writes whether its resize loops always go deeper (`steady`) and whether none of them ends with the error
 ///   (`quiet`), by what its loop handlers hold, or the line of the first command that stands in the way (`unsteady`, `unquiet`);
 /// - `--summary`: replays it, and writes for each kind of trace lines how many there are;
+/// - `--judge`: replays the script that stands before the source's first line `trace`, and judges the trace that was recorded behind
+///   that line: writes `equal` and the number of lines, or `differs`, the line and how;
 /// - `--generate N`: writes the script of the number N, which is at most 1,000,000; reads nothing;
 /// - `--generate-run N`: replays the script of the number, and writes its summary; reads nothing.
 ///
-/// Of a source that is no script, the first four write the line that says where alone. `steps` counts the boxes that are
-/// computed: a `read`, and a tick where there is an observer, compute the boxes that are due.
+/// Of a source that is no script, the first four write the line that says where alone; for a judgement that line is the script's
+/// trace. `steps` counts the boxes that are computed: a `read`, and a tick where there is an observer, compute the boxes that are due.
 ///
-/// - `Done`, `Syntax` and `Limit`: exactly by how what is asked for ends; all that is to be written was. A source that was read
-///   is at its end then; of more bytes than a script may have one more than that many were taken.
+/// - `Done`, `Syntax`, `Limit` and `Differs`: exactly by the reply to the words and the source's bytes, and all of its text was written.
+///   A source that was read is at its end then; of more bytes than it may have one more than that many were taken.
 /// - `ReadFault` and `WriteFault`: only where that count of faults rose in this call.
 /// - `Usage`: exactly for any other words; nothing is read or written, and no memory is asked for.
 pub fn run<S: Source, K: Sink, L: Ledger>(
@@ -282,33 +260,27 @@ pub fn run<S: Source, K: Sink, L: Ledger>(
 ) -> Report
     ensures usage { (result.status ≡ Status.Usage) ↔ (asked (map string_bytes words.now) ≡ None) }
     ensures untouched { asked (map string_bytes words.now) ≡ None → (source.new ≡ source.old) × (sink.new ≡ sink.old) }
-    // What the status says of the script's text, where it is told, and of what was written.
-    ensures ends { IfSome (asked (map string_bytes words.now)) (λ asks. IfSome (given asks.origin (S.left source.old)) (λ text.
-        Ends result.status (ending_by asks.job (reading text)) (written_by asks.job (reading text)) (K.taken sink.old) (K.taken sink.new) (K.faults sink.old) (K.faults sink.new))) }
-    ensures read { IfSome (asked (map string_bytes words.now)) (λ asks. is_source asks.origin ≡ true → IfSome (S.left source.old) (λ text. IsTaken result.status text (S.left source.new))) }
-    ensures unread { IfSome (asked (map string_bytes words.now)) (λ asks. is_source asks.origin ≡ false → source.new ≡ source.old) }
+    // What the status says of the reply, by the bytes of the source where they are told, and of what was written.
+    ensures ends { IfSome (asked (map string_bytes words.now)) (λ asks. IfSome (seen asks (S.left source.old)) (λ text.
+        Ends result.status (reply asks text) (K.taken sink.old) (K.taken sink.new) (K.faults sink.old) (K.faults sink.new))) }
+    ensures read { IfSome (asked (map string_bytes words.now)) (λ asks. IfSome (S.left source.old) (λ text. IsTaken result.status (looked_at asks) text (S.left source.new))) }
+    ensures unread { IfSome (asked (map string_bytes words.now)) (λ asks. looked_at asks ≡ 0 → source.new ≡ source.old) }
     // The causes, also where neither tells its bytes.
     ensures read_fault { result.status ≡ Status.ReadFault → Rose (S.faults source.old) (S.faults source.new) × (sink.new ≡ sink.old) }
     ensures write_fault { result.status ≡ Status.WriteFault → Rose (K.faults sink.old) (K.faults sink.new) }
     ensures page { is_some result.page ≡ (has_page (asked (map string_bytes words.now)) && is_done result.status) }
-    ensures world { IfSome result.page (λ page. IfSome (asked (map string_bytes words.now)) (λ asks. IfSome (given asks.origin (S.left source.old)) (λ text.
-        page.world ≡ (outcome_read (reading text)).world))) }
+    ensures world { IfSome result.page (λ page. IfSome (asked (map string_bytes words.now)) (λ asks. IfSome (seen asks (S.left source.old)) (λ text.
+        page.world ≡ (outcome_read (reading (script_text asks text))).world))) }
     ensures steps { asked (map string_bytes words.now) ≡ None → steps.new ≡ steps.old }
 {
     match Words::read(words) {
         None => without_page(Status::Usage),
-        Some(
-            Words {
-                job,
-                origin: Origin::Source,
-            },
-        ) => perform_on_source(alloc, job, source, sink, steps),
-        Some(
-            Words {
-                job,
-                origin: Origin::Number(number),
-            },
-        ) => perform_on_number(alloc, job, number, sink, steps),
+        Some(Words::Script(job)) => perform_on_source(alloc, job, source, sink, steps),
+        Some(Words::Generated(job, number)) => perform_on_number(alloc, job, number, sink, steps),
+        Some(Words::Judge) => Report {
+            status: judge_source(alloc, source, sink, steps),
+            page: None,
+        },
     }
 }
 
@@ -325,17 +297,17 @@ pub fn run_uncounted<S: Source, K: Sink, L: Ledger>(
     requires one_part { 0 < blank.parts }
     ensures usage { (result.status ≡ Status.Usage) ↔ (asked (map string_bytes words.now) ≡ None) }
     ensures untouched { asked (map string_bytes words.now) ≡ None → (source.new ≡ source.old) × (sink.new ≡ sink.old) }
-    // What the status says of the script's text, where it is told, and of what was written.
-    ensures ends { IfSome (asked (map string_bytes words.now)) (λ asks. IfSome (given asks.origin (S.left source.old)) (λ text.
-        Ends result.status (ending_by asks.job (reading text)) (written_by asks.job (reading text)) (K.taken sink.old) (K.taken sink.new) (K.faults sink.old) (K.faults sink.new))) }
-    ensures read { IfSome (asked (map string_bytes words.now)) (λ asks. is_source asks.origin ≡ true → IfSome (S.left source.old) (λ text. IsTaken result.status text (S.left source.new))) }
-    ensures unread { IfSome (asked (map string_bytes words.now)) (λ asks. is_source asks.origin ≡ false → source.new ≡ source.old) }
+    // What the status says of the reply, by the bytes of the source where they are told, and of what was written.
+    ensures ends { IfSome (asked (map string_bytes words.now)) (λ asks. IfSome (seen asks (S.left source.old)) (λ text.
+        Ends result.status (reply asks text) (K.taken sink.old) (K.taken sink.new) (K.faults sink.old) (K.faults sink.new))) }
+    ensures read { IfSome (asked (map string_bytes words.now)) (λ asks. IfSome (S.left source.old) (λ text. IsTaken result.status (looked_at asks) text (S.left source.new))) }
+    ensures unread { IfSome (asked (map string_bytes words.now)) (λ asks. looked_at asks ≡ 0 → source.new ≡ source.old) }
     // The causes, also where neither tells its bytes.
     ensures read_fault { result.status ≡ Status.ReadFault → Rose (S.faults source.old) (S.faults source.new) × (sink.new ≡ sink.old) }
     ensures write_fault { result.status ≡ Status.WriteFault → Rose (K.faults sink.old) (K.faults sink.new) }
     ensures page { is_some result.page ≡ (has_page (asked (map string_bytes words.now)) && is_done result.status) }
-    ensures world { IfSome result.page (λ page. IfSome (asked (map string_bytes words.now)) (λ asks. IfSome (given asks.origin (S.left source.old)) (λ text.
-        page.world ≡ (outcome_read (reading text)).world))) }
+    ensures world { IfSome result.page (λ page. IfSome (asked (map string_bytes words.now)) (λ asks. IfSome (seen asks (S.left source.old)) (λ text.
+        page.world ≡ (outcome_read (reading (script_text asks text))).world))) }
 {
     let mut steps = Steps::<L>::new(blank);
     run(alloc, words, source, sink, &mut steps)

@@ -1,8 +1,8 @@
 //! The certificates of a script.
 
 ghost use Rattle.std.specs.Prelude.{◌≡◌, ◌++◌, IfOk, OnOk};
-ghost use Rattle.page_model.specs.Outcome.{Ended};
 ghost use Rattle.replay_run.specs.Answers.{Tells};
+ghost use Rattle.replay_run.specs.Replies.{done_with};
 ghost use Rattle.replay_run.specs.Certificates.{certificate_text, lint_text};
 
 use crate::lines::write_lines;
@@ -49,7 +49,7 @@ fn certificates_of(alloc: Global, script: &Script) -> Result<Vec<u8>, AllocError
 
 /// Writes the certificates of a script, a line for each.
 pub fn write_certificates<K: Sink>(alloc: Global, script: &Script, sink: &mut K) -> Status
-    ensures { Tells result Ended (lint_text script.now) (K.taken sink.old) (K.taken sink.new) (K.faults sink.old) (K.faults sink.new) }
+    ensures { Tells result (done_with (lint_text script.now)) (K.taken sink.old) (K.taken sink.new) (K.faults sink.old) (K.faults sink.new) }
 {
     match certificates_of(alloc, script) {
         Ok(text) => write_lines(&text, sink),

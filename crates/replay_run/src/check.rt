@@ -3,8 +3,9 @@
 ghost use Rattle.std.specs.Prelude.{◌≡◌, ◌^◌, ◌<◌, map, Ok, IfOk};
 ghost use Rattle.script_model.specs.Scripts.{commands_in, block_commands, item_commands, command_count};
 ghost use Rattle.script_syntax.specs.Seen.{block_of, command_of, item_of};
-ghost use Rattle.page_model.specs.Outcome.{Ended, check_read};
+ghost use Rattle.page_model.specs.Outcome.{check_read};
 ghost use Rattle.replay_run.specs.Answers.{Tells};
+ghost use Rattle.replay_run.specs.Replies.{done_with};
 
 use crate::lines::write_lines;
 use crate::status::Status;
@@ -82,7 +83,7 @@ fn count_line(alloc: Global, script: &Script) -> Result<Vec<u8>, AllocError>
 
 /// Writes `ok` and the number of a script's commands.
 pub fn check<K: Sink>(alloc: Global, script: &Script, sink: &mut K) -> Status
-    ensures { Tells result Ended (check_read (Ok script.now)) (K.taken sink.old) (K.taken sink.new) (K.faults sink.old) (K.faults sink.new) }
+    ensures { Tells result (done_with (check_read (Ok script.now))) (K.taken sink.old) (K.taken sink.new) (K.faults sink.old) (K.faults sink.new) }
 {
     match count_line(alloc, script) {
         Ok(line) => write_lines(&line, sink),

@@ -1,58 +1,100 @@
 //! The text of a script, read in pieces.
 
-ghost use Rattle.std.specs.Prelude.{◌≡◌, ◌==◌, ◌≤◌, [], Some, count_by, length, IfErr, IfOk, IfSome, OnOk};
-ghost use Rattle.text_io.specs.Streams.{IsCauseOfReading};
+ghost use Rattle.std.specs.Prelude.{◌≡◌, ◌++◌, ◌-◌, [], length, take, IfErr, IfOk, OnErr, OnOk};
+ghost use Rattle.script_model.specs.Reading.{reading};
+ghost use Rattle.script_syntax.specs.Parsing.{Parses};
+ghost use Rattle.replay_run.specs.Answers.{IsUnread, ReadTo};
 
+use crate::status::Status;
 use script_lexer::Lexer;
-use std::alloc::Global;
-use text_io::{Failed, Source, TextFault};
+use script_syntax::{ParseFault, Script, parse};
+use std::alloc::{AllocError, Global};
+use std::marker::Model;
+use text_io::{Failed, Source};
 
-/// The most bytes of a script.
-const MOST_BYTES: usize = 16_777_216;
+/// How many bytes of a script are looked at: one more than it may have, so that a longer one is told.
+const LOOKED_AT: usize = 16_777_217;
 
 /// The most bytes of a line.
 const MOST_LINE: usize = 4096;
 
-// How many bytes a script is read by.
+// How many bytes a source is read by.
 const PIECE: usize = 4096;
 
-// Feeds the lexer all the bytes that the source has left. Bytes and line feeds are counted to the end, whatever the bytes
-// are, so that a script that is too long is one before anything else is said of it.
-pub(crate) fn feed_all<S: Source>(alloc: Global, source: &mut S) -> Result<Lexer, TextFault>
-    ensures lines { IfOk result (λ lexer. lexer.most_line ≡ 4096) }
-    ensures all { IfOk result (λ lexer. IfSome (S.left source.old) (λ text. lexer.text ≡ text)) }
-    ensures end { OnOk result (IfSome (S.left source.old) (λ _. S.left source.new ≡ Some [])) }
-    ensures within { IfOk result (λ lexer. length lexer.text ≤ 16777216) }
-    ensures fault { IfErr result (λ fault. IsCauseOfReading fault (S.left source.old) (S.left source.new) 16777216
-        (S.faults source.old) (S.faults source.new)) }
+/// The text of a script, as it comes in pieces: of a text that is longer than a script may be, the bytes that are looked at.
+#[derive(Drop)]
+pub struct ScriptText {
+    lexer: Lexer,
+    taken: usize,
+}
+
+impl Model for ScriptText {
+    ghost use Rattle.std.specs.Prelude.{◌≡◌, ◌≤◌, ℕ, List, length};
+
+    ghost Value = { List ℕ };
+
+    ghost view = { λ text. text.lexer.text };
+
+    ghost invariant = { λ text. (text.lexer.most_line ≡ 4096) × (text.taken ≡ length text.lexer.text) × (text.taken ≤ 16777217) };
+}
+
+impl ScriptText {
+    pub fn new(alloc: Global) -> ScriptText
+        ensures { result ≡ [] }
+    {
+        ScriptText {
+            lexer: Lexer::new(alloc, MOST_LINE),
+            taken: 0,
+        }
+    }
+
+    /// How many further bytes of it are looked at.
+    pub fn room(&self) -> usize
+        ensures { result ≡ 16777217 - length self.now }
+    {
+        LOOKED_AT - self.taken
+    }
+
+    /// The next piece. Where no memory is left, nothing of it is taken.
+    pub fn feed(&mut self, piece: &[u8]) -> Result<(), AllocError>
+        ensures ok { OnOk result (self.new ≡ take 16777217 (self.old ++ piece.now)) }
+        ensures err { OnErr result (self.new ≡ self.old) }
+    {
+        let looked_at = &piece[..piece.len().min(LOOKED_AT - self.taken)];
+        self.lexer.feed(looked_at)?;
+        self.taken += looked_at.len();
+        Ok(())
+    }
+
+    /// The script that it is.
+    pub fn parse(self, alloc: Global) -> Result<Script, ParseFault>
+        ensures { Parses result (reading self) }
+    {
+        let Ok(text) = self.lexer.finish() else {
+            return Err(ParseFault::Memory);
+        };
+        parse(alloc, &text)
+    }
+}
+
+/// Reads the script that the source has left. The error is the status of a run that can't read it.
+pub fn read_script<S: Source>(alloc: Global, source: &mut S) -> Result<ScriptText, Status>
+    ensures read { IfOk result (λ script. ReadTo 16777217 (S.left source.old) (S.left source.new) script) }
+    ensures cause { IfErr result (λ status. IsUnread status (S.faults source.old) (S.faults source.new)) }
 {
-    let mut lexer = Lexer::new(alloc, MOST_LINE);
+    let mut script = ScriptText::new(alloc);
     let mut buffer = [0u8; PIECE];
-    let mut taken = 0;
-    let mut feeds = 0;
-    while taken <= MOST_BYTES {
-        let room = (MOST_BYTES + 1 - taken).min(PIECE);
+    'pieces: while script.room() > 0 {
+        let room = script.room().min(PIECE);
         match source.read(&mut buffer[..room]) {
-            Err(Failed) => return Err(TextFault::ReadFault),
-            Ok(0) => return Ok(lexer),
+            Err(Failed) => return Err(Status::ReadFault),
+            Ok(0) => return Ok(script),
             Ok(given) => {
-                let piece = &buffer[..given];
-                let within = (MOST_BYTES - taken).min(piece.len());
-                feeds += line_feeds(&piece[..within]);
-                let Ok(()) = lexer.feed(piece) else {
-                    return Err(TextFault::Memory);
+                let Ok(()) = script.feed(&buffer[..given]) else {
+                    return Err(Status::NoMemory);
                 };
-                taken += piece.len();
             }
         }
     }
-    Err(TextFault::TooLong { feeds })
-}
-
-fn line_feeds(piece: &[u8]) -> u32
-    requires { length piece.now ≤ 4096 }
-    ensures number { result ≡ count_by (λ b. b == 10) piece.now }
-    ensures bound { result ≤ length piece.now }
-{
-    piece.iter().filter(|byte| **byte == b'\n').count() as u32
+    Ok(script)
 }

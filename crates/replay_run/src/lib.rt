@@ -7,6 +7,7 @@ mod call;
 mod certificates;
 mod check;
 mod input;
+mod judging;
 mod laws;
 mod lines;
 mod play;

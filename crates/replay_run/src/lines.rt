@@ -1,7 +1,7 @@
 //! Texts of lines, written whole.
 
-ghost use Rattle.page_model.specs.Outcome.{Ended};
 ghost use Rattle.replay_run.specs.Answers.{Tells};
+ghost use Rattle.replay_run.specs.Replies.{done_with};
 
 use crate::status::Status;
 use text_io::{Sink, write_all};
@@ -9,7 +9,7 @@ use trace_summary::split_line;
 
 /// Writes a text, each of its lines by itself.
 pub fn write_lines<K: Sink>(text: &[u8], sink: &mut K) -> Status
-    ensures { Tells result Ended text.now (K.taken sink.old) (K.taken sink.new) (K.faults sink.old) (K.faults sink.new) }
+    ensures { Tells result (done_with text.now) (K.taken sink.old) (K.taken sink.new) (K.faults sink.old) (K.faults sink.new) }
 {
     let mut rest = text;
     while !rest.is_empty() {

@@ -1,8 +1,8 @@
 //! Scripts, written.
 
 ghost use Rattle.script_text.specs.ScriptText.{printed};
-ghost use Rattle.page_model.specs.Outcome.{Ended};
 ghost use Rattle.replay_run.specs.Answers.{Tells};
+ghost use Rattle.replay_run.specs.Replies.{done_with};
 
 use crate::lines::write_lines;
 use crate::status::Status;
@@ -13,7 +13,7 @@ use text_io::Sink;
 
 /// Writes a script as it is printed, each line by itself.
 pub fn write_script<K: Sink>(alloc: Global, script: &Script, sink: &mut K) -> Status
-    ensures { Tells result Ended (printed script.now) (K.taken sink.old) (K.taken sink.new) (K.faults sink.old) (K.faults sink.new) }
+    ensures { Tells result (done_with (printed script.now)) (K.taken sink.old) (K.taken sink.new) (K.faults sink.old) (K.faults sink.new) }
 {
     match print(alloc, script) {
         Ok(text) => write_lines(&text, sink),

@@ -1,7 +1,7 @@
 //! How a run ends, and why it ends early.
 
 ghost use Rattle.std.specs.Prelude.{◌≡◌};
-ghost use Rattle.replay_run.specs.Statuses.{code_of};
+ghost use Rattle.replay_run.specs.Statuses.{code_of, is_whole};
 
 /// How a run ended.
 #[derive(Clone, Copy, Debug, PartialEq, Eq)]
@@ -20,6 +20,8 @@ pub enum Status {
     WriteFault,
     /// The words are none that the program has; nothing was read or written.
     Usage,
+    /// The recorded trace isn't that of the script; the judgement was written.
+    Differs,
 }
 
 impl Status {
@@ -35,6 +37,17 @@ impl Status {
             Status::ReadFault => 4,
             Status::WriteFault => 5,
             Status::Usage => 6,
+            Status::Differs => 7,
+        }
+    }
+
+    /// Whether all that was to be written was.
+    pub(crate) fn is_whole(&self) -> bool
+        ensures { result ≡ is_whole self.now }
+    {
+        match self {
+            Status::Done | Status::Syntax | Status::Limit | Status::Differs => true,
+            Status::NoMemory | Status::ReadFault | Status::WriteFault | Status::Usage => false,
         }
     }
 }

@@ -4,15 +4,17 @@ ghost use Rattle.std.specs.Prelude.{◌≡◌, ◌++◌, List, [], ◌∷◌, fa
 ghost use Rattle.text_io.specs.Limits.{limit_number};
 ghost use Rattle.script_model.specs.Summary.{summary_text};
 ghost use Rattle.script_model.specs.TraceLines.{LimitLine, TraceLine as LineModel};
-ghost use Rattle.page_model.specs.Outcome.{LimitMet, opening_world, outcome_read, summary_read};
+ghost use Rattle.page_model.specs.Outcome.{opening_world, outcome_read};
 ghost use Rattle.trace_runs.specs.Writes.{Wrote};
 ghost use Rattle.trace_summary.specs.Counts.{IsTrace};
 ghost use Rattle.replay_run.specs.Answers.{Tells};
+ghost use Rattle.replay_run.specs.Replies.{script_reply};
 ghost use Rattle.replay_run.specs.Statuses.{is_done, status_after};
 
 use crate::call::{Report, with_page, without_page};
 use crate::play::play;
 use crate::status::Status;
+use crate::words::Job;
 use page_state::Page;
 use script_syntax::Script;
 use std::alloc::Global;
@@ -60,7 +62,7 @@ fn summarize_to_limit<K: Sink>(
     sink: &mut K,
 ) -> Status
     ensures tells { (lines : List LineModel) → IsTrace gathered.taken lines →
-        Tells result LimitMet (summary_text (lines ++ LimitLine kind line (limit_number kind) ∷ [])) (K.taken sink.old) (K.taken sink.new) (K.faults sink.old) (K.faults sink.new) }
+        Tells result (record { text = summary_text (lines ++ LimitLine kind line (limit_number kind) ∷ []); status = Status.Limit }) (K.taken sink.old) (K.taken sink.new) (K.faults sink.old) (K.faults sink.new) }
     ensures done { is_done result ≡ false }
 {
     let line = TraceLine::Limit(kind, line, kind.number());
@@ -80,7 +82,7 @@ fn summarize_on<K: Sink, L: Ledger>(
     steps: &mut Steps<L>,
 ) -> Status
     requires opening { page.old.world ≡ opening_world }
-    ensures tells { Tells result (outcome_read (Ok script.now)).ending (summary_read (Ok script.now)) (K.taken sink.old) (K.taken sink.new) (K.faults sink.old) (K.faults sink.new) }
+    ensures tells { Tells result (script_reply Job.Summary script.now) (K.taken sink.old) (K.taken sink.new) (K.faults sink.old) (K.faults sink.new) }
     ensures world { is_done result ≡ true → page.new.world ≡ (outcome_read (Ok script.now)).world }
 {
     let mut gathered = GatherSink::new(alloc);
@@ -102,7 +104,7 @@ pub fn summarize<K: Sink, L: Ledger>(
     sink: &mut K,
     steps: &mut Steps<L>,
 ) -> Report
-    ensures tells { Tells result.status (outcome_read (Ok script.now)).ending (summary_read (Ok script.now)) (K.taken sink.old) (K.taken sink.new) (K.faults sink.old) (K.faults sink.new) }
+    ensures tells { Tells result.status (script_reply Job.Summary script.now) (K.taken sink.old) (K.taken sink.new) (K.faults sink.old) (K.faults sink.new) }
     ensures page { is_some result.page ≡ is_done result.status }
     ensures world { IfSome result.page (λ page. page.world ≡ (outcome_read (Ok script.now)).world) }
 {

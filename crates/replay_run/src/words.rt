@@ -1,7 +1,7 @@
 //! The words of the command line.
 
 ghost use Rattle.std.specs.Prelude.{◌≡◌, ◌∷◌, [], map, string_bytes};
-ghost use Rattle.replay_run.specs.Words.{asked, number_of, of_number, of_source};
+ghost use Rattle.replay_run.specs.Words.{asked, number_of};
 
 use word_model::whole;
 
@@ -23,20 +23,15 @@ pub enum Job {
     Print,
 }
 
-/// Where the script is from.
-#[derive(Clone, Copy, Debug, PartialEq, Eq)]
-pub enum Origin {
-    /// The bytes of the source.
-    Source,
-    /// A number, from which it is made.
-    Number(u64),
-}
-
 /// What the words of the command line ask for.
 #[derive(Clone, Copy, Debug, PartialEq, Eq)]
-pub struct Words {
-    pub job: Job,
-    pub origin: Origin,
+pub enum Words {
+    /// Something with the script that the source holds.
+    Script(Job),
+    /// The same with the script that is made from a number.
+    Generated(Job, u64),
+    /// A judgement of the recorded trace that the source holds behind its script.
+    Judge,
 }
 
 // A number of at most 1,000,000, without a sign or a leading zero.
@@ -49,33 +44,15 @@ fn number_of(word: &[u8]) -> Option<u64>
 }
 
 impl Words {
-    fn of_source(job: Job) -> Words
-        ensures { result ≡ of_source job }
-    {
-        Words {
-            job,
-            origin: Origin::Source,
-        }
-    }
-
-    fn of_number(job: Job, number: u64) -> Words
-        ensures { result ≡ of_number job number }
-    {
-        Words {
-            job,
-            origin: Origin::Number(number),
-        }
-    }
-
-    /// What these words ask for: no words to replay the source, `--check`, `--lint` and `--summary` to check, to certify or to summarize it,
-    /// `--generate N` and `--generate-run N` to print or to summarize the script of a number. None for any other list of words.
-    /// No memory.
+    /// What these words ask for: no words to replay the script of the source, `--check`, `--lint` and `--summary` to check, to certify or
+    /// to summarize it, `--judge` to judge the trace behind it, `--generate N` and `--generate-run N` to print or to summarize the script
+    /// of a number. None for any other list of words. No memory.
     #[tactic(auto, unfolding(crate::specs::Words::asked))]
     pub fn read(words: &[String]) -> Option<Words>
         ensures { result ≡ asked (map string_bytes words.now) }
     {
         match words {
-            [] => Some(Words::of_source(Job::Replay)),
+            [] => Some(Words::Script(Job::Replay)),
             [word] => Words::alone(word.as_str()),
             [word, number] => Words::with_number(word.as_str(), number.as_bytes()),
             _ => None,
@@ -87,11 +64,13 @@ impl Words {
         ensures { result ≡ asked (word.now ∷ []) }
     {
         if word == "--check" {
-            Some(Words::of_source(Job::Check))
+            Some(Words::Script(Job::Check))
         } else if word == "--lint" {
-            Some(Words::of_source(Job::Lint))
+            Some(Words::Script(Job::Lint))
         } else if word == "--summary" {
-            Some(Words::of_source(Job::Summary))
+            Some(Words::Script(Job::Summary))
+        } else if word == "--judge" {
+            Some(Words::Judge)
         } else {
             None
         }
@@ -109,6 +88,6 @@ impl Words {
             return None;
         };
         let number = number_of(number)?;
-        Some(Words::of_number(job, number))
+        Some(Words::Generated(job, number))
     }
 }

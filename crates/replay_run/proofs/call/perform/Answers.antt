@@ -1,5 +1,5 @@
 use Rattle.replay_run.proofs.Asking.{job_tells}
-use Rattle.replay_run.proofs.Summaries.{replay_tells, check_tells, lint_tells, summary_tells, print_tells}
+use Rattle.replay_run.proofs.Summaries.{replay_tells, check_tells, lint_tells, print_tells}
 use Rattle.replay_run.proofs.call.perform.Goals as goal
 
 pub returns-in-Replay-clause-tells : goal.returns-in-Replay-clause-tells
@@ -14,8 +14,7 @@ returns-in-Lint-clause-tells g c =
     job_tells c.write_certificates.result _ _ _ _ _ _ _ c.in-Lint.is (lint_tells c.write_certificates.result _ _ _ _ _ c.write_certificates.ensures)
 
 pub returns-in-Summary-clause-tells : goal.returns-in-Summary-clause-tells
-returns-in-Summary-clause-tells g c =
-    job_tells c.summarize.result.status _ _ _ _ _ _ _ c.in-Summary.is (summary_tells c.summarize.result.status _ _ _ _ _ c.summarize.ensures.tells)
+returns-in-Summary-clause-tells g c = job_tells c.summarize.result.status _ _ _ _ _ _ _ c.in-Summary.is c.summarize.ensures.tells
 
 pub returns-in-Print-clause-tells : goal.returns-in-Print-clause-tells
 returns-in-Print-clause-tells g c = job_tells c.write_script.result _ _ _ _ _ _ _ c.in-Print.is (print_tells c.write_script.result _ _ _ _ _ c.write_script.ensures)

@@ -1,24 +1,22 @@
-use Rattle.std.proofs.Common.{arith}
-use Rattle.replay_run.proofs.Asking.{long_tells, not_read_fault, not_usage, write_fault_rose}
-use Rattle.replay_run.proofs.Taking.{taken_whole}
+use Rattle.page_state.specs.Views.{PageView}
+use Rattle.replay_run.proofs.Asking.{not_read_fault, not_usage, write_fault_rose}
+use Rattle.replay_run.proofs.Unread.{reads_taken, reads_to_end, reads_world}
 use Rattle.replay_run.proofs.call.perform_on_source.Goals as goal
 
+pub returns-in-Ok-clause-usage : goal.returns-in-Ok-clause-usage
+returns-in-Ok-clause-usage g c = not_usage c.perform_on_text.result.status _ _ _ _ _ c.perform_on_text.ensures.tells
+
+pub returns-in-Ok-clause-ends : goal.returns-in-Ok-clause-ends
+returns-in-Ok-clause-ends g c = reads_to_end c.perform_on_text.result.status c.args.job _ _ _ _ _ _ _ c.in-Ok.ensures.read c.perform_on_text.ensures.tells
+
 pub returns-in-Ok-clause-read : goal.returns-in-Ok-clause-read
-returns-in-Ok-clause-read g c =
-    taken_whole c.perform_on_text.result.status _ _ c.in-Ok.lexer.text c.in-Ok.ensures.all c.in-Ok.ensures.end (omega (arith, c.in-Ok.ensures.within))
+returns-in-Ok-clause-read g c = reads_taken c.perform_on_text.result.status _ _ _ c.in-Ok.ensures.read
 
-pub returns-in-Err-TooLong-clause-usage : goal.returns-in-Err-TooLong-clause-usage
-returns-in-Err-TooLong-clause-usage g c = not_usage c.meet_limit.result.status _ _ _ _ _ _ (c.meet_limit.ensures.tells c.args.job)
+pub returns-in-Ok-clause-read_fault : goal.returns-in-Ok-clause-read_fault
+returns-in-Ok-clause-read_fault g c = λ is. absurd (not_read_fault c.perform_on_text.result.status _ _ _ _ _ c.perform_on_text.ensures.tells is)
 
-pub returns-in-Err-TooLong-clause-ends : goal.returns-in-Err-TooLong-clause-ends
-returns-in-Err-TooLong-clause-ends g c =
-    let cause = rw c.in-Err-TooLong.field-0-is at c.in-Err-TooLong.ensures.fault in
-    let told = rw c.in-Err-TooLong.field-0-is at (c.meet_limit.ensures.tells c.args.job) in
-    long_tells c.meet_limit.result.status c.args.job _ _ c.in-Err-TooLong.feeds _ _ _ _ cause.2 told
+pub returns-in-Ok-clause-write_fault : goal.returns-in-Ok-clause-write_fault
+returns-in-Ok-clause-write_fault g c = write_fault_rose c.perform_on_text.result.status _ _ _ _ _ c.perform_on_text.ensures.tells
 
-pub returns-in-Err-TooLong-clause-read_fault : goal.returns-in-Err-TooLong-clause-read_fault
-returns-in-Err-TooLong-clause-read_fault g c =
-    λ is. absurd (not_read_fault c.meet_limit.result.status _ _ _ _ _ _ (c.meet_limit.ensures.tells c.args.job) is)
-
-pub returns-in-Err-TooLong-clause-write_fault : goal.returns-in-Err-TooLong-clause-write_fault
-returns-in-Err-TooLong-clause-write_fault g c = write_fault_rose c.meet_limit.result.status _ _ _ _ _ _ (c.meet_limit.ensures.tells c.args.job)
+pub returns-in-Ok-clause-world : goal.returns-in-Ok-clause-world
+returns-in-Ok-clause-world g c = reads_world (λ (page : PageView). page.world) c.perform_on_text.result.page _ _ _ c.in-Ok.ensures.read c.perform_on_text.ensures.world

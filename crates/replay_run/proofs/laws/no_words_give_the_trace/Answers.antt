@@ -8,5 +8,5 @@ returns-clause-asked c = nothing_asked
 pub returns-clause-written : goal.returns-clause-written
 returns-clause-written c = trace_written
 
-pub returns-clause-ending : goal.returns-clause-ending
-returns-clause-ending c = ending_same
+pub returns-clause-status : goal.returns-clause-status
+returns-clause-status c = ending_same

@@ -1,0 +1,66 @@
+-- A source that was read, up to what is looked at, and one that can't be read.
+use Rattle.std.proofs.Common.{◌≡◌, ◌∙◌, ap, refl, subst, ℕ, List, Option}
+use Rattle.std.specs.Prelude.{Some, None, IfSome, false}
+use Rattle.text_io.specs.Streams.{Rose}
+use Rattle.script_model.specs.Reading.{Reading, reading}
+use Rattle.page_model.specs.Outcome.{outcome_read}
+use Rattle.page_model.specs.World.{World}
+use Rattle.trace_runs.proofs.Writes.{no_part, nothing}
+use Rattle.replay_run.specs.Answers.{Ends, IsTaken, IsUnread, ReadTo, Tells}
+use Rattle.replay_run.specs.Replies.{Reply, read_reply}
+use Rattle.replay_run.specs.Statuses.{is_done}
+use Rattle.replay_run.specs.declared.words.Job.{Job}
+use Rattle.replay_run.specs.declared.status.Status.{Status}
+use Rattle.replay_run.specs.declared.status.Status.TheVariants.{NoMemory, ReadFault, WriteFault, Usage}
+use Rattle.replay_run.proofs.Endings.{tells_end}
+use Rattle.replay_run.proofs.Taking.{first_bytes_read, taken}
+
+-- by the first bytes
+
+pub reads_to_end : (status : Status) (job : Job) (left rest : Option (List ℕ)) (bytes : List ℕ) (before after : Option (List ℕ)) (f g : ℕ) → ReadTo 16777217 left rest bytes
+    → Tells status (read_reply job (reading bytes)) before after f g → IfSome left (λ text. Ends status (read_reply job (reading text)) before after f g)
+reads_to_end status job None rest bytes before after f g read told = tt
+reads_to_end status job (Some text) rest bytes before after f g read told =
+    tells_end status (read_reply job (reading text)) before after f g
+    (subst (λ (it : Reading). Tells status (read_reply job it) before after f g) (ap reading read.0 ∙ first_bytes_read text) told)
+
+pub reads_taken : (status : Status) (left rest : Option (List ℕ)) (bytes : List ℕ) → ReadTo 16777217 left rest bytes → IfSome left (λ text. IsTaken status 16777217 text rest)
+reads_taken status None rest bytes read = tt
+reads_taken status (Some text) rest bytes read = taken status 16777217 text rest read.1
+
+pub reads_world : {A : Type 0} (world : A → World) (page : Option A) (left rest : Option (List ℕ)) (bytes : List ℕ) → ReadTo 16777217 left rest bytes
+    → IfSome page (λ it. world it ≡ (outcome_read (reading bytes)).world) → IfSome page (λ it. IfSome left (λ text. world it ≡ (outcome_read (reading text)).world))
+reads_world world None left rest bytes read is = tt
+reads_world world (Some it) None rest bytes read is = tt
+reads_world world (Some it) (Some text) rest bytes read is = is ∙ ap (λ (it : Reading). (outcome_read it).world) (ap reading read.0 ∙ first_bytes_read text)
+
+-- where it can't be read
+
+pub unread_ends : (status : Status) (f g : ℕ) → IsUnread status f g → (reply : Reply) (now : Option (List ℕ)) (faults : ℕ) → Ends status reply now now faults faults
+unread_ends NoMemory f g cause reply now faults = no_part now reply.text
+unread_ends ReadFault f g cause reply now faults = nothing now
+unread_ends status f g cause reply now faults = absurd cause
+
+pub unread_left : (status : Status) (f g most : ℕ) → IsUnread status f g → (text : List ℕ) (rest : Option (List ℕ)) → IsTaken status most text rest
+unread_left NoMemory f g most cause text rest = tt
+unread_left ReadFault f g most cause text rest = tt
+unread_left status f g most cause text rest = absurd cause
+
+pub unread_not_done : (status : Status) (f g : ℕ) → IsUnread status f g → is_done status ≡ false
+unread_not_done NoMemory f g cause = refl
+unread_not_done ReadFault f g cause = refl
+unread_not_done status f g cause = absurd cause
+
+pub unread_rose : (status : Status) (f g : ℕ) → IsUnread status f g → status ≡ ReadFault → Rose f g
+unread_rose status f g cause is = subst (λ (s : Status). IsUnread s f g) is cause
+
+pub unread_not_usage : (status : Status) (f g : ℕ) → IsUnread status f g → status ≡ Usage → ⊥
+unread_not_usage status f g cause is = subst (λ (s : Status). IsUnread s f g) is cause
+
+pub unread_not_write : (status : Status) (f g : ℕ) → IsUnread status f g → status ≡ WriteFault → ⊥
+unread_not_write status f g cause is = subst (λ (s : Status). IsUnread s f g) is cause
+
+-- what is told of every text, where there is one
+pub if_told : (P : List ℕ → Type 0) (left : Option (List ℕ)) → ((text : List ℕ) → P text) → IfSome left P
+if_told P None holds = tt
+if_told P (Some text) holds = holds text

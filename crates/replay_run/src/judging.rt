@@ -1,0 +1,117 @@
+//! Recorded traces, judged beside the traces of their scripts.
+
+ghost use Rattle.std.specs.Prelude.{◌≡◌, ◌≤◌, length, IfOk, IfSome};
+ghost use Rattle.text_io.specs.Streams.{Rose};
+ghost use Rattle.page_model.specs.Outcome.{trace};
+ghost use Rattle.trace_judge.specs.Judging.{judgement};
+ghost use Rattle.replay_run.specs.Answers.{Ends, IsTaken, Tells};
+ghost use Rattle.replay_run.specs.Replies.{judge_reply, judgement_reply, judgement_status};
+
+use crate::call::{Report, meet_limit, perform_on_text};
+use crate::input::ScriptText;
+use crate::status::Status;
+use crate::summary::status_of;
+use crate::words::Job;
+use std::alloc::{AllocError, Global};
+use std::sync::ledger::Ledger;
+use step_count::Steps;
+use text_io::{LimitKind, Sink, Source, TextFault, read_all};
+use trace_judge::{Judgement, Recording, judge};
+use trace_summary::GatherSink;
+
+/// The most bytes of a source with a recorded trace.
+const MOST_RECORDED: usize = 67_108_864;
+
+// The status of a report whose page nobody wants.
+fn status_alone(report: Report) -> Status
+    ensures { result ≡ report.status }
+{
+    report.status
+}
+
+// The trace of a script, gathered in memory. The error is want of memory.
+fn trace_of<L: Ledger>(
+    alloc: Global,
+    script: ScriptText,
+    steps: &mut Steps<L>,
+) -> Result<GatherSink, AllocError>
+    ensures { IfOk result (λ gathered. gathered.taken ≡ trace script) }
+{
+    let mut gathered = GatherSink::new(alloc);
+    let report = perform_on_text(alloc, Job::Replay, script, &mut gathered, steps);
+    if status_alone(report).is_whole() {
+        Ok(gathered)
+    } else {
+        // In memory a write fails for want of it alone.
+        Err(AllocError)
+    }
+}
+
+fn status_by(judgement: &Judgement) -> Status
+    ensures { result ≡ judgement_status judgement.now }
+{
+    match judgement {
+        Judgement::Equal { .. } => Status::Done,
+        Judgement::Differs { .. } => Status::Differs,
+    }
+}
+
+// A recorded trace beside the trace of its script.
+fn judge_trace<K: Sink, L: Ledger>(
+    alloc: Global,
+    script: ScriptText,
+    recorded: &[u8],
+    sink: &mut K,
+    steps: &mut Steps<L>,
+) -> Status
+    ensures { Tells result (judgement_reply (judgement (trace script) recorded.now))
+        (K.taken sink.old) (K.taken sink.new) (K.faults sink.old) (K.faults sink.new) }
+{
+    let Ok(expected) = trace_of(alloc, script, steps) else {
+        return Status::NoMemory;
+    };
+    let judgement = judge(expected.taken(), recorded);
+    status_of(judgement.write_to(alloc, sink), status_by(&judgement))
+}
+
+// The script and the recorded trace of a source.
+fn judge_bytes<K: Sink, L: Ledger>(
+    alloc: Global,
+    source: &[u8],
+    sink: &mut K,
+    steps: &mut Steps<L>,
+) -> Status
+    requires { length source.now ≤ 67108864 }
+    ensures { Tells result (judge_reply source.now) (K.taken sink.old) (K.taken sink.new) (K.faults sink.old) (K.faults sink.new) }
+{
+    let recording = Recording::split(source);
+    let mut script = ScriptText::new(alloc);
+    match script.feed(recording.script) {
+        Ok(()) => judge_trace(alloc, script, recording.trace, sink, steps),
+        Err(_) => Status::NoMemory,
+    }
+}
+
+/// Judges the recorded trace that the source holds behind its script.
+pub fn judge_source<S: Source, K: Sink, L: Ledger>(
+    alloc: Global,
+    source: &mut S,
+    sink: &mut K,
+    steps: &mut Steps<L>,
+) -> Status
+    ensures usage { result ≡ Status.Usage → ⊥ }
+    ensures ends { IfSome (S.left source.old) (λ text.
+        Ends result (judge_reply text) (K.taken sink.old) (K.taken sink.new) (K.faults sink.old) (K.faults sink.new)) }
+    ensures read { IfSome (S.left source.old) (λ text. IsTaken result 67108865 text (S.left source.new)) }
+    ensures read_fault { result ≡ Status.ReadFault → Rose (S.faults source.old) (S.faults source.new) × (sink.new ≡ sink.old) }
+    ensures write_fault { result ≡ Status.WriteFault → Rose (K.faults sink.old) (K.faults sink.new) }
+{
+    match read_all(alloc, source, MOST_RECORDED) {
+        Ok(bytes) => judge_bytes(alloc, &bytes, sink, steps),
+        Err(TextFault::TooLong { feeds }) => {
+            meet_limit(alloc, LimitKind::Recorded, feeds + 1, sink)
+        }
+        Err(TextFault::ReadFault) => Status::ReadFault,
+        Err(_) => Status::NoMemory,
+    }
+}
