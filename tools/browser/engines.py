@@ -553,4 +553,5 @@ class WebKit(Live):
         self.ask('POST', self.session + '/url', {'url': url})
 
 
-ENGINES = {'chromium': SteppedChromium, 'chromium-live': LiveChromium, 'firefox': Firefox, 'firefox-stepped': SteppedFirefox, 'webkit': WebKit}
+ENGINES = {'chromium': SteppedChromium, 'chromium-live': LiveChromium, 'firefox': Firefox, 'firefox-stepped': SteppedFirefox,
+           'webkit': WebKit}

@@ -9,14 +9,15 @@ from .model import Model
 from .traits import (CROSSED_IS_TURNED, DEAD_READS_THROW, FRAMES_IN_TIME, HIDDEN_READS_NOTHING, LATE_SCROLLS, SCROLLS_ARE_CUT,
                      TAKEN_AT_ONCE)
 
-ALL_THREE = frozenset('''border-widths read-of-dead-frame hidden-frame-keeps-size frame-of-part-pixels reach-of-empty-boxes reach-with-margins
-    reach-with-padding scroll-of-part-pixels observe-again first-size offset-of-moved-box frame-order stored-offset sizes-of-last-layout
-    root-removed root-rectangle-of-none is-intersecting margin-percentages'''.split())
-CHROMIUM = ALL_THREE | {LATE_SCROLLS} | set('''scroll-anchoring scroll-of-hidden-frame unobserve-in-delivery queue-after-unobserve listener-of-adopted-element frame-callback-late
-    rounds-by-turns depth-at-gathering skipped-then-cured dead-frame-target target-of-dead-frame observers-in-any-order margin-of-part-pixels
-    crossed-root cut-in-a-frame told-of-dead-root'''.split())
-FIREFOX = ALL_THREE | {HIDDEN_READS_NOTHING, DEAD_READS_THROW, SCROLLS_ARE_CUT, TAKEN_AT_ONCE} | set('''scroll-anchoring queue-after-unobserve
-    listener-of-adopted-element frame-callback-late told-of-dead-root'''.split())
+ALL_THREE = frozenset('''border-widths read-of-dead-frame hidden-frame-keeps-size frame-of-part-pixels reach-of-empty-boxes
+    reach-with-margins reach-with-padding scroll-of-part-pixels observe-again first-size offset-of-moved-box frame-order stored-offset
+    sizes-of-last-layout root-removed root-rectangle-of-none is-intersecting margin-percentages'''.split())
+CHROMIUM = ALL_THREE | {LATE_SCROLLS} | set('''scroll-anchoring scroll-of-hidden-frame unobserve-in-delivery queue-after-unobserve
+    listener-of-adopted-element frame-callback-late rounds-by-turns depth-at-gathering skipped-then-cured dead-frame-target
+    target-of-dead-frame observers-in-any-order margin-of-part-pixels crossed-root cut-in-a-frame told-of-dead-root
+    entries-of-dead-document'''.split())
+FIREFOX = ALL_THREE | {HIDDEN_READS_NOTHING, DEAD_READS_THROW, SCROLLS_ARE_CUT, TAKEN_AT_ONCE} | set('''scroll-anchoring
+    queue-after-unobserve listener-of-adopted-element frame-callback-late told-of-dead-root'''.split())
 WEBKIT = ALL_THREE | {SCROLLS_ARE_CUT, FRAMES_IN_TIME, CROSSED_IS_TURNED} | set('''depth-at-gathering crossed-root entries-before-tasks
     queries-of-empty-page'''.split())
 CLASSES = {'chromium': CHROMIUM, 'firefox': FIREFOX, 'webkit': WEBKIT}

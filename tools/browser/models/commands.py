@@ -88,9 +88,7 @@ class Commands:
 
     def _tool_observes(self, observer, node):
         """What the tool knows of reported sizes begins anew, and the target comes last."""
-        seen = getattr(observer, 'tool', None)
-        if seen is None:
-            seen = observer.tool = {}
+        seen = self.tool_saw.setdefault(observer, {})
         seen.pop(node, None)
         seen[node] = None
 
@@ -99,16 +97,17 @@ class Commands:
         if old is not None and old in observer.active and self.differs('unobserve-in-delivery'):
             observer.active.remove(old)
         EFFECTS['ro-unobserve'](self, command, observer, node)
-        getattr(observer, 'tool', {}).pop(node, None)
+        self.tool_saw.get(observer, {}).pop(node, None)
 
     def do_ro_disconnect(self, command, observer):
         EFFECTS['ro-disconnect'](self, command, observer)
         observer.skipped = False
-        observer.tool = {}
+        self.tool_saw.pop(observer, None)
 
     def do_io_unobserve(self, command, observer, node):
-        if node in observer.registrations and any(entry.target is node for entry in observer.queue) and self.differs('queue-after-unobserve'):
-            observer.queue = [entry for entry in observer.queue if entry.target is not node]
+        kept = [entry for entry in observer.queue if entry.target is not node]
+        if node in observer.registrations and kept != observer.queue and self.differs('queue-after-unobserve'):
+            observer.queue = kept
         EFFECTS['io-unobserve'](self, command, observer, node)
 
     def do_io_disconnect(self, command, observer):
@@ -117,7 +116,7 @@ class Commands:
         EFFECTS['io-disconnect'](self, command, observer)
 
     def do_io_take(self, command, observer):
-        observer.queue = self._as_told(observer.queue, 1)
+        observer.queue = self._now(self._as_told(observer.queue, 1))
         EFFECTS['io-take'](self, command, observer)
 
     def do_media(self, command, name, document, queries):

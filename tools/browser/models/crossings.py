@@ -59,16 +59,17 @@ class Crossings:
                     continue
                 entry = self.find(observer, root, registration)
                 if (registration.index, registration.meets) != (entry.index, entry.meets):
-                    entry.time = self.world.clock
                     observer.queue.append(entry)
                 registration.index, registration.meets = entry.index, entry.meets
 
     def passes_over(self, observer, registration):
-        """Whether a target is left alone, of an observer without a root and in no shown document."""
-        where = tree_document(registration.target)
+        """Whether a target is left alone: its observer has no root, and it stands in no shown document and isn't where it stood last."""
+        target = registration.target
+        where = tree_document(target)
         if observer.root is not None or (where is not None and where.state is ACTIVE):
             return False
-        return registration.target.document.state is not ACTIVE and registration.index != -1 and self.differs('target-of-dead-frame')
+        moved = target.document.state is not ACTIVE or self.left.get(target, target.document) is not target.document
+        return moved and registration.index != -1 and self.differs('target-of-dead-frame')
 
     def find(self, observer, root, registration):
         entry = intersection.find(self.world, observer, root, registration.target)
@@ -87,19 +88,16 @@ class Crossings:
 
     def move_cut(self, observer, entry):
         """A frame stands at whole pixels; of a root outside it the cut rectangle is moved by what was rounded away."""
-        if not entry.meets:
+        left, top, right, bottom = entry.cut
+        if not entry.meets or left == right or top == bottom:
             return
         document, moved = entry.target.document, [0, 0]
         root = observer.root if isinstance(observer.root, (Document, type(None))) else observer.root.document
-        layout = self.world.layout
         while document is not root and document.frame is not None:
-            here, outer = layout.origin(document), layout.origin(document.frame.document)
-            for axis in (0, 1):
-                place = here[axis] - outer[axis]
-                moved[axis] += whole(place) - place
+            corner = self.world.layout.frame_corner(document)
+            moved = [moved[axis] + whole(corner[axis]) - corner[axis] for axis in (0, 1)]
             document = document.frame.document
         if moved != [0, 0] and self.differs('cut-in-a-frame'):
-            left, top, right, bottom = entry.cut
             entry.cut = (left + moved[0], top + moved[1], right + moved[0], bottom + moved[1])
 
     # --- tasks --------------------------------------------------------------------------------------------------------------
@@ -151,11 +149,20 @@ class Crossings:
             self.tell_entries(chosen, taken.pop(chosen))
 
     def tell_entries(self, observer, entries):
-        if entries and observer.document.state is ACTIVE:
+        if observer.document.state is not ACTIVE:
+            if entries and self.differs('entries-of-dead-document'):
+                observer.queue = entries + observer.queue
+        elif entries:
             self.end_round()
-            entries = self._as_told(entries, 0)
+            entries = self._now(self._as_told(entries, 0))
             lines = [(trace.intersect_line(observer, entry), None) for entry in entries]
             self.call(observer.document, observer.handler, entries, lines)
+
+    def _now(self, entries):
+        """The tool tells the time of an entry by its clock."""
+        for entry in entries:
+            entry.time = self.world.clock
+        return entries
 
     def is_told(self, observer):
         """Whether an observer with entries is told them, though its root may have gone meanwhile."""

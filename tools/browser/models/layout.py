@@ -1,6 +1,6 @@
 """The layout as an engine has it, and a world that tells the model what is put in and taken out."""
 from reference.layout import CONTENT, Layout
-from reference.world import ACTIVE, Element, World
+from reference.world import ACTIVE, Element, World, tree_document
 
 PIXEL = 64
 
@@ -49,6 +49,27 @@ class EngineLayout(Layout):
         size = self.size(document.frame, CONTENT)
         rounded = (whole(size[0]), whole(size[1]))
         return rounded if rounded != size and self.differs('frame-of-part-pixels') else size
+
+    # --- places -----------------------------------------------------------------------------------------------------------
+
+    def frame_corner(self, document):
+        """Of a frame's content box, in the viewport that the frame stands in."""
+        _, border, padding = self.edges(document.frame)
+        left, top = self.place(document.frame)
+        return left + border[3] + padding[3], top + border[0] + padding[0]
+
+    def origin(self, document):
+        known = self._origins.get(document)
+        if known is None:
+            known = (0, 0)
+            if document.frame is not None and self.has_box(document.frame):
+                corner, outer = self.frame_corner(document), self.origin(document.frame.document)
+                rounded = (whole(corner[0]), whole(corner[1]))
+                if rounded != corner and self.differs('cut-in-a-frame'):
+                    corner = rounded
+                known = (outer[0] + corner[0], outer[1] + corner[1])
+            self._origins[document] = known
+        return known
 
     # --- scrolling ----------------------------------------------------------------------------------------------------------
 
@@ -106,7 +127,7 @@ class EngineWorld(World):
         self.page.inserted(node)
 
     def remove(self, node):
-        stood = node.parent is not None or node.root_of is not None
+        stood, where = node.parent is not None or node.root_of is not None, tree_document(node)
         super().remove(node)
         if stood:
-            self.page.removed(node)
+            self.page.removed(node, where)

@@ -28,10 +28,12 @@ class Model(Commands, Viewports, Rounds, Crossings, Page):
         self.states = {}                  # query list -> its state by the rules
         self.changed_queries = {}         # document -> its query lists with a `change` to be fired
         self.new_documents = []           # that haven't laid themselves out
+        self.left = {}                    # element -> the document that it was taken out of last
         self.insertions = {}              # document -> number, in the order in which their frames were inserted
         self.sizes = {}                   # resize observers' targets -> corner, content and border size at the last layout
         self.round = None
         self.all_resize_observers = []
+        self.tool_saw = {}                # resize observer -> target -> the size that the tool saw reported last, or None
         self.late_scrolls = []            # things that a layout has moved: their events are queued as an update ends
         self.anchors = Anchors(self)
         self.hidden = {}                  # documents that are scrolled and not shown -> whether something in them has changed

@@ -139,9 +139,9 @@ class Rounds:
         for entry in entries:
             deep = depth(entry.target)
             round_.least = deep if round_.least is None else min(round_.least, deep)
-            if entry.target in getattr(observer, 'tool', {}):
+            if entry.target in self.tool_saw.get(observer, {}):
                 box = observer.observations[entry.target].box
-                observer.tool[entry.target] = entry.border if box == BORDER else entry.content
+                self.tool_saw[observer][entry.target] = entry.border if box == BORDER else entry.content
             lines.append((trace.resize_line(observer, entry, 1), None))
         self.call(observer.document, observer.handler, entries, lines)
 
@@ -151,7 +151,7 @@ class Rounds:
         for observer in self.all_resize_observers:
             if observer.document is not document:
                 continue
-            for node, last in getattr(observer, 'tool', {}).items():
+            for node, last in self.tool_saw.get(observer, {}).items():
                 if depth(node) > least:
                     if last is None:
                         waiting.add((observer, node))

@@ -18,9 +18,11 @@ class Viewports:
                 self.insertions[document] = len(self.insertions)
                 self.new_documents.append(document)
 
-    def removed(self, node):
-        """Boxes go; they come back with nothing scrolled."""
+    def removed(self, node, where):
+        """Boxes go from a document; they come back with nothing scrolled."""
         for inner in preorder(node):
+            if where is not None:
+                self.left[inner] = where
             if inner in self.sizes:
                 self.sizes[inner] = ((0, 0), (0, 0), (0, 0))
             if inner.scroll != (0, 0) and self.differs('offset-of-moved-box'):
