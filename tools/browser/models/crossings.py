@@ -53,6 +53,8 @@ class Crossings:
 
     def intersections(self, document):
         for observer in self.observers_of(document):
+            if observer.document.state is not ACTIVE and self.has('entries-of-dead-document'):
+                continue
             root = EngineRoot(self, observer)
             for registration in observer.registrations.values():
                 if self.passes_over(observer, registration):
@@ -69,7 +71,7 @@ class Crossings:
         if observer.root is not None or (where is not None and where.state is ACTIVE):
             return False
         moved = target.document.state is not ACTIVE or self.left.get(target, target.document) is not target.document
-        return moved and registration.index != -1 and self.differs('target-of-dead-frame')
+        return moved and self.differs('target-of-dead-frame')
 
     def find(self, observer, root, registration):
         entry = intersection.find(self.world, observer, root, registration.target)
@@ -88,16 +90,13 @@ class Crossings:
 
     def move_cut(self, observer, entry):
         """A frame stands at whole pixels; of a root outside it the cut rectangle is moved by what was rounded away."""
-        left, top, right, bottom = entry.cut
-        if not entry.meets or left == right or top == bottom:
+        root, document = observer.root, entry.target.document
+        if not entry.meets or document.frame is None or (root is not None and getattr(root, 'document', root) is document):
             return
-        document, moved = entry.target.document, [0, 0]
-        root = observer.root if isinstance(observer.root, (Document, type(None))) else observer.root.document
-        while document is not root and document.frame is not None:
-            corner = self.world.layout.frame_corner(document)
-            moved = [moved[axis] + whole(corner[axis]) - corner[axis] for axis in (0, 1)]
-            document = document.frame.document
+        corner = self.world.layout.frame_corner(document)
+        moved = [whole(place) - place for place in corner]
         if moved != [0, 0] and self.differs('cut-in-a-frame'):
+            left, top, right, bottom = entry.cut
             entry.cut = (left + moved[0], top + moved[1], right + moved[0], bottom + moved[1])
 
     # --- tasks --------------------------------------------------------------------------------------------------------------
@@ -132,6 +131,7 @@ class Crossings:
         taken = {observer: observer.queue for observer in waiting} if self.has(TAKEN_AT_ONCE) else {}
         for observer in taken:
             observer.queue = []
+        begun = set()
         while waiting:
             words = self.expected().split()
             if self.round is not None and words[:1] == ['round']:
@@ -146,11 +146,13 @@ class Crossings:
                 continue
             if chosen not in taken:
                 taken[chosen], chosen.queue = chosen.queue, []
-            self.tell_entries(chosen, taken.pop(chosen))
+            self.tell_entries(chosen, taken.pop(chosen), begun)
+            begun.add(chosen.document)
 
-    def tell_entries(self, observer, entries):
+    def tell_entries(self, observer, entries, begun):
+        """`begun` has the documents of which an observer was told before."""
         if observer.document.state is not ACTIVE:
-            if entries and self.differs('entries-of-dead-document'):
+            if entries and observer.document not in begun and self.differs('entries-of-dead-document'):
                 observer.queue = entries + observer.queue
         elif entries:
             self.end_round()
