@@ -75,7 +75,7 @@ class Anchors:
     def first_in_view(self, thing):
         layout = self.model.world.layout
         if isinstance(thing, Document):
-            corner, size, first = (0, 0), layout.viewport(thing), [thing.root]
+            corner, size, first = (0, 0), layout.viewport(thing), [thing.root] if thing.root else []
         else:
             corner, size, first = layout._flat_padding_corner(thing), layout.padding_size(thing), thing.children
         left, top = corner[0] + thing.scroll[0], corner[1] + thing.scroll[1]

@@ -6,8 +6,8 @@ from reference import grammar
 from reference.page import Page
 
 from .model import Model
-from .traits import (CROSSED_IS_TURNED, DEAD_READS_THROW, FRAMES_IN_TIME, HIDDEN_READS_NOTHING, LATE_SCROLLS, SCROLLS_ARE_CUT,
-                     TAKEN_AT_ONCE)
+from .traits import (CROSSED_IS_TURNED, DEAD_READS_THROW, FRAMES_IN_TIME, HIDDEN_READS_NOTHING, KEPT_WHILE_TELLING, LATE_SCROLLS,
+                     SCROLLS_ARE_CUT)
 
 ALL_THREE = frozenset('''border-widths read-of-dead-frame hidden-frame-keeps-size frame-of-part-pixels reach-of-empty-boxes
     reach-with-margins reach-with-padding scroll-of-part-pixels observe-again first-size offset-of-moved-box frame-order stored-offset
@@ -16,10 +16,11 @@ CHROMIUM = ALL_THREE | {LATE_SCROLLS} | set('''scroll-anchoring scroll-of-hidden
     listener-of-adopted-element frame-callback-late rounds-by-turns depth-at-gathering skipped-then-cured dead-frame-target
     target-of-dead-frame observers-in-any-order margin-of-part-pixels crossed-root cut-in-a-frame told-of-dead-root
     entries-of-dead-document'''.split())
-FIREFOX = ALL_THREE | {HIDDEN_READS_NOTHING, DEAD_READS_THROW, SCROLLS_ARE_CUT, TAKEN_AT_ONCE} | set('''scroll-anchoring
-    queue-after-unobserve listener-of-adopted-element frame-callback-late told-of-dead-root'''.split())
+FIREFOX = ALL_THREE | {HIDDEN_READS_NOTHING, DEAD_READS_THROW, SCROLLS_ARE_CUT, KEPT_WHILE_TELLING} | set('''scroll-anchoring
+    queue-after-unobserve listener-of-adopted-element frame-callback-late told-of-dead-root
+    told-by-own-document resize-observers-by-use'''.split())
 WEBKIT = ALL_THREE | {SCROLLS_ARE_CUT, FRAMES_IN_TIME, CROSSED_IS_TURNED} | set('''depth-at-gathering crossed-root entries-before-tasks
-    queries-of-empty-page'''.split())
+    queries-of-empty-page resize-observers-by-use'''.split())
 CLASSES = {'chromium': CHROMIUM, 'firefox': FIREFOX, 'webkit': WEBKIT}
 NUMBER = re.compile(r'-?\d+(?:\.\d+)?(?:/\d+)?')
 NEAR = 0.15     # pixels, by which sums of sixtieths may differ
@@ -82,4 +83,19 @@ def classes_of(text, engine, told):
             needed.add(name)
     if first.lines != told:
         needed.add('sixtieths-of-a-pixel')
+    return needed or one_of(text, engine, told, order, first.met) or {'round-lines'}
+
+
+def one_of(text, engine, told, order, names):
+    """Where each class alone may be left out: those that stay as they are left out one after the other."""
+    left, waiting, needed = CLASSES[engine], sorted(names), set()
+    while waiting:
+        name = waiting.pop(0)
+        without = run(text, left - {name}, told, order)
+        if alike(without.lines, told, engine):
+            left = left - {name}
+            waiting += sorted(without.met - names)
+            names = names | without.met
+        else:
+            needed.add(name)
     return needed

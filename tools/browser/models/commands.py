@@ -7,7 +7,7 @@ from reference.world import ACTIVE, Document, Element, tree_document
 
 from .layout import PIXEL, whole
 from .rounds import NEVER
-from .traits import DEAD_READS_THROW, FRAMES_IN_TIME, HIDDEN_READS_NOTHING, SCROLLS_ARE_CUT
+from .traits import DEAD_READS_THROW, FRAMES_IN_TIME, HIDDEN_READS_NOTHING, KEPT_WHILE_TELLING, SCROLLS_ARE_CUT
 
 
 class Commands:
@@ -35,7 +35,9 @@ class Commands:
         return super().holds(command)
 
     def do_scroll(self, command, thing, left, top):
-        self.lay_out(thing if isinstance(thing, Document) else thing.document)
+        # A window that is scrolled to its begin isn't laid out for it.
+        if left or top or not isinstance(thing, Document):
+            self.lay_out(thing if isinstance(thing, Document) else thing.document)
         EFFECTS['scroll'](self, command, thing, *self._whole_position(left, top))
         self.anchor_anew(thing)
 
@@ -80,6 +82,10 @@ class Commands:
             return
         if old is not None and old in observer.active and self.differs('unobserve-in-delivery'):
             observer.active.remove(old)
+        used = observer.document.resize_observers
+        if not observer.observations and used[-1] is not observer and self.differs('resize-observers-by-use'):
+            used.remove(observer)
+            used.append(observer)
         EFFECTS['ro-observe'](self, command, observer, node, box)
         observation = observer.observations[node]
         if self.has('first-size'):
@@ -106,12 +112,15 @@ class Commands:
 
     def do_io_unobserve(self, command, observer, node):
         kept = [entry for entry in observer.queue if entry.target is not node]
+        if self.telling and self.has(KEPT_WHILE_TELLING):
+            kept = observer.queue
         if node in observer.registrations and kept != observer.queue and self.differs('queue-after-unobserve'):
             observer.queue = kept
         EFFECTS['io-unobserve'](self, command, observer, node)
 
     def do_io_disconnect(self, command, observer):
-        if observer.queue and self.differs('queue-after-unobserve'):
+        kept = self.telling and self.has(KEPT_WHILE_TELLING)
+        if observer.queue and not kept and self.differs('queue-after-unobserve'):
             observer.queue = [entry for entry in observer.queue if entry.target not in observer.registrations]
         EFFECTS['io-disconnect'](self, command, observer)
 

@@ -4,7 +4,7 @@ from reference.lengths import percentage
 from reference.world import ACTIVE, Document, tree_document
 
 from .layout import PIXEL, whole
-from .traits import CROSSED_IS_TURNED, TAKEN_AT_ONCE
+from .traits import CROSSED_IS_TURNED
 
 
 class EngineRoot(intersection.RootRectangle):
@@ -39,17 +39,16 @@ class Crossings:
 
     def observers_of(self, document):
         """Those that are looked at with a document."""
-        def belongs(observer):
-            root = observer.root
-            if root is None:
-                return document is self.world.top
-            if isinstance(root, Document):
-                return root is document
-            where = tree_document(root)
-            if where is None and root.document is document and self.differs('root-removed'):
-                return True
-            return where is document
-        return [observer for observer in self.world.intersection_observers if belongs(observer)]
+        return [observer for observer in self.world.intersection_observers if self.looks_at(document, observer)]
+
+    def looks_at(self, document, observer):
+        root = observer.root
+        where = self.world.top if root is None else root if isinstance(root, Document) else tree_document(root)
+        if (where is document) != (observer.document is document) and self.differs('told-by-own-document'):
+            return observer.document is document
+        if where is None and root.document is document:
+            return self.differs('root-removed')
+        return where is document
 
     def intersections(self, document):
         for observer in self.observers_of(document):
@@ -126,28 +125,37 @@ class Crossings:
 
     def notify(self):
         """Tells all observers that have entries, in the order that the browser's trace has."""
-        waiting = [observer for document in self.world.documents for observer in self.observers_of(document) if observer.queue]
-        waiting += [observer for observer in self.world.intersection_observers if observer.queue and observer not in waiting]
-        taken = {observer: observer.queue for observer in waiting} if self.has(TAKEN_AT_ONCE) else {}
-        for observer in taken:
-            observer.queue = []
-        begun = set()
+        documents = self.documents_in_order()
+        if self.has('told-by-own-document'):
+            groups = [[observer for observer in self.observers_of(document) if observer.queue] for document in documents]
+        else:
+            known = [observer for document in documents for observer in self.observers_of(document) if observer.queue]
+            groups = [known + [observer for observer in self.world.intersection_observers if observer.queue and observer not in known]]
+        for waiting in groups:
+            self.tell_all(waiting)
+
+    def tell_all(self, waiting):
+        begun, self.telling = set(), True
         while waiting:
-            words = self.expected().split()
-            if self.round is not None and words[:1] == ['round']:
-                words = self.expected(1).split()
-            chosen = waiting[0]
-            if words[:1] == ['intersect'] and self.has('observers-in-any-order'):
-                chosen = next((observer for observer in waiting if observer.name == words[1]), chosen)
-            if chosen is not waiting[0]:
-                self.differs('observers-in-any-order')
+            chosen = self.next_of(waiting)
             waiting.remove(chosen)
-            if not self.is_told(chosen):
-                continue
-            if chosen not in taken:
-                taken[chosen], chosen.queue = chosen.queue, []
-            self.tell_entries(chosen, taken.pop(chosen), begun)
-            begun.add(chosen.document)
+            if self.is_told(chosen):
+                entries, chosen.queue = chosen.queue, []
+                self.tell_entries(chosen, entries, begun)
+                begun.add(chosen.document)
+        self.telling = False
+
+    def next_of(self, waiting):
+        """The observer that is told next: where the order is any one, by the browser's trace."""
+        words = self.expected().split()
+        if self.round is not None and words[:1] == ['round']:
+            words = self.expected(1).split()
+        if words[:1] != ['intersect'] or words[1] == waiting[0].name or 'observers-in-any-order' not in self.classes:
+            return waiting[0]
+        chosen = next((observer for observer in waiting if observer.name == words[1]), waiting[0])
+        if chosen is not waiting[0]:
+            self.differs('observers-in-any-order')
+        return chosen
 
     def tell_entries(self, observer, entries, begun):
         """`begun` has the documents of which an observer was told before."""
@@ -168,6 +176,8 @@ class Crossings:
 
     def is_told(self, observer):
         """Whether an observer with entries is told them, though its root may have gone meanwhile."""
+        if self.has('told-by-own-document'):
+            return True
         root = observer.root
         document = root if isinstance(root, Document) else self.world.top if root is None else tree_document(root)
         if document is None:

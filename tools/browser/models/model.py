@@ -32,6 +32,8 @@ class Model(Commands, Viewports, Rounds, Crossings, Page):
         self.insertions = {}              # document -> number, in the order in which their frames were inserted
         self.sizes = {}                   # resize observers' targets -> corner, content and border size at the last layout
         self.round = None
+        self.telling = False              # whether intersection observers are being told
+        self.failed = set()               # documents with an error in this update: it comes once
         self.all_resize_observers = []
         self.tool_saw = {}                # resize observer -> target -> the size that the tool saw reported last, or None
         self.late_scrolls = []            # things that a layout has moved: their events are queued as an update ends

@@ -26,6 +26,7 @@ class Rounds:
         if self.has('rounds-by-turns'):
             self.rounds_by_turns()
             return
+        self.failed.clear()
         for document in self.documents_in_order():
             least = 0
             while document.state is ACTIVE and least is not None:
@@ -34,6 +35,7 @@ class Rounds:
 
     def rounds_by_turns(self):
         least, delivered = {}, True
+        self.failed.clear()
         while delivered:
             self.lay_out_all()
             delivered = False
@@ -54,7 +56,8 @@ class Rounds:
             if told is None or (min(depths) != told and self.differs('depth-at-gathering')):
                 return min(depths)
             return told
-        if any(observer.skipped for observer in document.resize_observers):
+        if any(observer.skipped for observer in document.resize_observers) and document not in self.failed:
+            self.failed.add(document)
             if not any(observer.skips_now for observer in document.resize_observers):
                 self.differs('skipped-then-cured')
             for observer in document.resize_observers:
