@@ -133,6 +133,9 @@ class Crossings:
             groups = [known + [observer for observer in self.world.intersection_observers if observer.queue and observer not in known]]
         for waiting in groups:
             self.tell_all(waiting)
+        for observer in self.world.intersection_observers:
+            if observer.document.state is not ACTIVE and not self.has('entries-of-dead-document'):
+                observer.queue = []
 
     def tell_all(self, waiting):
         begun, self.telling = set(), True
