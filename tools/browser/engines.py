@@ -169,7 +169,36 @@ BEGIN_FRAME_FLAGS = ['--deterministic-mode', '--enable-begin-frame-control', '--
 
 
 class Stepped:
-    """Chromium by begin-frame control: a rendering update happens exactly when it is asked for."""
+    """A browser that makes an update of the rendering exactly where it is asked for one."""
+
+    def tick(self):
+        # A frame that the browser used to end earlier work is no update of the page: ask again until the page saw one.
+        for _ in range(8):
+            self.update()
+            if self.value('observersNow.updated'):
+                self.value('observersNow.drained()', wait=True)
+                return
+        raise NotShown('an update that the browser skips')
+
+    def trace(self, text):
+        """The lines; NotShown where the page can't show all of the script."""
+        plan = planned(read_script(text))
+        self.blank(plan['size'])
+        self.begin(plan['script'])
+        while True:
+            wants = self.value('observersNow.step()', wait=True)
+            if wants[0] == 'viewport':
+                self.resize(int(wants[1]), int(wants[2]))
+            elif wants[0] == 'tick':
+                self.tick()
+            elif wants[0] == 'end':
+                return self.value('observersNow.lines')
+            else:
+                raise NotShown(wants[1])
+
+
+class SteppedChromium(Stepped):
+    """Chromium by begin-frame control."""
 
     def __init__(self, program=None):
         self.pipe = Pipe(found('chromium-headless-shell', program, 'chromium-headless-shell'), CHROMIUM_FLAGS + BEGIN_FRAME_FLAGS)
@@ -194,6 +223,9 @@ class Stepped:
         self.time += 16.0
         self.pipe.ask('HeadlessExperimental.beginFrame', frameTimeTicks=self.time, interval=16.0, noDisplayUpdates=False)
 
+    def resize(self, width, height):
+        self.pipe.size(width, height)
+
     def blank(self, size):
         """A page of its own, in no-quirks mode, whose first update is over."""
         # No mouse comes into the page: under one the browser lays the page out anew, at a time of its own, after a frame was moved.
@@ -210,30 +242,8 @@ class Stepped:
             self.update()
         self.pipe.ask('Input.setIgnoreInputEvents', ignore=False)
 
-    def tick(self):
-        # A frame that the browser used to end earlier work is no update of the page: ask again until the page saw one.
-        for _ in range(8):
-            self.update()
-            if self.value('observersNow.updated'):
-                self.value('observersNow.drained()', wait=True)
-                return
-        raise NotShown('an update that the browser skips')
-
-    def trace(self, text):
-        """The lines; NotShown where the page can't show all of the script."""
-        plan = planned(read_script(text))
-        self.blank(plan['size'])
-        self.value('%s\nwindow.observersNow = observersRun(%s, window, {}); 0' % (self.page, json.dumps(plan['script'])))
-        while True:
-            wants = self.value('observersNow.step()', wait=True)
-            if wants[0] == 'viewport':
-                self.pipe.size(int(wants[1]), int(wants[2]))
-            elif wants[0] == 'tick':
-                self.tick()
-            elif wants[0] == 'end':
-                return self.value('observersNow.lines')
-            else:
-                raise NotShown(wants[1])
+    def begin(self, script):
+        self.value('%s\nwindow.observersNow = observersRun(%s, window, {}); 0' % (self.page, json.dumps(script)))
 
 
 class Loopback(http.server.ThreadingHTTPServer):
@@ -397,7 +407,7 @@ class Firefox(Live):
         self.socket = self.hold(self.connected())
         self.reads = self.socket.makefile('rb')
         self.message()
-        self.ask('WebDriver:NewSession', capabilities={'pageLoadStrategy': 'none'})
+        self.ask('WebDriver:NewSession', capabilities={'pageLoadStrategy': 'none', 'timeouts': {'script': LONGEST * 1000}})
 
     def connected(self):
         place, end = os.path.join(self.profile, 'MarionetteActivePort'), time.time() + STARTING
@@ -435,6 +445,42 @@ class Firefox(Live):
 
     def open(self, url):
         self.ask('WebDriver:Navigate', url=url)
+
+
+STEPPED_PAGE = '''<!doctype html><meta charset="utf-8"><link rel="icon" href="data:,"><script>
+%s
+function observersBegin(script) { window.observersNow = observersRun(JSON.parse(script), window, {}); }
+addEventListener('load', () => { fetch(location.href, { method: 'POST', body: '"loaded"' }); });
+</script>'''
+
+
+class SteppedFirefox(Stepped, Firefox):
+    """Firefox with its refresh driver under control, as its own tests have it."""
+
+    def value(self, expression, wait=False):
+        return self.ask('WebDriver:ExecuteScript', script='return ' + expression, args=[])['value']
+
+    def update(self):
+        self.ask('WebDriver:ExecuteScript', script='window.windowUtils.advanceTimeAndRefresh(16)', args=[], sandbox='system')
+
+    def resize(self, width, height):
+        self.size(width, height)
+        end = time.time() + LONGEST
+        while self.value('[innerWidth, innerHeight]') != [width, height]:
+            if time.time() > end:
+                raise NotShown('a window of %d by %d' % (width, height))
+
+    def blank(self, size):
+        """A page of its own, whose first updates are over."""
+        self.open(self.server.offer(STEPPED_PAGE % self.parts['page']))
+        self.server.answer()
+        self.update()
+        self.resize(*size)
+        for _ in range(2):
+            self.update()
+
+    def begin(self, script):
+        self.value('observersBegin(%s)' % json.dumps(json.dumps(script)))
 
 
 MINI_BROWSER = '/usr/lib/x86_64-linux-gnu/webkit2gtk-4.1/MiniBrowser'
@@ -507,4 +553,5 @@ class WebKit(Live):
         self.ask('POST', self.session + '/url', {'url': url})
 
 
-ENGINES = {'chromium': Stepped, 'chromium-live': LiveChromium, 'firefox': Firefox, 'webkit': WebKit}
+ENGINES = {'chromium': SteppedChromium, 'chromium-live': LiveChromium, 'firefox': Firefox, 'firefox-stepped': SteppedFirefox,
+           'webkit': WebKit}

@@ -1,0 +1,106 @@
+"""CSS Scroll Anchoring, as the model of an engine has it: an offset moves with the first box in view."""
+from reference.world import ACTIVE, Document, path
+
+# A change of one of these, on the way from the box up to what scrolls, leaves the offset alone.
+QUIETING = ('width', 'height', 'min-', 'max-', 'margin', 'padding')
+
+
+class Anchors:
+    def __init__(self, model):
+        self.model = model
+        self.kept = {}            # what is scrolled -> the box, or None, and where it was
+        self.quiet = set()        # elements with a change that leaves offsets alone, since the last layout
+
+    def changes(self, node, property_):
+        if property_.startswith(QUIETING):
+            self.quiet.add(node)
+
+    def scrolls(self, thing):
+        """The box is looked for anew as something is scrolled."""
+        self.kept.pop(thing, None)
+        self.keep(thing)
+
+    def scrolled_in(self, document):
+        """What is scrolled in a document, and has a box."""
+        layout = self.model.world.layout
+        if document.scroll[1] and (document.frame is None or layout.has_box(document.frame)):
+            yield document
+        for node in layout._boxes_of(document):
+            if node.scroll[1] and layout.scrolls(node):
+                yield node
+
+    def moved(self, document):
+        """(thing, by how much) for each offset that is to move, as a document has been laid out."""
+        layout = self.model.world.layout
+        for thing in self.scrolled_in(document):
+            box, place = self.kept.get(thing, (None, 0))
+            if box is None or not layout.has_box(box) or not self.holds(thing, box):
+                continue
+            by = self.place(thing, box) - place
+            if any(node in self.quiet for node in self.between(thing, box)):
+                del self.kept[thing]
+            elif by:
+                yield thing, by
+
+    def settle(self, document):
+        """Remembers where the boxes are, as a layout has ended."""
+        for thing in self.scrolled_in(document):
+            self.keep(thing)
+        self.quiet = {node for node in self.quiet if node.document is not document}
+
+    def keep(self, thing):
+        layout = self.model.world.layout
+        if not thing.scroll[1]:
+            return
+        box = self.kept.get(thing, (None, 0))[0]
+        if box is None or not layout.has_box(box) or not self.holds(thing, box):
+            box = self.first_in_view(thing)
+        self.kept[thing] = box, box and self.place(thing, box)
+
+    @staticmethod
+    def holds(thing, box):
+        return box.document is thing if isinstance(thing, Document) else thing in path(box)
+
+    @staticmethod
+    def between(thing, box):
+        for node in path(box):
+            yield node
+            if node is thing:
+                return
+
+    def place(self, thing, box):
+        layout = self.model.world.layout
+        return layout.flat_place(box)[1] - (0 if isinstance(thing, Document) else layout._flat_padding_corner(thing)[1])
+
+    def first_in_view(self, thing):
+        layout = self.model.world.layout
+        if isinstance(thing, Document):
+            corner, size, first = (0, 0), layout.viewport(thing), [thing.root] if thing.root else []
+        else:
+            corner, size, first = layout._flat_padding_corner(thing), layout.padding_size(thing), thing.children
+        left, top = corner[0] + thing.scroll[0], corner[1] + thing.scroll[1]
+        return self.search(first, (left, top, left + size[0], top + size[1]))
+
+    def search(self, nodes, view):
+        """The first that is wholly in view, or of which a part is and no box in it."""
+        layout = self.model.world.layout
+        for node in nodes:
+            if not layout.has_box(node):
+                continue
+            left, top, right, bottom = self.bounds(node)
+            if right > left and bottom > top and left < view[2] and right > view[0] and top < view[3] and bottom > view[1]:
+                inside = left >= view[0] and top >= view[1] and right <= view[2] and bottom <= view[3]
+                return node if inside else self.search(node.children, view) or node
+        return None
+
+    def bounds(self, node):
+        """The border box, and below it what comes out of it."""
+        layout = self.model.world.layout
+        left, top = layout.flat_place(node)
+        width, height = layout.border_size(node)
+        bottom = top + height
+        if not layout.clips(node):
+            for child in node.children:
+                if layout.has_box(child):
+                    bottom = max(bottom, self.bounds(child)[3])
+        return left, top, left + width, bottom

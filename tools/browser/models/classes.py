@@ -1,0 +1,101 @@
+"""The classes that each engine has, and those in which a trace stands."""
+import itertools
+import re
+
+from reference import grammar
+from reference.page import Page
+
+from .model import Model
+from .traits import (CROSSED_IS_TURNED, DEAD_READS_THROW, FRAMES_IN_TIME, HIDDEN_READS_NOTHING, KEPT_WHILE_TELLING, LATE_SCROLLS,
+                     SCROLLS_ARE_CUT)
+
+ALL_THREE = frozenset('''border-widths read-of-dead-frame hidden-frame-keeps-size frame-of-part-pixels reach-of-empty-boxes
+    reach-with-margins reach-with-padding scroll-of-part-pixels observe-again first-size offset-of-moved-box frame-order stored-offset
+    sizes-of-last-layout root-removed root-rectangle-of-none is-intersecting margin-percentages'''.split())
+CHROMIUM = ALL_THREE | {LATE_SCROLLS} | set('''scroll-anchoring scroll-of-hidden-frame unobserve-in-delivery queue-after-unobserve
+    listener-of-adopted-element frame-callback-late rounds-by-turns depth-at-gathering skipped-then-cured dead-frame-target
+    target-of-dead-frame observers-in-any-order margin-of-part-pixels crossed-root cut-in-a-frame told-of-dead-root
+    entries-of-dead-document'''.split())
+FIREFOX = ALL_THREE | {HIDDEN_READS_NOTHING, DEAD_READS_THROW, SCROLLS_ARE_CUT, KEPT_WHILE_TELLING} | set('''scroll-anchoring
+    queue-after-unobserve listener-of-adopted-element frame-callback-late told-of-dead-root
+    told-by-own-document resize-observers-by-use'''.split())
+WEBKIT = ALL_THREE | {SCROLLS_ARE_CUT, FRAMES_IN_TIME, CROSSED_IS_TURNED} | set('''depth-at-gathering crossed-root entries-before-tasks
+    queries-of-empty-page resize-observers-by-use'''.split())
+CLASSES = {'chromium': CHROMIUM, 'firefox': FIREFOX, 'webkit': WEBKIT}
+NUMBER = re.compile(r'-?\d+(?:\.\d+)?(?:/\d+)?')
+NEAR = 0.15     # pixels, by which sums of sixtieths may differ
+
+
+def run(text, classes, told=(), order=None):
+    """The model's run of a script."""
+    model = Model(grammar.parse(text.encode('latin-1'), (1,)), classes, told, order)
+    model.run()
+    return model
+
+
+def by_rules(text):
+    """The rules' trace."""
+    lines = []
+    Page(grammar.parse(text.encode('latin-1'), (1,)), lambda line, script_line, about: lines.append(line)).run()
+    return lines
+
+
+def alike(lines, told, engine):
+    """Whether both traces are the same; in Firefox up to parts of a pixel."""
+    if lines == told:
+        return True
+    return engine == 'firefox' and len(lines) == len(told) and all(map(near, lines, told))
+
+
+def near(line, other):
+    if NUMBER.sub('#', line) != NUMBER.sub('#', other):
+        return False
+    return all(abs(number(one) - number(two)) <= (NEAR if '/' not in one else 0.01)
+               for one, two in zip(NUMBER.findall(line), NUMBER.findall(other)))
+
+
+def number(text):
+    over, _, below = text.partition('/')
+    return float(over) / float(below or 1)
+
+
+def orders(text, engine, told):
+    """The orders of documents that are tried: None is the one in which their frames were inserted; Firefox has any order."""
+    yield None
+    names = [line.split()[3] for line in text.splitlines() if line.startswith('frame ')]
+    if engine == 'firefox' and 1 < len(names) < 6:
+        for order in itertools.permutations(names):
+            yield {name: place for place, name in enumerate(order)}
+
+
+def classes_of(text, engine, told):
+    """The classes of a trace: none where it is the rules' one, None where the model doesn't give it."""
+    for order in orders(text, engine, told):
+        first = run(text, CLASSES[engine], told, order)
+        if alike(first.lines, told, engine):
+            break
+    else:
+        return None
+    needed = set(first.noticed)
+    for name in sorted(first.met):
+        without = run(text, CLASSES[engine] - {name}, told, order)
+        if not alike(without.lines, told, engine):
+            needed.add(name)
+    if first.lines != told:
+        needed.add('sixtieths-of-a-pixel')
+    return needed or one_of(text, engine, told, order, first.met) or {'round-lines'}
+
+
+def one_of(text, engine, told, order, names):
+    """Where each class alone may be left out: those that stay as they are left out one after the other."""
+    left, waiting, needed = CLASSES[engine], sorted(names), set()
+    while waiting:
+        name = waiting.pop(0)
+        without = run(text, left - {name}, told, order)
+        if alike(without.lines, told, engine):
+            left = left - {name}
+            waiting += sorted(without.met - names)
+            names = names | without.met
+        else:
+            needed.add(name)
+    return needed

@@ -1,0 +1,154 @@
+"""Commands that an engine has otherwise, or that lay out."""
+from reference.commands import EFFECTS
+from reference.layout import BORDER
+from reference.media import matches
+from reference.refusals import Throw
+from reference.world import ACTIVE, Document, Element, tree_document
+
+from .layout import PIXEL, whole
+from .rounds import NEVER
+from .traits import DEAD_READS_THROW, FRAMES_IN_TIME, HIDDEN_READS_NOTHING, KEPT_WHILE_TELLING, SCROLLS_ARE_CUT
+
+
+class Commands:
+    """A part of Model."""
+
+    def do_viewport(self, command, width, height):
+        EFFECTS['viewport'](self, command, width, height)
+        if self.began:
+            self.learns(self.world.top, (width, height))
+            self.lay_out(self.world.top)
+
+    def kept_size(self, document):
+        """Of a document whose frame has no box."""
+        return (0, 0) if self.has(HIDDEN_READS_NOTHING) else self.known.get(document, (0, 0))
+
+    def do_read(self, command, thing):
+        if isinstance(thing, Document) and thing.state is not ACTIVE and self.has(DEAD_READS_THROW) and self.differs('read-of-dead-frame'):
+            raise Throw('NS_ERROR_UNEXPECTED', command.operands[0], '')
+        self.lay_out(thing if isinstance(thing, Document) else thing.document)
+        EFFECTS['read'](self, command, thing)
+
+    def holds(self, command):
+        if command.condition in ('wider', 'taller'):
+            self.lay_out(self.look_up_all(command)[0].document)
+        return super().holds(command)
+
+    def do_scroll(self, command, thing, left, top):
+        # A window that is scrolled to its begin isn't laid out for it.
+        if left or top or not isinstance(thing, Document):
+            self.lay_out(thing if isinstance(thing, Document) else thing.document)
+        EFFECTS['scroll'](self, command, thing, *self._whole_position(left, top))
+        self.anchor_anew(thing)
+
+    def do_scroll_by(self, command, thing, left, top):
+        self.lay_out(thing if isinstance(thing, Document) else thing.document)
+        EFFECTS['scroll-by'](self, command, thing, *self._whole_position(left, top))
+        self.anchor_anew(thing)
+
+    def anchor_anew(self, thing):
+        if isinstance(thing, Element) and thing.root_of is not None:
+            thing = thing.root_of
+        where = thing if isinstance(thing, Document) else tree_document(thing)
+        if where is not None and where.state is ACTIVE:
+            self.anchors.scrolls(thing)
+
+    def do_set(self, command, node, property_, declaration):
+        EFFECTS['set'](self, command, node, property_, declaration)
+        self.anchors.changes(node, property_)
+        self.changed_in(node.document)
+
+    def do_grow(self, command, node, property_, by):
+        EFFECTS['grow'](self, command, node, property_, by)
+        self.anchors.changes(node, property_)
+        self.changed_in(node.document)
+
+    def changed_in(self, document):
+        if document in self.hidden and self.differs('scroll-of-hidden-frame'):
+            self.hidden[document] = True
+
+    def _whole_position(self, left, top):
+        rounded = (left // PIXEL * PIXEL, top // PIXEL * PIXEL) if self.has(SCROLLS_ARE_CUT) else (whole(left), whole(top))
+        return rounded if rounded != (left, top) and self.differs('scroll-of-part-pixels') else (left, top)
+
+    def do_ro(self, command, name, document, handler):
+        EFFECTS['ro'](self, command, name, document, handler)
+        self.all_resize_observers.append(self.world.names[name])
+
+    def do_ro_observe(self, command, observer, node, box):
+        old = observer.observations.get(node)
+        if old is not None and old.box == box and self.differs('observe-again'):
+            self._tool_observes(observer, node)
+            return
+        if old is not None and old in observer.active and self.differs('unobserve-in-delivery'):
+            observer.active.remove(old)
+        used = observer.document.resize_observers
+        if not observer.observations and used[-1] is not observer and self.differs('resize-observers-by-use'):
+            used.remove(observer)
+            used.append(observer)
+        EFFECTS['ro-observe'](self, command, observer, node, box)
+        observation = observer.observations[node]
+        if self.has('first-size'):
+            observation.last_reported = NEVER
+        self._tool_observes(observer, node)
+
+    def _tool_observes(self, observer, node):
+        """What the tool knows of reported sizes begins anew, and the target comes last."""
+        seen = self.tool_saw.setdefault(observer, {})
+        seen.pop(node, None)
+        seen[node] = None
+
+    def do_ro_unobserve(self, command, observer, node):
+        old = observer.observations.get(node)
+        if old is not None and old in observer.active and self.differs('unobserve-in-delivery'):
+            observer.active.remove(old)
+        EFFECTS['ro-unobserve'](self, command, observer, node)
+        self.tool_saw.get(observer, {}).pop(node, None)
+
+    def do_ro_disconnect(self, command, observer):
+        EFFECTS['ro-disconnect'](self, command, observer)
+        observer.skipped = False
+        self.tool_saw.pop(observer, None)
+
+    def do_io_unobserve(self, command, observer, node):
+        kept = [entry for entry in observer.queue if entry.target is not node]
+        if self.telling and self.has(KEPT_WHILE_TELLING):
+            kept = observer.queue
+        if node in observer.registrations and kept != observer.queue and self.differs('queue-after-unobserve'):
+            observer.queue = kept
+        EFFECTS['io-unobserve'](self, command, observer, node)
+
+    def do_io_disconnect(self, command, observer):
+        kept = self.telling and self.has(KEPT_WHILE_TELLING)
+        if observer.queue and not kept and self.differs('queue-after-unobserve'):
+            observer.queue = [entry for entry in observer.queue if entry.target not in observer.registrations]
+        EFFECTS['io-disconnect'](self, command, observer)
+
+    def do_io_take(self, command, observer):
+        observer.queue = self._now(self._as_told(observer.queue, 1))
+        EFFECTS['io-take'](self, command, observer)
+
+    def do_media(self, command, name, document, queries):
+        EFFECTS['media'](self, command, name, document, queries)
+        if self.has(FRAMES_IN_TIME):
+            self.world.names[name].state = matches(queries, self.known.get(document, (0, 0)))
+        self.states[self.world.names[name]] = matches(queries, self.rules_viewport(document))
+
+    def do_listen(self, command, listened, event, handler):
+        before = len(self.world.listeners.get(listened, ()))
+        EFFECTS['listen'](self, command, listened, event, handler)
+        held = self.world.listeners[listened]
+        if len(held) > before:
+            thing = listened[0]
+            held[-1].realm = thing if isinstance(thing, Document) else thing.document
+
+    def dispatch(self, listened, event):
+        thing = listened[0]
+        document = thing if isinstance(thing, Document) else thing.document
+        listeners = self.world.listeners
+        for listener in [known for known in listeners.get(listened, ()) if known.event == event]:
+            if listener in listeners.get(listened, ()):
+                realm = document
+                if (listener.realm.state is ACTIVE) != (document.state is ACTIVE) and self.differs('listener-of-adopted-element'):
+                    realm = listener.realm
+                self.call(realm, listener.handler)

@@ -1,0 +1,202 @@
+"""What an engine's intersection observers find, and when it tells them."""
+from reference import intersection, trace
+from reference.lengths import percentage
+from reference.world import ACTIVE, Document, tree_document
+
+from .layout import PIXEL, whole
+from .traits import CROSSED_IS_TURNED
+
+
+class EngineRoot(intersection.RootRectangle):
+    """A root rectangle with an engine's margins."""
+
+    def __init__(self, model, observer):
+        super().__init__(model.world, observer)
+        left, top, right, bottom = self.own
+        by = []
+        for side, (unit, amount) in enumerate(observer.margins):
+            if unit == 'px':
+                by.append(amount)
+                continue
+            basis = right - left
+            if side in (0, 2) and bottom - top != basis and amount and model.differs('margin-percentages'):
+                basis = bottom - top
+            units = percentage(amount, basis)
+            if units % PIXEL and model.differs('margin-of-part-pixels'):
+                units = abs(units) // PIXEL * PIXEL * (1 if units > 0 else -1)
+            by.append(units)
+        left, top, right, bottom = left - by[3], top - by[0], right + by[1], bottom + by[2]
+        self.turned = False
+        if (right < left or bottom < top) and model.differs('crossed-root'):
+            self.turned = model.has(CROSSED_IS_TURNED)
+            if not self.turned:
+                right, bottom = max(left, right), max(top, bottom)
+        self.rectangle = (left, top, right, bottom)
+
+
+class Crossings:
+    """A part of Model."""
+
+    def observers_of(self, document):
+        """Those that are looked at with a document."""
+        return [observer for observer in self.world.intersection_observers if self.looks_at(document, observer)]
+
+    def looks_at(self, document, observer):
+        root = observer.root
+        where = self.world.top if root is None else root if isinstance(root, Document) else tree_document(root)
+        if (where is document) != (observer.document is document) and self.differs('told-by-own-document'):
+            return observer.document is document
+        if where is None and root.document is document:
+            return self.differs('root-removed')
+        return where is document
+
+    def intersections(self, document):
+        for observer in self.observers_of(document):
+            if observer.document.state is not ACTIVE and self.has('entries-of-dead-document'):
+                continue
+            root = EngineRoot(self, observer)
+            for registration in observer.registrations.values():
+                if self.passes_over(observer, registration):
+                    continue
+                entry = self.find(observer, root, registration)
+                if (registration.index, registration.meets) != (entry.index, entry.meets):
+                    observer.queue.append(entry)
+                registration.index, registration.meets = entry.index, entry.meets
+
+    def passes_over(self, observer, registration):
+        """Whether a target is left alone: its observer has no root, and it stands in no shown document and isn't where it stood last."""
+        target = registration.target
+        where = tree_document(target)
+        if observer.root is not None or (where is not None and where.state is ACTIVE):
+            return False
+        moved = target.document.state is not ACTIVE or self.left.get(target, target.document) is not target.document
+        return moved and self.differs('target-of-dead-frame')
+
+    def find(self, observer, root, registration):
+        entry = intersection.find(self.world, observer, root, registration.target)
+        if entry.unseen is not None and entry.root != intersection.NOTHING and self.differs('root-rectangle-of-none'):
+            entry.root = intersection.NOTHING
+        if root.turned and entry.root != intersection.NOTHING:
+            left, top, right, bottom = entry.root
+            entry.root = (min(left, right), min(top, bottom), max(left, right), max(top, bottom))
+        self.move_cut(observer, entry)
+        index = entry.index if entry.meets else 0
+        if (index > 0) != entry.meets and self.differs('is-intersecting'):
+            entry.meets = index > 0
+        if self.has('is-intersecting'):
+            entry.index = index
+        return entry
+
+    def move_cut(self, observer, entry):
+        """A frame stands at whole pixels; of a root outside it the cut rectangle is moved by what was rounded away."""
+        root, document = observer.root, entry.target.document
+        if not entry.meets or document.frame is None or (root is not None and getattr(root, 'document', root) is document):
+            return
+        corner = self.world.layout.frame_corner(document)
+        moved = [whole(place) - place for place in corner]
+        if moved != [0, 0] and self.differs('cut-in-a-frame'):
+            left, top, right, bottom = entry.cut
+            entry.cut = (left + moved[0], top + moved[1], right + moved[0], bottom + moved[1])
+
+    # --- tasks --------------------------------------------------------------------------------------------------------------
+
+    def run_tasks(self):
+        world = self.world
+        notified = False
+        posted = world.tasks
+        world.tasks = []
+        if self.has('entries-before-tasks') and posted and any(observer.queue for observer in world.intersection_observers):
+            self.differs('entries-before-tasks')
+            self.notify()
+            notified = True
+        for task in posted:
+            self._run_task(task)
+        if not notified:
+            self.notify()
+        while world.tasks:
+            self._run_task(world.tasks.pop(0))
+
+    def _run_task(self, task):
+        self.end_round()
+        self.world.posted_held -= 1
+        if task.document.state is ACTIVE:
+            self.tell('task %s %s' % (task.document.name, task.handler.name))
+        self.call(task.document, task.handler)
+
+    def notify(self):
+        """Tells all observers that have entries, in the order that the browser's trace has."""
+        documents = self.documents_in_order()
+        if self.has('told-by-own-document'):
+            groups = [[observer for observer in self.observers_of(document) if observer.queue] for document in documents]
+        else:
+            known = [observer for document in documents for observer in self.observers_of(document) if observer.queue]
+            groups = [known + [observer for observer in self.world.intersection_observers if observer.queue and observer not in known]]
+        for waiting in groups:
+            self.tell_all(waiting)
+        for observer in self.world.intersection_observers:
+            if observer.document.state is not ACTIVE and not self.has('entries-of-dead-document'):
+                observer.queue = []
+
+    def tell_all(self, waiting):
+        begun, self.telling = set(), True
+        while waiting:
+            chosen = self.next_of(waiting)
+            waiting.remove(chosen)
+            if self.is_told(chosen):
+                entries, chosen.queue = chosen.queue, []
+                self.tell_entries(chosen, entries, begun)
+                begun.add(chosen.document)
+        self.telling = False
+
+    def next_of(self, waiting):
+        """The observer that is told next: where the order is any one, by the browser's trace."""
+        words = self.expected().split()
+        if self.round is not None and words[:1] == ['round']:
+            words = self.expected(1).split()
+        if words[:1] != ['intersect'] or words[1] == waiting[0].name or 'observers-in-any-order' not in self.classes:
+            return waiting[0]
+        chosen = next((observer for observer in waiting if observer.name == words[1]), waiting[0])
+        if chosen is not waiting[0]:
+            self.differs('observers-in-any-order')
+        return chosen
+
+    def tell_entries(self, observer, entries, begun):
+        """`begun` has the documents of which an observer was told before."""
+        if observer.document.state is not ACTIVE:
+            if entries and observer.document not in begun and self.differs('entries-of-dead-document'):
+                observer.queue = entries + observer.queue
+        elif entries:
+            self.end_round()
+            entries = self._now(self._as_told(entries, 0))
+            lines = [(trace.intersect_line(observer, entry), None) for entry in entries]
+            self.call(observer.document, observer.handler, entries, lines)
+
+    def _now(self, entries):
+        """The tool tells the time of an entry by its clock."""
+        for entry in entries:
+            entry.time = self.world.clock
+        return entries
+
+    def is_told(self, observer):
+        """Whether an observer with entries is told them, though its root may have gone meanwhile."""
+        if self.has('told-by-own-document'):
+            return True
+        root = observer.root
+        document = root if isinstance(root, Document) else self.world.top if root is None else tree_document(root)
+        if document is None:
+            return self.differs('root-removed')
+        return document.state is ACTIVE or self.differs('told-of-dead-root')
+
+    def _as_told(self, entries, after):
+        """Entries in the order of the browser's trace."""
+        if not self.has('observers-in-any-order'):
+            return list(entries)
+        left, ordered = list(entries), []
+        for place in range(len(entries)):
+            words = self.expected(after + place).split()
+            chosen = next((entry for entry in left if words[:1] == ['intersect'] and words[2] == entry.target.name), left[0])
+            left.remove(chosen)
+            ordered.append(chosen)
+        if ordered != list(entries):
+            self.differs('observers-in-any-order')
+        return ordered

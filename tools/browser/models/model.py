@@ -1,0 +1,127 @@
+"""The model of an engine: a script's run with the differences put in."""
+from reference import update
+from reference.commands import EFFECTS
+from reference.page import Page
+from reference.refusals import Throw
+from reference.world import ACTIVE
+
+from .anchoring import Anchors
+from .commands import Commands
+from .crossings import Crossings
+from .layout import EngineWorld
+from .rounds import Rounds
+from .traits import FRAMES_IN_TIME
+from .viewports import Viewports
+
+
+class Model(Commands, Viewports, Rounds, Crossings, Page):
+    """Runs a script as an engine does; `told` is the browser's trace."""
+
+    def __init__(self, script, classes, told=(), order=None):
+        self.lines, self.told, self.classes = [], told, classes
+        self.met = set()                  # classes that made something else happen, which may be left out
+        self.noticed = set()              # classes by which an event comes late, or once more, or not at all
+        self.order = order
+        self.known = {}                   # document -> the viewport that the browser has told it of
+        self.resized = set()              # documents with a `resize` to be fired
+        self.noted = {}                   # document -> the size that the rules noted at the last update
+        self.states = {}                  # query list -> its state by the rules
+        self.changed_queries = {}         # document -> its query lists with a `change` to be fired
+        self.new_documents = []           # that haven't laid themselves out
+        self.left = {}                    # element -> the document that it was taken out of last
+        self.insertions = {}              # document -> number, in the order in which their frames were inserted
+        self.sizes = {}                   # resize observers' targets -> corner, content and border size at the last layout
+        self.round = None
+        self.telling = False              # whether intersection observers are being told
+        self.failed = set()               # documents with an error in this update: it comes once
+        self.all_resize_observers = []
+        self.tool_saw = {}                # resize observer -> target -> the size that the tool saw reported last, or None
+        self.late_scrolls = []            # things that a layout has moved: their events are queued as an update ends
+        self.anchors = Anchors(self)
+        self.hidden = {}                  # documents that are scrolled and not shown -> whether something in them has changed
+        super().__init__(script, lambda line, script_line, about: self.lines.append(line))
+        self.world = EngineWorld(script.version, self)
+        self.began = False
+
+    def differs(self, name):
+        """Whether the engine has this class, which the caller has met."""
+        if name not in self.classes:
+            return False
+        self.met.add(name)
+        return True
+
+    def has(self, name):
+        return name in self.classes
+
+    def run(self):
+        """The viewport lines that begin a script give the page its first size."""
+        commands = list(self.script.commands)
+        while commands and commands[0].name == 'viewport':
+            self.run_outside(commands.pop(0))
+        self.known[self.world.top] = self.world.viewport_size
+        self.resized.clear()
+        self.began = True
+        return all(self.run_outside(command) for command in commands)
+
+    def run_command(self, command):
+        if command.name != 'tick':
+            return super().run_command(command)
+        outer, self.line = self.line, command.line
+        try:
+            self.begin(command)
+            self.tick(command, command.operands[0].value)
+            return False
+        except Throw as thrown:
+            self.tell('throw %d %s' % (command.line, thrown.kind), thrown)
+            return True
+        finally:
+            self.line = outer
+
+    def do(self, command):
+        effect = getattr(self, 'do_' + command.name.replace('-', '_'), None)
+        values = self.look_up_all(command)
+        if effect is None:
+            EFFECTS[command.name](self, command, *values)
+        else:
+            effect(command, *values)
+
+    def expected(self, after=0):
+        place = len(self.lines) + after
+        return self.told[place] if place < len(self.told) else ''
+
+    # --- a tick -------------------------------------------------------------------------------------------------------------
+
+    def tick(self, command, time):
+        world = self.world
+        if time < world.clock:
+            raise Throw('RangeError', command.operands[0], 'the clock stands at %d, and time goes on only' % world.clock)
+        world.clock = time
+        self.tell('tick %d' % time)
+        update._run_timers(self)
+        self.update_the_rendering()
+        self.run_tasks()
+        self.end_round()
+
+    def update_the_rendering(self):
+        if self.has(FRAMES_IN_TIME):
+            self.lay_out_all()
+        for document in self.new_documents:
+            self.lay_out(document)
+        self.new_documents = []
+        documents = self.documents_in_order()
+        awake = {document for document in documents if self.has_work(document)}
+        for part in (self.resize_steps, self.scroll_steps, self.media_steps):
+            for document in documents:
+                if document.state is ACTIVE:
+                    part(document)
+        for document in documents:
+            if document.state is ACTIVE and self.runs_frame_callbacks(document, awake):
+                update._frame_callbacks(self, document)
+        self.resize_loop()
+        for thing, document in self.late_scrolls:
+            if thing not in document.pending_scrolls:
+                document.pending_scrolls.append(thing)
+        self.late_scrolls = []
+        for document in self.documents_in_order():
+            if document.state is ACTIVE:
+                self.intersections(document)

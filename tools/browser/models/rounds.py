@@ -1,0 +1,171 @@
+"""The resize loop as an engine has it, and its rounds as the tool tells them apart."""
+from reference import trace
+from reference.layout import BORDER, CONTENT
+from reference.world import ACTIVE, depth
+
+NEVER = (-1, -1)     # what was reported of a target that wasn't told yet
+
+
+class Round:
+    """A round as the tool tells it apart from the next: see docs/BROWSERS.md, 'Rounds'."""
+
+    def __init__(self, document, waiting):
+        self.document, self.waiting = document, waiting
+        self.least, self.place = None, -1
+
+
+class ResizeEntry:
+    def __init__(self, target, corner, content, border):
+        self.target, self.corner, self.content, self.border = target, corner, content, border
+
+
+class Rounds:
+    """A part of Model."""
+
+    def resize_loop(self):
+        if self.has('rounds-by-turns'):
+            self.rounds_by_turns()
+            return
+        self.failed.clear()
+        for document in self.documents_in_order():
+            least = 0
+            while document.state is ACTIVE and least is not None:
+                self.lay_out_all()
+                least = self.one_round(document, least)
+
+    def rounds_by_turns(self):
+        least, delivered = {}, True
+        self.failed.clear()
+        while delivered:
+            self.lay_out_all()
+            delivered = False
+            for document in self.documents_in_order():
+                if document.state is ACTIVE:
+                    reached = self.one_round(document, least.get(document, 0))
+                    if reached is not None:
+                        least[document] = reached
+                        delivered = True
+        if len(least) > 1:
+            self.differs('rounds-by-turns')
+
+    def one_round(self, document, least):
+        """Tells what is deeper; answers the least depth, or None where nothing was."""
+        depths = self.gather(document, least)
+        if depths:
+            told = self.broadcast(document)
+            if told is None or (min(depths) != told and self.differs('depth-at-gathering')):
+                return min(depths)
+            return told
+        if any(observer.skipped for observer in document.resize_observers) and document not in self.failed:
+            self.failed.add(document)
+            if not any(observer.skips_now for observer in document.resize_observers):
+                self.differs('skipped-then-cured')
+            for observer in document.resize_observers:
+                observer.skipped = False
+            self.end_round()
+            self.tell(trace.error_line(document))
+            self.dispatch((document, True), 'error')
+        return None
+
+    def gather(self, document, least):
+        depths = []
+        for observer in document.resize_observers:
+            observer.active, observer.skips_now = [], False
+            if not observer.skipped or not self.has('skipped-then-cured'):
+                observer.skipped = False
+            for observation in observer.observations.values():
+                node = observation.target
+                self.sizes[node] = corner, content, border = self.sizes.get(node) or self.size_now(node)
+                size = border if observation.box == BORDER else content
+                if size == observation.last_reported:
+                    continue
+                if observation.last_reported == NEVER and size == (0, 0):
+                    self.differs('first-size')
+                if depth(node) > least:
+                    observer.active.append(observation)
+                    depths.append(depth(node))
+                else:
+                    observer.skipped = observer.skips_now = True
+        return depths
+
+    def broadcast(self, document):
+        least = None
+        place = 0
+        while place < len(document.resize_observers):
+            observer = document.resize_observers[place]
+            place += 1
+            if not observer.active:
+                continue
+            entries = self.entries_of(observer)
+            observer.active = observer.active if entries else []
+            if not entries:
+                observer.skipped = False
+                continue
+            depths = [depth(entry.target) for entry in entries]
+            least = min(depths + ([] if least is None else [least]))
+            self.resize_told(observer, entries)
+            observer.active = []
+            observer.skipped = False
+            if document.state is not ACTIVE:
+                break
+        return least
+
+    def entries_of(self, observer):
+        """The entries of what is active, with the sizes as the engine has them."""
+        standing = {observation.number for observation in observer.observations.values()}
+        entries = []
+        for observation in observer.active:
+            node = observation.target
+            if node.document.state is not ACTIVE and self.differs('dead-frame-target'):
+                continue
+            corner, content, border = self.size_now(node)
+            if (corner, content, border) != self.sizes[node] and self.differs('sizes-of-last-layout'):
+                corner, content, border = self.sizes[node]
+            entry = ResizeEntry(node, corner, content, border)
+            entries.append(entry)
+            if observation.number in standing:
+                observation.last_reported = border if observation.box == BORDER else content
+        return entries
+
+    def resize_told(self, observer, entries):
+        """The tool's callback: it tells rounds apart by what was waiting as the round began."""
+        place = self.all_resize_observers.index(observer)
+        round_ = self.round
+        same = (round_ is not None and round_.document is observer.document and place > round_.place
+                and any((observer, entry.target) in round_.waiting for entry in entries))
+        if not same:
+            before = round_.least if round_ is not None and round_.document is observer.document else 0
+            self.end_round()
+            round_ = self.round = Round(observer.document, self.tool_gathers(observer.document, before))
+        round_.place = place
+        lines = []
+        for entry in entries:
+            deep = depth(entry.target)
+            round_.least = deep if round_.least is None else min(round_.least, deep)
+            if entry.target in self.tool_saw.get(observer, {}):
+                box = observer.observations[entry.target].box
+                self.tool_saw[observer][entry.target] = entry.border if box == BORDER else entry.content
+            lines.append((trace.resize_line(observer, entry, 1), None))
+        self.call(observer.document, observer.handler, entries, lines)
+
+    def tool_gathers(self, document, least):
+        """What waits as a round begins; the tool reads the sizes for it."""
+        waiting = set()
+        for observer in self.all_resize_observers:
+            if observer.document is not document:
+                continue
+            for node, last in self.tool_saw.get(observer, {}).items():
+                if depth(node) > least:
+                    if last is None:
+                        waiting.add((observer, node))
+                        continue
+                    self.lay_out(node.document)
+                    box = observer.observations[node].box
+                    if last != self.world.layout.size(node, box):
+                        waiting.add((observer, node))
+        return waiting
+
+    def end_round(self):
+        ended, self.round = self.round, None
+        if ended is not None and ended.document.state is ACTIVE:
+            self.tell('round %s %d' % (ended.document.name, ended.least))

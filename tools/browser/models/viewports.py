@@ -1,0 +1,219 @@
+"""What documents are told of their sizes, what a layout does to offsets, and the first steps of an update."""
+from reference import update
+from reference.layout import BORDER, CONTENT
+from reference.media import matches
+from reference.world import ACTIVE, preorder
+
+from .layout import whole
+from .traits import FRAMES_IN_TIME, LATE_SCROLLS
+
+
+class Viewports:
+    """A part of Model."""
+
+    def inserted(self, node):
+        for inner in preorder(node):
+            document = inner.framed
+            if document is not None and document.state is ACTIVE and document not in self.insertions:
+                self.insertions[document] = len(self.insertions)
+                self.new_documents.append(document)
+
+    def removed(self, node, where):
+        """Boxes go from a document; they come back with nothing scrolled."""
+        for inner in preorder(node):
+            if where is not None:
+                self.left[inner] = where
+            if inner in self.sizes:
+                self.sizes[inner] = ((0, 0), (0, 0), (0, 0))
+            if inner.scroll != (0, 0) and self.differs('offset-of-moved-box'):
+                inner.scroll = (0, 0)
+        for other in self.sizes:
+            if other.document.state is not ACTIVE:
+                self.sizes[other] = ((0, 0), (0, 0), (0, 0))
+
+    def documents_in_order(self):
+        """The active documents in the order of the engine."""
+        by_tree = self.world.active_documents()
+        if not self.has('frame-order'):
+            return by_tree
+        children = {}
+        for document in by_tree[1:]:
+            children.setdefault(document.frame.document, []).append(document)
+        found, waiting = [], [self.world.top]
+        while waiting:
+            document = waiting.pop()
+            found.append(document)
+            waiting.extend(sorted(children.get(document, ()), key=self.place_of, reverse=True))
+        if found != by_tree:
+            self.differs('frame-order')
+        return found
+
+    def place_of(self, document):
+        return self.order[document.name] if self.order else self.insertions[document]
+
+    # --- layout -------------------------------------------------------------------------------------------------------------
+
+    def learns(self, document, size):
+        """A document is told the size of its viewport."""
+        old = self.known.get(document)
+        if (old or (0, 0)) == size:
+            return
+        self.known[document] = size
+        if old is not None or not self.has(FRAMES_IN_TIME):
+            self.resized.add(document)
+        self.evaluate(document, size)
+
+    def evaluate(self, document, size):
+        if document.root is None and self.has('queries-of-empty-page'):
+            if any(queries.document is document and matches(queries.queries, size) != queries.state for queries in self.world.query_lists):
+                self.noticed.add('queries-of-empty-page')
+            return
+        for queries in self.world.query_lists:
+            if queries.document is document:
+                state = matches(queries.queries, size)
+                if state != queries.state:
+                    queries.state = state
+                    waiting = self.changed_queries.setdefault(document, [])
+                    if queries not in waiting:
+                        waiting.append(queries)
+
+    def lay_out(self, document):
+        """Lays out a document and those that it stands in, from the outermost on."""
+        if document.state is not ACTIVE:
+            return
+        chain = [document]
+        while chain[-1].frame is not None:
+            chain.append(chain[-1].frame.document)
+        for outer in reversed(chain):
+            self._laid_out(outer)
+
+    def lay_out_all(self):
+        for document in self.documents_in_order():
+            self._laid_out(document)
+
+    def _laid_out(self, document):
+        layout = self.world.layout
+        for inner in list(self.insertions):
+            if inner.state is ACTIVE and inner.frame.document is document and layout.has_box(inner.frame):
+                self.learns(inner, layout.frame_size(inner))
+            self.hide_or_show(inner)
+        for node in self.sizes:
+            if node.document is document:
+                self.sizes[node] = self.size_now(node)
+        if self.has('scroll-anchoring'):
+            self.move_offsets(document)
+        self.cut_offsets(document)
+        self.anchors.settle(document)
+
+    def hide_or_show(self, document):
+        """A scrolled document is told of it, as its frame's box goes and comes."""
+        if document.state is not ACTIVE or not self.has('scroll-of-hidden-frame'):
+            return
+        shown = self.world.layout.has_box(document.frame)
+        if not shown and document.scroll != (0, 0) and document not in self.hidden:
+            self.differs('scroll-of-hidden-frame')
+            self.hidden[document] = False
+            self.scrolled_by_layout(document, document)
+        elif shown and document in self.hidden:
+            if self.hidden.pop(document):
+                document.scroll = (0, 0)
+            else:
+                self.scrolled_by_layout(document, document)
+
+    def move_offsets(self, document):
+        for thing, by in list(self.anchors.moved(document)):
+            self.met.add('scroll-anchoring')
+            thing.scroll = (thing.scroll[0], max(0, thing.scroll[1] + whole(by)))
+            self.world.scrolled()
+            if self.has(LATE_SCROLLS):
+                self.scrolled_by_layout(thing, document)
+
+    def scrolled_by_layout(self, thing, document):
+        if self.has(LATE_SCROLLS):
+            self.late_scrolls.append((thing, document))
+        elif thing not in document.pending_scrolls:
+            document.pending_scrolls.append(thing)
+
+    def size_now(self, node):
+        layout = self.world.layout
+        return layout.content_corner(node), layout.size(node, CONTENT), layout.size(node, BORDER)
+
+    def cut_offsets(self, document):
+        """Stored offsets end at the range, of boxes that scroll."""
+        layout = self.world.layout
+        if document.scroll != (0, 0) and (document.frame is None or layout.has_box(document.frame)):
+            self._cut(document, document, layout.document_offset(document))
+        if document.root is not None:
+            for node in preorder(document.root):
+                if node.scroll != (0, 0) and layout.has_box(node) and layout.scrolls(node):
+                    self._cut(node, document, layout.element_offset(node))
+
+    def _cut(self, thing, document, offset):
+        if offset != thing.scroll and self.differs('stored-offset'):
+            thing.scroll = offset
+            self.world.scrolled()
+            self.scrolled_by_layout(thing, document)
+
+    # --- the first steps of an update --------------------------------------------------------------------------------------
+
+    def has_work(self, document):
+        """Whether something waits for this document as an update begins. In the page's own document the tool has a frame callback."""
+        return (document is self.world.top or document in self.resized or document.pending_scrolls or self.changed_queries.get(document)
+                or self.world.frame_callbacks.get(document))
+
+    def runs_frame_callbacks(self, document, awake):
+        if document in awake or not self.world.frame_callbacks.get(document):
+            return True
+        return not self.differs('frame-callback-late')
+
+    def resize_steps(self, document):
+        fires = document in self.resized
+        self.note_resize(document, fires)
+        if fires:
+            self.resized.discard(document)
+            self.tell('event resize @' + document.name)
+            self.dispatch((document, True), 'resize')
+
+    def rules_viewport(self, document):
+        layout = self.world.layout
+        if document.frame is None:
+            return self.world.viewport_size
+        return layout.size(document.frame, CONTENT)
+
+    def note_resize(self, document, fires):
+        """Which class it is where the rules fire and the engine doesn't, or the other way."""
+        size = self.rules_viewport(document)
+        first, changed = document not in self.noted, self.noted.get(document, size) != size
+        self.noted[document] = size
+        if fires == changed:
+            return
+        if first:
+            self.noticed.add('frame-first-resize' if document.frame else 'first-resize-event')
+        elif document.frame is None:
+            self.noticed.add('resize-back-again')
+        elif changed and not self.world.layout.has_box(document.frame):
+            self.noticed.add('hidden-frame-keeps-size')
+        else:
+            self.noticed.add('frame-resize-event')
+
+    def note_changes(self, document, changed):
+        """The same for query lists."""
+        size = self.rules_viewport(document)
+        for queries in self.world.query_lists:
+            if queries.document is document:
+                state = matches(queries.queries, size)
+                fires = state != self.states.get(queries, state)
+                self.states[queries] = state
+                if fires != (queries in changed) and not (document.root is None and self.has('queries-of-empty-page')):
+                    self.noticed.add('media-of-frame' if document.frame else 'media-change-missed')
+
+    def scroll_steps(self, document):
+        update._scroll_steps(self, document)
+
+    def media_steps(self, document):
+        changed = self.changed_queries.pop(document, [])
+        self.note_changes(document, changed)
+        for queries in changed:
+            if document.state is not ACTIVE:
+                return
+            self.fire('event change %s %s' % (queries.name, 'true' if queries.state else 'false'), queries, 'change')
