@@ -10,8 +10,6 @@ mod loop_lint_tests;
 #[cfg(test)]
 mod replay_run_forms;
 #[cfg(test)]
-mod replay_run_judging;
-#[cfg(test)]
 mod replay_run_limits;
 #[cfg(test)]
 mod replay_run_scripts;

@@ -27,23 +27,8 @@ pub(crate) const WHOLE: Streams = Streams {
     failing_write: None,
 };
 
-pub(crate) fn in_pieces(piece: usize) -> Streams {
+fn in_pieces(piece: usize) -> Streams {
     Streams { piece, ..WHOLE }
-}
-
-impl Streams {
-    // The same with a read or a write that fails.
-    pub(crate) fn failing_at(
-        self,
-        failing_read: Option<u64>,
-        failing_write: Option<u64>,
-    ) -> Streams {
-        Streams {
-            failing_read,
-            failing_write,
-            ..self
-        }
-    }
 }
 
 // What a run answered and wrote.
