@@ -17,9 +17,18 @@ fn words_of(rt: &HostRuntime) -> io::Result<Vec<String>> {
     Ok(words)
 }
 
+// What it means that the arguments can't be had. One that isn't UTF-8 is no word of the program.
+fn status_of(error: &io::Error) -> Status {
+    match error.kind() {
+        io::ErrorKind::InvalidData => Status::Usage,
+        _ => Status::NoMemory,
+    }
+}
+
 fn main(rt: HostRuntime) -> ExitCode {
-    let Ok(words) = words_of(&rt) else {
-        return ExitCode::from(Status::NoMemory.code());
+    let words = match words_of(&rt) {
+        Ok(words) => words,
+        Err(error) => return ExitCode::from(status_of(&error).code()),
     };
     let mut source = StdSource::new(rt.stdin());
     let mut sink = StdSink::new(rt.stdout());
