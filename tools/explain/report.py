@@ -12,7 +12,7 @@ from . import faults, limits, loop_errors, meetings, runs, source, throws
 from .wording import counted, number
 
 WIDTH = 100
-NOT_BUILT = "The proved program isn't built; this is the reference's trace. bin/replay builds the program."
+NOT_BUILT = "The proved program isn't built; this is the reference's trace. bin/build builds it."
 MOST_EXPLAINED = 1000
 OUT_OF_TIME = 3
 SECONDS_OF_WATCHING = 20
