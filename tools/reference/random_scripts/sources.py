@@ -1,6 +1,4 @@
 """Sources that hold more than one script: streams of pages, and recorded traces to be judged.
-
-The proved program doesn't have the words that read these yet.
 """
 
 _NUMBERS = [b'0', b'1', b'01', b'-0', b'0.5', b'0.015625', b'0.01', b'0.50', b'yes', b'no', b'top', b'true',
@@ -41,10 +39,27 @@ def _changed_line(chance, lines):
     lines[at] = line
 
 
+def _changed_order(chance, lines):
+    """One line less, one twice, or two that stand beside one another exchanged."""
+    at, how = chance.randrange(len(lines)), chance.randrange(3)
+    if how == 0:
+        del lines[at]
+    elif how == 1:
+        lines.insert(at, lines[at])
+    else:
+        lines[at:at + 2] = reversed(lines[at:at + 2])
+
+
+def _changed_bytes(chance, text):
+    """Another byte, one less or more, or an end that is cut off."""
+    at, how, byte = chance.randrange(len(text)), chance.randrange(4), bytes([chance.randrange(256)])
+    return text[:at] + (byte + text[at + 1:], text[at + 1:], byte + text[at:], b'')[how]
+
+
 def recorded(chance, script, trace):
     """A script, a line `trace` and its trace, mostly with a small change; `trace` are lines without their line feeds."""
     lines = [line.encode() + b'\n' for line in trace]
-    how = chance.randrange(6)
+    how = chance.randrange(10)
     if how == 1 and lines:
         del lines[chance.randrange(len(lines)):]
     elif how == 2:
@@ -53,6 +68,10 @@ def recorded(chance, script, trace):
         _changed_line(chance, lines)
     elif how == 5 and lines:
         lines[-1] = lines[-1][:-1]
+    elif how == 6 and lines:
+        _changed_order(chance, lines)
+    elif how in (7, 8) and lines:
+        lines = [_changed_bytes(chance, b''.join(lines))]
     if chance.random() < 0.05:
         return script
     separator = chance.choice([b'trace\n', b'trace\n', b'trace\r\n', b'trace\n', b'trace \n', b'trace'])
