@@ -63,8 +63,8 @@ fn run_outside<K: Sink, L: Ledger>(
     }
 }
 
-// One item. What it throws ends it alone.
-fn run_item<K: Sink, L: Ledger>(
+/// Runs one item of a script, and writes each line as it is said. What it throws ends it alone. Refused as `play`.
+pub(crate) fn run_item<K: Sink, L: Ledger>(
     alloc: Global,
     page: &mut Page,
     script: &Script,
