@@ -13,11 +13,13 @@ use Rattle.clip_chain.specs.Worlds.{element_spot, spot_of_root}
 use Rattle.intersection_observer.specs.Places.{Standing as Place, standing_of}
 use Rattle.intersection_observer.specs.Settling.{settled_at, settled_standing, with_settled, each_settled}
 use Rattle.intersection_observer.proofs.Subjects.{subjects_of, settled-subjects}
+use Rattle.kept_clips.specs.Held.{HeldClips}
 use Rattle.candidate_index.specs.declared.scene.Standing.{Standing}
 use Rattle.candidate_index.specs.declared.basis.Basis.{Basis}
 use Rattle.candidate_index.specs.declared.index.Kept.{Kept}
 use Rattle.candidate_index.specs.Findings.{sight_over}
 use Rattle.candidate_index.specs.Registrations.{place_of, observer_of, target_of, serials_at, IfChained}
+use Rattle.candidate_index.specs.Asked.{asked_if, asked_for, steps_if, steps_for}
 use Rattle.candidate_index.specs.Held.{kept_of, is_stale, is_stale_now}
 use Rattle.kept_findings.specs.Walks.{EachAlong, AlongChain, AreChained, chain_between, spots_between}
 use Rattle.kept_findings.proofs.Settled.{at_changed, standing_settled, serials_settled}
@@ -92,7 +94,7 @@ carried_each time find (x ∷ xs) it =
 
 -- by what registrations are found
 module _ (before after : IntersectionObservers) (carried : Carried before after) (serial : ℕ) where
-  place_still : place_of after serial ≡ place_of before serial
+  pub place_still : place_of after serial ≡ place_of before serial
   place_still = ap (λ (o : Option Place). unwrap_or o (record { watcher = 0; target = 0 })) (carried.standing serial)
 
   pub target_still : target_of after serial ≡ target_of before serial
@@ -126,3 +128,10 @@ module _ (before after : IntersectionObservers) (carried : Carried before after)
           is_stale_now scene standings after (spots_between scene standings chained after) kept serial ≡ is_stale_now scene standings before (spots_between scene standings chained before) kept serial
       unfolding basis_by
       stale_still kept = λ i. is_stale (kept_of kept serial) (basis_by (root_still i) (margins_still i) (target_still i))
+
+      -- and the steps and clips of one
+      pub asked_still : (clips : HeldClips) → asked_for scene standings after (spots_between scene standings chained after) serial clips ≡ asked_for scene standings before (spots_between scene standings chained before) serial clips
+      asked_still clips = λ i. asked_if (standings (root_still i) (target_still i)) scene (chain_between scene standings chained (root_still i) (target_still i)) serial clips
+
+      pub steps_still : (clips : HeldClips) → steps_for scene standings after (spots_between scene standings chained after) serial clips ≡ steps_for scene standings before (spots_between scene standings chained before) serial clips
+      steps_still clips = λ i. steps_if (standings (root_still i) (target_still i)) (chain_between scene standings chained (root_still i) (target_still i)) serial clips

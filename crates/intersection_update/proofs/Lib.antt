@@ -7,7 +7,9 @@ pub mod Stale
 pub mod Each
 pub mod Room
 pub mod Keeping
+pub mod Steps
 pub mod Observers
 pub mod Settled
 pub mod Updates
 pub mod Numbers
+pub mod Totals

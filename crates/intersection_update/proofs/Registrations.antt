@@ -1,7 +1,9 @@
 -- What observers find by, and one more registration settled.
-use Rattle.std.proofs.Common.{◌≡◌, ℕ, zero, suc, ap, refl, take}
+use Rattle.std.proofs.Common.{◌≡◌, ℕ, zero, suc, ap, refl, subst, sym, take}
 use Rattle.std.specs.Prelude.{List, [], ◌∷◌, ◌++◌, slice_get, Some}
+use Rattle.std.specs.List.{IsDistinct}
 use Rattle.std.proofs.lemmas.Option.{same_Some}
+use Rattle.std.proofs.lemmas.List.Elements.{All-nil}
 use Rattle.px_units.specs.declared.Rect.{Rect}
 use Rattle.script_model.specs.Margins.{Margins}
 use Rattle.page_model.specs.Shown.{Shown}
@@ -9,6 +11,7 @@ use Rattle.page_model.specs.World.{Root, Finding, Registration, IntersectionObse
 use Rattle.page_model.specs.Lookups.{no_intersection_observer}
 use Rattle.page_model.specs.Findings.{finding, found, relation, root_origin, Relation, Apart, Boxless, Chained}
 use Rattle.page_model.specs.Chains.{moved_back, root_rect}
+use Rattle.intersection_observer.specs.Serials.{HasSerials, IsFound}
 use Rattle.intersection_observer.specs.Settling.{with_settled, each_settled}
 
 -- what is found by observers -----------------------------------------------------------------------------------------------------
@@ -39,3 +42,10 @@ pub take_more : (place : ℕ) (xs : List Registration) (x : Registration) → sl
 take_more place [] x is = cc
 take_more zero (y ∷ ys) x is = ap (λ (it : Registration). it ∷ []) (same_Some y x is)
 take_more (suc place) (y ∷ ys) x is = ap (λ others. y ∷ others) (take_more place ys x is)
+
+-- where no observer was made, none has a registration
+pub none_have_serials : (it : IntersectionObservers) → it.made ≡ [] → HasSerials it
+unfolding IsDistinct
+none_have_serials it none =
+    subst (λ (made : List IntersectionObserver). HasSerials (record it { made = made })) (sym none)
+    (record { found = λ watcher. All-nil (IsFound (record it { made = [] }) watcher); fresh = λ serial given. refl; targets = λ watcher. tt })

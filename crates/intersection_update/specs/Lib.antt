@@ -1,3 +1,4 @@
 pub mod Watching
 pub mod Updating
 pub mod Keeping
+pub mod Steps

@@ -1,6 +1,6 @@
 -- What an update of a document's intersection observers comes to (Intersection Observer, 3.2.10: run the update intersection
 -- observations steps).
-use Rattle.std.specs.Prelude.{◌≡◌, ℕ, ◌+◌, ◌==◌, Bool, cond, length, take, slice_get, count_by, Some}
+use Rattle.std.specs.Prelude.{◌≡◌, ℕ, ◌+◌, ◌==◌, Bool, true, cond, length, take, slice_get, count_by, Some}
 use Rattle.std.specs.List.{list_any}
 use Rattle.page_model.specs.World.{Finding, Entry, Registration, IntersectionObserver, IntersectionObservers, Tree}
 use Rattle.page_model.specs.Shown.{Shown}
@@ -78,3 +78,9 @@ is_of target entry = target == entry.target
 pub record IsSettledBy (found : Finding) (registration : Registration) (place : ℕ) (before now : IntersectionObserver) : Type 0 where
   pub stored : slice_get now.registrations place ≡ Some (record registration { previous_index = Some (found.index); met = found.meets })
   pub entries : count_by (is_of registration.target) now.queue ≡ count_by (is_of registration.target) before.queue + cond (is_news registration found) 1 0
+
+-- each registration of the observers that are looked at with a document holds what is found of its target, and got one entry exactly where that is news
+abbrev pub AreSettled : Shown → ℕ → (before now : IntersectionObservers) → Type 0
+AreSettled shown document before now =
+    (watcher place : ℕ) (registration : Registration) → is_rooted_in shown.tree document (intersection_observer_at before watcher).root ≡ true → slice_get (registrations_at before watcher) place ≡ Some registration →
+    IsSettledBy (finding shown (intersection_observer_at before watcher) registration.target) registration place (intersection_observer_at before watcher) (intersection_observer_at now watcher)

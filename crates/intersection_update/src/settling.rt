@@ -1,19 +1,22 @@
 //! What is stale, found anew and settled.
 
-ghost use Rattle.std.specs.Prelude.{◌≡◌, ◌⊎◌, ◌<◌, ℕ, false, length, IfOk, OnOk, OnErr};
+ghost use Rattle.std.specs.Prelude.{◌≡◌, ◌⊎◌, ◌<◌, ◌≤◌, ◌+◌, ℕ, All, false, length, IfOk, OnOk, OnErr};
 ghost use Rattle.page_model.specs.Lookups.{change_intersection_observer};
 ghost use Rattle.page_model.specs.Findings.{finding};
 ghost use Rattle.page_model.specs.Intersections.{is_rooted_in, settled_observer, has_queued};
 ghost use Rattle.clip_chain.specs.declared.spot.Spot.{Spot as SpotOf};
 ghost use Rattle.clip_chain.specs.Worlds.{scene_of};
+ghost use Rattle.intersection_observer.specs.Serials.{HasSerials};
+ghost use Rattle.kept_clips.specs.Held.{pair_of};
 ghost use Rattle.kept_clips.specs.Looked.{IsLeft, ChangesByLooks};
-ghost use Rattle.candidate_index.specs.Registrations.{place_of, observer_of};
+ghost use Rattle.candidate_index.specs.Registrations.{place_of, observer_of, serials_at};
 ghost use Rattle.candidate_index.specs.Held.{kept_of};
 ghost use Rattle.kept_findings.specs.Registered.{AreRegistered};
 ghost use Rattle.kept_findings.specs.Rooms.{HaveRoom};
 ghost use Rattle.intersection_update.specs.Watching.{AreWatchers};
-ghost use Rattle.intersection_update.specs.Updating.{updated, has_news, AreKept, IsBegun, IsStopped};
+ghost use Rattle.intersection_update.specs.Updating.{updated, has_news, AreKept, AreSettled, IsBegun, IsStopped};
 ghost use Rattle.intersection_update.specs.Keeping.{HaveChains, is_stale_in, StandsAt, IsLookedAt, IsSeen, IsOff, AreLookedAlong, IsRefusedAt, IsRefused, HaveLooked};
+ghost use Rattle.intersection_update.specs.Steps.{steps_at, most_steps};
 
 use crate::rooted::is_looked_at;
 use intersection_observer::{WatcherId, Watchers};
@@ -22,6 +25,15 @@ use page_geometry::Shown;
 use std::alloc::AllocError;
 use std::sync::ledger::Ledger;
 use step_count::Steps;
+
+// It tells that each registration has a serial number of its own.
+fn tell_serials(watchers: &Watchers)
+    ensures { HasSerials watchers.now.part }
+{
+    if watchers.count() > 0 {
+        watchers.registrations(WatcherId(0));
+    }
+}
 
 // Settles the registrations of an observer that are stale, and tells whether an entry was queued.
 fn settle_stale<L: Ledger>(
@@ -52,6 +64,9 @@ fn settle_stale<L: Ledger>(
         is_stale_in shown.now chained watchers.old.part findings.new.kept serial ≡ false) }
     ensures rest { (chained : HaveChains shown.now) → OnOk result ((serial : ℕ) →
         (kept_of findings.new.kept serial ≡ kept_of findings.old.kept serial) ⊎ (is_stale_in shown.now chained watchers.old.part findings.new.kept serial ≡ false)) }
+    ensures listed { OnOk result (All (λ serial. StandsAt watchers.old.part watcher.0 serial) (serials_at watchers.old.part watcher.0)) }
+    ensures pairs { OnOk result ((serial : ℕ) → (¬ (place_of watchers.old.part serial).watcher ≡ watcher.0) → pair_of findings.new.clips serial ≡ pair_of findings.old.clips serial) }
+    ensures paid { (chained : HaveChains shown.now) → OnOk result (steps.new ≤ steps.old + steps_at shown.now chained watchers.old.part (serials_at watchers.old.part watcher.0) findings.old findings.new) }
     ensures refused { (chained : HaveChains shown.now) → OnErr result (IsRefusedAt shown.now chained time watcher.0 watchers.old.part watchers.new.part findings.old.kept findings.new.kept) }
 {
     // It tells that chains lead to roots.
@@ -59,6 +74,8 @@ fn settle_stale<L: Ledger>(
     // It tells that each registration has a serial number of its own.
     watchers.registrations(watcher);
     findings.look(shown, looks, watchers, watcher);
+    // It tells that no clip was computed at a touch to come.
+    findings.clips();
     let stale = findings.stale_registrations(shown, looks, watchers, watcher, steps)?;
     let mut queued = false;
     for registration in &stale {
@@ -72,7 +89,8 @@ fn settle_stale<L: Ledger>(
 /// Observer, 3.2.10: run the update intersection observations steps).
 ///
 /// Only the stale registrations are computed: the spots on the chains of all of them are looked at, and what is found of the others is
-/// no news.
+/// no news. It takes a step for each finding that is computed, and one for each spot strictly between a target and its root where the
+/// clip between them is.
 ///
 /// # Errors
 ///
@@ -89,6 +107,7 @@ pub fn update<L: Ledger>(
     requires room { HaveRoom (length shown.now.tree.elements) (length shown.now.tree.documents) findings.old }
     ensures updated { OnOk result (watchers.new ≡ record watchers.old { part = updated shown.now shown.now.tree document time (watchers.old.part) }) }
     ensures stopped { OnErr result (IsStopped shown.now shown.now.tree document time watchers.old.part watchers.new.part) }
+    ensures settled { OnOk result (AreSettled shown.now document watchers.old.part watchers.new.part) }
     ensures queued { IfOk result (λ queued. queued ≡ has_news shown.now.tree document watchers.old.part (updated shown.now shown.now.tree document time watchers.old.part)) }
     ensures written { AreWatchers (length shown.now.tree.elements) watchers.old.part.made → AreWatchers (length shown.now.tree.elements) watchers.new.part.made }
     ensures limits { watchers.new ≡ record watchers.old { part = watchers.new.part } }
@@ -106,15 +125,19 @@ pub fn update<L: Ledger>(
         kept_of findings.new.kept serial ≡ kept_of findings.old.kept serial }
     ensures fresh { (chained : HaveChains shown.now) → OnOk result ((serial : ℕ) → IsLookedAt shown.now.tree document watchers.new.part serial →
         is_stale_in shown.now chained watchers.new.part findings.new.kept serial ≡ false) }
+    ensures ticks { (chained : HaveChains shown.now) → OnOk result (steps.new ≤ steps.old + most_steps shown.now chained document watchers.old.part findings.old findings.new) }
     ensures refused { (chained : HaveChains shown.now) → OnErr result (IsRefused shown.now chained document time watchers.old.part watchers.new.part findings.old.kept findings.new.kept) }
 {
     // It tells that chains lead to roots.
     shown.document_count();
+    tell_serials(watchers);
     let mut looks = findings.looks()?;
     let mut queued = false;
     for number in 0..watchers.count() {
         let watcher = WatcherId(number);
         if is_looked_at(shown.page(), watchers, watcher, document) {
+            // It tells that no spot was touched at a touch to come.
+            findings.clips();
             queued |= settle_stale(shown, watchers, findings, &mut looks, watcher, time, steps)?;
         }
     }

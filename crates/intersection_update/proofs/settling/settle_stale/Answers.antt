@@ -1,4 +1,4 @@
-use Rattle.std.proofs.Common.{◌≡◌, ◌∙◌, ◌<◌, ◌≤◌, length, get_or, Option, refl, ap, sym, subst, inl, arith}
+use Rattle.std.proofs.Common.{◌≡◌, ◌∙◌, ◌+◌, ◌<◌, ◌≤◌, length, get_or, Option, refl, ap, sym, subst, inl, arith}
 use Rattle.std.specs.List.{All}
 use Rattle.std.specs.FinMap.{FinMap}
 use Rattle.std.specs.Ordering.{nat_cmp}
@@ -7,21 +7,25 @@ use Rattle.clip_chain.specs.Worlds.{scene_of}
 use Rattle.intersection_observer.specs.declared.registration.RegistrationId.{RegistrationId}
 use Rattle.intersection_observer.specs.Watchers.{HeldWatchers, watcher_at}
 use Rattle.intersection_observer.specs.Settling.{with_settled}
+use Rattle.kept_clips.specs.Touches.{Touched}
+use Rattle.kept_clips.specs.Held.{HeldClips}
 use Rattle.kept_clips.specs.Scenes.{AgreesAt}
 use Rattle.kept_clips.specs.Seen.{Seen, scene_seen}
 use Rattle.candidate_index.specs.declared.index.Kept.{Kept}
-use Rattle.candidate_index.specs.Registrations.{serials_at, target_of}
+use Rattle.candidate_index.specs.Registrations.{place_of, serials_at, target_of}
 use Rattle.candidate_index.specs.Held.{kept_of}
 use Rattle.kept_findings.specs.Walks.{IsWalked, spots_between, found_in}
 use Rattle.kept_findings.proofs.Rooms.{room_looked, room_same}
 use Rattle.kept_findings.proofs.Walking.{is_between}
 use Rattle.page_geometry.specs.Scenes.{standings_of, telling_of}
 use Rattle.page_geometry.proofs.Scenes.{chained_of}
-use Rattle.intersection_update.proofs.Carried.{carried_same, along_still, stale_still}
+use Rattle.intersection_update.specs.Keeping.{is_stale_in, StandsAt}
+use Rattle.intersection_update.proofs.Carried.{carried_same, along_still, stale_still, asked_still, steps_still}
 use Rattle.intersection_update.proofs.Room.{may_be_walked}
-use Rattle.intersection_update.proofs.Keeping.{at_standing, watcher_is, SoFar, none_so_far, same_more, others_more, kept_but_one, one_more, none_stale, stale_at, looked_along, looked_still}
+use Rattle.intersection_update.proofs.Keeping.{at_standing, all_standing, watcher_is, SoFar, none_so_far, same_more, others_more, kept_but_one, one_more, none_stale, stale_at, looked_along, looked_still}
 use Rattle.intersection_update.proofs.Settled.{kept_same, kept_then, kept_once, longer_once, queued_is}
 use Rattle.intersection_update.proofs.Stale.{numbers_are, as_many, next_of, stands, next_settled, stale_settled, stopped_at}
+use Rattle.intersection_update.proofs.Steps.{cost, paid_first, paid_more, paid_from, paid_all, with_touches}
 use Rattle.intersection_update.proofs.Updates.{either_queued, not_queued, on_err}
 use Rattle.intersection_update.proofs.settling.settle_stale.Goals as goal
 
@@ -57,6 +61,21 @@ loop-registration-init g c =
       known = c.stale_registrations.ensures.known;
       looked = looked_along c.args.shown.now was.part c.args.watcher.0 c.registrations.ensures.serials c.args.findings.now c.look.new.self c.stale_registrations.new.self c.look.new.looks
           c.look.ensures.looked c.look.ensures.known c.look.ensures.noted c.look.ensures.left c.stale_registrations.ensures.seen c.stale_registrations.ensures.touches;
+      paid = λ chained.
+          let scene = scene_of c.args.shown.now in
+          let standings = standings_of c.args.shown.now in
+          let between = spots_between scene standings chained was.part in
+          let serials = serials_at was.part c.args.watcher.0 in
+          let leads = is_between scene standings chained was.part in
+          let last : HeldClips = c.stale_registrations.new.self.clips in
+          let first : HeldClips = c.look.new.self.clips in
+          let old : HeldClips = c.args.findings.now.clips in
+          paid_from scene standings was.part between first (record old { touches = last.touches }) last serials c.deref-registration-items.result.now c.args.steps.now c.stale_registrations.new.steps 0
+          (with_touches old first (last.touches) c.look.ensures.looked.pairs c.stale_registrations.ensures.touches)
+          (paid_first scene standings was.part between first last serials c.deref-registration-items.result.now c.args.steps.now c.stale_registrations.new.steps
+          c.clips.ensures.numbered
+          (c.in_ok-stale.ensures.clips between (λ k none below. leads (get_or serials k none))) c.stale_registrations.ensures.touches
+          (c.in_ok-stale.ensures.ticks between (λ k none below. leads (get_or serials k none))));
       so_far = λ chained.
           subst (λ (kept : FinMap nat_cmp (Option Kept)). SoFar c.args.shown.now chained was.part c.args.watcher.0 c.args.findings.now.kept kept c.deref-registration-items.result.now 0)
           (sym (c.stale_registrations.ensures.kept ∙ c.look.ensures.kept)) (none_so_far c.args.shown.now chained was.part c.args.watcher.0 c.args.findings.now.kept c.deref-registration-items.result.now);
@@ -239,6 +258,26 @@ loop-registration-preserved g c =
       room = room_same (length shown.tree.elements) (length shown.tree.documents) c.loop-registration.findings c.settle.new.self c.settle.ensures.seen c.settle.ensures.touches so_far.room;
       known = c.settle.ensures.known;
       looked = looked_still shown was.part watcher c.registrations.ensures.serials c.args.findings.now c.loop-registration.findings c.settle.new.self so_far.looked c.settle.ensures.seen c.settle.ensures.touches;
+      paid = λ any.
+          let scene = scene_of shown in
+          let standings = standings_of shown in
+          let between = spots_between scene standings any was.part in
+          let serials = serials_at was.part watcher in
+          let old : HeldClips = c.args.findings.now.clips in
+          let last : HeldClips = c.loop-registration.findings.clips in
+          let new : HeldClips = c.settle.new.self.clips in
+          let listed = numbers_are shown any c.args.time watcher was.part c.args.findings.now names c.in_ok-stale.stale.items c.look.new.self c.deref-registration-items.ensures.value c.look.ensures.kept c.in_ok-stale.ensures.stale in
+          let stands_there = stands shown any c.args.time watcher was.part c.args.findings.now page c.registrations.ensures.serials k serial was.part
+          (next_of shown any c.args.time watcher was.part c.args.findings.now page c.registrations.ensures.serials names none k listed below) (carried_same was.part) in
+          let leads = is_between scene standings any now.part serial in
+          let asked = c.settle.ensures.clips (spots_between scene standings any now.part) leads ∙ asked_still was.part now.part so_far.kept.carried serial scene standings any last in
+          let ticks = c.settle.ensures.ticks (spots_between scene standings any now.part) leads ∙ ap (λ n. c.loop-registration.steps + n + 1) (steps_still was.part now.part so_far.kept.carried serial scene standings any last) in
+          paid_from scene standings was.part between (record old { touches = last.touches }) (record old { touches = new.touches }) new serials names c.args.steps.now c.settle.new.steps (k + 1)
+          (ap (λ (t : Touched). record old { touches = t }) (sym c.settle.ensures.touches))
+          (paid_more scene standings was.part between (record old { touches = last.touches }) last new serials names c.args.steps.now c.loop-registration.steps c.settle.new.steps k (so_far.paid any) below
+          (λ early. at_standing (λ s. cost scene standings was.part between s last ≡ 0) was.part watcher serial stands_there ((so_far.paid any).none early))
+          (λ other apart. at_standing (λ s. ¬ other ≡ s) was.part watcher serial stands_there apart)
+          asked ticks);
       so_far = λ any.
           let listed = numbers_are shown any c.args.time watcher was.part c.args.findings.now names c.in_ok-stale.stale.items c.look.new.self c.deref-registration-items.ensures.value c.look.ensures.kept c.in_ok-stale.ensures.stale in
           let stands_there = stands shown any c.args.time watcher was.part c.args.findings.now page c.registrations.ensures.serials k serial was.part
@@ -288,3 +327,29 @@ returns-clause-same g c = λ chained. (c.loop-registration.invariant.so_far chai
 
 pub returns-clause-rest : goal.returns-clause-rest
 returns-clause-rest g c = λ chained. (c.loop-registration.invariant.so_far chained).rest
+
+pub returns-clause-listed : goal.returns-clause-listed
+returns-clause-listed g c =
+    all_standing (StandsAt c.args.watchers.now.part c.args.watcher.0) c.args.watchers.now.part c.args.watcher.0 c.registrations.ensures.serials (λ serial stands. stands)
+
+pub returns-clause-pairs : goal.returns-clause-pairs
+returns-clause-pairs g c =
+    let was = c.args.watchers.now.part in
+    let watcher = c.args.watcher.0 in
+    λ serial apart.
+    (c.loop-registration.invariant.paid (chained_of c.args.shown.now c.document_count.ensures.page)).others serial
+    (all_standing (λ s. ¬ serial ≡ s) was watcher c.registrations.ensures.serials (λ s stands same. apart (ap (λ n. (place_of was n).watcher) same ∙ watcher_is was watcher s stands)))
+
+pub returns-clause-paid : goal.returns-clause-paid
+returns-clause-paid g c =
+    let shown = c.args.shown.now in
+    let was = c.args.watchers.now.part in
+    let watcher = c.args.watcher.0 in
+    let names = c.deref-registration-items.result.now in
+    let k = c.loop-registration.registration-index in
+    let few : k ≤ length names = omega arith in
+    let old : HeldClips = c.args.findings.now.clips in
+    λ chained.
+    paid_all (scene_of shown) (standings_of shown) was (spots_between (scene_of shown) (standings_of shown) chained was) (record old { touches = c.loop-registration.findings.clips.touches }) c.loop-registration.findings.clips
+    (serials_at was watcher) names (is_stale_in shown chained was c.args.findings.now.kept) c.args.steps.now c.loop-registration.steps k (c.loop-registration.invariant.paid chained) few
+    (numbers_are shown chained c.args.time watcher was c.args.findings.now names c.in_ok-stale.stale.items c.look.new.self c.deref-registration-items.ensures.value c.look.ensures.kept c.in_ok-stale.ensures.stale)

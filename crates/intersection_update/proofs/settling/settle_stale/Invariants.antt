@@ -4,13 +4,14 @@ use Rattle.page_model.specs.Intersections.{has_queued}
 use Rattle.clip_chain.specs.Worlds.{scene_of}
 use Rattle.intersection_observer.specs.Watchers.{watcher_at}
 use Rattle.candidate_index.specs.Registrations.{serials_at}
-use Rattle.kept_findings.specs.Walks.{IsWalked}
+use Rattle.kept_findings.specs.Walks.{IsWalked, spots_between}
 use Rattle.kept_findings.specs.Registered.{AreRegistered}
 use Rattle.kept_findings.specs.Rooms.{HaveRoom}
 use Rattle.page_geometry.specs.Scenes.{standings_of}
 use Rattle.intersection_update.specs.Updating.{AreKept}
 use Rattle.intersection_update.specs.Keeping.{HaveChains, AreLookedAlong, HaveLooked}
 use Rattle.intersection_update.proofs.Keeping.{SoFar}
+use Rattle.intersection_update.proofs.Steps.{Paid}
 use Rattle.intersection_update.proofs.Stale.{first_stale}
 use Rattle.intersection_update.proofs.settling.settle_stale.Given as goal
 
@@ -28,5 +29,7 @@ invariant-loop-registration g l =
       known : HaveLooked l.shown l.findings.seen l.looks;
       looked : AreLookedAlong l.shown was.part watcher l.fn.findings l.findings;
       so_far : (chained : HaveChains l.shown) → SoFar l.shown chained was.part watcher l.fn.findings.kept l.findings.kept l.registration-items l.registration-index;
+      paid : (chained : HaveChains l.shown) → Paid (scene_of l.shown) (standings_of l.shown) was.part (spots_between (scene_of l.shown) (standings_of l.shown) chained was.part)
+          (record (l.fn.findings.clips) { touches = l.findings.clips.touches }) l.findings.clips (serials_at was.part watcher) l.registration-items l.fn.steps l.steps l.registration-index;
       walked : All (IsWalked (scene_of l.shown) (standings_of l.shown) was.part l.findings.seen) (serials_at was.part watcher);
     }

@@ -11,11 +11,13 @@ use Rattle.kept_findings.specs.Registered.{AreRegistered}
 use Rattle.kept_findings.specs.Rooms.{HaveRoom}
 use Rattle.page_geometry.specs.Scenes.{standings_of}
 use Rattle.page_geometry.proofs.Scenes.{chained_of}
-use Rattle.intersection_update.specs.Updating.{AreKept}
+use Rattle.intersection_update.specs.Updating.{updated, AreKept, AreSettled}
 use Rattle.intersection_update.specs.Keeping.{HaveLooked}
 use Rattle.intersection_update.proofs.Carried.{along_still, stale_still}
+use Rattle.intersection_update.proofs.Each.{settled_each}
 use Rattle.intersection_update.proofs.Observers.{Looks, looks_more, looks_skip, Leaves, same_next, others_next, kept_to, leaves_more, leaves_skip, looked_at_before, there_is}
 use Rattle.intersection_update.proofs.Settled.{kept_then}
+use Rattle.intersection_update.proofs.Totals.{Totals, totals_skip, totals_more, totals_all}
 use Rattle.intersection_update.proofs.Updates.{rooted_settled, rooted_same, next_observer, next_told, skipped_told, all_observers, all_told, stopped_settled, stopped_at, on_err}
 use Rattle.intersection_update.proofs.settling.update.Goals as goal
 use Rattle.intersection_update.proofs.settling.update.Goals.{then-is_looked_at+in_ok-queued, else-is_looked_at}
@@ -138,6 +140,12 @@ loop-number-preserved g c =
                 subst (λ (it : HeldFindings). Leaves shown chained c.args.document was.part (number + 1) c.args.findings.now.kept it.kept) (sym w.findings-is)
                 (leaves_more shown chained c.args.document was.part now.part so_far.kept.carried number c.args.findings.now.kept c.loop-number.findings.kept w.settle_stale.new.findings.kept (so_far.leaves chained)
                 (w.settle_stale.ensures.same chained) w.settle_stale.ensures.others (sym looked ∙ w.if-is_looked_at.true) (w.in_ok-queued.ensures.fresh chained) (w.in_ok-queued.ensures.rest chained));
+            totals = λ chained.
+                subst (Totals shown chained c.args.document was.part (number + 1) c.args.findings.now c.if-is_looked_at.findings c.args.steps.now) (sym w.steps-is)
+                (subst (λ (it : HeldFindings). Totals shown chained c.args.document was.part (number + 1) c.args.findings.now it c.args.steps.now w.settle_stale.new.steps) (sym w.findings-is)
+                (totals_more shown chained c.args.document was.part now.part so_far.kept.carried number c.args.findings.now c.loop-number.findings w.settle_stale.new.findings c.args.steps.now c.loop-number.steps w.settle_stale.new.steps
+                there (sym looked ∙ w.if-is_looked_at.true) (so_far.totals chained) w.clips.ensures.numbered w.settle_stale.ensures.looked.touched w.settle_stale.ensures.others w.in_ok-queued.ensures.pairs
+                w.in_ok-queued.ensures.listed (w.in_ok-queued.ensures.paid chained)));
             end = so_far.end;
           }
       | else-is_looked_at w ↦
@@ -156,6 +164,11 @@ loop-number-preserved g c =
             leaves = λ chained.
                 subst (λ (it : HeldFindings). Leaves shown chained c.args.document was.part (number + 1) c.args.findings.now.kept it.kept) (sym w.findings-is)
                 (leaves_skip shown chained c.args.document was.part now.part so_far.kept.carried number c.args.findings.now.kept c.loop-number.findings.kept (sym looked ∙ w.if-is_looked_at.false) (so_far.leaves chained));
+            totals = λ chained.
+                subst (Totals shown chained c.args.document was.part (number + 1) c.args.findings.now c.if-is_looked_at.findings c.args.steps.now) (sym w.steps-is)
+                (subst (λ (it : HeldFindings). Totals shown chained c.args.document was.part (number + 1) c.args.findings.now it c.args.steps.now c.loop-number.steps) (sym w.findings-is)
+                (totals_skip shown chained c.args.document was.part now.part so_far.kept.carried number c.args.findings.now c.loop-number.findings c.args.steps.now c.loop-number.steps
+                there (sym looked ∙ w.if-is_looked_at.false) (so_far.totals chained)));
             end = so_far.end;
           }
     ]
@@ -164,6 +177,17 @@ pub returns-clause-updated : goal.returns-clause-updated
 returns-clause-updated g c =
     all_observers c.args.shown.now c.args.shown.now.tree c.args.document c.args.time c.args.watchers.now c.loop-number.number c.loop-number.watchers c.loop-number.invariant.kept.rest c.loop-number.invariant.kept.given
     (omega (arith, c.loop-number.invariant.end, c.loop-number-test.false, c.loop-number.auto.number-end)) c.loop-number.invariant.settled
+
+pub returns-clause-settled : goal.returns-clause-settled
+returns-clause-settled g c =
+    let shown = c.args.shown.now in
+    let was : HeldWatchers = c.args.watchers.now in
+    let it : HeldWatchers = c.loop-number.watchers in
+    let whole : it ≡ record was { part = updated shown shown.tree c.args.document c.args.time (was.part) } =
+    all_observers shown shown.tree c.args.document c.args.time was c.loop-number.number it c.loop-number.invariant.kept.rest c.loop-number.invariant.kept.given
+    (omega (arith, c.loop-number.invariant.end, c.loop-number-test.false, c.loop-number.auto.number-end)) c.loop-number.invariant.settled in
+    subst (AreSettled shown c.args.document was.part) (sym (ap (λ (all : HeldWatchers). all.part) whole))
+    (λ watcher place registration. settled_each shown c.args.document c.args.time watcher place registration was.part c.tell_serials.ensures)
 
 pub returns-clause-queued : goal.returns-clause-queued
 returns-clause-queued g c =
@@ -205,3 +229,8 @@ returns-clause-fresh g c =
     stale_still was it carried serial (scene_of shown) (standings_of shown) chained c.loop-number.findings.kept
     ∙ (c.loop-number.invariant.leaves chained).fresh serial before
     (omega (arith, there_is shown c.args.document was serial before, c.loop-number.invariant.end, c.loop-number-test.false, c.loop-number.auto.number-end))
+
+pub returns-clause-ticks : goal.returns-clause-ticks
+returns-clause-ticks g c = λ chained.
+    totals_all c.args.shown.now chained c.args.document c.args.watchers.now.part c.loop-number.number c.args.findings.now c.loop-number.findings c.args.steps.now c.loop-number.steps
+    (omega (arith, c.loop-number.invariant.end, c.loop-number-test.false, c.loop-number.auto.number-end)) (c.loop-number.invariant.totals chained)

@@ -4,6 +4,7 @@ use Rattle.kept_findings.specs.Rooms.{HaveRoom}
 use Rattle.intersection_update.specs.Updating.{AreKept}
 use Rattle.intersection_update.specs.Keeping.{HaveChains, HaveLooked}
 use Rattle.intersection_update.proofs.Observers.{Looks, Leaves}
+use Rattle.intersection_update.proofs.Totals.{Totals}
 use Rattle.intersection_update.proofs.Updates.{first_observers, first_told}
 use Rattle.intersection_update.proofs.settling.update.Given as goal
 
@@ -17,5 +18,6 @@ invariant-loop-number g l = record {
   known : HaveLooked l.shown l.findings.seen l.looks;
   looks : Looks l.shown l.document l.fn.watchers.part l.number l.fn.findings l.findings;
   leaves : (chained : HaveChains l.shown) → Leaves l.shown chained l.document l.fn.watchers.part l.number l.fn.findings.kept l.findings.kept;
+  totals : (chained : HaveChains l.shown) → Totals l.shown chained l.document l.fn.watchers.part l.number l.fn.findings l.findings l.fn.steps l.steps;
   end : l.number-end ≡ length l.fn.watchers.part.made;
 }
