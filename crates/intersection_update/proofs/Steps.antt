@@ -1,6 +1,7 @@
 -- The steps that looking for stale registrations and settling them takes.
-use Rattle.std.proofs.Common.{◌≡◌, ◌∙◌, ℕ, ◌<◌, ◌≤◌, ◌+◌, ◌*◌, Bool, true, false, cond, nat_lt, not, List, [], ◌∷◌, length, take, filter, get_or, refl, ap, sym, subst, arith}
-use Rattle.std.specs.Prelude.{All, sum_by, count_by}
+use Rattle.std.proofs.Common.{◌≡◌, ◌∙◌, ℕ, ◌<◌, ◌≤◌, ◌+◌, ◌*◌, Bool, true, false, cond, nat_lt, not, List, [], ◌∷◌, length, take, filter, get_or, refl, ap, sym, subst, inl, inr, arith}
+use Rattle.std.specs.Prelude.{All, sum_by, count_by, IsSome}
+use Rattle.std.proofs.lemmas.Bool.{eq-eqb}
 use Rattle.std.proofs.lemmas.Bool.Decides.{nat_tests}
 use Rattle.std.proofs.lemmas.List.{length-map}
 use Rattle.std.proofs.lemmas.List.Elements.{All-cons, All-nil, All-head, All-tail}
@@ -23,8 +24,9 @@ use Rattle.candidate_index.specs.declared.scene.Standing.{Standing}
 use Rattle.candidate_index.specs.declared.scene.Standing.TheVariants.{Apart, NoBox, Chained}
 use Rattle.candidate_index.specs.Registrations.{standing_for}
 use Rattle.candidate_index.specs.Asked.{asked_if, asked_for, steps_for, all_asked, all_steps}
-use Rattle.kept_findings.proofs.Settled.{apart_test}
+use Rattle.kept_findings.proofs.Settled.{numbers_apart, apart_test}
 use Rattle.kept_findings.proofs.Ticking.{steps_less, all_steps_less, none_again}
+use Rattle.intersection_update.specs.Keeping.{KeepsComputed}
 
 module _ (scene : Scene) (standings : Root → ℕ → Standing) (it : IntersectionObservers) (between : ℕ → List Spot) where
   abbrev pub cost : ℕ → HeldClips → ℕ
@@ -76,6 +78,32 @@ module _ (scene : Scene) (standings : Root → ℕ → Standing) (it : Intersect
   apart_once false serial other clip clips apart =
       let pair : Pair = computed_now clip (clips.touches) (pair_of clips serial) in
       of_inserted clips serial other pair ∙ ap (λ b. cond b pair (pair_of clips other)) (apart_test other serial apart)
+
+  -- and once a clip was computed one is
+  computed_once : (b : Bool) (serial other : ℕ) (clip : Clip) (clips : HeldClips) → IsSome (pair_of clips other).computed → IsSome (pair_of (cond b clips (with_clip serial clip clips)) other).computed
+  computed_once true serial other clip clips some = some
+  computed_once false serial other clip clips some =
+      let pair : Pair = computed_now clip (clips.touches) (pair_of clips serial) in
+      elim (numbers_apart other serial) [
+        | inl same ↦ subst (λ (p : Pair). IsSome p.computed) (sym (of_inserted clips serial other pair ∙ ap (λ b. cond b pair (pair_of clips other)) (eq-eqb other serial same))) refl
+        | inr apart ↦ subst (λ (p : Pair). IsSome p.computed) (sym (of_inserted clips serial other pair ∙ ap (λ b. cond b pair (pair_of clips other)) (apart_test other serial apart))) some
+      ]
+
+  computed_if : (s : Standing) (serial : ℕ) (clips : HeldClips) → KeepsComputed clips (asked_if s scene (between serial) serial clips)
+  computed_if Apart serial clips other some = some
+  computed_if NoBox serial clips other some = some
+  computed_if Chained serial clips other some = computed_once (is_current clips serial (between serial)) serial other (clip_between scene (between serial)) clips some
+
+  pub computed_asked : (serial : ℕ) (before clips now : HeldClips) → KeepsComputed before clips → now ≡ after serial clips → KeepsComputed before now
+  computed_asked serial before clips now so_far is =
+      subst (KeepsComputed before) (sym is) (λ other some. computed_if (standing_for standings it serial) serial clips other (so_far other some))
+
+  computed_each : (serials : List ℕ) (clips : HeldClips) → KeepsComputed clips (all_asked scene standings it between serials clips)
+  computed_each [] clips other some = some
+  computed_each (serial ∷ serials) clips other some = computed_each serials (after serial clips) other (computed_if (standing_for standings it serial) serial clips other some)
+
+  pub computed_all : (serials : List ℕ) (before clips now : HeldClips) → KeepsComputed before clips → now ≡ all_asked scene standings it between serials clips → KeepsComputed before now
+  computed_all serials before clips now so_far is = subst (KeepsComputed before) (sym is) (λ other some. computed_each serials clips other (so_far other some))
 
   apart_if : (s : Standing) (serial other : ℕ) (clips : HeldClips) → (¬ other ≡ serial) → pair_of (asked_if s scene (between serial) serial clips) other ≡ pair_of clips other
   apart_if Apart serial other clips apart = refl
@@ -174,3 +202,7 @@ module _ (scene : Scene) (standings : Root → ℕ → Standing) (it : Intersect
 
 pub with_touches : (before now : HeldClips) (touches : Touched) → now.pairs ≡ before.pairs → touches ≡ now.touches → now ≡ record before { touches = touches }
 with_touches before now touches pairs same = λ i. record { touches = sym same i; pairs = pairs i }
+
+-- pairs that stay are as computed
+pub computed_same : (before now : HeldClips) → now.pairs ≡ before.pairs → KeepsComputed before now
+computed_same before now same serial some = subst (λ pairs. IsSome (pair_of (record before { pairs = pairs }) serial).computed) (sym same) some

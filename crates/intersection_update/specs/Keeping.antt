@@ -1,5 +1,5 @@
 -- What an update does to what is kept of registrations: which are looked at, which of them are stale, and what it leaves of the rest.
-use Rattle.std.specs.Prelude.{◌≡◌, ◌⊎◌, ℕ, Bool, true, false, slice_get, Option, Some, None}
+use Rattle.std.specs.Prelude.{◌≡◌, ◌⊎◌, ℕ, Bool, true, false, slice_get, Option, Some, None, IsSome}
 use Rattle.std.specs.Ordering.{nat_cmp}
 use Rattle.std.specs.FinMap.{FinMap}
 use Rattle.page_model.specs.Shown.{Shown}
@@ -8,6 +8,7 @@ use Rattle.page_model.specs.Intersections.{is_rooted_in}
 use Rattle.clip_chain.specs.declared.spot.Spot.{Spot}
 use Rattle.clip_chain.specs.Worlds.{scene_of}
 use Rattle.intersection_observer.specs.Places.{standing_of, IsStanding}
+use Rattle.kept_clips.specs.Held.{HeldClips, pair_of}
 use Rattle.kept_clips.specs.Seen.{Seen, sighting_of, sighting_in}
 use Rattle.kept_clips.specs.Looked.{IsLeft, ChangesByLooks}
 use Rattle.candidate_index.specs.declared.index.Kept.{Kept}
@@ -52,6 +53,10 @@ pub record AreLookedAlong (shown : Shown) (it : IntersectionObservers) (watcher 
   pub touched : ChangesByLooks (scene_of shown) before.seen now.seen before.clips.touches now.clips.touches
   pub left : (spot : Spot) → ((serial : ℕ) → StandsAt it watcher serial → IsOff shown it spot serial) → IsLeft before.seen now.seen before.clips.touches now.clips.touches spot
   pub seen : (serial : ℕ) → StandsAt it watcher serial → IsSeen shown it now.seen serial
+
+-- a registration of which a clip was computed still has one
+abbrev pub KeepsComputed : (before now : HeldClips) → Type 0
+KeepsComputed before now = (serial : ℕ) → IsSome (pair_of before serial).computed → IsSome (pair_of now serial).computed
 
 -- it was refused memory, and counts as never computed
 pub record IsExpired (it : IntersectionObservers) (watcher place : ℕ) (kept : FinMap nat_cmp (Option Kept)) (serial : ℕ) : Type 0 where

@@ -15,7 +15,7 @@ ghost use Rattle.kept_findings.specs.Registered.{AreRegistered};
 ghost use Rattle.kept_findings.specs.Rooms.{HaveRoom};
 ghost use Rattle.intersection_update.specs.Watching.{AreWatchers};
 ghost use Rattle.intersection_update.specs.Updating.{updated, has_news, AreKept, AreSettled, IsBegun, IsStopped};
-ghost use Rattle.intersection_update.specs.Keeping.{HaveChains, is_stale_in, StandsAt, IsLookedAt, IsSeen, IsOff, AreLookedAlong, IsRefusedAt, IsRefused, HaveLooked};
+ghost use Rattle.intersection_update.specs.Keeping.{HaveChains, is_stale_in, StandsAt, IsLookedAt, IsSeen, IsOff, AreLookedAlong, KeepsComputed, IsRefusedAt, IsRefused, HaveLooked};
 ghost use Rattle.intersection_update.specs.Steps.{steps_at, most_steps};
 
 use crate::rooted::is_looked_at;
@@ -64,6 +64,7 @@ fn settle_stale<L: Ledger>(
         is_stale_in shown.now chained watchers.old.part findings.new.kept serial ≡ false) }
     ensures rest { (chained : HaveChains shown.now) → OnOk result ((serial : ℕ) →
         (kept_of findings.new.kept serial ≡ kept_of findings.old.kept serial) ⊎ (is_stale_in shown.now chained watchers.old.part findings.new.kept serial ≡ false)) }
+    ensures computed { KeepsComputed findings.old.clips findings.new.clips }
     ensures listed { OnOk result (All (λ serial. StandsAt watchers.old.part watcher.0 serial) (serials_at watchers.old.part watcher.0)) }
     ensures pairs { OnOk result ((serial : ℕ) → (¬ (place_of watchers.old.part serial).watcher ≡ watcher.0) → pair_of findings.new.clips serial ≡ pair_of findings.old.clips serial) }
     ensures paid { (chained : HaveChains shown.now) → OnOk result (steps.new ≤ steps.old + steps_at shown.now chained watchers.old.part (serials_at watchers.old.part watcher.0) findings.old findings.new) }
@@ -125,6 +126,7 @@ pub fn update<L: Ledger>(
         kept_of findings.new.kept serial ≡ kept_of findings.old.kept serial }
     ensures fresh { (chained : HaveChains shown.now) → OnOk result ((serial : ℕ) → IsLookedAt shown.now.tree document watchers.new.part serial →
         is_stale_in shown.now chained watchers.new.part findings.new.kept serial ≡ false) }
+    ensures computed { KeepsComputed findings.old.clips findings.new.clips }
     ensures ticks { (chained : HaveChains shown.now) → OnOk result (steps.new ≤ steps.old + most_steps shown.now chained document watchers.old.part findings.old findings.new) }
     ensures refused { (chained : HaveChains shown.now) → OnErr result (IsRefused shown.now chained document time watchers.old.part watchers.new.part findings.old.kept findings.new.kept) }
 {

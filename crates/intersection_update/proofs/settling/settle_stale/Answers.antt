@@ -25,7 +25,7 @@ use Rattle.intersection_update.proofs.Room.{may_be_walked}
 use Rattle.intersection_update.proofs.Keeping.{at_standing, all_standing, watcher_is, SoFar, none_so_far, same_more, others_more, kept_but_one, one_more, none_stale, stale_at, looked_along, looked_still}
 use Rattle.intersection_update.proofs.Settled.{kept_same, kept_then, kept_once, longer_once, queued_is}
 use Rattle.intersection_update.proofs.Stale.{numbers_are, as_many, next_of, stands, next_settled, stale_settled, stopped_at}
-use Rattle.intersection_update.proofs.Steps.{cost, paid_first, paid_more, paid_from, paid_all, with_touches}
+use Rattle.intersection_update.proofs.Steps.{cost, computed_asked, computed_all, computed_same, paid_first, paid_more, paid_from, paid_all, with_touches}
 use Rattle.intersection_update.proofs.Updates.{either_queued, not_queued, on_err}
 use Rattle.intersection_update.proofs.settling.settle_stale.Goals as goal
 
@@ -79,6 +79,15 @@ loop-registration-init g c =
       so_far = λ chained.
           subst (λ (kept : FinMap nat_cmp (Option Kept)). SoFar c.args.shown.now chained was.part c.args.watcher.0 c.args.findings.now.kept kept c.deref-registration-items.result.now 0)
           (sym (c.stale_registrations.ensures.kept ∙ c.look.ensures.kept)) (none_so_far c.args.shown.now chained was.part c.args.watcher.0 c.args.findings.now.kept c.deref-registration-items.result.now);
+      computed =
+          let chained = chained_of c.args.shown.now c.document_count.ensures.page in
+          let scene = scene_of c.args.shown.now in
+          let standings = standings_of c.args.shown.now in
+          let between = spots_between scene standings chained was.part in
+          let serials = serials_at was.part c.args.watcher.0 in
+          computed_all scene standings was.part between serials c.args.findings.now.clips c.look.new.self.clips c.stale_registrations.new.self.clips
+          (computed_same c.args.findings.now.clips c.look.new.self.clips c.look.ensures.looked.pairs)
+          (c.in_ok-stale.ensures.clips between (λ k none below. is_between scene standings chained was.part (get_or serials k none)));
       walked = subst (λ (seen : Seen). All (IsWalked (scene_of c.args.shown.now) (standings_of c.args.shown.now) was.part seen) (serials_at was.part c.args.watcher.0)) (sym c.stale_registrations.ensures.seen) c.look.ensures.walked;
     }
 
@@ -170,6 +179,22 @@ returns-in_err-queued-clause-others g c =
     let stands_there = stands shown chained c.args.time watcher was c.args.findings.now page c.registrations.ensures.serials k serial was (next_of shown chained c.args.time watcher was c.args.findings.now page c.registrations.ensures.serials names none k same below) (carried_same was) in
     others_more shown chained was watcher serial c.args.findings.now.kept c.loop-registration.findings.kept c.settle.new.self.kept names k (c.loop-registration.invariant.so_far chained)
     (stale_at shown chained was watcher c.args.findings.now.kept names k none same below) (watcher_is was watcher serial stands_there) c.settle.ensures.others
+
+pub returns-in_err-stale-clause-computed : goal.returns-in_err-stale-clause-computed
+returns-in_err-stale-clause-computed g c =
+    computed_same c.args.findings.now.clips c.stale_registrations.new.self.clips (ap (λ (it : HeldClips). it.pairs) c.in_err-stale.ensures.same_clips ∙ c.look.ensures.looked.pairs)
+
+pub returns-in_err-queued-clause-computed : goal.returns-in_err-queued-clause-computed
+returns-in_err-queued-clause-computed g c =
+    let shown = c.args.shown.now in
+    let chained = chained_of shown c.document_count.ensures.page in
+    let names = c.deref-registration-items.result.now in
+    let none : RegistrationId = record { 0 = 0 } in
+    let serial = (get_or names c.loop-registration.registration-index none).0 in
+    let now = c.loop-registration.watchers.part in
+    let between = spots_between (scene_of shown) (standings_of shown) chained now in
+    computed_asked (scene_of shown) (standings_of shown) now between serial c.args.findings.now.clips c.loop-registration.findings.clips c.settle.new.self.clips c.loop-registration.invariant.computed
+    (c.settle.ensures.clips between (is_between (scene_of shown) (standings_of shown) chained now serial))
 
 pub returns-in_err-queued-clause-looked : goal.returns-in_err-queued-clause-looked
 returns-in_err-queued-clause-looked g c =
@@ -287,6 +312,12 @@ loop-registration-preserved g c =
           refl
           (sym (stale_still was.part now.part so_far.kept.carried serial (scene_of shown) (standings_of shown) any c.settle.new.self.kept)
           ∙ c.in_ok-queued.ensures.fresh (spots_between (scene_of shown) (standings_of shown) any now.part) (is_between (scene_of shown) (standings_of shown) any now.part serial));
+      computed =
+          let scene = scene_of shown in
+          let standings = standings_of shown in
+          let between = spots_between scene standings chained now.part in
+          computed_asked scene standings now.part between serial c.args.findings.now.clips c.loop-registration.findings.clips c.settle.new.self.clips so_far.computed
+          (c.settle.ensures.clips between (is_between scene standings chained now.part serial));
       walked = subst (λ (seen : Seen). All (IsWalked (scene_of shown) (standings_of shown) was.part seen) (serials_at was.part watcher)) (sym c.settle.ensures.seen) so_far.walked;
     }
 

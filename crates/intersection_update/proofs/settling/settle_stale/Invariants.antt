@@ -9,7 +9,7 @@ use Rattle.kept_findings.specs.Registered.{AreRegistered}
 use Rattle.kept_findings.specs.Rooms.{HaveRoom}
 use Rattle.page_geometry.specs.Scenes.{standings_of}
 use Rattle.intersection_update.specs.Updating.{AreKept}
-use Rattle.intersection_update.specs.Keeping.{HaveChains, AreLookedAlong, HaveLooked}
+use Rattle.intersection_update.specs.Keeping.{HaveChains, AreLookedAlong, KeepsComputed, HaveLooked}
 use Rattle.intersection_update.proofs.Keeping.{SoFar}
 use Rattle.intersection_update.proofs.Steps.{Paid}
 use Rattle.intersection_update.proofs.Stale.{first_stale}
@@ -31,5 +31,6 @@ invariant-loop-registration g l =
       so_far : (chained : HaveChains l.shown) → SoFar l.shown chained was.part watcher l.fn.findings.kept l.findings.kept l.registration-items l.registration-index;
       paid : (chained : HaveChains l.shown) → Paid (scene_of l.shown) (standings_of l.shown) was.part (spots_between (scene_of l.shown) (standings_of l.shown) chained was.part)
           (record (l.fn.findings.clips) { touches = l.findings.clips.touches }) l.findings.clips (serials_at was.part watcher) l.registration-items l.fn.steps l.steps l.registration-index;
+      computed : KeepsComputed l.fn.findings.clips l.findings.clips;
       walked : All (IsWalked (scene_of l.shown) (standings_of l.shown) was.part l.findings.seen) (serials_at was.part watcher);
     }

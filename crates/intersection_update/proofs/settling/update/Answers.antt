@@ -12,7 +12,7 @@ use Rattle.kept_findings.specs.Rooms.{HaveRoom}
 use Rattle.page_geometry.specs.Scenes.{standings_of}
 use Rattle.page_geometry.proofs.Scenes.{chained_of}
 use Rattle.intersection_update.specs.Updating.{updated, AreKept, AreSettled}
-use Rattle.intersection_update.specs.Keeping.{HaveLooked}
+use Rattle.intersection_update.specs.Keeping.{KeepsComputed, HaveLooked}
 use Rattle.intersection_update.proofs.Carried.{along_still, stale_still}
 use Rattle.intersection_update.proofs.Each.{settled_each}
 use Rattle.intersection_update.proofs.Observers.{Looks, looks_more, looks_skip, Leaves, same_next, others_next, kept_to, leaves_more, leaves_skip, looked_at_before, there_is}
@@ -146,6 +146,8 @@ loop-number-preserved g c =
                 (totals_more shown chained c.args.document was.part now.part so_far.kept.carried number c.args.findings.now c.loop-number.findings w.settle_stale.new.findings c.args.steps.now c.loop-number.steps w.settle_stale.new.steps
                 there (sym looked ∙ w.if-is_looked_at.true) (so_far.totals chained) w.clips.ensures.numbered w.settle_stale.ensures.looked.touched w.settle_stale.ensures.others w.in_ok-queued.ensures.pairs
                 w.in_ok-queued.ensures.listed (w.in_ok-queued.ensures.paid chained)));
+            computed = subst (λ (it : HeldFindings). KeepsComputed c.args.findings.now.clips it.clips) (sym w.findings-is)
+                (λ serial some. w.settle_stale.ensures.computed serial (so_far.computed serial some));
             end = so_far.end;
           }
       | else-is_looked_at w ↦
@@ -169,6 +171,7 @@ loop-number-preserved g c =
                 (subst (λ (it : HeldFindings). Totals shown chained c.args.document was.part (number + 1) c.args.findings.now it c.args.steps.now c.loop-number.steps) (sym w.findings-is)
                 (totals_skip shown chained c.args.document was.part now.part so_far.kept.carried number c.args.findings.now c.loop-number.findings c.args.steps.now c.loop-number.steps
                 there (sym looked ∙ w.if-is_looked_at.false) (so_far.totals chained)));
+            computed = subst (λ (it : HeldFindings). KeepsComputed c.args.findings.now.clips it.clips) (sym w.findings-is) so_far.computed;
             end = so_far.end;
           }
     ]
@@ -234,3 +237,6 @@ pub returns-clause-ticks : goal.returns-clause-ticks
 returns-clause-ticks g c = λ chained.
     totals_all c.args.shown.now chained c.args.document c.args.watchers.now.part c.loop-number.number c.args.findings.now c.loop-number.findings c.args.steps.now c.loop-number.steps
     (omega (arith, c.loop-number.invariant.end, c.loop-number-test.false, c.loop-number.auto.number-end)) (c.loop-number.invariant.totals chained)
+
+pub returns-in_err-queued-clause-computed : goal.returns-in_err-queued-clause-computed
+returns-in_err-queued-clause-computed g c = λ serial some. c.settle_stale.ensures.computed serial (c.loop-number.invariant.computed serial some)

@@ -2,7 +2,7 @@ use Rattle.std.proofs.Common.{◌≡◌, length}
 use Rattle.kept_findings.specs.Registered.{AreRegistered}
 use Rattle.kept_findings.specs.Rooms.{HaveRoom}
 use Rattle.intersection_update.specs.Updating.{AreKept}
-use Rattle.intersection_update.specs.Keeping.{HaveChains, HaveLooked}
+use Rattle.intersection_update.specs.Keeping.{HaveChains, KeepsComputed, HaveLooked}
 use Rattle.intersection_update.proofs.Observers.{Looks, Leaves}
 use Rattle.intersection_update.proofs.Totals.{Totals}
 use Rattle.intersection_update.proofs.Updates.{first_observers, first_told}
@@ -19,5 +19,6 @@ invariant-loop-number g l = record {
   looks : Looks l.shown l.document l.fn.watchers.part l.number l.fn.findings l.findings;
   leaves : (chained : HaveChains l.shown) → Leaves l.shown chained l.document l.fn.watchers.part l.number l.fn.findings.kept l.findings.kept;
   totals : (chained : HaveChains l.shown) → Totals l.shown chained l.document l.fn.watchers.part l.number l.fn.findings l.findings l.fn.steps l.steps;
+  computed : KeepsComputed l.fn.findings.clips l.findings.clips;
   end : l.number-end ≡ length l.fn.watchers.part.made;
 }
