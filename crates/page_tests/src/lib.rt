@@ -13,3 +13,5 @@ mod page_geometry_tests;
 mod page_layout_tests;
 #[cfg(test)]
 mod page_tree_tests;
+#[cfg(test)]
+mod readme_examples;
