@@ -1,0 +1,16 @@
+//! The boxes of a page: where each lies, how much of it is seen, and how that is written (CSSOM View, 6: `getBoundingClientRect`;
+//! Intersection Observer, 3.2.7).
+//!
+//! Rectangles are in units of 1/64 CSS pixel and in the viewport of the element's document.
+#![tactic(auto)]
+
+mod boxed;
+mod lines;
+mod pages;
+mod seen;
+mod text;
+
+pub use boxed::elements;
+pub use lines::BoxLine;
+pub use pages::inspect;
+pub use text::write_box;

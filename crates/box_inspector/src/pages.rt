@@ -1,0 +1,105 @@
+//! The boxes of a page.
+
+ghost use Rattle.std.specs.Prelude.{◌≡◌, ◌++◌, map, true, All, IfOk, OnOk};
+ghost use Rattle.page_model.specs.Shown.{shown_of, has_box};
+ghost use Rattle.page_state.specs.Boxes.{Computes};
+ghost use Rattle.box_inspector.specs.Boxes.{box_line, box_list, boxed_elements};
+ghost use Rattle.box_inspector.specs.Ranges.{BoxReaches};
+
+use crate::boxed::elements;
+use crate::lines::BoxLine;
+use crate::seen::{place, seen_part};
+use element_tree::NodeId;
+use event_tables::EventTarget;
+use page_geometry::Shown;
+use page_state::{Label, Page};
+use std::alloc::{AllocError, Global};
+use std::sync::ledger::Ledger;
+use step_count::Steps;
+
+// The box of an element.
+fn box_line(page: &Page, shown: &Shown<'_>, node: NodeId) -> BoxLine
+    requires shown { shown.now ≡ shown_of page.now.world }
+    requires boxed { has_box shown.now node.0 ≡ true }
+    ensures value { result ≡ box_line page.now.world node.0 }
+    ensures reach { BoxReaches result }
+{
+    BoxLine {
+        name: page.label(Label::Target(EventTarget::Node(node))),
+        depth: shown.page().depth(node),
+        place: place(shown, node),
+        seen: seen_part(shown, node),
+    }
+}
+
+// Appends the boxes of some elements.
+fn push_boxes(
+    page: &Page,
+    shown: &Shown<'_>,
+    nodes: &[NodeId],
+    lines: &mut Vec<BoxLine>,
+) -> Result<(), AllocError>
+    requires shown { shown.now ≡ shown_of page.now.world }
+    requires boxed { All (λ node. has_box shown.now node.0 ≡ true) nodes.now }
+    requires reach { All BoxReaches lines.old.items }
+    ensures pushed { OnOk result (lines.new.items ≡ lines.old.items ++ map (λ node. box_line page.now.world node.0) nodes.now) }
+    ensures reach { OnOk result (All BoxReaches lines.new.items) }
+{
+    for node in nodes {
+        lines.push(box_line(page, shown, *node))?;
+    }
+    Ok(())
+}
+
+// Appends the boxes of a document.
+fn push_document(
+    alloc: Global,
+    page: &Page,
+    shown: &Shown<'_>,
+    document: u32,
+    lines: &mut Vec<BoxLine>,
+) -> Result<(), AllocError>
+    requires shown { shown.now ≡ shown_of page.now.world }
+    requires reach { All BoxReaches lines.old.items }
+    ensures pushed { OnOk result (lines.new.items ≡ lines.old.items ++ map (box_line page.now.world) (boxed_elements (shown_of page.now.world) document)) }
+    ensures reach { OnOk result (All BoxReaches lines.new.items) }
+{
+    let nodes = elements(alloc, shown, document)?;
+    push_boxes(page, shown, &nodes, lines)
+}
+
+// The boxes of a page, of which none is due.
+fn list_boxes(alloc: Global, page: &Page, shown: &Shown<'_>) -> Result<Vec<BoxLine>, AllocError>
+    requires { shown.now ≡ shown_of page.now.world }
+    ensures list { IfOk result (λ lines. lines.items ≡ box_list page.now.world) }
+    ensures reach { IfOk result (λ lines. All BoxReaches lines.items) }
+{
+    let documents = page.active_documents()?;
+    let mut lines = Vec::new(alloc);
+    for document in &documents {
+        push_document(alloc, page, shown, *document, &mut lines)?;
+    }
+    Ok(lines)
+}
+
+/// The boxes of a page as it is now: of each Active document, in the order in which documents are updated, each element with a box
+/// in tree order, with its name and depth, its place and what is seen of it. Boxes that are due are computed before, at most a step for
+/// each. The page is otherwise as it was.
+///
+/// # Errors
+///
+/// Where there is no memory.
+pub fn inspect<L: Ledger>(
+    alloc: Global,
+    page: &mut Page,
+    steps: &mut Steps<L>,
+) -> Result<Vec<BoxLine>, AllocError>
+    ensures list { IfOk result (λ lines. lines.items ≡ box_list page.old.world) }
+    ensures reach { IfOk result (λ lines. All BoxReaches lines.items) }
+    ensures same { page.new ≡ record page.old { kept = page.new.kept } }
+    ensures boxes { Computes page.old.world page.old.kept page.new.kept steps.old steps.new }
+{
+    page.refresh_boxes(steps);
+    let shown = page.geometry().with_documents();
+    list_boxes(alloc, page, &shown)
+}

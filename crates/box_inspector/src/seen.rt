@@ -1,0 +1,53 @@
+//! What is seen of a box.
+
+ghost use Rattle.std.specs.Prelude.{◌≡◌, true, IfSome};
+ghost use Rattle.page_model.specs.Shown.{has_box};
+ghost use Rattle.clip_chain.specs.Ranges.{IsBounds};
+ghost use Rattle.page_model.specs.Chains.{moved_back, origin_of_element};
+ghost use Rattle.page_model.specs.Readings.{rect_of};
+ghost use Rattle.page_model.specs.Shown.{place_of, size_of};
+ghost use Rattle.px_units.specs.declared.BoxKind.TheVariants.{Border};
+ghost use Rattle.trace_text.specs.Ranges.{RectReaches};
+ghost use Rattle.box_inspector.specs.Boxes.{seen_part};
+
+use clip_chain::{Geometry, Spot, visible_rect};
+use element_tree::NodeId;
+use page_geometry::Shown;
+use px_units::{Rect, shift};
+
+/// The viewport of the top document.
+const SCREEN: Spot = Spot::View(0);
+
+// A rectangle as it is in the viewport of an element's document.
+fn in_document(shown: &Shown<'_>, node: NodeId, part: Rect) -> Rect
+    requires { IsBounds part }
+    ensures value { result ≡ moved_back (origin_of_element shown.now node.0) part }
+    ensures reach { RectReaches result }
+{
+    let own = shown.bounds(Spot::View(shown.document_of(node)));
+    shift(part, -own.left, -own.top)
+}
+
+/// What the clips on the way from an element to the viewport of `top`, and that viewport, leave of its border box, in the viewport of
+/// the element's document (Intersection Observer, 3.2.7). An edge in common is enough. No memory.
+///
+/// Needs that the element has a box. All edges, widths and heights lie between -2^50 and 2^50.
+pub fn seen_part(shown: &Shown<'_>, node: NodeId) -> Option<Rect>
+    requires { has_box shown.now node.0 ≡ true }
+    ensures value { result ≡ seen_part shown.now node.0 }
+    ensures reach { IfSome result RectReaches }
+{
+    // It tells that chains lead to the viewport of `top`, and how long they are.
+    shown.document_count();
+    let screen = shown.bounds(SCREEN);
+    let part = visible_rect(shown, Spot::Node(node), SCREEN, screen)?;
+    Some(in_document(shown, node, part))
+}
+
+/// The border box of an element in the viewport of its document (CSS 2.2, 8.1), zeros without a box. No memory.
+pub fn place(shown: &Shown<'_>, node: NodeId) -> Rect
+    ensures value { result ≡ rect_of (place_of shown.now node.0) (size_of shown.now node.0 Border) }
+    ensures reach { RectReaches result }
+{
+    shown.border_rect(node)
+}

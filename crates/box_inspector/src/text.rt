@@ -1,0 +1,89 @@
+//! The text of a box.
+
+ghost use Rattle.std.specs.Prelude.{◌≡◌, [], ◌∷◌, ◌++◌, IfSome, OnOk, OnErr};
+ghost use Rattle.word_model.specs.Numbers.{decimal};
+ghost use Rattle.px_units.specs.Texts.{pixel_text};
+ghost use Rattle.script_model.specs.TraceText.{rect_fields};
+ghost use Rattle.trace_text.specs.Fields.{with_fields};
+ghost use Rattle.trace_text.specs.Ranges.{RectReaches};
+ghost use Rattle.box_inspector.specs.BoxText.{box_fields, box_text, seen_fields};
+ghost use Rattle.box_inspector.specs.Ranges.{BoxReaches};
+
+use crate::lines::BoxLine;
+use px_units::{Px, Rect, push_px};
+use std::alloc::{AllocError, Global};
+use word_model::push_decimal;
+
+fn push_field(out: &mut Vec<u8>, field: &[u8]) -> Result<(), AllocError>
+    ensures { OnOk result (out.new.items ≡ with_fields out.old.items (field.now ∷ [])) }
+{
+    out.push(b' ')?;
+    out.extend_from_slice(field)
+}
+
+fn push_number(out: &mut Vec<u8>, number: u128) -> Result<(), AllocError>
+    ensures { OnOk result (out.new.items ≡ with_fields out.old.items (decimal number ∷ [])) }
+{
+    out.push(b' ')?;
+    push_decimal(out, number)
+}
+
+// A length in units.
+fn push_length(out: &mut Vec<u8>, units: i64) -> Result<(), AllocError>
+    ensures { OnOk result (out.new.items ≡ with_fields out.old.items (pixel_text units ∷ [])) }
+{
+    out.push(b' ')?;
+    push_px(out, Px(units))
+}
+
+fn push_rect(out: &mut Vec<u8>, rect: &Rect) -> Result<(), AllocError>
+    requires { RectReaches rect.now }
+    ensures { OnOk result (out.new.items ≡ with_fields out.old.items (rect_fields rect.now)) }
+{
+    push_length(out, rect.left)?;
+    push_length(out, rect.top)?;
+    push_length(out, rect.right - rect.left)?;
+    push_length(out, rect.bottom - rect.top)
+}
+
+// What is seen of a box.
+fn push_seen(out: &mut Vec<u8>, seen: &Option<Rect>) -> Result<(), AllocError>
+    requires { IfSome seen.now RectReaches }
+    ensures { OnOk result (out.new.items ≡ with_fields out.old.items (seen_fields seen.now)) }
+{
+    match seen {
+        Some(part) => {
+            push_field(out, b"seen")?;
+            push_rect(out, part)
+        }
+        None => push_field(out, b"hidden"),
+    }
+}
+
+fn push_fields(out: &mut Vec<u8>, line: &BoxLine) -> Result<(), AllocError>
+    requires { BoxReaches line.now }
+    ensures { OnOk result (out.new.items ≡ with_fields out.old.items (box_fields line.now)) }
+{
+    push_field(out, line.name.bytes())?;
+    push_number(out, u128::from(line.depth))?;
+    push_rect(out, &line.place)?;
+    push_seen(out, &line.seen)
+}
+
+/// Appends a box's text, which ends with a line feed: `box`, its element's name and depth, its place as left, top, width and height, and
+/// what is seen of it, all in CSS pixels. Each edge, width and height of the line lies between -2^50 and 2^50 units.
+///
+/// # Errors
+///
+/// Where there is no memory; nothing is appended then.
+#[tactic(auto, using(crate::proofs::Texts::box_text_is))]
+pub fn write_box(alloc: Global, line: &BoxLine, into: &mut Vec<u8>) -> Result<(), AllocError>
+    requires { BoxReaches line.now }
+    ensures ok { OnOk result (into.new.items ≡ into.old.items ++ box_text line.now) }
+    ensures err { OnErr result (into.new.items ≡ into.old.items) }
+{
+    let mut text = Vec::from_slice(alloc, b"box")?;
+    push_fields(&mut text, line)?;
+    text.push(b'\n')?;
+    into.extend_from_slice(text.as_slice())
+}

@@ -1,0 +1,4 @@
+pub mod Within
+pub mod Kids
+pub mod Painted
+pub mod Chains

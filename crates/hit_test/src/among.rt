@@ -1,0 +1,64 @@
+//! The elements that a point hits.
+
+ghost use Rattle.std.specs.Prelude.{◌≡◌, ◌++◌, filter, map, reverse, true, IfOk, OnOk};
+ghost use Rattle.element_tree.specs.Links.{number};
+ghost use Rattle.page_model.specs.Shown.{has_box};
+ghost use Rattle.hit_test.specs.Hits.{is_hit};
+ghost use Rattle.hit_test.specs.Painting.{paint_order};
+
+use crate::painting::paint_order;
+use crate::points::shows_at;
+use element_tree::NodeId;
+use page_geometry::Shown;
+use px_units::Point;
+use std::alloc::{AllocError, Global};
+
+// Whether a point hits an element that has a box.
+fn is_boxed_hit(shown: &Shown<'_>, node: NodeId, at: Point) -> bool
+    requires { has_box shown.now node.0 ≡ true }
+    ensures { result ≡ is_hit shown.now at node.0 }
+{
+    // It tells that chains lead to the viewport of `top`, and how long they are.
+    shown.document_count();
+    shows_at(shown, node, at)
+}
+
+// Whether a point hits an element.
+#[tactic(auto, using(crate::proofs::Chains::boxless))]
+fn is_hit(shown: &Shown<'_>, node: NodeId, at: Point) -> bool
+    ensures { result ≡ is_hit shown.now at node.0 }
+{
+    shown.has_box(node) && is_boxed_hit(shown, node, at)
+}
+
+// Those of some elements that a point hits, in the same order.
+fn hit_among(
+    alloc: Global,
+    shown: &Shown<'_>,
+    nodes: &[NodeId],
+    at: Point,
+) -> Result<Vec<NodeId>, AllocError>
+    ensures { IfOk result (λ found. found.items ≡ filter (λ node. is_hit shown.now at node.0) nodes.now) }
+{
+    let mut found = Vec::new(alloc);
+    for node in nodes {
+        if is_hit(shown, *node, at) {
+            found.push(*node)?;
+        }
+    }
+    Ok(found)
+}
+
+// The elements that a point hits, the uppermost first.
+pub(crate) fn hits_shown(
+    alloc: Global,
+    shown: &Shown<'_>,
+    at: Point,
+) -> Result<Vec<NodeId>, AllocError>
+    ensures { IfOk result (λ found. map number found.items ≡ reverse (filter (is_hit shown.now at) (paint_order shown.now.tree))) }
+{
+    let painted = paint_order(alloc, shown.page())?;
+    let mut found = hit_among(alloc, shown, &painted, at)?;
+    found.reverse();
+    Ok(found)
+}

@@ -1,0 +1,35 @@
+//! What a point of a page hits.
+
+ghost use Rattle.std.specs.Prelude.{◌≡◌, map, IfOk};
+ghost use Rattle.element_tree.specs.Links.{number};
+ghost use Rattle.page_state.specs.Boxes.{Computes};
+ghost use Rattle.hit_test.specs.Hits.{hits};
+
+use crate::among::hits_shown;
+use element_tree::NodeId;
+use page_state::Page;
+use px_units::Point;
+use std::alloc::{AllocError, Global};
+use std::sync::ledger::Ledger;
+use step_count::Steps;
+
+/// The elements of a page as it is now that a point of the viewport of `top` hits, the uppermost first (CSSOM View, 5:
+/// `elementsFromPoint`). Boxes that are due are computed before, at most a step for each. The page is otherwise as it was.
+///
+/// # Errors
+///
+/// Where there is no memory.
+pub fn hits<L: Ledger>(
+    alloc: Global,
+    page: &mut Page,
+    at: Point,
+    steps: &mut Steps<L>,
+) -> Result<Vec<NodeId>, AllocError>
+    ensures list { IfOk result (λ found. map number found.items ≡ hits page.old.world at) }
+    ensures same { page.new ≡ record page.old { kept = page.new.kept } }
+    ensures boxes { Computes page.old.world page.old.kept page.new.kept steps.old steps.new }
+{
+    page.refresh_boxes(steps);
+    let shown = page.geometry().with_documents();
+    hits_shown(alloc, &shown, at)
+}

@@ -1,0 +1,45 @@
+//! Which points hit an element.
+
+ghost use Rattle.std.specs.Prelude.{◌≡◌, List};
+ghost use Rattle.clip_chain.specs.declared.spot.Spot.{Spot as SpotOf};
+ghost use Rattle.clip_chain.specs.declared.spot.Spot.TheVariants.{Node, View};
+ghost use Rattle.clip_chain.specs.Chains.{IsAbove, Leads};
+ghost use Rattle.hit_test.specs.Hits.{has_point, is_between, shows_between};
+
+use clip_chain::{Geometry, Spot, visible_rect};
+use element_tree::NodeId;
+use px_units::{Point, Rect};
+
+/// The viewport of the top document.
+const SCREEN: Spot = Spot::View(0);
+
+// Whether a place lies between two edges, the first one included and the second one not.
+fn is_between(low: i64, high: i64, at: i64) -> bool
+    ensures { result ≡ is_between low high at }
+{
+    low <= at && at < high
+}
+
+// Whether a point lies in a rectangle: on its left or top edge too, and not on its right or bottom one.
+fn has_point(rect: Rect, at: Point) -> bool
+    ensures { result ≡ has_point at rect }
+{
+    is_between(rect.left, rect.right, at.left) && is_between(rect.top, rect.bottom, at.top)
+}
+
+/// Whether a point of the top document's viewport hits an element by its place: its border box, each clip between it and that viewport,
+/// and the viewport hold the point, their left and top edges included and the right and bottom ones not. No memory.
+///
+/// Needs that the element has a box, so that its chain of containers leads to the viewport (`reaches`).
+pub fn shows_at<G: Geometry>(geometry: &G, node: NodeId, at: Point) -> bool
+    requires { IsAbove (G.scene geometry.now) (View 0) (Node node) }
+    ensures { (between : List SpotOf) → Leads (G.scene geometry.now) (Node node) between (View 0) →
+        result ≡ shows_between (G.scene geometry.now) at (Node node) between }
+{
+    let screen = geometry.bounds(SCREEN);
+    // A point that lies in all of them lies in their common part.
+    match visible_rect(geometry, Spot::Node(node), SCREEN, screen) {
+        Some(part) => has_point(part, at),
+        None => false,
+    }
+}
