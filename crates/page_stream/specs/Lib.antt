@@ -1,0 +1,4 @@
+pub mod PageLines
+pub mod Pages
+pub mod Parts
+pub mod Splits

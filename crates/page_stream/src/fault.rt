@@ -1,0 +1,20 @@
+//! Why a source is no stream.
+
+use thiserror::Error;
+
+/// Why a source is no stream.
+#[derive(Clone, Copy, Debug, PartialEq, Eq, Error)]
+pub enum StreamFault {
+    /// The first line isn't a page line, or there is none.
+    #[error("NoPage")]
+    NoPage,
+    /// There is a page too many.
+    #[error("TooManyPages")]
+    TooManyPages {
+        /// The line, from 1, that names it first.
+        line: u32,
+    },
+    /// No memory was left.
+    #[error("Memory")]
+    Memory,
+}
