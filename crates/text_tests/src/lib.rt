@@ -6,6 +6,8 @@ mod media_queries_tests;
 #[cfg(test)]
 mod px_units_tests;
 #[cfg(test)]
+mod readme_examples;
+#[cfg(test)]
 mod script_generator_tests;
 #[cfg(test)]
 mod script_lexer_tests;
