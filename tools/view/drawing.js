@@ -27,14 +27,37 @@ class Drawing {
     const scale = Math.min((room - 2 * AROUND) / size[0], (most - 2 * AROUND) / size[1]), pad = AROUND / scale;
     return [middle[0] - size[0] / 2 - pad, middle[1] - size[1] / 2 - pad, size[0] + 2 * pad, size[1] + 2 * pad];
   }
+  // All of it.
   draw(boxes, before, changes, chosen) {
+    this.boxes = boxes;
     if (!boxes) { this.place.innerHTML = '<p class="nothing">No boxes here.</p>'; return; }
     const room = this.place.clientWidth || 600, most = Math.max(240, Math.min(window.innerHeight * 0.62, 760)), frame = this.frame(boxes, chosen, room, most);
     const scale = Math.min(room / frame[2], most / frame[3]);
     Object.assign(this, { boxes, before, changes, chosen, scale, frameNow: frame, labels: [] });
     const height = Math.max(60, frame[3] * scale);
+    this.first = boxes.order.map(row => row.element).find(element => boxes.boxes.has(element));
     this.place.innerHTML = html`<svg id="drawing" role="group" aria-label="Boxes, drawn to scale" viewBox="${frame.map(round).join(' ')}" height="${Math.round(height)}" style="--one:${1 / scale}px">
-      ${boxes.viewports.map(one => this.viewport(one))}${this.shapes()}${this.ghosts()}${this.clips()}<g class="labels" aria-hidden="true">${this.names()}</g></svg>`.text;
+      ${boxes.viewports.map(one => this.viewport(one))}${this.shapes()}${this.ghosts()}<g class="over" aria-hidden="true"></g><g class="labels" aria-hidden="true"></g></svg>`.text;
+    this.choose(chosen);
+  }
+  // The chosen box, what clips it, and the names.
+  choose(chosen) {
+    if (!this.boxes) return;
+    const svg = this.place.firstElementChild, stop = this.boxes.boxes.has(chosen) ? chosen : this.first;
+    for (const old of svg.querySelectorAll('.box.chosen, .box[tabindex="0"]')) {
+      old.classList.remove('chosen');
+      old.removeAttribute('aria-pressed');
+      old.setAttribute('tabindex', -1);
+    }
+    const now = svg.querySelector(`.box[data-element="${stop}"]`);
+    if (now) now.setAttribute('tabindex', 0);
+    if (now && stop === chosen) {
+      now.classList.add('chosen');
+      now.setAttribute('aria-pressed', true);
+    }
+    Object.assign(this, { chosen, labels: [] });
+    svg.querySelector('.over').innerHTML = shown(this.over());
+    svg.querySelector('.labels').innerHTML = shown(this.names());
   }
   viewport({ number, rectangle, scroll }) {
     return html`<g class="viewport"><rect ${svgRectangle(rectangle)}/>${this.thumbs(rectangle, scroll)}</g>`;
@@ -58,9 +81,9 @@ class Drawing {
     return parts;
   }
   shape(element, box) {
-    const kind = this.data.elements[element][1], changed = this.changeWords(element), isChosen = element === this.chosen;
-    const names = ['box', kind, box.seen ? '' : 'unseen', changed.length ? 'changed' : '', isChosen ? 'chosen' : ''].filter(Boolean).join(' ');
-    return html`<g class="${names}" data-element="${element}" role="button" tabindex="${isChosen ? 0 : -1}" aria-label="${this.said(element)}"${isChosen && html` aria-pressed="true"`}><rect class="outline" ${svgRectangle(box.rectangle)}/>${
+    const kind = this.data.elements[element][1], changed = this.changeWords(element);
+    const names = ['box', kind, box.seen ? '' : 'unseen', changed.length ? 'changed' : ''].filter(Boolean).join(' ');
+    return html`<g class="${names}" data-element="${element}" role="button" tabindex="-1" aria-label="${this.said(element)}"><rect class="outline" ${svgRectangle(box.rectangle)}/>${
       box.seen && widthOf(box.seen) > 0 && heightOf(box.seen) > 0 && html`<rect class="seen" ${svgRectangle(box.seen)}/>`}${
       kind === 'image' && this.cross(box.rectangle)}${box.overflow && html`<rect class="edge" ${svgRectangle(box.padding)}/>`}${box.scroll && this.thumbs(box.padding, box.scroll)}</g>`;
   }
@@ -89,9 +112,9 @@ class Drawing {
     }
     return html`<g class="ghosts" aria-hidden="true">${parts}</g>`;
   }
-  clips() {
-    if (!this.boxes.boxes.has(this.chosen)) return '';
-    return html`<g class="clips" aria-hidden="true">${this.boxes.clips(this.chosen).map(({ rectangle }) => isCrossed(rectangle) ? '' : html`<rect ${svgRectangle(rectangle)}/>`)}</g>`;
+  over() {
+    const box = this.boxes.boxes.get(this.chosen);
+    return box && html`${this.boxes.clips(this.chosen).map(({ rectangle }) => isCrossed(rectangle) ? '' : html`<rect class="clip" ${svgRectangle(rectangle)}/>`)}<rect class="picked" ${svgRectangle(box.rectangle)}/>`;
   }
 
   // ---- names: each where it covers no other ----

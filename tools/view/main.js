@@ -6,7 +6,7 @@ const at = id => document.getElementById(id);
 const fill = (id, content) => { at(id).innerHTML = shown(content); };
 const story = new Story(data), states = new States(data), panels = new Panels(data, states, story), drawing = new Drawing(data, at('stage'));
 const chosen = { place: 0, element: -1, line: -1, script: 0 };
-let asked = 0, drawn = -1;
+let asked = 0, drawn = { place: -1 }, scriptOf = -1;
 
 // ---- at first ----
 
@@ -36,7 +36,7 @@ function first() {
   return Math.max(0, bad >= 0 ? bad : find(step => step.kind === 'tick'));
 }
 function note() {
-  const notes = data.notes.slice(), wanted = data.open;
+  const notes = data.notes.slice(), wanted = Number(new URLSearchParams(location.hash.slice(1)).get('tick')) || data.open;
   if (wanted !== null && wanted > data.ticks) notes.unshift(`The script has ${counted(data.ticks, 'tick')}; there is no tick ${wanted}.`);
   const left = Math.max(0, ...data.steps.map(step => step.boxes && step.boxes.leftOut || 0));
   if (left) notes.push(`Up to ${counted(left, 'element')} of a tick ${left === 1 ? 'is' : 'are'} left out of the drawing and the lists: a page shows 5,000.`);
@@ -66,26 +66,63 @@ function choose(more) {
 }
 function show() {
   asked = 0;
-  const { place, element, line } = chosen, step = data.steps[place], isOther = drawn !== place;
-  const boxes = states.at(place), before = place > 0 ? states.at(place - 1) : null, changes = allChanges(before, boxes);
+  const { place, element, line } = chosen, step = data.steps[place], isOther = drawn.place !== place;
+  const focus = focused(), look = `${place} ${drawing.view} ${drawing.zoom} ${at('stage').clientWidth} ${drawing.view === 'box' ? element : ''}`;
   if (isOther) showTick(step, place);
-  Object.assign(chosen, { boxes, changes });
-  fill('story', story.told(step, line));
-  drawing.draw(boxes, before, changes, element);
+  if (isOther || chosen.again) showStep(step, place);
+  else if (drawn.line !== line) markLine(step, line);
+  if (drawn.look === look && !chosen.again) drawing.choose(element);
+  else drawing.draw(chosen.boxes, chosen.before, chosen.changes, element);
+  fill('chosen', element < 0 ? html`<p class="after">None. Click a box in the drawing, a name, or a line of the trace; <kbd>b</kbd> takes the next one.</p>` : panels.chosen(element, place, chosen.boxes));
+  at('chosen-title').textContent = element < 0 ? 'Chosen box' : data.elements[element][0];
+  markTree(element);
+  showViews(element);
+  focus();
+  drawn = { place, line, look };
+  chosen.again = false;
+  toAddress();
+  document.documentElement.dataset.shown = `${place} ${element} ${line}`;
+}
+// What is the same whatever is chosen in a tick.
+function showStep(step, place) {
+  const boxes = states.at(place), before = place > 0 ? states.at(place - 1) : null, changes = allChanges(before, boxes);
+  Object.assign(chosen, { boxes, before, changes });
+  fill('story', story.told(step, chosen.line));
   fill('changes', panels.changes(place, boxes, before, changes));
   at('changes-title').textContent = place === 0 ? 'Changes' : data.steps[place - 1].kind === 'tick' ? 'Changed since the tick before' : 'Changed since the tick began';
-  fill('chosen', element < 0 ? html`<p class="after">None. Click a box in the drawing, a name, or a line of the trace; <kbd>b</kbd> takes the next one.</p>` : panels.chosen(element, place, boxes));
-  at('chosen-title').textContent = element < 0 ? 'Chosen box' : data.elements[element][0];
+  at('pointer').textContent = '';
   fill('box-count', boxes ? number(boxes.boxes.size) : '');
   if (at('all-boxes').open) showTree();
   if (at('script-part').open) showScript();
+}
+function markLine(step, line) {
+  for (const old of at('story').querySelectorAll('[aria-current]')) {
+    old.removeAttribute('aria-current');
+    old.tabIndex = -1;
+  }
+  if (line < 0) return;
+  const row = at('story').querySelector(`[data-line="${line}"]`);
+  if (!row) return fill('story', story.told(step, line));
+  row.setAttribute('aria-current', true);
+  row.tabIndex = 0;
+}
+function showViews(element) {
   for (const button of document.querySelectorAll('[data-view]')) {
     button.setAttribute('aria-pressed', button.dataset.view === drawing.view);
     button.disabled = button.dataset.view === 'box' && element < 0;
   }
-  drawn = place;
-  toAddress();
-  document.documentElement.dataset.shown = `${place} ${element} ${line}`;
+}
+// Gives the focus back to what has it, where that is made anew.
+function focused() {
+  const active = document.activeElement, part = active && active.closest('#story, #stage, #changes, #chosen, #tree');
+  if (!part) return () => {};
+  const selector = active.tagName.toLowerCase() + [...active.attributes].filter(one => one.name.startsWith('data-')).map(one => `[${one.name}="${one.value}"]`).join('');
+  const place = [...part.querySelectorAll(selector)].indexOf(active);
+  return () => {
+    if (active.isConnected) return;
+    const found = part.querySelectorAll(selector);
+    if (found.length) found[Math.min(place, found.length - 1)].focus({ preventScroll: true });
+  };
 }
 function showTick(step, place) {
   story.all = false;
@@ -99,7 +136,7 @@ function showTick(step, place) {
   button.tabIndex = 0;
   if (at('ticks').contains(document.activeElement)) button.focus({ preventScroll: true });
   const strip = at('ticks').parentElement;
-  strip.scrollTo({ left: button.offsetLeft - strip.clientWidth / 2 + button.offsetWidth / 2, behavior: Math.abs(drawn - place) === 1 ? 'smooth' : 'instant' });
+  strip.scrollTo({ left: button.offsetLeft - strip.clientWidth / 2 + button.offsetWidth / 2, behavior: Math.abs(drawn.place - place) === 1 ? 'smooth' : 'instant' });
   fill('tick-title', panels.stepTitle(step));
   at('summary').textContent = story.summary(step);
   fill('troubles', story.troubles(step));
@@ -115,6 +152,14 @@ function toFault(step) {
   at('script-part').open = true;
 }
 function showTree() { fill('tree', panels.tree(chosen.boxes, at('find').value.trim(), chosen.element, chosen.changes)); }
+function markTree(element) {
+  for (const old of at('tree').querySelectorAll('[aria-current]')) old.removeAttribute('aria-current');
+  const row = at('tree').querySelector(`[data-element="${element}"]`), list = row && row.closest('.tree');
+  if (!row) return;
+  row.setAttribute('aria-current', true);
+  const top = row.offsetTop - list.offsetTop;
+  if (top < list.scrollTop || top + row.offsetHeight > list.scrollTop + list.clientHeight) list.scrollTop = top - list.clientHeight / 2;
+}
 function showScript() {
   const step = data.steps[chosen.place], running = new Set([step.line]);
   for (const item of [...step.since, ...step.log]) {
@@ -122,12 +167,15 @@ function showScript() {
     if (item[0] === 'handler') running.add(item[2]);
   }
   if (step.kind !== 'start') for (let line = step.commands[0]; line && line <= step.commands[1]; line++) running.add(line);
+  const list = at('script').firstElementChild, top = list ? list.scrollTop : 0;
   fill('script', panels.script(running, chosen.script));
+  at('script').firstElementChild.scrollTop = top;
+  scriptOf = chosen.place;
 }
 function step(by) { choose({ place: Math.max(0, Math.min(data.steps.length - 1, chosen.place + by)), line: -1 }); }
 function toTrouble(by) {
   for (let place = chosen.place + by; data.steps[place]; place += by) if (story.isTrouble(data.steps[place])) return choose({ place, line: -1 });
-  if (by > 0 && drawn >= 0) say('No later tick has a loop error, an exception or a limit.');
+  if (by > 0) say('No later tick has a loop error, an exception or a limit.');
 }
 function say(sentence) { at('summary').textContent = sentence; }
 function toLine(line) {
@@ -160,9 +208,11 @@ function toChange(by) {
 }
 function toScript(line) {
   chosen.script = line;
-  at('script-part').open = true;
-  showScript();
+  if (!at('script-part').open) at('script-part').open = true;
+  if (scriptOf !== chosen.place) showScript();
+  for (const old of at('script').querySelectorAll('.chosen')) old.classList.remove('chosen');
   const row = at('script-' + line) || at('script-part');
+  row.classList.add('chosen');
   row.scrollIntoView({ block: 'center' });
 }
 function toView(view) {
@@ -188,8 +238,8 @@ const CLICKS = [
   ['[data-step]', node => choose({ place: Number(node.dataset.step), line: -1 })],
   ['[data-view]', node => toView(node.dataset.view)],
   ['[data-zoom]', node => zoom(Number(node.dataset.zoom))],
-  ['[data-all]', () => { story.all = true; choose({}); }],
-  ['[data-more]', node => { panels.lists.set(node.dataset.more, true); choose({}); }],
+  ['[data-all]', () => { story.all = true; choose({ again: true }); }],
+  ['[data-more]', node => { panels.lists.set(node.dataset.more, true); choose({ again: true }); }],
   ['#drawing', (node, event) => {
     const element = drawing.picked(drawing.pointAt(event), chosen.element);
     choose({ element, line: -1 });
@@ -211,11 +261,21 @@ at('trouble').addEventListener('click', () => toTrouble(1));
 at('help-button').addEventListener('click', () => at('help').showModal());
 at('number').addEventListener('change', event => toTick(event.target.value.trim()));
 at('find').addEventListener('input', showTree);
+at('stage').addEventListener('pointermove', event => { pointed = event; if (!asking) asking = requestAnimationFrame(showPointer); });
 at('all-boxes').addEventListener('toggle', () => at('all-boxes').open && showTree());
-at('script-part').addEventListener('toggle', () => at('script-part').open && showScript());
+at('script-part').addEventListener('toggle', () => at('script-part').open && scriptOf !== chosen.place && showScript());
 addEventListener('hashchange', () => fromAddress(null));
 addEventListener('resize', () => choose({}));
-addEventListener('beforeprint', () => { story.all = true; show(); });
+addEventListener('beforeprint', () => { story.all = chosen.again = true; show(); });
+
+// What lies below the pointer: the rule of `--hit`.
+let pointed = null, asking = 0;
+function showPointer() {
+  asking = 0;
+  if (!chosen.boxes) return;
+  const [x, y] = drawing.pointAt(pointed), hits = chosen.boxes.hits(x, y).map(element => data.elements[element][0]);
+  at('pointer').textContent = `${(x / UNITS).toFixed(0)} ${(y / UNITS).toFixed(0)}: ${hits.length ? hits.slice(0, 8).join(', ') : 'nothing'}`;
+}
 
 // ---- keys ----
 

@@ -14,7 +14,7 @@ class Panels {
     return html`As the script ends`;
   }
   ticks() {
-    return html`${this.data.steps.map((step, place) => html`<li><button type="button" class="tick${this.story.isTrouble(step) ? ' trouble' : ''}" data-step="${place}" tabindex="-1">
+    return html`${this.data.steps.map((step, place) => html`<li><button type="button" class="tick${this.story.isTrouble(step) ? ' trouble' : ''}" data-step="${place}" tabindex="-1" aria-label="${this.stepName(step)}: ${this.story.badges(step).map(([, word]) => word).join(', ')}">
       <span class="number">${step.kind === 'tick' ? number(step.number) : this.stepName(step)}</span>${step.kind === 'tick' && step.time !== null && html` <span class="time">${number(step.time)} ms</span>`}
       <span class="badges">${this.story.badges(step).slice(0, 2).map(([kind, word]) => html`<span class="badge ${kind}">${word}</span> `)}</span></button></li>`)}`;
   }

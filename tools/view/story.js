@@ -166,7 +166,7 @@ class Story {
     const named = (name = words[1]) => html`<b>${name}</b>`;
     switch (words[0]) {
       case 'resize': return this.delivery(line, words);
-      case 'intersect': return html`${named()} is told that ${this.target(line, words[2])} ${words[4] === 'yes' ? html`<b>meets</b> the root: ${seenPart(words[5])}` : html`<b>doesn\u2019t meet</b> the root`}`;
+      case 'intersect': return html`${named()} is told that ${this.target(line, words[2])} ${words[4] === 'yes' ? html`<b>meets</b> its root: ${seenPart(words[5])}` : html`<b>doesn\u2019t meet</b> its root`}`;
       case 'event': return this.event(line, words);
       case 'timer': return html`Timer ${named(words[2])} of ${named()} is due`;
       case 'frame': return html`Frame callback ${named(words[2])} of ${named()}`;
@@ -305,10 +305,10 @@ class Story {
 // The part of an intersection in words.
 function seenPart(text) {
   const [part, whole] = text.split('/').map(BigInt);
-  if (part === whole) return 'all of it is seen';
-  if (part === 0n) return 'nothing of it is seen, edges touch';
+  if (part === whole) return 'all of it';
+  if (part === 0n) return 'nothing of it, edges touch';
   const about = part * 10000n % whole === 0n ? '' : 'about ';
-  return `${about}${Number(part * 10000n / whole) / 100}% of it is seen`;
+  return `${about}${Number(part * 10000n / whole) / 100}% of it`;
 }
 // The lines of an explanation: what is set in stands as it is.
 function explained(lines) {
