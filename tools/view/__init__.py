@@ -1,0 +1,15 @@
+"""What bin/view makes its page of: a script's trace, why each line was written, and the boxes as each tick ends.
+
+    boxes      the boxes of a world, packed so that little changes from one tick to the next
+    recording  a run of the reference that notes trace, callbacks, commands and boxes, tick by tick
+    data       what the page is given: the recording beside the trace and its explanations (tools/explain/)
+    page       the page itself: one file of HTML, style and program
+
+    page.html  its frame
+    page.css   its style
+    boxes.js   unpacks the boxes of a tick, and finds clips, seen parts, hits and changes
+    story.js   a tick in words: what happened in it, in order
+    drawing.js the boxes in SVG, to scale
+    panels.js  ticks, changes, the chosen box and the script
+    main.js    what is chosen, and the keys
+"""

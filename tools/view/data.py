@@ -1,0 +1,169 @@
+"""What the page is given, as one object of JSON: the trace with its explanations (tools/explain/), and beside it the recording.
+
+The trace is the proved program's where that is built. Where the recording's is another, the trace stands alone, and a note says so.
+"""
+from explain import report, runs
+from reference import available, grammar
+from reference.lexer import Fault, TextLimit
+
+from . import recording
+
+MOST_SCRIPT_LINES = 20000
+MOST_SCRIPT_BYTES = 2000000
+
+
+def of(text, name, tick=None, say=lambda sentence: None):
+    """(object, status of the script) for a script's bytes; `tick` is the number of the tick at which the page opens, or None."""
+    say('running the script and explaining its trace')
+    trace = report.explained(text)
+    recorded = _recorded(text, tick, say)
+    notes = [note for note in trace.notes if note != report.NOT_BUILT]        # the page says it by itself
+    if recorded is not None and not _is_same(recorded, trace):
+        recorded = None
+        notes.append('The boxes are not shown, since they would be those of another run.')
+    status = trace.status
+    if recorded is not None and recorded.ended and not runs.is_built():
+        status = recorded.status                     # the explained run may have been stopped
+    page = {'name': name, 'status': status, 'trace': 'proved' if runs.is_built() else 'reference', 'open': tick}
+    page.update(_recording_parts(recorded, trace, notes) if recorded is not None else _plain_parts(trace))
+    page.update(_script_parts(trace.script, page, notes))
+    page['notes'] = notes
+    return page, status
+
+
+def _recorded(text, tick, say):
+    try:
+        script = grammar.parse(text, available.VERSIONS)
+    except (Fault, TextLimit):
+        return None
+    count = sum([command.name == 'tick' for command in script.commands])
+    first = 1
+    if tick is not None and count > recording.MOST_TICKS:
+        first = max(1, min(tick, count) - recording.MOST_TICKS // 2)
+    return recording.Recording(script, first, lambda ticks: say('%d of %d ticks' % (ticks, count))).record()
+
+
+def _is_same(recorded, trace):
+    """Whether the recorded lines are those of the trace, as far as both go."""
+    start = recorded.told_before
+    return all(line.text == told[0] for line, told in zip(recorded.lines, trace.lines[start:]))
+
+
+# --- the recording ------------------------------------------------------------------------------------------------------------
+
+def _recording_parts(recorded, trace, notes):
+    elements, documents = recorded.things.listed()
+    start = recorded.told_before
+    explanations = [explanation for _, _, explanation in trace.lines[start:]]
+    explanations += [()] * (len(recorded.lines) - len(explanations))
+    lines = [_line(line, explanation) for line, explanation in zip(recorded.lines, explanations)]
+    _note_left_out(recorded, trace, notes)
+    return {'elements': elements, 'documents': documents, 'handlers': {
+        handler.name: handler.line for handler in recorded.script.handlers.values()},
+            'lines': lines, 'steps': [_step(step) for step in recorded.steps], 'ticks': recorded.ticks,
+            'lineCount': max(len(trace.lines), recorded.told), 'firstLine': start}
+
+
+def _line(line, explanation):
+    """[text, script's line, elements, causes, what more is known, explanation], without what is empty at its end."""
+    row = [line.text, line.line, line.elements, line.causes, line.more, explanation]
+    while not row[-1]:
+        row.pop()
+    return row
+
+
+def _step(step):
+    found = {'kind': step.kind, 'number': step.number, 'line': step.line, 'time': step.time, 'commands': step.commands,
+             'since': step.since, 'log': step.log, 'boxes': step.boxes}
+    if step.not_kept:
+        found['notKept'] = step.not_kept
+    if step.lines_not_kept:
+        found['linesNotKept'] = step.lines_not_kept
+    return found
+
+
+def _note_left_out(recorded, trace, notes):
+    shown = len([step for step in recorded.steps if step.kind == recording.TICK])
+    if not recorded.ended:
+        notes.append('The run was stopped after %d seconds of the processor, in the tick after the %s; what comes behind it is left '
+                     'out.' % (recording.SECONDS, _ordinal(recorded.ticks)))
+    if recorded.ticks > shown:
+        notes.append('Of %s ticks %s are shown, from the %s on; `bin/view --tick K` shows those around another one.' % (
+            '{:,}'.format(recorded.ticks), '{:,}'.format(shown), _ordinal(recorded.first)))
+    if recorded.lines_left_out and recorded.ticks == shown:
+        notes.append('Of %s lines of the trace the last %s are left out.' % (
+            '{:,}'.format(recorded.told), '{:,}'.format(recorded.lines_left_out)))
+    if recorded.boxes_left_out_from is not None:
+        notes.append('From tick %d on the boxes are left out: too many of them have changed until then.' % recorded.boxes_left_out_from)
+    if recorded.causes.unknown_from is not None:
+        notes.append('From tick %d on it is not told which command changed an observed size: there are too many to look at.'
+                     % recorded.causes.unknown_from)
+    not_kept = sum([step.not_kept for step in recorded.steps])
+    if not_kept:
+        notes.append('Of the commands of handlers %s are left out.' % '{:,}'.format(not_kept))
+
+
+def _ordinal(number):
+    ending = 'th' if number % 100 in (11, 12, 13) else {1: 'st', 2: 'nd', 3: 'rd'}.get(number % 10, 'th')
+    return '{:,}{}'.format(number, ending)
+
+
+# --- a trace alone ------------------------------------------------------------------------------------------------------------
+
+def _plain_parts(trace):
+    """Of a script that is refused, or whose trace isn't the reference's: the lines by ticks, without boxes."""
+    kept = trace.lines[:recording.MOST_LINES]
+    lines = [[text, line or 0, [], [], None, explanation] for text, line, explanation in kept]
+    steps, ticks = [_plain_step(recording.START, 0)], 0
+    for place, (text, _, _) in enumerate(kept):
+        if text.startswith('tick '):
+            ticks += 1
+            if ticks <= recording.MOST_TICKS:
+                steps.append(_plain_step(recording.TICK, ticks))
+                steps[-1]['time'] = int(text.split(' ')[1])
+        if ticks <= recording.MOST_TICKS:
+            steps[-1]['log'].append(['line', place])
+    return {'elements': [], 'documents': [], 'handlers': {}, 'lines': lines, 'steps': steps, 'ticks': ticks,
+            'lineCount': len(trace.lines), 'firstLine': 0}
+
+
+def _plain_step(kind, number):
+    return {'kind': kind, 'number': number, 'line': 0, 'time': None, 'commands': (0, 0, 0), 'since': [], 'log': [], 'boxes': None}
+
+
+# --- the script -----------------------------------------------------------------------------------------------------------------
+
+def _script_parts(script, page, notes):
+    """The script's lines; of a long one those alone to which something points."""
+    texts = script.text.split(b'\n')
+    if texts and not texts[-1]:
+        texts.pop()
+    if len(texts) <= MOST_SCRIPT_LINES and len(script.text) <= MOST_SCRIPT_BYTES:
+        return {'script': [shown(text) for text in texts], 'scriptLines': len(texts)}
+    wanted = sorted({number for number in _pointed_at(page) if 0 < number <= len(texts)})
+    notes.append('Of %s lines of the script those are shown to which something points.' % '{:,}'.format(len(texts)))
+    return {'script': {number: shown(texts[number - 1][:400]) for number in wanted}, 'scriptLines': len(texts)}
+
+
+def _pointed_at(page):
+    for line in page['lines']:
+        yield line[1] if len(line) > 1 else 0
+        for cause in line[3] if len(line) > 3 else ():
+            yield cause[0]
+        words = line[0].split(' ')
+        if words[0] in ('syntax', 'limit'):
+            yield int(words[1 if words[0] == 'syntax' else 2])
+    for element in page['elements']:
+        yield element[2]
+    yield from page['handlers'].values()
+    for step in page['steps']:
+        yield from (step['line'], *step['commands'][:2])
+        for item in step['since'] + step['log']:
+            if item[0] in ('command', 'handler'):
+                yield item[1 if item[0] == 'command' else 2]
+
+
+def shown(text):
+    """The bytes of a line as text: UTF-8 where it is that, and a mark for what isn't seen."""
+    decoded = text.rstrip(b'\r').decode('utf-8', 'replace')
+    return ''.join([letter if letter == '\t' or letter.isprintable() else '\ufffd' for letter in decoded])

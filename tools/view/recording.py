@@ -1,0 +1,268 @@
+"""A run of the reference that notes, tick by tick, what is told, which commands and callbacks run, and where the boxes are as the
+tick ends.
+
+A log is a list of items:
+    ['line', N]                           the line N of those kept, from 0 on
+    ['handler', NAME, LINE]               a handler is called; what follows runs in it, up to
+    ['end']
+    ['entry', ELEMENT]                    the block of an `each` begins for this target
+    ['command', LINE, LEVEL, TARGET, HOW, SIZES]
+        a command began, LEVEL blocks deep in its handler; TARGET is the element that `$target` names in it, or -1; HOW is what a
+        condition gave, or how many entries an `each` goes over, else -1; SIZES are the observed sizes that it changed:
+        [observer, element, box, width, height, width, height], before and after. Of commands outside handlers there are those alone
+        that changed such a size.
+"""
+import time
+
+from reference import program
+from reference.comparing import TooLong
+from reference.page import Page
+from reference.world import World
+
+from . import boxes
+from .causes import Causes
+
+MOST_TICKS = 2000                 # that are kept
+MOST_LINES = 20000                # of the trace
+MOST_COMMANDS_OF_A_TICK = 400     # in handlers
+MOST_COMMANDS = 40000
+MOST_DIFFERENCES = 400000         # values of packed boxes
+SECONDS = 120                     # of the processor
+
+START, TICK, END = 'start', 'tick', 'end'
+
+
+class Line:
+    """A line of the trace: the script's line of the command that was running, the elements that it is about, why it came, as (line,
+    word) pairs, and what more is known of it."""
+    __slots__ = ('text', 'line', 'elements', 'causes', 'more')
+
+    def __init__(self, text, line):
+        self.text, self.line = text, line
+        self.elements, self.causes, self.more = [], [], None
+
+
+class Step:
+    """A tick with what came since the tick before, or the time before the first tick, or behind the last one.
+
+    `since` is the log of the commands before the tick; `commands` are the first and the last of their lines and how many began;
+    `boxes` is the difference to the step before, None where it was left out.
+    """
+
+    def __init__(self, kind):
+        self.kind, self.number = kind, 0
+        self.line, self.time = 0, None
+        self.since, self.log = [], []
+        self.commands = (0, 0, 0)
+        self.kept, self.not_kept = 0, 0   # commands of handlers
+        self.lines_not_kept = 0
+        self.boxes = None
+
+    def begin_command(self, line):
+        first, _, count = self.commands
+        self.commands = (first or line, line, count + 1)
+
+
+class _NotingWorld(World):
+    """A world that knows whether a box may have changed, or a scroll position, since it was asked."""
+
+    def __init__(self, version):
+        World.__init__(self, version)
+        self.has_changed = self.has_scrolled = True
+
+    def changed(self):
+        self.has_changed = True
+        World.changed(self)
+
+    def scrolled(self):
+        self.has_scrolled = True
+        World.scrolled(self)
+
+
+class Recording(Page):
+    """The page whose run is noted. `first` is the number of the first tick that is kept; `say` is told now and then how
+    many ticks have run."""
+
+    def __init__(self, script, first=1, say=lambda ticks: None):
+        Page.__init__(self, script, None)
+        self.world = _NotingWorld(script.version)
+        self.first, self.say = first, say
+        self.things = boxes.Things()
+        self.things.document(self.world.top)
+        self.causes = Causes(self)
+        self.steps, self.ended, self.ticks = [], True, 0       # ticks that ended
+        self.status = program.DONE
+        self.boxes_left_out_from = None
+        self.packed, self.differences = None, 0
+        self.level, self.running = None, None                  # in a handler: how deep, and its command's item
+        self.last_entry = None
+        self.told, self.lines_left_out = 0, 0
+        self._forget()
+        self.next_say = time.process_time() + 1
+        self.end_of_time = self.next_say + SECONDS
+
+    def _forget(self):
+        """Begins to keep what comes from here on."""
+        self.lines, self.told_before, self.kept_commands = [], self.told, 0
+        self._begin_step(START)
+
+    def _begin_step(self, kind):
+        self.step = Step(kind)
+        self.log = self.step.since
+
+    # --- the run ------------------------------------------------------------------------------------------------------------
+
+    def record(self):
+        """Runs the script; `ended` says whether it came to its end, or to a limit, in time."""
+        try:
+            for command in self.script.commands:
+                is_tick = command.name == 'tick'
+                if is_tick:
+                    self._begin_tick(command)
+                else:
+                    self.step.begin_command(command.line)
+                went_on = self.run_outside(command)
+                if is_tick:
+                    self._end_tick()
+                if not went_on:
+                    self.status = program.LIMIT
+                    break
+            if self.step.commands[2] or not self.steps:
+                self.step.kind = END
+                self._keep_step()
+        except TooLong:
+            self.ended = False
+        return self
+
+    @property
+    def is_beyond(self):
+        """Whether all ticks that are kept have run."""
+        return self.ticks >= self.first - 1 + MOST_TICKS
+
+    def _begin_tick(self, command):
+        if self.ticks == self.first - 1:
+            self._keep_step()
+            self._begin_step(TICK)
+        self.step.kind, self.step.line = TICK, command.line
+        self.log = self.step.log
+
+    def _end_tick(self):
+        is_kept = self.ticks >= self.first - 1
+        self.step.time = self.world.clock
+        if is_kept:
+            self._keep_step()
+        self.ticks += 1
+        self._begin_step(END)
+        if not is_kept:
+            self._forget()
+
+    def _keep_step(self):
+        if self.is_beyond:
+            return
+        step = self.step
+        step.number = self.ticks + (step.kind == TICK)
+        self.steps.append(step)
+        if self.boxes_left_out_from is not None:
+            return
+        step.boxes = {}
+        world = self.world
+        if not (world.has_changed or world.has_scrolled or self.causes.stirred):
+            return
+        packed = None if world.has_changed else boxes.scrolled_state(world, self.things, self.packed)
+        if packed is None:
+            packed = boxes.state(world, self.things)
+        step.boxes = boxes.difference(self.packed, packed)
+        self.differences += boxes.count(step.boxes)
+        if self.differences > MOST_DIFFERENCES and self.packed is not None:
+            self.boxes_left_out_from, step.boxes = step.number, None
+        self.packed = packed
+        world.has_changed = world.has_scrolled = self.causes.stirred = False
+
+    def begin(self, command):
+        now = time.process_time()
+        if now > self.end_of_time:
+            raise TooLong
+        if now > self.next_say:
+            self.next_say = now + 1
+            self.say(self.ticks)
+        Page.begin(self, command)
+
+    # --- callbacks and commands -----------------------------------------------------------------------------------------------
+
+    def _keep(self, item):
+        if not self.is_beyond:
+            self.log.append(item)
+
+    def call(self, document, handler, entries=None, lines=()):
+        outer, began = (self.level, self.last_entry), []
+        try:
+            Page.call(self, document, handler, entries, self._noted(lines, handler, began))
+        finally:
+            self.level, self.last_entry = outer
+            if began:
+                self._keep(['end'])
+
+    def _noted(self, lines, handler, began):
+        """The lines of a callback; behind the last of them its handler begins."""
+        yield from lines
+        if handler is not None:
+            began.append(True)
+            self.level, self.last_entry = 0, None
+            self._keep(['handler', handler.name, handler.line])
+
+    def run_command(self, command):
+        if self.level is None:
+            return Page.run_command(self, command)
+        outer, self.running = self.running, self._note_command(command)
+        self.level += 1
+        try:
+            return Page.run_command(self, command)
+        finally:
+            self.level -= 1
+            self.running = outer
+
+    def _note_command(self, command):
+        """The command's item, which is kept where there is room for it."""
+        is_kept = self.step.kept < MOST_COMMANDS_OF_A_TICK and self.kept_commands < MOST_COMMANDS and not self.is_beyond
+        target = -1 if self.entry is None else self.things.element(self.entry.target)
+        if is_kept and self.entry is not None and self.entry is not self.last_entry:
+            self._keep(['entry', target])
+        self.last_entry = self.entry
+        names_target = any(operand.value == '$target' for operand in command.operands)
+        item = ['command', command.line, self.level, target if names_target else -1,
+                len(self.entries or ()) if command.name == 'each' else -1, []]
+        if is_kept:
+            self.step.kept += 1
+            self.kept_commands += 1
+            self._keep(item)
+        else:
+            self.step.not_kept += 1
+        return item
+
+    def holds(self, command):
+        held = Page.holds(self, command)
+        if self.running is not None:
+            self.running[4] = int(held)
+        return held
+
+    def do(self, command):
+        self.causes.before(command)
+        Page.do(self, command)
+        changes = self.causes.after(command)
+        if changes and self.running is not None:
+            self.running[5] = changes
+        elif changes:
+            self._keep(['command', command.line, 0, -1, -1, changes])
+
+    # --- lines of the trace ---------------------------------------------------------------------------------------------------
+
+    def tell(self, text, about=None):
+        self.told += 1
+        line = Line(text, self.line)
+        self.causes.explain(line, about)
+        if self.is_beyond or len(self.lines) >= MOST_LINES:
+            self.lines_left_out += 1
+            self.step.lines_not_kept += 1
+            return
+        self._keep(['line', len(self.lines)])
+        self.lines.append(line)
