@@ -86,24 +86,17 @@ judged_past source after feeds passes =
     ap (λ line. refused_with (LimitAt limits.Recorded line)) (line-past source feeds passes.feeds_counted)
     ∙ ap (λ long. cond long (refused_with (LimitAt limits.Recorded (last_line 67108864 source))) (judgement_reply (judgement (trace (script_of source)) (trace_of source)))) (sym (past (length source) passes.longer))
 
--- the source that was read
-pub ends_whole : (status : Status) (left : Option (List ℕ)) (bytes : List ℕ) (before after : Option (List ℕ)) (f g : ℕ) → IfSome left (λ source. bytes ≡ source)
-    → Tells status (judge_reply bytes) before after f g → IfSome left (λ source. Ends status (judge_reply source) before after f g)
-ends_whole status None bytes before after f g all told = tt
-ends_whole status (Some source) bytes before after f g all told =
-    tells_end status (judge_reply source) before after f g (subst (λ it. Tells status (judge_reply it) before after f g) all told)
-
 pub ends_past : (status : Status) (left rest : Option (List ℕ)) (feeds : ℕ) (before after : Option (List ℕ)) (f g : ℕ) → IfSome left (λ source. PassesLimit source rest 67108864 feeds)
     → Tells status (refused_with (LimitAt limits.Recorded (feeds + 1))) before after f g → IfSome left (λ source. Ends status (judge_reply source) before after f g)
 ends_past status None rest feeds before after f g passes told = tt
 ends_past status (Some source) rest feeds before after f g passes told =
     tells_end status (judge_reply source) before after f g (subst (λ (it : Reply). Tells status it before after f g) (judged_past source rest feeds passes) told)
 
-pub taken_whole : (status : Status) (left rest : Option (List ℕ)) (bytes : List ℕ) → IfSome left (λ source. bytes ≡ source) → IfSome left (λ _. rest ≡ Some []) → length bytes ≤ 67108864
+pub taken_whole : (status : Status) (left rest : Option (List ℕ)) → IfSome left (λ source. (length source ≤ 67108864) × (rest ≡ Some []))
     → IfSome left (λ source. IsTaken status 67108865 source rest)
-taken_whole status None rest bytes all end fits = tt
-taken_whole status (Some source) rest bytes all end fits =
-    taken status 67108865 source rest (end ∙ ap Some (sym (drop_all 67108865 source (omega (arith, fits, ap length all)))))
+taken_whole status None rest end = tt
+taken_whole status (Some source) rest end =
+    taken status 67108865 source rest (end.1 ∙ ap Some (sym (drop_all 67108865 source (omega (arith, end.0)))))
 
 pub taken_past : (status : Status) (left rest : Option (List ℕ)) (feeds : ℕ) → IfSome left (λ source. PassesLimit source rest 67108864 feeds)
     → IfSome left (λ source. IsTaken status 67108865 source rest)
@@ -128,3 +121,11 @@ source_judged status source script recorded before after f g fits first behind t
     (ap (λ t. judgement_reply (judgement t recorded)) (ap trace first ∙ first_bytes_told (script_of source))
     ∙ ap (λ t. judgement_reply (judgement (trace (script_of source)) t)) behind ∙ judged_within source fits)
     told
+
+-- the source that was read
+pub ends_whole : (status : Status) (left rest : Option (List ℕ)) (script recorded : List ℕ) (before after : Option (List ℕ)) (f g : ℕ)
+    → IfSome left (λ source. (script ≡ take 16777217 (script_of source)) × (recorded ≡ trace_of source)) → IfSome left (λ source. (length source ≤ 67108864) × (rest ≡ Some []))
+    → Tells status (judgement_reply (judgement (trace script) recorded)) before after f g → IfSome left (λ source. Ends status (judge_reply source) before after f g)
+ends_whole status None rest script recorded before after f g parts end told = tt
+ends_whole status (Some source) rest script recorded before after f g parts end told =
+    tells_end status (judge_reply source) before after f g (source_judged status source script recorded before after f g end.0 parts.0 parts.1 told)

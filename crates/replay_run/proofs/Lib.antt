@@ -1,6 +1,8 @@
 mod Playing
 mod Endings
 mod Reading
+mod Pieces
+mod Feeding
 mod Taking
 mod Unread
 pub mod CommandCounts

@@ -1,5 +1,6 @@
 pub mod Statuses
 pub mod Certificates
 pub mod Words
+pub mod Recorded
 pub mod Replies
 pub mod Answers

@@ -41,6 +41,15 @@ pub struct Report {
     pub page: Option<Page>,
 }
 
+impl Report {
+    /// The status of a report whose page nobody wants. Dropping a page is long to prove; it is done here once.
+    pub fn into_status(self) -> Status
+        ensures { result ≡ self.status }
+    {
+        self.status
+    }
+}
+
 pub(crate) fn without_page(status: Status) -> Report
     requires { is_done status ≡ false }
     ensures { result ≡ record { status = status; page = None } }

@@ -1,33 +1,24 @@
 //! Recorded traces, judged beside the traces of their scripts.
 
-ghost use Rattle.std.specs.Prelude.{◌≡◌, ◌≤◌, length, IfOk, IfSome};
+ghost use Rattle.std.specs.Prelude.{◌≡◌, IfOk, IfSome};
 ghost use Rattle.text_io.specs.Streams.{Rose};
 ghost use Rattle.page_model.specs.Outcome.{trace};
 ghost use Rattle.trace_judge.specs.Judging.{judgement};
 ghost use Rattle.replay_run.specs.Answers.{Ends, IsTaken, Tells};
 ghost use Rattle.replay_run.specs.Replies.{judge_reply, judgement_reply, judgement_status};
 
-use crate::call::{Report, meet_limit, perform_on_text};
+use crate::call::{meet_limit, perform_on_text};
 use crate::input::ScriptText;
+use crate::recorded::{RecordedText, read_recorded};
 use crate::status::Status;
 use crate::summary::status_of;
 use crate::words::Job;
 use std::alloc::{AllocError, Global};
 use std::sync::ledger::Ledger;
 use step_count::Steps;
-use text_io::{LimitKind, Sink, Source, TextFault, read_all};
-use trace_judge::{Judgement, Recording, judge};
+use text_io::{LimitKind, Sink, Source, TextFault};
+use trace_judge::{Judgement, judge};
 use trace_summary::GatherSink;
-
-/// The most bytes of a source with a recorded trace.
-const MOST_RECORDED: usize = 67_108_864;
-
-// The status of a report whose page nobody wants.
-fn status_alone(report: Report) -> Status
-    ensures { result ≡ report.status }
-{
-    report.status
-}
 
 // The trace of a script, gathered in memory. The error is want of memory.
 fn trace_of<L: Ledger>(
@@ -39,7 +30,7 @@ fn trace_of<L: Ledger>(
 {
     let mut gathered = GatherSink::new(alloc);
     let report = perform_on_text(alloc, Job::Replay, script, &mut gathered, steps);
-    if status_alone(report).is_whole() {
+    if report.into_status().is_whole() {
         Ok(gathered)
     } else {
         // In memory a write fails for want of it alone.
@@ -74,22 +65,18 @@ fn judge_trace<K: Sink, L: Ledger>(
     status_of(judgement.write_to(alloc, sink), status_by(&judgement))
 }
 
-// The script and the recorded trace of a source.
-fn judge_bytes<K: Sink, L: Ledger>(
+// The same with both as they were read.
+fn judge_recorded<K: Sink, L: Ledger>(
     alloc: Global,
-    source: &[u8],
+    recorded: RecordedText,
     sink: &mut K,
     steps: &mut Steps<L>,
 ) -> Status
-    requires { length source.now ≤ 67108864 }
-    ensures { Tells result (judge_reply source.now) (K.taken sink.old) (K.taken sink.new) (K.faults sink.old) (K.faults sink.new) }
+    ensures { Tells result (judgement_reply (judgement (trace recorded.script) recorded.trace))
+        (K.taken sink.old) (K.taken sink.new) (K.faults sink.old) (K.faults sink.new) }
 {
-    let recording = Recording::split(source);
-    let mut script = ScriptText::new(alloc);
-    match script.feed(recording.script) {
-        Ok(()) => judge_trace(alloc, script, recording.trace, sink, steps),
-        Err(_) => Status::NoMemory,
-    }
+    let (script, trace) = recorded.into_parts();
+    judge_trace(alloc, script, &trace, sink, steps)
 }
 
 /// Judges the recorded trace that the source holds behind its script.
@@ -106,8 +93,8 @@ pub fn judge_source<S: Source, K: Sink, L: Ledger>(
     ensures read_fault { result ≡ Status.ReadFault → Rose (S.faults source.old) (S.faults source.new) × (sink.new ≡ sink.old) }
     ensures write_fault { result ≡ Status.WriteFault → Rose (K.faults sink.old) (K.faults sink.new) }
 {
-    match read_all(alloc, source, MOST_RECORDED) {
-        Ok(bytes) => judge_bytes(alloc, &bytes, sink, steps),
+    match read_recorded(alloc, source) {
+        Ok(recorded) => judge_recorded(alloc, recorded, sink, steps),
         Err(TextFault::TooLong { feeds }) => {
             meet_limit(alloc, LimitKind::Recorded, feeds + 1, sink)
         }

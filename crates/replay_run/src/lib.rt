@@ -12,6 +12,7 @@ mod laws;
 mod lines;
 mod play;
 mod printing;
+mod recorded;
 mod status;
 mod summary;
 mod words;

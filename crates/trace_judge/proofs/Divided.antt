@@ -19,26 +19,26 @@ one_before l ls other = ap (λ test. cond (not test) (1 + script_lines ls) 0) ot
 
 -- ---- texts
 
-script_ends : (rest : List ℕ) → 0 < length rest → is_divider (first_line rest) ≡ true → script_of rest ≡ []
+pub script_ends : (rest : List ℕ) → 0 < length rest → is_divider (first_line rest) ≡ true → script_of rest ≡ []
 unfolding script_of
 script_ends rest some is =
     ap (λ ls. concat (take (script_lines ls) ls)) (lines_by_first rest some)
     ∙ ap (λ n. concat (take n (first_line rest ∷ lines_of (behind_line rest)))) (none_before (first_line rest) (lines_of (behind_line rest)) is)
 
-trace_begins : (rest : List ℕ) → 0 < length rest → is_divider (first_line rest) ≡ true → trace_of rest ≡ behind_line rest
+pub trace_begins : (rest : List ℕ) → 0 < length rest → is_divider (first_line rest) ≡ true → trace_of rest ≡ behind_line rest
 unfolding trace_of
 trace_begins rest some is =
     ap (λ ls. concat (drop (script_lines ls + 1) ls)) (lines_by_first rest some)
     ∙ ap (λ n. concat (drop (n + 1) (first_line rest ∷ lines_of (behind_line rest)))) (none_before (first_line rest) (lines_of (behind_line rest)) is)
     ∙ lines_make (behind_line rest)
 
-script_goes : (rest : List ℕ) → 0 < length rest → is_divider (first_line rest) ≡ false → script_of rest ≡ first_line rest ++ script_of (behind_line rest)
+pub script_goes : (rest : List ℕ) → 0 < length rest → is_divider (first_line rest) ≡ false → script_of rest ≡ first_line rest ++ script_of (behind_line rest)
 unfolding script_of
 script_goes rest some other =
     ap (λ ls. concat (take (script_lines ls) ls)) (lines_by_first rest some)
     ∙ ap (λ n. concat (take n (first_line rest ∷ lines_of (behind_line rest)))) (one_before (first_line rest) (lines_of (behind_line rest)) other)
 
-trace_waits : (rest : List ℕ) → 0 < length rest → is_divider (first_line rest) ≡ false → trace_of rest ≡ trace_of (behind_line rest)
+pub trace_waits : (rest : List ℕ) → 0 < length rest → is_divider (first_line rest) ≡ false → trace_of rest ≡ trace_of (behind_line rest)
 unfolding trace_of
 trace_waits rest some other =
     let k : ℕ = script_lines (lines_of (behind_line rest)) in
@@ -47,11 +47,11 @@ trace_waits rest some other =
     ∙ ap (λ n. concat (drop (n + 1) (first_line rest ∷ lines_of (behind_line rest)))) (one_before (first_line rest) (lines_of (behind_line rest)) other)
     ∙ ap (λ n. concat (drop n (first_line rest ∷ lines_of (behind_line rest)))) next
 
-script_none : script_of [] ≡ []
+pub script_none : script_of [] ≡ []
 unfolding script_of lines_of
 script_none = refl
 
-trace_none : trace_of [] ≡ []
+pub trace_none : trace_of [] ≡ []
 unfolding trace_of lines_of
 trace_none = refl
 

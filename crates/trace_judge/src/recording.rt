@@ -12,8 +12,10 @@ pub struct Recording<'a> {
     pub trace: &'a [u8],
 }
 
-// Whether this is the line `trace`.
-fn is_divider(line: &[u8]) -> bool
+/// Whether this is the line `trace`, which stands between a script and its recorded trace. No memory.
+///
+/// A carriage return may stand before its line feed, and it may end a source without one.
+pub fn is_divider(line: &[u8]) -> bool
     ensures { result ≡ is_divider line.now }
 {
     line == b"trace".as_slice() || line == b"trace\n".as_slice() || line == b"trace\r\n".as_slice()

@@ -1,11 +1,12 @@
-use Rattle.std.proofs.Common.{◌≤◌, arith, length}
-use Rattle.replay_run.proofs.Judged.{ends_past, taken_whole}
+use Rattle.replay_run.proofs.Judged.{ends_past, ends_whole, taken_whole}
 use Rattle.replay_run.proofs.judging.judge_source.Goals as goal
 
+pub returns-in-Ok-clause-ends : goal.returns-in-Ok-clause-ends
+returns-in-Ok-clause-ends g c =
+    ends_whole c.judge_recorded.result _ _ _ _ _ _ _ _ c.in-Ok.ensures.divided c.in-Ok.ensures.end c.judge_recorded.ensures
+
 pub returns-in-Ok-clause-read : goal.returns-in-Ok-clause-read
-returns-in-Ok-clause-read g c =
-    let fits : length c.in-Ok.bytes.items ≤ 67108864 = omega (arith, c.in-Ok.bytes.ok, c.in-Ok.ensures.within) in
-    taken_whole c.judge_bytes.result _ _ c.in-Ok.bytes.items c.in-Ok.ensures.all c.in-Ok.ensures.end fits
+returns-in-Ok-clause-read g c = taken_whole c.judge_recorded.result _ _ c.in-Ok.ensures.end
 
 pub returns-in-Err-TooLong-clause-ends : goal.returns-in-Err-TooLong-clause-ends
 returns-in-Err-TooLong-clause-ends g c =
