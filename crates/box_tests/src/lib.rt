@@ -15,4 +15,6 @@ mod layout_model_tests;
 #[cfg(test)]
 mod number_map_tests;
 #[cfg(test)]
+mod readme_examples;
+#[cfg(test)]
 mod step_count_tests;

@@ -1,8 +1,10 @@
 //! Laws of commands, callbacks, ticks and whole runs.
 
-ghost use Rattle.std.specs.Prelude.{ℕ, List, Option, length};
+ghost use Rattle.std.specs.Prelude.{◌≡◌, ◌≤◌, ℕ, List, Option, length};
 ghost use Rattle.std.specs.List.{AllByRecursion};
+ghost use Rattle.layout_model.specs.Nodes.{path_up, path_of};
 ghost use Rattle.script_model.specs.Syntax.{Action, Command, Item};
+ghost use Rattle.page_model.specs.Documents.{nodes_of};
 ghost use Rattle.page_model.specs.World.{World};
 ghost use Rattle.page_model.specs.Steps.{Effect};
 ghost use Rattle.page_model.specs.Operands.{Handlers, Present};
@@ -13,6 +15,8 @@ ghost use Rattle.page_model.specs.Ticks.{tick};
 ghost use Rattle.page_model.specs.Outcome.{opening_world, outcome, run_item, run_items};
 ghost use Rattle.page_laws.specs.Successors.{OnDid};
 ghost use Rattle.document_laws.specs.Levels.{IsWithinLevels};
+
+use crate::levels::levels_are_never_cut_off;
 
 /// Over whole runs elements make trees of at most 256 levels, frames and documents belong together, from each Active document the way
 /// from frame to frame leads up to `top`, and there are at most 64 documents. A script opens in such a world, and ends in one. From any
@@ -36,3 +40,12 @@ pub fn trees_are_kept()
     ensures scripts { (items : List Item) → IsWithinLevels (run_items items opening_world).state.tree }
     ensures outcomes { (text : List ℕ) → IsWithinLevels (outcome text).world.tree }
 {}
+
+/// On the page that a script leaves, the path from an element to the top of its tree is the same with any bound from 256 on.
+pub fn paths_of_runs_are_whole()
+    ensures { (text : List ℕ) (most n : ℕ) → 256 ≤ most →
+        path_up most (nodes_of (outcome text).world.tree) n ≡ path_of (nodes_of (outcome text).world.tree) n }
+{
+    trees_are_kept(); // the tree of such a page is within its levels
+    levels_are_never_cut_off(); // and there paths are the same with any such bound
+}

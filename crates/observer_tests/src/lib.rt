@@ -16,6 +16,8 @@ mod intersection_observer_tests;
 #[cfg(test)]
 mod kept_clips_tests;
 #[cfg(test)]
+mod readme_examples;
+#[cfg(test)]
 mod resize_observer_tests;
 #[cfg(test)]
 mod scrolling_tests;
