@@ -2,11 +2,13 @@
 
 The trace is the proved program's where that is built. Where the recording's is another, the trace stands alone, and a note says so.
 """
+import subprocess
+
 from explain import report, runs
-from reference import available, grammar
+from reference import available, grammar, program
 from reference.lexer import Fault, TextLimit
 
-from . import recording
+from . import boxes, recording
 
 MOST_SCRIPT_LINES = 20000
 MOST_SCRIPT_BYTES = 2000000
@@ -26,6 +28,7 @@ def of(text, name, tick=None, say=lambda sentence: None):
         status = recorded.status                     # the explained run may have been stopped
     page = {'name': name, 'status': status, 'trace': 'proved' if runs.is_built() else 'reference', 'open': tick}
     page.update(_recording_parts(recorded, trace, notes) if recorded is not None else _plain_parts(trace))
+    page['checked'] = None if recorded is None else _checked(recorded, text, notes)
     page.update(_script_parts(trace.script, page, notes))
     page['notes'] = notes
     return page, status
@@ -47,6 +50,24 @@ def _is_same(recorded, trace):
     """Whether the recorded lines are those of the trace, as far as both go."""
     start = recorded.told_before
     return all(line.text == told[0] for line, told in zip(recorded.lines, trace.lines[start:]))
+
+
+def _checked(recorded, text, notes):
+    """The number of the tick of which the proved program has the same boxes, where it is asked: the last one that is kept."""
+    if '--inspect' not in available.WORDS or not runs.is_built() or recorded.last_tick is None or recorded.status != program.DONE:
+        return None
+    number, packed = recorded.last_tick
+    try:
+        done = subprocess.run([runs.PROGRAM, '--inspect', str(number)], input=text, stdout=subprocess.PIPE,
+                              stderr=subprocess.DEVNULL, timeout=runs.SECONDS_OF_THE_PROGRAM)
+    except subprocess.TimeoutExpired:
+        return None
+    if packed.left_out or done.returncode not in (program.DONE, program.LIMIT):
+        return None
+    if done.stdout.decode('ascii', 'replace').splitlines() == list(boxes.inspected(packed, *recorded.things.listed())):
+        return number
+    notes.append('The proved program has other boxes as tick %d ends, and one of both is wrong.' % number)
+    return None
 
 
 # --- the recording ------------------------------------------------------------------------------------------------------------

@@ -12,7 +12,7 @@ let asked = 0, drawn = { place: -1 }, scriptOf = -1;
 
 function begin() {
   fill('source', html`Trace: ${data.trace === 'proved' ? 'the proved program\u2019s.' : html`the reference program\u2019s, as the proved one isn\u2019t built (<code>bin/build</code> builds it).`} ${
-    data.steps.some(step => step.boxes) ? 'Boxes and causes: the reference\u2019s.' : ''}`);
+    data.steps.some(step => step.boxes) ? 'Boxes and causes: the reference\u2019s.' : ''}${data.checked !== null && ` The boxes of tick ${data.checked} are the proved program\u2019s too.`}`);
   fill('totals', totals());
   fill('ticks', panels.ticks());
   fill('script-count', counted(data.scriptLines, 'line'));

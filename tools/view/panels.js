@@ -109,7 +109,7 @@ class Panels {
       const [, observer, line, kind, told, width, height] = one;
       const now = !box ? [0, 0] : kind === 'border' ? [widthOf(box.rectangle), heightOf(box.rectangle)] : [widthOf(box.content), heightOf(box.content)];
       const isTold = kind === 'device' || now[0] === width && now[1] === height;
-      return html`<li><b>${observer}</b>, ${kind} box, ${this.story.ref(line)}: ${told ? html`told ${sizeText(width, height)}` : 'told nothing yet'}${
+      return html`<li><b>${observer}</b>, ${kind} box, ${this.story.ref(line)}: ${told ? html`told ${toldSize(kind, width, height)}` : 'told nothing yet'}${
         kind === 'device' ? '' : isTold ? ', as it is' : html`; <b class="bad">it is ${sizeText(...now)}</b>, to be told`}</li>`;
     })}</ul>`;
   }

@@ -94,6 +94,7 @@ class Recording(Page):
         self.status = program.DONE
         self.boxes_left_out_from = None
         self.packed, self.differences = None, 0
+        self.last_tick = None                                  # (number, State) of the last one of which the boxes are kept
         self.level, self.running = None, None                  # in a handler: how deep, and its command's item
         self.last_entry = None
         self.told, self.lines_left_out = 0, 0
@@ -151,6 +152,7 @@ class Recording(Page):
         self.step.time = self.world.clock
         if is_kept:
             self._keep_step()
+            self._note_last_tick()
         self.ticks += 1
         self._begin_step(END)
         if not is_kept:
@@ -177,6 +179,10 @@ class Recording(Page):
             self.boxes_left_out_from, step.boxes = step.number, None
         self.packed = packed
         world.has_changed = world.has_scrolled = self.causes.stirred = False
+
+    def _note_last_tick(self):
+        if self.steps[-1].kind == TICK and self.steps[-1].boxes is not None:
+            self.last_tick = (self.steps[-1].number, self.packed)
 
     def begin(self, command):
         now = time.process_time()

@@ -183,7 +183,7 @@ class Story {
   }
   delivery(line, words) {
     const more = this.more(line), box = more ? more[1] : 'content', sizes = { content: [words[6], words[7]], border: [words[9], words[10]], device: [words[12], words[13]] };
-    const before = more && more.length > 2 ? html`before ${sizeText(more[2], more[3])}` : more ? 'told for the first time' : '';
+    const before = more && more.length > 2 ? html`before ${toldSize(box, more[2], more[3])}` : more ? 'told for the first time' : '';
     return html`<b>${words[1]}</b> is told ${this.target(line, words[2])}: <b class="size">${sizes[box].join(' \u00d7 ')}</b> ${box} box${before && html`, <span class="before">${before}</span>`}`;
   }
   event(line, words) {
@@ -197,8 +197,8 @@ class Story {
     if (!more) return html`<b class="bad">Loop error</b>`;
     const left = more.slice(2);
     return html`<b class="bad">Loop error</b>: ${left.length === 1 ? 'a size was' : `${number(left.length)} sizes were`} left untold. The loop had come to depth ${more[1]}, and tells only what is deeper.
-      <ul class="left">${left.slice(0, 10).map(([observer, element, box, depth, told, w, h, width, height]) => html`<li><b>${observer}</b> was told ${told ? sizeText(w, h) : 'nothing'} of ${this.thing(element)}
-        at depth ${depth}; its ${box} box is <b class="size">${sizeText(width, height)}</b> now</li>`)}${left.length > 10 && html`<li>and ${number(left.length - 10)} more</li>`}</ul>`;
+      <ul class="left">${left.slice(0, 10).map(([observer, element, box, depth, told, w, h, width, height]) => html`<li><b>${observer}</b> was told ${told ? toldSize(box, w, h) : 'nothing'} of ${this.thing(element)}
+        at depth ${depth}; its ${box} box is <b class="size">${toldSize(box, width, height)}</b> now</li>`)}${left.length > 10 && html`<li>and ${number(left.length - 10)} more</li>`}</ul>`;
   }
 
   // ---- the story ----
@@ -217,7 +217,7 @@ class Story {
     const came = how < 0 ? '' : word === 'when' ? (how ? 'holds' : 'doesn\u2019t hold') : counted(how, 'entry', 'entries');
     return html`<li class="command" style="--level:${level}">${this.ref(line)} ${this.code(line, target)}${came && html` <span class="word">${came}</span>`}${
       sizes.length > 0 && html`<ul class="sizes">${sizes.slice(0, 8).map(([observer, element, box, w, h, width, height]) =>
-        html`<li>${this.thing(element)}: ${sizeText(w, h)} \u2192 <b class="size">${sizeText(width, height)}</b> <span class="word">${box} box, observed by ${observer}</span></li>`)}${
+        html`<li>${this.thing(element)}: ${toldSize(box, w, h)} \u2192 <b class="size">${toldSize(box, width, height)}</b> <span class="word">${box} box, observed by ${observer}</span></li>`)}${
         sizes.length > 8 && html`<li>and ${number(sizes.length - 8)} more sizes</li>`}</ul>`}</li>`;
   }
   item(item, chosen, before) {
@@ -289,9 +289,9 @@ class Story {
     return html`${found.slice(0, MOST_TROUBLES).map(one => html`<li>${one}</li>`)}${found.length > MOST_TROUBLES && html`<li>and ${number(found.length - MOST_TROUBLES)} more below</li>`}`;
   }
   trouble(line) {
-    const left = this.more(line).slice(2), [, element, , , told, w, h, width, height] = left[0], document = this.text(line).split(' ')[2].slice(1);
+    const left = this.more(line).slice(2), [, element, box, , told, w, h, width, height] = left[0], document = this.text(line).split(' ')[2].slice(1);
     const by = this.causes(line).filter(([, word]) => word === 'changed the size').pop();
-    return html`<b class="bad">Loop error</b> in <b>${document}</b>: ${this.thing(element)} ${told ? html`was told ${sizeText(w, h)} and` : 'was told nothing and'} is <b class="size">${sizeText(width, height)}</b>${
+    return html`<b class="bad">Loop error</b> in <b>${document}</b>: ${this.thing(element)} ${told ? html`was told ${toldSize(box, w, h)} and` : 'was told nothing and'} is <b class="size">${toldSize(box, width, height)}</b>${
       by && html` since ${this.ref(by[0])} ${this.code(by[0])}`}${left.length > 1 && html`; so ${left.length === 2 ? 'is one more' : `are ${number(left.length - 1)} more`}`}.`;
   }
   told(step, chosen) {
@@ -303,6 +303,8 @@ class Story {
   }
 }
 // The part of an intersection in words.
+// A size as it is told of a box: of the box `device` in device pixels.
+const toldSize = (box, width, height) => box === 'device' ? `${width} \u00d7 ${height} device px` : sizeText(width, height);
 function seenPart(text) {
   const [part, whole] = text.split('/').map(BigInt);
   if (part === whole) return 'all of it';
