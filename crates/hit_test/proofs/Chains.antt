@@ -1,7 +1,10 @@
 -- The chain from an element with a box to the viewport of the top document.
-use Rattle.std.proofs.Common.{◌≡◌, ◌∙◌, ℕ, Bool, true, false, cond, ◌&&◌, List, [], ◌∷◌, ◌++◌, filter, filter_map, map, reverse, Result, IfOk, refl, ap, sym, subst}
+use Rattle.std.proofs.Common.{◌≡◌, ◌∙◌, ℕ, Bool, true, false, cond, ◌&&◌, List, [], ◌∷◌, ◌++◌, filter, filter_map, map, reverse, Result, IfOk, refl, ap, sym, subst, ◌<◌, All, length, IsPermutation}
 use Rattle.std.specs.List.{list_all}
 use Rattle.std.proofs.lemmas.List.{map-append, reverse-append}
+use Rattle.std.proofs.lemmas.List.Elements.{All-weaker, filter_passes}
+use Rattle.std.proofs.lemmas.List.Sorted.{All-permutation}
+use Rattle.page_boxes.proofs.Pages.{made_if_boxed}
 use Rattle.px_units.specs.declared.Point.{Point}
 use Rattle.element_tree.specs.declared.node.NodeId.{NodeId}
 use Rattle.element_tree.specs.Links.{number}
@@ -66,3 +69,29 @@ pub hits_are : {A E : Type 0} (result : Result A E) (numbers : A → List ℕ) (
 unfolding hits
 hits_are result numbers world at shown is found =
     subst (λ (it : Shown). IfOk result (λ found. numbers found ≡ reverse (filter (is_hit it at) (paint_order (it.tree))))) is found
+
+-- what is hit has a box, so that it is there
+
+and_left : (p q : Bool) → (p && q) ≡ true → p ≡ true
+and_left true q is = refl
+and_left false q is = is
+
+hit_there : (it : Shown) (at : Point) (n : ℕ) → is_hit it at n ≡ true → n < length it.tree.elements
+unfolding is_hit
+hit_there it at n hit =
+    made_if_boxed it.tree it.screen n
+    (and_left (has_box it n) (list_all (has_point at) (border_rect it n ∷ viewport_rect it 0 ∷ clips_between it ImplicitRoot n)) hit)
+
+pub all_there : (it : Shown) (at : Point) (painted found back : List NodeId) → found ≡ filter (λ (node : NodeId). is_hit it at (node.0)) painted
+    → IsPermutation found back → All (λ (node : NodeId). node.0 < length it.tree.elements) back
+all_there it at painted found back kept turned_round =
+    All-permutation (λ (node : NodeId). node.0 < length it.tree.elements) found back turned_round
+    (subst (All (λ (node : NodeId). node.0 < length it.tree.elements)) (sym kept)
+    (All-weaker (λ (node : NodeId). is_hit it at (node.0) ≡ true) (λ (node : NodeId). node.0 < length it.tree.elements) (λ node. hit_there it at (node.0)) _
+    (filter_passes (λ (node : NodeId). is_hit it at (node.0)) painted)))
+
+pub there_are : {A E : Type 0} (result : Result A E) (nodes : A → List NodeId) (world : World) (shown : Shown) → shown ≡ shown_of world
+    → IfOk result (λ found. All (λ (node : NodeId). node.0 < length shown.tree.elements) (nodes found))
+    → IfOk result (λ found. All (λ (node : NodeId). node.0 < length world.tree.elements) (nodes found))
+there_are result nodes world shown is there =
+    subst (λ (it : Shown). IfOk result (λ found. All (λ (node : NodeId). node.0 < length it.tree.elements) (nodes found))) is there

@@ -1,6 +1,6 @@
 //! The elements that a point hits.
 
-ghost use Rattle.std.specs.Prelude.{◌≡◌, ◌++◌, filter, map, reverse, true, IfOk, OnOk};
+ghost use Rattle.std.specs.Prelude.{◌≡◌, ◌<◌, All, length, ◌++◌, filter, map, reverse, true, IfOk, OnOk};
 ghost use Rattle.element_tree.specs.Links.{number};
 ghost use Rattle.page_model.specs.Shown.{has_box};
 ghost use Rattle.hit_test.specs.Hits.{is_hit};
@@ -55,7 +55,8 @@ pub(crate) fn hits_shown(
     shown: &Shown<'_>,
     at: Point,
 ) -> Result<Vec<NodeId>, AllocError>
-    ensures { IfOk result (λ found. map number found.items ≡ reverse (filter (is_hit shown.now at) (paint_order shown.now.tree))) }
+    ensures list { IfOk result (λ found. map number found.items ≡ reverse (filter (is_hit shown.now at) (paint_order shown.now.tree))) }
+    ensures there { IfOk result (λ found. All (λ node. node.0 < length shown.now.tree.elements) found.items) }
 {
     let painted = paint_order(alloc, shown.page())?;
     let mut found = hit_among(alloc, shown, &painted, at)?;

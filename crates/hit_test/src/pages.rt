@@ -1,6 +1,6 @@
 //! What a point of a page hits.
 
-ghost use Rattle.std.specs.Prelude.{◌≡◌, map, IfOk};
+ghost use Rattle.std.specs.Prelude.{◌≡◌, ◌<◌, All, length, map, IfOk};
 ghost use Rattle.element_tree.specs.Links.{number};
 ghost use Rattle.page_state.specs.Boxes.{Computes};
 ghost use Rattle.hit_test.specs.Hits.{hits};
@@ -26,6 +26,7 @@ pub fn hits<L: Ledger>(
     steps: &mut Steps<L>,
 ) -> Result<Vec<NodeId>, AllocError>
     ensures list { IfOk result (λ found. map number found.items ≡ hits page.old.world at) }
+    ensures there { IfOk result (λ found. All (λ node. node.0 < length page.old.world.tree.elements) found.items) }
     ensures same { page.new ≡ record page.old { kept = page.new.kept } }
     ensures boxes { Computes page.old.world page.old.kept page.new.kept steps.old steps.new }
 {
