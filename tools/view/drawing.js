@@ -126,6 +126,7 @@ class Drawing {
       parts.push(this.label(rectangle, text, 'of-viewport', true));
     }
     const chosen = this.boxes.boxes.get(this.chosen);
+    if (!this.boxes.boxes.size) parts.push(this.label(this.boxes.viewports[0].rectangle, 'no box stands in the page', 'of-viewport', false));
     if (chosen) parts.push(this.label(chosen.seen || chosen.rectangle, this.labelText(this.chosen), 'of-chosen', false));
     for (const [element] of this.changes) if (element !== this.chosen && this.changeWords(element).length) parts.push(this.nameOf(element, 'of-changed'));
     for (const { element } of this.boxes.order) if (element !== this.chosen && !(this.changes.has(element) && this.changeWords(element).length)) parts.push(this.nameOf(element, ''));

@@ -15,6 +15,7 @@ function begin() {
     data.steps.some(step => step.boxes) ? 'Boxes and causes: the reference\u2019s.' : ''}${data.checked !== null && ` The boxes of tick ${data.checked} are the proved program\u2019s too.`}`);
   fill('totals', totals());
   fill('ticks', panels.ticks());
+  if (data.steps.length > MANY) fill('overview', panels.overview());
   fill('script-count', counted(data.scriptLines, 'line'));
   panels.byElement = panels.indexed();
   at('trouble').disabled = !data.steps.some(step => story.isTrouble(step));
@@ -25,15 +26,17 @@ function begin() {
 }
 function totals() {
   const sum = key => data.steps.reduce((all, step) => all + story.counts(step)[key], 0), parts = [counted(data.ticks, 'tick'), counted(data.lineCount, 'line') + ' of trace'];
+  const isCut = data.lineCount > data.lines.length;
   for (const [key, one] of [['errors', 'loop error'], ['throws', 'exception'], ['limits', 'limit'], ['faults', 'fault']]) {
-    if (sum(key)) parts.push(html`<b class="${key === 'throws' ? 'odd' : 'bad'}">${counted(sum(key), one)}</b>`);
+    if (sum(key)) parts.push(html`<b class="${key === 'throws' ? 'odd' : 'bad'}">${counted(sum(key), one)}${isCut && ' or more'}</b>`);
   }
   return parts.map((part, place) => html`${place > 0 && ' \u00b7 '}${part}`);
 }
 // Opens at the first tick with a loop error, a limit or a fault, else at the first one in which something is told.
 function first() {
   const find = test => data.steps.findIndex(test), bad = find(step => story.counts(step).errors + story.counts(step).limits + story.counts(step).faults > 0);
-  return Math.max(0, bad >= 0 ? bad : find(step => step.kind === 'tick'));
+  const told = find(step => step.kind === 'tick' && story.linesOf(step).length > 1);
+  return Math.max(0, bad >= 0 ? bad : told >= 0 ? told : find(step => step.kind === 'tick'));
 }
 function note() {
   const notes = data.notes.slice(), wanted = Number(new URLSearchParams(location.hash.slice(1)).get('tick')) || data.open;
@@ -131,7 +134,8 @@ function showTick(step, place) {
     button.removeAttribute('aria-current');
     button.tabIndex = -1;
   }
-  const button = at('ticks').children[place].firstElementChild;
+  const button = at('ticks').children[place].firstElementChild, cursor = at('overview').querySelector('.cursor');
+  if (cursor) cursor.setAttribute('x', place);
   button.setAttribute('aria-current', 'step');
   button.tabIndex = 0;
   if (at('ticks').contains(document.activeElement)) button.focus({ preventScroll: true });
@@ -233,6 +237,10 @@ function toTick(text) {
 // ---- clicks ----
 
 const CLICKS = [
+  ['#overview svg', (node, event) => {
+    const r = node.getBoundingClientRect();
+    choose({ place: Math.max(0, Math.min(data.steps.length - 1, Math.floor((event.clientX - r.left) / r.width * data.steps.length))), line: -1 });
+  }],
   ['[data-script]', node => toScript(Number(node.dataset.script))],
   ['[data-to-line]', node => toLine(Number(node.dataset.toLine))],
   ['[data-step]', node => choose({ place: Number(node.dataset.step), line: -1 })],

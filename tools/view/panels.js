@@ -2,6 +2,7 @@
 // What stands around the drawing: the ticks, what changed, the chosen box, all boxes and the script.
 
 const ROWS = 60;                 // of a list, before a button shows the others
+const MANY = 24;                 // ticks, from which on an overview stands above them
 const SIZE_WORDS = ['resized', 'edges', 'overflow'];
 
 class Panels {
@@ -17,6 +18,14 @@ class Panels {
     return html`${this.data.steps.map((step, place) => html`<li><button type="button" class="tick${this.story.isTrouble(step) ? ' trouble' : ''}" data-step="${place}" tabindex="-1" aria-label="${this.stepName(step)}: ${this.story.badges(step).map(([, word]) => word).join(', ')}">
       <span class="number">${step.kind === 'tick' ? number(step.number) : this.stepName(step)}</span>${step.kind === 'tick' && step.time !== null && html` <span class="time">${number(step.time)} ms</span>`}
       <span class="badges">${this.story.badges(step).slice(0, 2).map(([kind, word]) => html`<span class="badge ${kind}">${word}</span> `)}</span></button></li>`)}`;
+  }
+
+  // A bar for each tick, as high as it has lines in the trace, with a mark above where something went wrong.
+  overview() {
+    const steps = this.data.steps, counts = steps.map(step => this.story.linesOf(step).length), most = Math.log1p(Math.max(1, ...counts));
+    const bar = place => `M${place} 40h.85v${-round(2 + 28 * Math.log1p(counts[place]) / most)}h-.85z`, troubles = steps.map((step, place) => place).filter(place => this.story.isTrouble(steps[place]));
+    return html`<svg viewBox="0 0 ${steps.length} 40" preserveAspectRatio="none" role="img" aria-label="Lines of the trace in each tick; something went wrong in ${counted(troubles.length, 'tick')}"><rect class="cursor" x="0" y="0" width="1" height="40"/>
+      <path class="bars" d="${steps.map((step, place) => bar(place)).join('')}"/><path class="marks" d="${troubles.map(place => bar(place) + `M${place} 0h.85v7h-.85z`).join('')}"/></svg><p>Lines of the trace in each tick. A mark above: a loop error, an exception or a limit.</p>`;
   }
 
   // A list of which the first items are shown; a button shows the others.

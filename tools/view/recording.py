@@ -24,7 +24,7 @@ from .causes import Causes
 
 MOST_TICKS = 2000                 # that are kept
 MOST_LINES = 20000                # of the trace
-MOST_COMMANDS_OF_A_TICK = 400     # in handlers
+MOST_COMMANDS_OF_A_TICK = 400     # in handlers, these counted too
 MOST_COMMANDS = 40000
 MOST_DIFFERENCES = 400000         # values of packed boxes
 SECONDS = 120                     # of the processor
@@ -212,9 +212,18 @@ class Recording(Page):
         """The lines of a callback; behind the last of them its handler begins."""
         yield from lines
         if handler is not None:
-            began.append(True)
             self.level, self.last_entry = 0, None
-            self._keep(['handler', handler.name, handler.line])
+            if self._takes_room():
+                began.append(True)
+                self._keep(['handler', handler.name, handler.line])
+
+    def _takes_room(self):
+        """Whether one more item of a handler is kept."""
+        if self.is_beyond or self.step.kept >= MOST_COMMANDS_OF_A_TICK or self.kept_commands >= MOST_COMMANDS:
+            return False
+        self.step.kept += 1
+        self.kept_commands += 1
+        return True
 
     def run_command(self, command):
         if self.level is None:
@@ -229,7 +238,7 @@ class Recording(Page):
 
     def _note_command(self, command):
         """The command's item, which is kept where there is room for it."""
-        is_kept = self.step.kept < MOST_COMMANDS_OF_A_TICK and self.kept_commands < MOST_COMMANDS and not self.is_beyond
+        is_kept = self._takes_room()
         target = -1 if self.entry is None else self.things.element(self.entry.target)
         if is_kept and self.entry is not None and self.entry is not self.last_entry:
             self._keep(['entry', target])
@@ -238,8 +247,6 @@ class Recording(Page):
         item = ['command', command.line, self.level, target if names_target else -1,
                 len(self.entries or ()) if command.name == 'each' else -1, []]
         if is_kept:
-            self.step.kept += 1
-            self.kept_commands += 1
             self._keep(item)
         else:
             self.step.not_kept += 1

@@ -175,7 +175,7 @@ class Story {
       case 'say': return html`The script says ${named()}`;
       case 'read': return html`${this.target(line, words[1])} is read: ${words[2]} ${words[3]}, ${words[4]} \u00d7 ${words[5]}${
         words[6] !== '0' || words[7] !== '0' ? html`, scrolled to ${words[6]} ${words[7]}` : ''}`;
-      case 'throw': return html`${this.ref(words[1])} throws <b class="odd">${words[2]}</b>: ${this.code(Number(words[1]))}`;
+      case 'throw': return html`${this.ref(words[1])} throws <b class="odd">${words[2]}</b>: ${this.code(Number(words[1]), this.elements(line).length === 1 ? this.elements(line)[0] : -1)}`;
       case 'limit': return html`${this.ref(words[2])} meets the <b class="bad">limit ${words[1]}</b>, ${number(Number(words[3]))}: ${this.code(Number(words[2]))}`;
       case 'syntax': return html`<b class="bad">No script</b>: its first fault is in ${this.ref(words[1])}, column ${words[2]}`;
       default: return html`${words.join(' ')}`;
@@ -208,7 +208,8 @@ class Story {
     const explanation = this.explanation(line), isError = this.text(line).startsWith('event error');
     const isOpen = isError || /^(throw|limit|syntax) /.test(this.text(line));
     const causes = this.causes(line).filter(([, word]) => word !== 'threw' && word !== 'met it' && !(isOwn && word === 'wrote it'));
-    return html`<li class="line" data-line="${line}" tabindex="${isChosen ? 0 : -1}"${isChosen && html` aria-current="true"`}><div class="said">${this.sentence(line)}</div>${
+    return html`<li class="line" data-line="${line}" tabindex="${isChosen ? 0 : -1}"${isChosen && html` aria-current="true"`}>${
+      !(isOwn && this.kind(line) === 'say') && html`<div class="said">${isOwn && this.kind(line) === 'throw' ? html`throws <b class="odd">${this.text(line).split(' ')[2]}</b>` : this.sentence(line)}</div>`}${
       causes.length > 0 && this.causeList(causes)}<code class="trace">${this.text(line)}</code>${
       explanation.length > 0 && html`<details class="why"${isOpen && html` open`}><summary>Why</summary><div class="explained">${explained(explanation)}</div></details>`}</li>`;
   }
@@ -232,7 +233,8 @@ class Story {
   }
   // The first items of a list; the others come by a button.
   some(items, chosen) {
-    const most = this.all ? Infinity : items.some(item => item[0] === 'line' && item[1] === chosen) ? Math.max(MOST_SHOWN, 1 + items.findIndex(item => item[1] === chosen)) : MOST_SHOWN;
+    const has = item => item.call ? item.items.some(has) : item[0] === 'line' && item[1] === chosen;
+    const most = this.all ? Infinity : Math.max(MOST_SHOWN, 1 + items.findIndex(has));
     return html`${items.slice(0, most).map((item, place) => this.item(item, chosen, items[place - 1]))}${
       items.length > most && html`<li class="others"><button type="button" data-all="1">Show ${number(items.length - most)} more</button></li>${
         items.slice(most).filter(item => item[0] === 'line' && this.isTroubleLine(item[1])).slice(-MOST_TROUBLES).map(item => this.item(item, chosen))}`}`;
@@ -251,7 +253,7 @@ class Story {
   sinceBefore(step, chosen) {
     const [first, last, count] = step.commands;
     if (!count) return '';
-    const title = step.kind === 'tick' ? 'Since the tick before' : step.kind === 'start' ? 'Before the first tick' : 'Behind the last tick';
+    const title = step.kind === 'tick' ? 'Since the tick before' : step.kind === 'start' ? 'Before the first tick' : this.data.ticks ? 'Behind the last tick' : 'In the script';
     const items = count <= MOST_OUTSIDE ? this.withCommands(step.since, first, last) : step.since.filter(item => item[0] !== 'entry');
     return html`<section class="phase"><h3>${title} <span class="count">${counted(count, 'command')}</span></h3>${
       count > MOST_OUTSIDE && html`<p class="after">${counted(count, 'command')} of the lines ${this.ref(first)} to ${this.ref(last)}${items.length > 0 && '; of these'}</p>`}${
