@@ -1,5 +1,5 @@
 -- Registrations of an observer that are taken out one after the other.
-use Rattle.std.proofs.Common.{◌≡◌, ◌∙◌, ℕ, ◌<◌, List, [], true, length, ap, sym, Ok, subst}
+use Rattle.std.proofs.Common.{◌≡◌, ◌∙◌, ℕ, ◌<◌, List, [], true, length, ap, sym, Ok}
 use Rattle.script_model.specs.Syntax.{DisconnectIntersection}
 use Rattle.page_model.specs.World.{IntersectionObservers, World}
 use Rattle.page_model.specs.IntersectionObserving.{is_registered, without_registration, without_registrations}

@@ -5,7 +5,7 @@ use Rattle.std.specs.Option.{IsSome}
 use Rattle.std.specs.Ordering.{nat_cmp}
 use Rattle.std.specs.Cmp.{nat_cmp_total, unsigned_tied}
 use Rattle.std.specs.FinMap.{FinMap, get, insert, remove, contains_key, get-insert, get-remove}
-use Rattle.std.proofs.lemmas.Bool.{eqb-true, false≢true}
+use Rattle.std.proofs.lemmas.Bool.{false≢true}
 use Rattle.std.proofs.lemmas.List.Elements.{All-head, All-tail}
 use Rattle.page_model.specs.World.{Root, Registration, IntersectionObserver, IntersectionObservers}
 use Rattle.page_model.specs.Lookups.{entry_or, change_at, no_intersection_observer, intersection_observer_at}
@@ -22,13 +22,12 @@ use Rattle.intersection_observer.proofs.Only.{serial-none-without}
 use Rattle.kept_clips.specs.declared.pair.Pair.{Pair}
 use Rattle.kept_clips.specs.Touches.{last_touch}
 use Rattle.kept_clips.specs.Held.{new_pair, pair_at, spots_of as spots_in}
-use Rattle.kept_clips.specs.Looked.{MayBeSeen}
 use Rattle.kept_clips.specs.Seen.{sighting_of}
 use Rattle.candidate_index.specs.declared.index.Kept.{Kept}
 use Rattle.candidate_index.specs.Held.{kept_of, AreFound}
 use Rattle.candidate_index.proofs.Found.{kept_removed}
 use Rattle.kept_findings.specs.Held.{HeldFindings, with_findings, without_findings, IsRoomier}
-use Rattle.kept_findings.specs.Registered.{spots_of, spots_for, IsSettled, AreRegistered}
+use Rattle.kept_findings.specs.Registered.{spots_of, IsSettled, AreRegistered}
 use Rattle.kept_findings.proofs.Observed.{registered_observed, registered_unobserved}
 use Rattle.kept_findings.proofs.Registering.{undone, put_own}
 use Rattle.kept_findings.proofs.Settled.{apart_test, kept_other}

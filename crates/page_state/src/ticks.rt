@@ -10,9 +10,11 @@ ghost use Rattle.page_model.specs.Shown.{shown_of};
 ghost use Rattle.page_model.specs.Tasks.{without_notifying};
 ghost use Rattle.page_model.specs.Viewports.{noted_size, with_noted, differs_from};
 ghost use Rattle.page_boxes.specs.Kept.{FillsOnly};
-ghost use Rattle.intersection_update.specs.Updating.{IsStopped};
+ghost use Rattle.intersection_update.specs.Keeping.{HaveChains};
+ghost use Rattle.intersection_update.specs.Updating.{AreSettled, IsStopped};
 ghost use Rattle.intersection_update.specs.Watching.{AreWritten, watcher_numbers};
 ghost use Rattle.page_state.specs.Boxes.{Computes};
+ghost use Rattle.page_state.specs.Findings.{Updates, AreUpdated, IsUnfinished, TakesAtMost};
 
 use crate::page::{Page, shown_at_once, viewport_now};
 use event_tables::Task;
@@ -77,6 +79,12 @@ impl Page {
         ensures rest { OnErr result (self.new ≡ record self.old { world = record (self.old.world) { intersection_observers = self.new.world.intersection_observers }; kept = self.new.kept; found = self.new.found }) }
         ensures stopped { OnErr result (IsStopped (shown_of self.old.world) self.old.world.tree document self.old.world.clock self.old.world.intersection_observers self.new.world.intersection_observers) }
         ensures boxes { FillsOnly self.old.kept self.new.kept }
+        ensures settled { OnOk result (AreSettled (shown_of self.old.world) document self.old.world.intersection_observers self.new.world.intersection_observers) }
+        ensures findings { Updates (shown_of self.old.world) document self.old.world.intersection_observers self.old.found self.new.found }
+        ensures fresh { OnOk result (AreUpdated (shown_of self.old.world) document self.new.world.intersection_observers self.new.found) }
+        ensures refused { (chained : HaveChains (shown_of self.old.world)) →
+            OnErr result (IsUnfinished (shown_of self.old.world) chained document self.old.world.clock self.old.world.intersection_observers self.new.world.intersection_observers self.old.found self.new.found) }
+        ensures ticks { (chained : HaveChains (shown_of self.old.world)) → OnOk result (TakesAtMost document self.old self.new chained steps.old steps.new) }
     {
         self.laid.refresh(self.screen, steps);
         let shown = shown_at_once(&self.laid, &self.scrolls, self.screen);

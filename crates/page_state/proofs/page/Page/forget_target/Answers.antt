@@ -1,5 +1,5 @@
 -- A registration is taken out with what is kept of it.
-use Rattle.std.proofs.Common.{◌≡◌, ◌∙◌, ◌<◌, Some, None, option_map, length, rules, ap, sym, subst}
+use Rattle.std.proofs.Common.{◌≡◌, ◌∙◌, ◌<◌, None, option_map, length, rules, ap, sym, subst}
 use Rattle.page_model.specs.World.{IntersectionObservers}
 use Rattle.page_model.specs.IntersectionObserving.{without_registration}
 use Rattle.intersection_observer.specs.declared.registration.RegistrationId.{RegistrationId}
@@ -8,7 +8,6 @@ use Rattle.intersection_observer.specs.Serials.{registrations_at}
 use Rattle.intersection_observer.specs.Watchers.{HeldWatchers, serial_of}
 use Rattle.intersection_update.specs.Watching.{AreWatchers}
 use Rattle.intersection_update.proofs.Watching.{kept_unregistered}
-use Rattle.kept_findings.specs.Held.{HeldFindings}
 use Rattle.kept_findings.specs.Registered.{AreRegistered}
 use Rattle.kept_findings.specs.Rooms.{HaveRoom}
 use Rattle.kept_findings.proofs.Rooms.{room_forgotten}

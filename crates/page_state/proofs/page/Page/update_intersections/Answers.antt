@@ -1,11 +1,15 @@
 -- Intersections are updated, and a task that tells it waits.
-use Rattle.std.proofs.Common.{◌≡◌, ◌<◌, ◌≤◌, length, sym, ap, subst, ◌∙◌, arith, tests}
+use Rattle.std.proofs.Common.{◌≡◌, ◌<◌, ◌≤◌, ◌+◌, length, inl, inr, sym, ap, subst, ◌∙◌, arith, tests}
 use Rattle.page_model.specs.World.{World, Tree}
 use Rattle.page_model.specs.Shown.{Shown}
 use Rattle.page_model.specs.Intersections.{update_intersections}
 use Rattle.intersection_observer.specs.Watchers.{HeldWatchers}
-use Rattle.intersection_update.specs.Updating.{updated, has_news, IsStopped}
+use Rattle.intersection_update.specs.Keeping.{HaveChains, IsRefused}
+use Rattle.intersection_update.specs.Steps.{most_steps}
+use Rattle.intersection_update.specs.Updating.{updated, has_news, AreSettled, IsStopped}
 use Rattle.event_tables.specs.Tasks.{WaitingTasks}
+use Rattle.page_state.specs.Boxes.{due_count}
+use Rattle.page_state.specs.Findings.{Updates, AreUpdated}
 use Rattle.page_state.specs.Views.{PageView}
 use Rattle.page_state.specs.Worlds.{world_of, view_of}
 use Rattle.page_state.proofs.Laid.{view_refreshed}
@@ -59,3 +63,80 @@ returns-in_default-clause-stopped g c =
     at_world c.self.inside c.refresh.new.self c.refresh.ensures.same c.args.self.now c.self.view_is c.shown_at_once-shown.ensures
     (λ (s : Shown) (v : PageView). IsStopped s s.tree c.args.document v.world.clock v.world.intersection_observers c.update.new.watchers.part)
     (stopped_last _ _ c.args.document _ _ _ (ap (λ (it : HeldWatchers). it.part) c.in_ok-queued.ensures.updated))
+
+pub returns-in_err-queued-clause-findings : goal.returns-in_err-queued-clause-findings
+returns-in_err-queued-clause-findings g c =
+    at_world c.self.inside c.refresh.new.self c.refresh.ensures.same c.args.self.now c.self.view_is c.shown_at_once-shown.ensures
+    (λ (s : Shown) (v : PageView). Updates s c.args.document v.world.intersection_observers v.found c.update.new.findings)
+    (record { touched = c.update.ensures.touched; left = c.update.ensures.left; kept = c.update.ensures.kept; others = c.update.ensures.others; computed = c.update.ensures.computed })
+
+pub returns-then-not-queued-clause-findings : goal.returns-then-not-queued-clause-findings
+returns-then-not-queued-clause-findings g c =
+    at_world c.self.inside c.refresh.new.self c.refresh.ensures.same c.args.self.now c.self.view_is c.shown_at_once-shown.ensures
+    (λ (s : Shown) (v : PageView). Updates s c.args.document v.world.intersection_observers v.found c.update.new.findings)
+    (record { touched = c.update.ensures.touched; left = c.update.ensures.left; kept = c.update.ensures.kept; others = c.update.ensures.others; computed = c.update.ensures.computed })
+
+pub returns-in_default-clause-findings : goal.returns-in_default-clause-findings
+returns-in_default-clause-findings g c =
+    at_world c.self.inside c.refresh.new.self c.refresh.ensures.same c.args.self.now c.self.view_is c.shown_at_once-shown.ensures
+    (λ (s : Shown) (v : PageView). Updates s c.args.document v.world.intersection_observers v.found c.update.new.findings)
+    (record { touched = c.update.ensures.touched; left = c.update.ensures.left; kept = c.update.ensures.kept; others = c.update.ensures.others; computed = c.update.ensures.computed })
+
+pub returns-clause-findings : goal.returns-clause-findings
+returns-clause-findings g c =
+    at_world c.self.inside c.refresh.new.self c.refresh.ensures.same c.args.self.now c.self.view_is c.shown_at_once-shown.ensures
+    (λ (s : Shown) (v : PageView). Updates s c.args.document v.world.intersection_observers v.found c.update.new.findings)
+    (record { touched = c.update.ensures.touched; left = c.update.ensures.left; kept = c.update.ensures.kept; others = c.update.ensures.others; computed = c.update.ensures.computed })
+
+pub returns-then-not-queued-clause-settled : goal.returns-then-not-queued-clause-settled
+returns-then-not-queued-clause-settled g c =
+    at_world c.self.inside c.refresh.new.self c.refresh.ensures.same c.args.self.now c.self.view_is c.shown_at_once-shown.ensures
+    (λ (s : Shown) (v : PageView). AreSettled s c.args.document v.world.intersection_observers c.update.new.watchers.part) c.in_ok-queued.ensures.settled
+
+pub returns-then-not-queued-clause-fresh : goal.returns-then-not-queued-clause-fresh
+returns-then-not-queued-clause-fresh g c =
+    at_world c.self.inside c.refresh.new.self c.refresh.ensures.same c.args.self.now c.self.view_is c.shown_at_once-shown.ensures
+    (λ (s : Shown) (v : PageView). AreUpdated s c.args.document c.update.new.watchers.part c.update.new.findings)
+    (record { seen = c.in_ok-queued.ensures.seen; fresh = c.in_ok-queued.ensures.fresh })
+
+pub returns-then-not-queued-clause-ticks : goal.returns-then-not-queued-clause-ticks
+returns-then-not-queued-clause-ticks g c =
+    at_world c.self.inside c.refresh.new.self c.refresh.ensures.same c.args.self.now c.self.view_is c.shown_at_once-shown.ensures
+    (λ (s : Shown) (v : PageView). (chained : HaveChains s) →
+    c.update.new.steps + due_count v.world c.refresh.new.self.kept
+    ≤ c.args.steps.now + due_count v.world v.kept + most_steps s chained c.args.document (v.world.intersection_observers) v.found c.update.new.findings)
+    (λ chained. let registrations = c.in_ok-queued.ensures.ticks chained in let boxes = c.refresh.ensures.ticks in omega (arith, registrations, boxes))
+
+pub returns-clause-settled : goal.returns-clause-settled
+returns-clause-settled g c =
+    at_world c.self.inside c.refresh.new.self c.refresh.ensures.same c.args.self.now c.self.view_is c.shown_at_once-shown.ensures
+    (λ (s : Shown) (v : PageView). AreSettled s c.args.document v.world.intersection_observers c.update.new.watchers.part) c.in_ok-queued.ensures.settled
+
+pub returns-clause-fresh : goal.returns-clause-fresh
+returns-clause-fresh g c =
+    at_world c.self.inside c.refresh.new.self c.refresh.ensures.same c.args.self.now c.self.view_is c.shown_at_once-shown.ensures
+    (λ (s : Shown) (v : PageView). AreUpdated s c.args.document c.update.new.watchers.part c.update.new.findings)
+    (record { seen = c.in_ok-queued.ensures.seen; fresh = c.in_ok-queued.ensures.fresh })
+
+pub returns-clause-ticks : goal.returns-clause-ticks
+returns-clause-ticks g c =
+    at_world c.self.inside c.refresh.new.self c.refresh.ensures.same c.args.self.now c.self.view_is c.shown_at_once-shown.ensures
+    (λ (s : Shown) (v : PageView). (chained : HaveChains s) →
+    c.update.new.steps + due_count v.world c.refresh.new.self.kept
+    ≤ c.args.steps.now + due_count v.world v.kept + most_steps s chained c.args.document (v.world.intersection_observers) v.found c.update.new.findings)
+    (λ chained. let registrations = c.in_ok-queued.ensures.ticks chained in let boxes = c.refresh.ensures.ticks in omega (arith, registrations, boxes))
+
+pub returns-in_err-queued-clause-refused : goal.returns-in_err-queued-clause-refused
+returns-in_err-queued-clause-refused g c = λ chained.
+    if_refused c.from_residual.result
+    (inl
+    (at_world c.self.inside c.refresh.new.self c.refresh.ensures.same c.args.self.now c.self.view_is c.shown_at_once-shown.ensures
+    (λ (s : Shown) (v : PageView). (chained : HaveChains s) → IsRefused s chained c.args.document v.world.clock v.world.intersection_observers c.update.new.watchers.part v.found.kept c.update.new.findings.kept)
+    c.in_err-queued.ensures.refused chained))
+
+pub returns-in_default-clause-refused : goal.returns-in_default-clause-refused
+returns-in_default-clause-refused g c = λ chained.
+    inr
+    (at_world c.self.inside c.refresh.new.self c.refresh.ensures.same c.args.self.now c.self.view_is c.shown_at_once-shown.ensures
+    (λ (s : Shown) (v : PageView). AreUpdated s c.args.document c.update.new.watchers.part c.update.new.findings)
+    (record { seen = c.in_ok-queued.ensures.seen; fresh = c.in_ok-queued.ensures.fresh }))
