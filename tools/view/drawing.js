@@ -11,7 +11,8 @@ const TOLD_CHANGES = ['new', 'resized', 'scrolled', 'moved', 'edges', 'overflow'
 
 const units = value => value / UNITS;
 const round = value => Math.round(value * 1000) / 1000;
-const svgRectangle = r => html`x="${round(units(r[0]))}" y="${round(units(r[1]))}" width="${round(Math.max(THIN, units(widthOf(r))))}" height="${round(Math.max(THIN, units(heightOf(r))))}"`;
+const lengthOf = value => round(Math.max(THIN, units(value)));
+const svgRectangle = r => html`x="${round(units(r[0]))}" y="${round(units(r[1]))}" width="${lengthOf(widthOf(r))}" height="${lengthOf(heightOf(r))}"`;
 
 class Drawing {
   constructor(data, place) { Object.assign(this, { data, place, view: 'viewport', zoom: 1 }); }
