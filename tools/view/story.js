@@ -10,7 +10,7 @@ const PHASES = [
   ['frame', 'Frame callbacks'], ['resize', LOOP], ['round', LOOP], ['event error', LOOP], ['intersect', 'Intersections'],
   ['task', 'Tasks'], ['limit', 'A limit'], ['syntax', 'No script'],
 ];
-const NOTHING = 'No timer was due, nothing had changed its size, nothing came into view or left it, and no task waited.';
+const NOTHING = 'No timer was due, no observed size had changed, no target came into view or left it, and no task waited.';
 
 class Story {
   constructor(trace, sentences) { Object.assign(this, { trace, sentences, all: false }); }

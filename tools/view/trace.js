@@ -51,7 +51,7 @@ class Trace {
     return found.length ? found : [['quiet', step.kind === 'tick' ? 'quiet' : counted(step.commands[2], 'command')]];
   }
   summary(step) {
-    const { rounds, sizes, errors, events, meetings, throws, callbacks, words } = this.counts(step), begin = step.kind === 'tick' ? ' in it' : '';
+    const { rounds, sizes, errors, events, meetings, throws, callbacks, words } = this.counts(step);
     const left = step.linesNotKept;
     const told = [
       events && counted(events, 'event'), callbacks && counted(callbacks, 'callback'),
@@ -60,6 +60,6 @@ class Trace {
       words && `${counted(words, 'line')} that the script wrote`,
       left && `${counted(left, 'line')} of the trace that ${left === 1 ? 'is' : 'are'} left out here`,
     ].filter(Boolean);
-    return told.length ? `Told${begin}: ${listed(told)}.` : `Nothing was told${begin}.`;
+    return told.length ? `Told: ${listed(told)}.` : 'Nothing was told.';
   }
 }
