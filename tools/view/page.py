@@ -4,7 +4,7 @@ import json
 import os
 
 HERE = os.path.dirname(os.path.abspath(__file__))
-PROGRAM = ('boxes.js', 'story.js', 'drawing.js', 'panels.js', 'main.js')
+PROGRAM = ('text.js', 'boxes.js', 'trace.js', 'sentences.js', 'story.js', 'drawing.js', 'panels.js', 'choosing.js', 'main.js')
 
 
 def _part(name):

@@ -2,189 +2,223 @@
 // What stands around the drawing: the ticks, what changed, the chosen box, all boxes and the script.
 
 const ROWS = 60;                 // of a list, before a button shows the others
+const TREE_ROWS = 400;
 const MANY = 24;                 // ticks, from which on an overview stands above them
+const HISTORY = 40;
+const DEEPEST = 12;              // levels that are set in
 const SIZE_WORDS = ['resized', 'edges', 'overflow'];
+const OWN_WORDS = ['new', 'gone', 'resized', 'edges', 'overflow', 'scrolled', 'moved'];
+
+const cornerText = (rectangle, origin) => rectangleText(rectangle, origin).split(' ').slice(0, 2).join(' ');
+const sizeOf = rectangle => sizeText(widthOf(rectangle), heightOf(rectangle));
+const scrollText = scroll => scroll.slice(0, 2).map(px).join(' ');
+const fact = (term, said) => html`<dt>${term}</dt><dd>${said}</dd>`;
+const heads = names => html`<thead><tr>${names.map(name => html`<th scope="col">${name}</th>`)}</tr></thead>`;
 
 class Panels {
-  constructor(data, states, story) { Object.assign(this, { data, states, story, lists: new Map() }); }
+  constructor(trace, sentences) {
+    Object.assign(this, { trace, sentences, data: trace.data, whole: new Set() });
+    this.index();
+  }
+  // The lines of the trace by elements, and the step in which each stands.
+  index() {
+    this.byElement = new Map();
+    this.placeOf = new Map();
+    this.data.steps.forEach((step, place) => this.trace.linesOf(step).forEach(line => {
+      this.placeOf.set(line, place);
+      for (const element of new Set(this.trace.elements(line))) {
+        if (!this.byElement.has(element)) this.byElement.set(element, []);
+        this.byElement.get(element).push(line);
+      }
+    }));
+  }
+  documentName(number) { return this.data.documents[number][0]; }
+  // The first items of a list; a button shows the others.
+  some(key, items, row, most = ROWS, wrap = button => html`<tr class="others"><td colspan="5">${button}</td></tr>`) {
+    const shownItems = this.whole.has(key) ? items : items.slice(0, most), others = items.length - shownItems.length;
+    const button = html`<button type="button" data-more="${key}">Show ${number(others)} more</button>`;
+    return html`${shownItems.map(row)}${others > 0 && wrap(button)}`;
+  }
 
-  stepName(step) { return step.kind === 'start' ? (step.number ? `Before tick ${step.number + 1}` : 'Start') : step.kind === 'end' ? 'End' : `Tick ${number(step.number)}`; }
+  // ---- the ticks ----
+
+  stepName(step) {
+    if (step.kind === 'tick') return `Tick ${number(step.number)}`;
+    return step.kind === 'end' ? 'End' : step.number ? `Before tick ${number(step.number + 1)}` : 'Start';
+  }
   stepTitle(step) {
-    if (step.kind === 'tick') return html`Tick ${number(step.number)}${step.time !== null && html`, at ${number(step.time)} ms`}${step.line > 0 && html` <small>${this.story.ref(step.line)}</small>`}`;
-    if (step.kind === 'start') return step.number ? html`As tick ${number(step.number + 1)} begins` : html`Before the first tick`;
-    return html`As the script ends`;
+    if (step.kind === 'end') return 'As the script ends';
+    if (step.kind === 'start') return step.number ? `As tick ${number(step.number + 1)} begins` : 'Before the first tick';
+    return html`Tick ${number(step.number)}${step.time !== null && `, at ${number(step.time)} ms`}${
+      step.line > 0 && html` <small>${this.sentences.ref(step.line)}</small>`}`;
   }
-  ticks() {
-    return html`${this.data.steps.map((step, place) => html`<li><button type="button" class="tick${this.story.isTrouble(step) ? ' trouble' : ''}" data-step="${place}" tabindex="-1" aria-label="${this.stepName(step)}: ${this.story.badges(step).map(([, word]) => word).join(', ')}">
-      <span class="number">${step.kind === 'tick' ? number(step.number) : this.stepName(step)}</span>${step.kind === 'tick' && step.time !== null && html` <span class="time">${number(step.time)} ms</span>`}
-      <span class="badges">${this.story.badges(step).slice(0, 2).map(([kind, word]) => html`<span class="badge ${kind}">${word}</span> `)}</span></button></li>`)}`;
+  ticks() { return html`${this.data.steps.map((step, place) => this.tick(step, place))}`; }
+  tick(step, place) {
+    const badges = this.trace.badges(step), isTick = step.kind === 'tick';
+    const said = `${this.stepName(step)}: ${badges.map(([, one]) => one).join(', ')}`;
+    return html`<li><button type="button" class="tick${this.trace.isTrouble(step) && ' trouble'}" data-step="${place}" tabindex="-1" aria-label="${said}">
+      <span class="number">${isTick ? number(step.number) : this.stepName(step)}</span>${isTick && step.time !== null && html` <span class="time">${
+        number(step.time)} ms</span>`}
+      <span class="badges">${badges.slice(0, 2).map(([kind, one]) => html`<span class="badge ${kind}">${one}</span> `)}</span></button></li>`;
   }
-
   // A bar for each tick, as high as it has lines in the trace, with a mark above where something went wrong.
   overview() {
-    const steps = this.data.steps, counts = steps.map(step => this.story.linesOf(step).length), most = Math.log1p(Math.max(1, ...counts));
-    const bar = place => `M${place} 40h.85v${-round(2 + 28 * Math.log1p(counts[place]) / most)}h-.85z`, troubles = steps.map((step, place) => place).filter(place => this.story.isTrouble(steps[place]));
-    return html`<svg viewBox="0 0 ${steps.length} 40" preserveAspectRatio="none" role="img" aria-label="Lines of the trace in each tick; something went wrong in ${counted(troubles.length, 'tick')}"><rect class="cursor" x="0" y="0" width="1" height="40"/>
-      <path class="bars" d="${steps.map((step, place) => bar(place)).join('')}"/><path class="marks" d="${troubles.map(place => bar(place) + `M${place} 0h.85v7h-.85z`).join('')}"/></svg><p>Lines of the trace in each tick. A mark above: a loop error, an exception or a limit.</p>`;
-  }
-
-  // A list of which the first items are shown; a button shows the others.
-  some(key, items, shownAs) {
-    const most = this.lists.get(key) ? Infinity : ROWS;
-    return html`${items.slice(0, most).map(shownAs)}${items.length > most && html`<tr class="others"><td colspan="5"><button type="button" data-more="${key}">Show ${number(items.length - most)} more</button></td></tr>`}`;
+    const steps = this.data.steps, lines = steps.map(step => this.trace.linesOf(step).length), most = Math.log1p(Math.max(1, ...lines));
+    const bar = place => `M${place} 40h.85v${-round(2 + 28 * Math.log1p(lines[place]) / most)}h-.85z`;
+    const wrong = steps.map((step, place) => this.trace.isTrouble(step) ? place : -1).filter(place => place >= 0);
+    const said = `Lines of the trace in each tick; something went wrong in ${counted(wrong.length, 'tick')}`;
+    return html`<svg viewBox="0 0 ${steps.length} 40" preserveAspectRatio="none" role="img" aria-label="${said}">
+      <rect class="cursor" x="0" y="0" width="1" height="40"/><path class="bars" d="${steps.map((step, place) => bar(place))}"/>
+      <path class="marks" d="${wrong.map(place => bar(place) + `M${place} 0h.85v7h-.85z`)}"/></svg>
+      <p>Lines of the trace in each tick. A mark above: a loop error, an exception or a limit.</p>`;
   }
 
   // ---- what changed ----
 
-  changes(place, boxes, before, changes) {
-    if (!boxes) return html`<p class="after">The boxes are left out here.</p>`;
-    if (!before) return html`<p class="after">Nothing stands before this.</p>`;
-    const own = [], view = [], along = [], gone = this.removed(boxes, before);
+  changes(boxes, before, changes) {
+    if (!boxes || !before) return html`<p class="after">${boxes ? 'Nothing stands before this.' : 'The boxes are left out here.'}</p>`;
+    const own = [], view = [], along = [];
     for (const [element, words] of changes) {
-      if (gone.has(element)) continue;
-      const isOwn = words.some(word => ['new', 'gone', 'resized', 'edges', 'overflow', 'scrolled', 'moved'].includes(word));
-      (isOwn ? own : words.some(word => word.endsWith('view')) ? view : along).push([element, words]);
+      const kind = words.some(one => OWN_WORDS.includes(one)) ? own : words.some(one => one.endsWith('view')) ? view : along;
+      kind.push([element, words]);
     }
-    const scrolls = this.documentScrolls(boxes, before), all = own.concat([...gone].map(element => [element, ['gone']]));
-    if (!all.length && !view.length && !along.length && !scrolls.length) return html`<p class="after">No box changed.</p>`;
-    const rank = ([, words]) => ['new', 'gone', 'resized', 'edges', 'overflow', 'scrolled', 'moved'].findIndex(word => words.includes(word));
-    all.sort((a, b) => rank(a) - rank(b));
-    return html`${scrolls}${all.length > 0 && this.changeTable('own', all, boxes, before)}${view.length > 0 && html`<h4>Came into view or left it, as something else moved</h4>${this.changeTable('view', view, boxes, before)}`}${
-      along.length > 0 && html`<p class="after">${counted(along.length, 'more box', 'more boxes')} moved along with what ${along.length === 1 ? 'it stands' : 'they stand'} in or behind: ${
-        along.slice(0, 6).map(([element], at) => html`${at > 0 && ', '}${this.story.thing(element)}`)}${along.length > 6 && ' \u2026'}</p>`}`;
+    const documents = this.documentChanges(boxes, before), rank = ([, words]) => OWN_WORDS.findIndex(one => words.includes(one));
+    own.sort((a, b) => rank(a) - rank(b));
+    if (!documents.length && !changes.size) return html`<p class="after">No box changed.</p>`;
+    return html`${documents}${own.length > 0 && this.changeTable('own', own, boxes, before)}${
+      view.length > 0 && html`<h4>Came into view or left it, as something else moved</h4>${this.changeTable('view', view, boxes, before)}`}${
+      along.length > 0 && this.alongSaid(along)}`;
   }
-  removed(boxes, before) {
-    return new Set([...before.boxes.keys()].filter(element => !boxes.boxes.has(element) && !boxes.reasons.has(element)));
+  alongSaid(along) {
+    const what = along.length === 1 ? '1 more box moved along with what it stands' : `${number(along.length)} more boxes moved along with what they stand`;
+    return html`<p class="after">${what} in or behind: ${along.slice(0, 6).map(([element], at) => html`${at > 0 && ', '}${
+      this.sentences.thing(element)}`)}${along.length > 6 && ' \u2026'}</p>`;
   }
-  documentScrolls(boxes, before) {
-    return boxes.viewports.map(now => {
-      const old = before.viewports.find(one => one.number === now.number), parts = [], name = this.data.documents[now.number][0];
-      if (!old) return '';
-      if (widthOf(old.rectangle) !== widthOf(now.rectangle) || heightOf(old.rectangle) !== heightOf(now.rectangle)) {
-        parts.push(html`<p class="after">The viewport of <b>${name}</b> is resized: ${sizeText(widthOf(old.rectangle), heightOf(old.rectangle))} \u2192 <b class="size">${sizeText(widthOf(now.rectangle), heightOf(now.rectangle))}</b></p>`);
-      }
-      if (!isSame(old.scroll.slice(0, 2), now.scroll.slice(0, 2))) {
-        parts.push(html`<p class="after">The document <b>${name}</b> is scrolled: ${old.scroll.slice(0, 2).map(px).join(' ')} \u2192 <b class="size">${now.scroll.slice(0, 2).map(px).join(' ')}</b></p>`);
-      }
-      return parts;
-    }).flat().filter(Boolean);
+  documentChanges(boxes, before) {
+    const found = [];
+    for (const now of boxes.viewports) {
+      const old = before.viewports.find(one => one.number === now.number), name = bold(this.documentName(now.number));
+      if (!old) continue;
+      const sizes = [sizeOf(old.rectangle), sizeOf(now.rectangle)], scrolls = [scrollText(old.scroll), scrollText(now.scroll)];
+      if (sizes[0] !== sizes[1]) found.push(html`<p class="after">The viewport of ${name} is resized: ${sizes[0]} \u2192 ${sized(sizes[1])}</p>`);
+      if (scrolls[0] !== scrolls[1]) found.push(html`<p class="after">The document ${name} is scrolled: ${scrolls[0]} \u2192 ${sized(scrolls[1])}</p>`);
+    }
+    return found;
   }
   changeTable(key, rows, boxes, before) {
-    return html`<table class="changes"><thead><tr><th scope="col">Box</th><th scope="col">Change</th><th scope="col">Before</th><th scope="col">Now</th></tr></thead><tbody>${
-      this.some('changes-' + key, rows, ([element, words]) => this.changeRow(element, words, boxes, before))}</tbody></table>`;
+    const row = ([element, words]) => this.changeRow(element, words, before.boxes.get(element), boxes.boxes.get(element), boxes);
+    return html`<table class="changes">${heads(['Box', 'Change', 'Before', 'Now'])}<tbody>${this.some('changes-' + key, rows, row)}</tbody></table>`;
   }
-  changeRow(element, words, boxes, before) {
-    const old = before.boxes.get(element), now = boxes.boxes.get(element), isSize = words.some(word => SIZE_WORDS.includes(word));
-    const cell = (box, gone, other) => {
-      if (!box) return html`<span class="word">${gone}</span>`;
-      const parts = [];
-      if (isSize || !other) parts.push(sizeText(widthOf(box.rectangle), heightOf(box.rectangle)));
-      if (words.includes('scrolled')) parts.push(box.scroll ? 'scrolled to ' + box.scroll.slice(0, 2).map(px).join(' ') : 'scrolls no more');
-      if (words.includes('moved') || !other) parts.push('at ' + rectangleText(box.rectangle, box.origin).split(' ').slice(0, 2).join(' '));
-      if (words.some(word => word.endsWith('view'))) parts.push(seenSaid(box));
-      return parts.join(', ');
-    };
-    const reason = boxes.reasons.get(element);
-    return html`<tr data-element-row="${element}"><th scope="row">${this.story.thing(element)}</th><td>${words.filter(word => word !== 'along').join(', ')}</td><td>${cell(old, 'no box', now)}</td><td>${
-      now ? cell(now, '', old) : html`<span class="word">${reason ? quoted(reason) : 'taken out of the tree'}</span>`}</td></tr>`;
+  changeRow(element, words, old, now, boxes) {
+    const reason = boxes.reasons.get(element), gone = word(reason ? quoted(reason) : 'taken out of the tree');
+    return html`<tr><th scope="row">${this.sentences.thing(element)}</th><td>${words.filter(one => one !== 'along').join(', ')}</td><td>${
+      old ? this.changed(old, words, now) : word('no box')}</td><td>${now ? this.changed(now, words, old) : gone}</td></tr>`;
+  }
+  // What of a box is another than in its other state.
+  changed(box, words, other) {
+    const parts = [];
+    if (!other || words.some(one => SIZE_WORDS.includes(one))) parts.push(sizeOf(box.rectangle));
+    if (words.includes('scrolled')) parts.push(box.scroll ? 'scrolled to ' + scrollText(box.scroll) : 'scrolls no more');
+    if (!other || words.includes('moved')) parts.push('at ' + cornerText(box.rectangle, box.origin));
+    if (words.some(one => one.endsWith('view'))) parts.push(seenSaid(box));
+    return parts.join(', ');
   }
 
   // ---- the chosen box ----
 
   chosen(element, place, boxes) {
-    const [name, kind, line] = this.data.elements[element], box = boxes && boxes.boxes.get(element);
-    const rows = [['made', html`${kind}, ${this.story.ref(line)} ${this.story.code(line)}`]];
-    if (box) rows.push(...this.geometry(element, box, boxes));
-    else if (boxes) rows.push(['box', html`none: ${quoted(boxes.reasons.get(element) || 'it stands in no document that is shown')}`]);
-    const observed = boxes && boxes.packed.observed.get(element);
-    return html`<dl class="facts">${rows.map(([term, said]) => html`<dt>${term}</dt><dd>${said}</dd>`)}</dl>${
-      observed && this.observers(observed, element, box)}${box && this.clipTable(element, box, boxes)}${this.history(element)}${this.linesAbout(element, place)}`;
+    const [, kind, line] = this.data.elements[element], box = boxes && boxes.boxes.get(element), observed = boxes && boxes.packed.observed.get(element);
+    const facts = [fact('made', html`${kind}, ${this.sentences.ref(line)} ${this.sentences.code(line)}`)];
+    if (box) facts.push(...this.geometry(element, box, boxes));
+    else if (boxes) facts.push(fact('box', html`none: ${quoted(boxes.reasons.get(element) || 'it stands in no document that is shown')}`));
+    return html`<dl class="facts">${facts}</dl>${observed && this.observers(observed, box)}${box && this.clips(element, box, boxes)}${
+      this.history(element)}${this.linesAbout(element, place)}`;
   }
   geometry(element, box, boxes) {
-    const r = box.rectangle, rows = [['border box', html`<b class="size">${sizeText(widthOf(r), heightOf(r))}</b> at ${rectangleText(r, box.origin).split(' ').slice(0, 2).join(' ')}`]];
-    if (!isSame(box.content, r)) rows.push(['content box', sizeText(widthOf(box.content), heightOf(box.content))]);
-    const sides = (from, title) => box.edges.slice(from, from + 4).some(Boolean) && rows.push([title, box.edges.slice(from, from + 4).map(px).join(' ')]);
-    sides(0, 'borders');
-    sides(4, 'paddings');
-    if (box.overflow) rows.push(['overflow', html`${box.overflow}: it clips what is in it`]);
-    if (box.scroll) rows.push(['scrolled to', html`${px(box.scroll[0])} ${px(box.scroll[1])} of ${px(box.scroll[2])} ${px(box.scroll[3])}`]);
-    rows.push(['seen', isSame(box.seen, r) ? 'all of it' : box.seen ? rectangleText(box.seen, box.origin) : 'nothing']);
-    rows.push(['depth', html`${box.depth} in <b>${this.data.documents[box.document][0]}</b>${boxes.parents.has(element) && html`, in ${this.story.thing(boxes.parents.get(element))}`}`]);
-    return rows;
+    const r = box.rectangle, sides = from => box.edges.slice(from, from + 4), parent = boxes.parents.get(element);
+    const most = box.scroll && box.scroll.slice(2).map(px).join(' ');
+    return [
+      fact('border box', html`${sized(sizeOf(r))} at ${cornerText(r, box.origin)}`),
+      !isSame(box.content, r) && fact('content box', sizeOf(box.content)),
+      sides(0).some(Boolean) && fact('borders', sides(0).map(px).join(' ')),
+      sides(4).some(Boolean) && fact('paddings', sides(4).map(px).join(' ')),
+      box.overflow && fact('overflow', `${box.overflow}: it clips what is in it`),
+      box.scroll && fact('scrolled to', `${scrollText(box.scroll)} of ${most}`),
+      fact('seen', isSame(box.seen, r) ? 'all of it' : box.seen ? rectangleText(box.seen, box.origin) : 'nothing'),
+      fact('depth', html`${box.depth} in ${bold(this.documentName(box.document))}${parent !== undefined && html`, in ${this.sentences.thing(parent)}`}`),
+    ];
   }
-  observers(observed, element, box) {
-    return html`<h4>Observed</h4><ul class="observers">${observed.slice(0, 30).map(one => {
-      if (one[0] === 'intersect') return html`<li><b>${one[1]}</b>, ${this.story.ref(one[2])}: ${one[4] < 0 ? 'not computed yet' : one[3] ? 'meets its root' : 'doesn\u2019t meet its root'}</li>`;
-      const [, observer, line, kind, told, width, height] = one;
-      const now = !box ? [0, 0] : kind === 'border' ? [widthOf(box.rectangle), heightOf(box.rectangle)] : [widthOf(box.content), heightOf(box.content)];
-      const isTold = kind === 'device' || now[0] === width && now[1] === height;
-      return html`<li><b>${observer}</b>, ${kind} box, ${this.story.ref(line)}: ${told ? html`told ${toldSize(kind, width, height)}` : 'told nothing yet'}${
-        kind === 'device' ? '' : isTold ? ', as it is' : html`; <b class="bad">it is ${sizeText(...now)}</b>, to be told`}</li>`;
-    })}</ul>`;
+  observers(observed, box) {
+    return html`<h4>Observed</h4><ul class="observers">${observed.slice(0, 30).map(one => html`<li>${
+      one[0] === 'resize' ? this.observation(one, box) : this.registration(one)}</li>`)}</ul>`;
   }
-  clipTable(element, box, boxes) {
-    const clips = boxes.clips(element);
-    return html`<h4>What is seen of it</h4><table class="clips"><thead><tr><th scope="col">Clipped by</th><th scope="col">in <b>top</b></th><th scope="col">left is</th></tr></thead><tbody>
-      <tr><th scope="row">the box itself</th><td>${rectangleText(box.rectangle, [0, 0])}</td><td></td></tr>${clips.map(clip => html`<tr><th scope="row">${clip.said} ${
-        clip.element === undefined ? html`<b>${this.data.documents[clip.document][0]}</b>` : this.story.thing(clip.element)}</th><td>${rectangleText(clip.rectangle, [0, 0])}</td><td>${
-        isCrossed(clip.left) ? html`<span class="word">nothing</span>` : rectangleText(clip.left, [0, 0])}</td></tr>`)}</tbody></table>`;
+  registration([, observer, line, meets, index]) {
+    return html`${bold(observer)}, ${this.sentences.ref(line)}: ${index < 0 ? 'not computed yet' : meets ? 'meets its root' : 'doesn\u2019t meet its root'}`;
   }
-  // The ticks in which a box is another one than before, by its own record.
+  observation([, observer, line, kind, told, width, height], box) {
+    const now = !box ? [0, 0] : [widthOf, heightOf].map(length => length(kind === 'border' ? box.rectangle : box.content));
+    const isTold = now[0] === width && now[1] === height;
+    const state = kind === 'device' ? '' : isTold ? ', as it is' : html`; <b class="bad">it is ${sizeText(...now)}</b>, to be told`;
+    return html`${bold(observer)}, ${kind} box, ${this.sentences.ref(line)}: ${told ? `told ${toldSize(kind, width, height)}` : 'told nothing yet'}${state}`;
+  }
+  clips(element, box, boxes) {
+    const row = clip => html`<tr><th scope="row">${clip.said} ${
+      clip.element === undefined ? bold(this.documentName(clip.document)) : this.sentences.thing(clip.element)}</th><td>${
+      rectangleText(clip.rectangle, [0, 0])}</td><td>${isCrossed(clip.left) ? word('nothing') : rectangleText(clip.left, [0, 0])}</td></tr>`;
+    return html`<h4>What is seen of it</h4><table class="clips">${heads(['Clipped by', html`in ${bold('top')}`, 'left is'])}<tbody>
+      <tr><th scope="row">the box itself</th><td>${rectangleText(box.rectangle, [0, 0])}</td><td></td></tr>${boxes.clips(element).map(row)}</tbody></table>`;
+  }
+  // The steps in which a box is another one than before, by its own record.
   placesOf(element) {
-    return this.data.steps.map((step, place) => step.boxes && step.boxes.elements && element in step.boxes.elements ? place : -1).filter(place => place >= 0);
+    const places = this.data.steps.map((step, place) => place);
+    return places.filter(place => { const { boxes } = this.data.steps[place]; return boxes && boxes.elements && element in boxes.elements; });
   }
   history(element) {
-    const places = this.placesOf(element);
-    return places.length > 0 && html`<h4>Its box itself changes in</h4><p class="history">${places.slice(0, 40).map(place => html`<button type="button" class="to-step" data-step="${place}">${this.stepName(this.data.steps[place])}</button> `)}${
-      places.length > 40 && `and ${number(places.length - 40)} more`}</p>`;
+    const places = this.placesOf(element), others = places.length - HISTORY;
+    const button = place => html`<button type="button" class="to-step" data-step="${place}">${this.stepName(this.data.steps[place])}</button> `;
+    return places.length > 0 && html`<h4>Its box itself changes in</h4><p class="history">${places.slice(0, HISTORY).map(button)}${
+      others > 0 && `and ${number(others)} more`}</p>`;
   }
   linesAbout(element, place) {
-    this.byElement = this.byElement || this.indexed();
-    const lines = this.byElement.get(element) || [];
+    const lines = this.byElement.get(element) || [], isHere = line => this.placeOf.get(line) === place;
+    const here = lines.filter(isHere), others = lines.filter(line => !isHere(line));
     if (!lines.length) return html`<h4>Lines of the trace about it</h4><p class="after">None.</p>`;
-    const here = lines.filter(line => this.placeOf.get(line) === place), others = lines.filter(line => this.placeOf.get(line) !== place);
-    const list = (key, some) => html`<table class="lines"><tbody>${this.some(key, some, line => html`<tr><th scope="row"><button type="button" class="to-line" data-to-line="${line}">${this.stepName(this.data.steps[this.placeOf.get(line)])}</button></th><td><code>${this.story.text(line)}</code></td></tr>`)}</tbody></table>`;
-    return html`<h4>Lines of the trace about it <span class="count">${number(lines.length)}</span></h4>${here.length > 0 && list('here', here)}${
-      others.length > 0 && html`${here.length > 0 && html`<p class="word">in other ticks:</p>`}${list('others', others)}`}`;
+    return html`<h4>Lines of the trace about it <span class="count">${number(lines.length)}</span></h4>${here.length > 0 && this.lineTable('here', here)}${
+      here.length > 0 && others.length > 0 && html`<p class="after">In other ticks:</p>`}${others.length > 0 && this.lineTable('others', others)}`;
   }
-  // The lines of the trace by elements, and the step in which each stands.
-  indexed() {
-    const found = new Map();
-    this.placeOf = new Map();
-    this.data.steps.forEach((step, place) => this.story.linesOf(step).forEach(line => {
-      this.placeOf.set(line, place);
-      for (const element of new Set(this.story.elements(line))) {
-        if (!found.has(element)) found.set(element, []);
-        found.get(element).push(line);
-      }
-    }));
-    return found;
+  lineTable(key, lines) {
+    const row = line => html`<tr><th scope="row"><button type="button" class="to-line" data-to-line="${line}">${
+      this.stepName(this.data.steps[this.placeOf.get(line)])}</button></th><td><code>${this.trace.text(line)}</code></td></tr>`;
+    return html`<table class="lines"><tbody>${this.some(key, lines, row)}</tbody></table>`;
   }
 
   // ---- all boxes, and the script ----
 
   tree(boxes, wanted, chosen, changes) {
     if (!boxes) return html`<p class="after">The boxes are left out here.</p>`;
-    const rows = boxes.order.filter(row => !wanted || this.rowName(row).toLowerCase().includes(wanted.toLowerCase()));
-    const most = this.lists.get('tree') ? Infinity : 400;
-    return html`<ul class="tree" aria-label="Boxes">${rows.slice(0, most).map(row => this.treeRow(row, boxes, chosen, changes))}${
-      rows.length > most && html`<li class="others"><button type="button" data-more="tree">Show ${number(rows.length - most)} more</button></li>`}</ul>${!rows.length && html`<p class="after">No box is called so.</p>`}`;
+    const rows = boxes.order.filter(row => this.rowName(row).toLowerCase().includes(wanted.toLowerCase()));
+    const list = this.some('tree', rows, row => row.element === undefined ? this.documentRow(row, boxes) : this.boxRow(row, boxes, chosen, changes),
+      TREE_ROWS, button => html`<li class="others">${button}</li>`);
+    return html`<ul class="tree" aria-label="Boxes">${list}</ul>${!rows.length && html`<p class="after">No box is called so.</p>`}`;
   }
-  rowName(row) { return row.element === undefined ? this.data.documents[row.document][0] : this.data.elements[row.element][0]; }
-  treeRow(row, boxes, chosen, changes) {
-    if (row.element === undefined) {
-      const viewport = boxes.viewports.find(one => one.number === row.document), [left, top, most, mostDown] = viewport.scroll;
-      return html`<li style="--level:${Math.min(row.level, 12)}"><span class="document"><b>${this.rowName(row)}</b> <span class="word">document, viewport ${sizeText(widthOf(viewport.rectangle), heightOf(viewport.rectangle))}${
-        (most || mostDown) > 0 && `, scrolled to ${px(left)} ${px(top)} of ${px(most)} ${px(mostDown)}`}</span></span></li>`;
-    }
-    const box = boxes.boxes.get(row.element), words = (changes.get(row.element) || []).filter(word => word !== 'along');
-    const said = box ? html`${sizeText(widthOf(box.rectangle), heightOf(box.rectangle))}${!isSame(box.seen, box.rectangle) && html` <span class="word">${box.seen ? 'seen in part' : 'not seen'}</span>`}` : html`<span class="word">no box</span>`;
-    return html`<li style="--level:${Math.min(row.level, 12)}"><button type="button" class="row" data-element="${row.element}"${row.element === chosen && html` aria-current="true"`}><b>${this.rowName(row)}</b> <span>${said}${
-      words.length > 0 && html` <span class="change">${words[0]}</span>`}</span></button></li>`;
+  rowName(row) { return row.element === undefined ? this.documentName(row.document) : this.trace.name(row.element); }
+  documentRow(row, boxes) {
+    const { rectangle, scroll } = boxes.viewports.find(one => one.number === row.document), most = scroll.slice(2).map(px).join(' ');
+    const scrolled = scroll[2] + scroll[3] > 0 ? `, scrolled to ${scrollText(scroll)} of ${most}` : '';
+    return html`<li style="--level:${Math.min(row.level, DEEPEST)}"><span class="document">${bold(this.rowName(row))} ${
+      word(`document, viewport ${sizeOf(rectangle)}${scrolled}`)}</span></li>`;
+  }
+  boxRow(row, boxes, chosen, changes) {
+    const box = boxes.boxes.get(row.element), changed = (changes.get(row.element) || []).filter(one => one !== 'along');
+    const seen = box && !isSame(box.seen, box.rectangle) && word(box.seen ? 'seen in part' : 'not seen');
+    return html`<li style="--level:${Math.min(row.level, DEEPEST)}"><button type="button" class="row" data-element="${row.element}"${
+      row.element === chosen && html` aria-current="true"`}>${bold(this.rowName(row))} <span>${box ? sizeOf(box.rectangle) : word('no box')} ${seen} ${
+      changed.length > 0 && html`<span class="change">${changed[0]}</span>`}</span></button></li>`;
   }
   script(running, chosen) {
-    const lines = Array.isArray(this.data.script) ? this.data.script.map((text, at) => [at + 1, text]) : Object.entries(this.data.script);
-    return html`<ol class="script">${lines.map(([line, text]) => html`<li value="${line}" id="script-${line}" class="${running.has(Number(line)) ? 'ran' : ''}${Number(line) === chosen ? ' chosen' : ''}"><span class="gutter">${
-      running.has(Number(line)) ? 'ran' : ''}</span><code>${text}</code></li>`)}</ol>`;
+    const script = this.data.script, lines = Array.isArray(script) ? script.map((text, at) => [at + 1, text]) : Object.entries(script);
+    const names = line => [running.has(line) && 'ran', line === chosen && 'chosen'].filter(Boolean).join(' ');
+    return html`<ol class="script">${lines.map(([line, text]) => html`<li value="${line}" id="script-${line}" class="${names(Number(line))}"><span class="gutter">${
+      running.has(Number(line)) && 'ran'}</span><code>${text}</code></li>`)}</ol>`;
   }
 }

@@ -1,0 +1,44 @@
+'use strict';
+// Text for the page. It comes into the page through `html` alone, which escapes what it is given.
+
+class Html { constructor(text) { this.text = text; } }
+const ESCAPES = { '&': '&amp;', '<': '&lt;', '>': '&gt;', '"': '&quot;', "'": '&#39;' };
+function shown(value) {
+  if (value instanceof Html) return value.text;
+  if (Array.isArray(value)) return value.map(shown).join('');
+  if (value === null || value === undefined || value === false) return '';
+  return String(value).replace(/[&<>"']/g, letter => ESCAPES[letter]);
+}
+function html(parts, ...values) {
+  return new Html(parts.reduce((all, part, at) => all + part + (at < values.length ? shown(values[at]) : ''), ''));
+}
+const number = count => count.toLocaleString('en');
+const counted = (count, one, many = one + 's') => `${number(count)} ${count === 1 ? one : many}`;
+function listed(parts) {
+  return parts.length < 2 ? parts.join('') : parts.slice(0, -1).join(', ') + ' and ' + parts[parts.length - 1];
+}
+// A size as it is told of a box: of the box `device` in device pixels.
+const toldSize = (box, width, height) => box === 'device' ? `${width} \u00d7 ${height} device px` : sizeText(width, height);
+const word = said => html`<span class="word">${said}</span>`;
+const bold = said => html`<b>${said}</b>`;
+const sized = said => html`<b class="size">${said}</b>`;
+// Text with names between backquotes.
+const quoted = text => text.split('`').map((part, at) => at % 2 ? bold(part) : html`${part}`);
+// The part of an intersection that is seen.
+function seenPart(text) {
+  const [part, whole] = text.split('/').map(BigInt);
+  if (part === whole) return 'all of it';
+  if (part === 0n) return 'nothing of it, edges touch';
+  const about = part * 10000n % whole === 0n ? '' : 'about ';
+  return `${about}${Number(part * 10000n / whole) / 100}% of it`;
+}
+// The lines of an explanation: what is set in stands as it is.
+function explained(lines) {
+  const parts = [];
+  for (const line of lines) {
+    const isSetIn = line.startsWith(' '), last = parts[parts.length - 1];
+    if (isSetIn && last && last.isSetIn) last.lines.push(line);
+    else parts.push({ isSetIn, lines: [line] });
+  }
+  return parts.map(part => part.isSetIn ? html`<pre>${part.lines.join('\n')}</pre>` : html`<p>${quoted(part.lines[0])}</p>`);
+}

@@ -1,0 +1,65 @@
+'use strict';
+// The lines of the trace, and what the lines of a tick come to.
+
+const COUNTED = { round: 'rounds', resize: 'sizes', intersect: 'meetings', throw: 'throws', limit: 'limits', timer: 'callbacks',
+  frame: 'callbacks', task: 'callbacks', syntax: 'faults', say: 'words', read: 'words', take: 'words' };
+
+class Trace {
+  constructor(data) { this.data = data; }
+
+  text(line) { return this.data.lines[line][0]; }
+  words(line) { return this.text(line).split(' '); }
+  kind(line) { return this.words(line)[0]; }
+  ranAt(line) { return this.data.lines[line][1]; }
+  elements(line) { return this.data.lines[line][2] || []; }
+  causes(line) { return this.data.lines[line][3] || []; }
+  more(line) { return this.data.lines[line][4] || null; }
+  explanation(line) { return this.data.lines[line][5] || []; }
+  isError(line) { return this.text(line).startsWith('event error'); }
+  isTroubleLine(line) { return this.isError(line) || ['throw', 'limit', 'syntax'].includes(this.kind(line)); }
+  name(element) { return this.data.elements[element][0]; }
+  // A line of the script: its words, without a comment.
+  command(line) {
+    const script = this.data.script, text = (Array.isArray(script) ? script[line - 1] : script[line]) || '';
+    return text.trim().replace(/\s+/g, ' ').replace(/(^| )#.*/, '');
+  }
+  linesOf(step) { return [...step.since, ...step.log].filter(item => item[0] === 'line').map(item => item[1]); }
+
+  counts(step) {
+    if (step.counts) return step.counts;
+    const counts = { rounds: 0, sizes: 0, errors: 0, events: 0, meetings: 0, throws: 0, limits: 0, callbacks: 0, faults: 0, words: 0 };
+    for (const line of this.linesOf(step)) {
+      const kind = this.kind(line), key = kind === 'event' ? (this.isError(line) ? 'errors' : 'events') : COUNTED[kind];
+      if (key) counts[key]++;
+    }
+    return step.counts = counts;
+  }
+  isTrouble(step) {
+    const { errors, throws, limits, faults } = this.counts(step);
+    return errors + throws + limits + faults > 0;
+  }
+  // [class, words] for a tick's button: what is most of note stands first.
+  badges(step) {
+    const { rounds, sizes, errors, events, meetings, throws, limits, callbacks, faults } = this.counts(step);
+    const found = [
+      faults && ['bad', 'no script'], limits && ['bad', 'limit'], errors && ['bad', errors > 1 ? `${errors} loop errors` : 'loop error'],
+      throws && ['odd', counted(throws, 'throw')], rounds && ['', counted(rounds, 'round')],
+      sizes && !rounds && ['', counted(sizes, 'size')], events && ['', counted(events, 'event')],
+      meetings && ['', counted(meetings, 'intersection')], callbacks && ['', counted(callbacks, 'callback')],
+      step.linesNotKept && ['', 'lines left out'],
+    ].filter(Boolean);
+    return found.length ? found : [['quiet', step.kind === 'tick' ? 'quiet' : counted(step.commands[2], 'command')]];
+  }
+  summary(step) {
+    const { rounds, sizes, errors, events, meetings, throws, callbacks, words } = this.counts(step);
+    const left = step.linesNotKept;
+    const told = [
+      events && counted(events, 'event'), callbacks && counted(callbacks, 'callback'),
+      sizes && `${counted(sizes, 'size')} in ${counted(rounds, 'round')} of the resize loop`, errors && counted(errors, 'loop error'),
+      meetings && counted(meetings, 'intersection'), throws && counted(throws, 'exception'),
+      words && `${counted(words, 'line')} that the script wrote`,
+      left && `${counted(left, 'line')} of the trace that ${left === 1 ? 'is' : 'are'} left out here`,
+    ].filter(Boolean);
+    return told.length ? `Told: ${listed(told)}.` : 'Nothing was told.';
+  }
+}
