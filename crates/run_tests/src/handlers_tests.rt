@@ -92,6 +92,19 @@ fn run_text<L: Ledger>(
     )
 }
 
+// Runs a script on a page of its own. It is the one place where a page is dropped, which is long to prove.
+fn run_alone(
+    alloc: Global,
+    script: &Script,
+    document: u32,
+    sink: &mut MemorySink,
+) -> Result<(), RunFault> {
+    let Ok(mut page) = Page::new(alloc) else {
+        return Err(RunFault::Memory);
+    };
+    run_text::<Brand>(Blank::new(1), alloc, &mut page, script, document, sink)
+}
+
 // Runs a text over a sink that takes 64 bytes a call, of which the one of this number fails, and compares.
 fn expect(
     rt: &impl Abort,
@@ -104,15 +117,7 @@ fn expect(
 ) -> Result<(), Fail> {
     let mut sink = MemorySink::new(alloc, ROOM, 64, failing(alloc, number)?)?;
     let script = script_of(alloc, text.as_bytes())?;
-    let mut page = Page::new(alloc)?;
-    let ran = run_text::<Brand>(
-        Blank::new(1),
-        alloc,
-        &mut page,
-        &script,
-        document,
-        &mut sink,
-    );
+    let ran = run_alone(alloc, &script, document, &mut sink);
     assert_eq!(rt; ran, ending, "{text}");
     assert_eq!(rt; sink.taken(), told.as_bytes(), "{text}");
     Ok(())

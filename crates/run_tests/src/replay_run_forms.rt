@@ -1,4 +1,4 @@
-//! The six forms of words, with what they give, and other words.
+//! The forms of words, with what they give, and other words.
 
 use crate::replay_run_scripts::{GROWING, PAGE};
 use crate::replay_run_tests::{Answer, WHOLE, replayed};
@@ -8,7 +8,7 @@ use std::process::Abort;
 use std::test::Fail;
 
 /// Words, the text of the source, and the status and the text that they give.
-const FORMS: [(&[&str], &str, Status, &str); 12] = [
+const FORMS: [(&[&str], &str, Status, &str); 14] = [
     (&["--check"], PAGE, Status::Done, "ok 5\n"),
     (&["--check"], "", Status::Syntax, "syntax 1 1\n"),
     (
@@ -51,6 +51,18 @@ const FORMS: [(&[&str], &str, Status, &str); 12] = [
         "syntax 2 5\n",
     ),
     (
+        &["--judge"],
+        "script 1\nsay tick\ntrace\nsay tick\n",
+        Status::Done,
+        "equal 1\n",
+    ),
+    (
+        &["--judge"],
+        "script 1\nsay tick\ntrace\nsay tack\n",
+        Status::Differs,
+        "differs 1 text 6\n",
+    ),
+    (
         &["--generate", "0"],
         "no script",
         Status::Done,
@@ -75,13 +87,15 @@ const GROWING_SUMMARY: &str =
     "tick 2\ntimer 0\nframe 0\ntask 0\nevent 2\nresize 6\nround 4\nintersect 0\ntake 0\nsay 0\nread 0\nthrow 0\nlimit 0\nsyntax 0\n";
 
 /// Words that are of none of the forms: in another order, with other numbers, too many.
-const OTHERS: [&[&str]; 18] = [
+const OTHERS: [&[&str]; 20] = [
     &[""],
     &["--check", "x"],
     &["--check", ""],
     &["--check", "--summary"],
     &["--lint", "x"],
     &["--Lint"],
+    &["--judge", "x"],
+    &["--judged"],
     &["--summary", "1"],
     &["--Check"],
     &["--check "],
@@ -142,11 +156,12 @@ fn other_words_are_refused(rt: HostRuntime) -> Result<(), Fail> {
 }
 
 /// The words of a run, and whether a page is handed out.
-const PAGES: [(&[&str], bool); 5] = [
+const PAGES: [(&[&str], bool); 6] = [
     (&["--summary"], true),
     (&["--generate-run", "0"], true),
     (&["--check"], false),
     (&["--lint"], false),
+    (&["--judge"], false),
     (&["--generate", "0"], false),
 ];
 

@@ -27,8 +27,23 @@ pub(crate) const WHOLE: Streams = Streams {
     failing_write: None,
 };
 
-fn in_pieces(piece: usize) -> Streams {
+pub(crate) fn in_pieces(piece: usize) -> Streams {
     Streams { piece, ..WHOLE }
+}
+
+impl Streams {
+    // The same with a read or a write that fails.
+    pub(crate) fn failing_at(
+        self,
+        failing_read: Option<u64>,
+        failing_write: Option<u64>,
+    ) -> Streams {
+        Streams {
+            failing_read,
+            failing_write,
+            ..self
+        }
+    }
 }
 
 // What a run answered and wrote.
@@ -52,8 +67,8 @@ pub(crate) fn replayed(
     let mut sink = MemorySink::new(alloc, streams.room, streams.piece, writes)?;
     let report = run_uncounted::<_, _, Brand>(Blank::new(1), alloc, words, &mut source, &mut sink);
     Ok(Answer {
-        status: report.status,
         has_page: report.page.is_some(),
+        status: report.into_status(),
         sink,
     })
 }
