@@ -31,11 +31,11 @@ class Trace:
         self.lines.append((text, line, list(explanation)))
 
 
-def explained(text):
-    """The Trace of a script's bytes."""
+def explained(text, run=None):
+    """The Trace of a script's bytes; `run` is the reference's over it, where that was made already."""
     trace = Trace(text)
     proved = runs.Proved(text) if runs.is_built() else None
-    run = runs.Reference(text)
+    run = run or runs.Reference(text)
     fault = run.told[0].about if run.told and isinstance(run.told[0].about, lexer.Fault) else None
     bad_byte = fault.cause.byte if fault and isinstance(fault.cause, lexer.BadByte) else None
     trace.notes += source.notes(text, bad_byte)
@@ -57,7 +57,7 @@ def _trusted(trace, proved, run):
         return 0
     if not run.ended:
         trace.notes.append('The reference was stopped after %d seconds of the processor: explained are the first %s of the '
-                           'trace.' % (runs.SECONDS_OF_THE_REFERENCE, counted(len(run.told), 'line')))
+                           'trace.' % (run.seconds, counted(len(run.told), 'line')))
     if proved is None:
         return len(run.told)
     if proved.stopped:

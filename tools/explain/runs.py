@@ -62,12 +62,13 @@ class CountingPage(Page):
 class Reference:
     """The reference's trace with what its lines are about; `ended` says whether it came to its end in time, `failure` what
     went wrong in it, if something did."""
+    seconds = SECONDS_OF_THE_REFERENCE
 
     def __init__(self, text):
         self.told, self.status, self.ended, self.failure = [], None, True, None
         self.script, self.page = None, None
         try:
-            with time_limit(SECONDS_OF_THE_REFERENCE):
+            with time_limit(self.seconds):
                 self._run(text)
         except TooLong:
             self.ended = False

@@ -16,22 +16,24 @@ MOST_SCRIPT_BYTES = 2000000
 
 def of(text, name, tick=None, say=lambda sentence: None):
     """(object, status of the script) for a script's bytes; `tick` is the number of the tick at which the page opens, or None."""
-    say('running the script and explaining its trace')
-    trace = report.explained(text)
-    recorded = _recorded(text, tick, say)
+    try:
+        recorded, failure = _recorded(text, tick, say), None
+    except Exception as fault:
+        recorded, failure = None, repr(fault)
+    say('explaining the trace')
+    trace = report.explained(text, recorded)
     notes = [note for note in trace.notes if note != report.NOT_BUILT]        # the page says it by itself
+    if failure:
+        notes.append('The boxes are not shown: the tool fails with %s, which is a fault of its own.' % failure)
     if recorded is not None and not _is_same(recorded, trace):
         recorded = None
         notes.append('The boxes are not shown, since they would be those of another run.')
-    status = trace.status
-    if recorded is not None and recorded.ended and not runs.is_built():
-        status = recorded.status                     # the explained run may have been stopped
-    page = {'name': name, 'status': status, 'trace': 'proved' if runs.is_built() else 'reference', 'open': tick}
+    page = {'name': name, 'status': trace.status, 'trace': 'proved' if runs.is_built() else 'reference', 'open': tick}
     page.update(_recording_parts(recorded, trace, notes) if recorded is not None else _plain_parts(trace))
     page['checked'] = None if recorded is None else _checked(recorded, text, notes)
     page.update(_script_parts(trace.script, page, notes))
     page['notes'] = notes
-    return page, status
+    return page, trace.status
 
 
 def _recorded(text, tick, say):
@@ -43,6 +45,7 @@ def _recorded(text, tick, say):
     first = 1
     if tick is not None and count > recording.MOST_TICKS:
         first = max(1, min(tick, count) - recording.MOST_TICKS // 2)
+    say('running the script')
     return recording.Recording(script, first, lambda ticks: say('%d of %d ticks' % (ticks, count))).record()
 
 
@@ -75,14 +78,12 @@ def _checked(recorded, text, notes):
 def _recording_parts(recorded, trace, notes):
     elements, documents = recorded.things.listed()
     start = recorded.told_before
-    explanations = [explanation for _, _, explanation in trace.lines[start:]]
-    explanations += [()] * (len(recorded.lines) - len(explanations))
-    lines = [_line(line, explanation) for line, explanation in zip(recorded.lines, explanations)]
+    lines = [_line(line, explanation) for line, (_, _, explanation) in zip(recorded.lines, trace.lines[start:])]
     _note_left_out(recorded, trace, notes)
     return {'elements': elements, 'documents': documents, 'handlers': {
         handler.name: handler.line for handler in recorded.script.handlers.values()},
             'lines': lines, 'steps': [_step(step) for step in recorded.steps], 'ticks': recorded.ticks,
-            'lineCount': max(len(trace.lines), recorded.told), 'firstLine': start}
+            'lineCount': len(trace.lines), 'firstLine': start}
 
 
 def _line(line, explanation):
@@ -106,14 +107,15 @@ def _step(step):
 def _note_left_out(recorded, trace, notes):
     shown = len([step for step in recorded.steps if step.kind == recording.TICK])
     if not recorded.ended:
-        notes.append('The run was stopped after %d seconds of the processor, in the tick after the %s; what comes behind it is left '
-                     'out.' % (recording.SECONDS, _ordinal(recorded.ticks)))
+        is_in_tick = recorded.steps[-1:] and recorded.steps[-1].kind == recording.TICK and recorded.steps[-1].number > recorded.ticks
+        notes.append('The run was stopped %s tick %s; what comes later is left out.' % (
+            'in' if is_in_tick else 'behind', '{:,}'.format(recorded.ticks + bool(is_in_tick))))
     if recorded.ticks > shown:
         notes.append('Of %s ticks %s are shown, from the %s on; `bin/view --tick K` shows those around another one.' % (
             '{:,}'.format(recorded.ticks), '{:,}'.format(shown), _ordinal(recorded.first)))
     if recorded.lines_left_out and recorded.ticks == shown:
         notes.append('Of %s lines of the trace the last %s are left out.' % (
-            '{:,}'.format(recorded.told), '{:,}'.format(recorded.lines_left_out)))
+            '{:,}'.format(len(recorded.told)), '{:,}'.format(recorded.lines_left_out)))
     if recorded.boxes_left_out_from is not None:
         notes.append('From tick %d on the boxes are left out: too many of them have changed until then.' % recorded.boxes_left_out_from)
     if recorded.causes.unknown_from is not None:

@@ -13,10 +13,13 @@ A log is a list of items:
         that changed such a size.
 """
 import time
+from collections import Counter
 
+from explain.runs import Told
 from reference import program
 from reference.comparing import TooLong
 from reference.page import Page
+from reference.resize_loop import ResizeEntry
 from reference.world import World
 
 from . import boxes
@@ -80,8 +83,9 @@ class _NotingWorld(World):
 
 
 class Recording(Page):
-    """The page whose run is noted. `first` is the number of the first tick that is kept; `say` is told now and then how
-    many ticks have run."""
+    """The page whose run is noted, which is a run of the reference as bin/explain wants one, too. `first` is the number of the first
+    tick that is kept; `say` is told now and then how many ticks have run."""
+    seconds, failure = SECONDS, None
 
     def __init__(self, script, first=1, say=lambda ticks: None):
         Page.__init__(self, script, None)
@@ -91,20 +95,21 @@ class Recording(Page):
         self.things.document(self.world.top)
         self.causes = Causes(self)
         self.steps, self.ended, self.ticks = [], True, 0       # ticks that ended
-        self.status = program.DONE
+        self.status, self.page = None, self
         self.boxes_left_out_from = None
         self.packed, self.differences = None, 0
         self.last_tick = None                                  # (number, State) of the last one of which the boxes are kept
         self.level, self.running = None, None                  # in a handler: how deep, and its command's item
         self.last_entry = None
-        self.told, self.lines_left_out = 0, 0
+        self.told, self.lines_left_out = [], 0                 # all that is told, for explanations
+        self.begun_by_line = Counter()
         self._forget()
         self.next_say = time.process_time() + 1
         self.end_of_time = self.next_say + SECONDS
 
     def _forget(self):
         """Begins to keep what comes from here on."""
-        self.lines, self.told_before, self.kept_commands = [], self.told, 0
+        self.lines, self.told_before, self.kept_commands = [], len(self.told), 0
         self._begin_step(START)
 
     def _begin_step(self, kind):
@@ -114,7 +119,9 @@ class Recording(Page):
     # --- the run ------------------------------------------------------------------------------------------------------------
 
     def record(self):
-        """Runs the script; `ended` says whether it came to its end, or to a limit, in time."""
+        """Runs the script; `ended` says whether it came to its end, or to a limit, in time. It is stopped as a command begins, and what
+        was noted until then is kept."""
+        went_on = True
         try:
             for command in self.script.commands:
                 is_tick = command.name == 'tick'
@@ -126,13 +133,15 @@ class Recording(Page):
                 if is_tick:
                     self._end_tick()
                 if not went_on:
-                    self.status = program.LIMIT
                     break
+            self.status = program.DONE if went_on else program.LIMIT
             if self.step.commands[2] or not self.steps:
                 self.step.kind = END
                 self._keep_step()
         except TooLong:
             self.ended = False
+            self.step.time = self.world.clock
+            self._keep_step()
         return self
 
     @property
@@ -192,6 +201,7 @@ class Recording(Page):
             self.next_say = now + 1
             self.say(self.ticks)
         Page.begin(self, command)
+        self.begun_by_line[command.line] += 1
 
     # --- callbacks and commands -----------------------------------------------------------------------------------------------
 
@@ -270,7 +280,8 @@ class Recording(Page):
     # --- lines of the trace ---------------------------------------------------------------------------------------------------
 
     def tell(self, text, about=None):
-        self.told += 1
+        is_resize = isinstance(about, tuple) and isinstance(about[1], ResizeEntry)
+        self.told.append(Told(text, self.line, None if is_resize else about))
         line = Line(text, self.line)
         self.causes.explain(line, about)
         if self.is_beyond or len(self.lines) >= MOST_LINES:
