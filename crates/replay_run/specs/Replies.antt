@@ -2,8 +2,8 @@
 -- of the source's bytes. All of this is this project's own choice.
 use Rattle.std.specs.Prelude.{ℕ, cond, nat_lt, List, length, Ok, Err}
 use Rattle.text_io.specs.declared.kinds.LimitKind.TheVariants as limits
-use Rattle.text_io.specs.Limits.{limit_number}
-use Rattle.script_model.specs.Syntax.{Item}
+use Rattle.text_io.specs.Limits.{common_limit}
+use Rattle.script_model.specs.Syntax as syntax
 use Rattle.script_model.specs.Generator.{generated}
 use Rattle.script_model.specs.Reading.{Reading, reading, Refusal, LimitAt, refusal_line, last_line}
 use Rattle.script_model.specs.TraceText.{line_text}
@@ -39,18 +39,18 @@ abbrev pub outcome_reply : Outcome → Reply
 outcome_reply outcome = record { text = bytes_of outcome.lines; status = status_at outcome.ending }
 
 -- what is done with a script
-unfoldable pub script_reply : Job → List Item → Reply
+unfoldable pub script_reply : Job → syntax.Script → Reply
 unfolding outcome_read bytes_of check_read lint_text summary_read printed
-script_reply Replay items = outcome_reply (outcome_read (Ok items))
-script_reply Check items = done_with (check_read (Ok items))
-script_reply Lint items = done_with (lint_text items)
-script_reply Summary items = record { text = summary_read (Ok items); status = status_at (outcome_read (Ok items)).ending }
-script_reply Print items = done_with (printed items)
+script_reply Replay script = outcome_reply (outcome_read (Ok script))
+script_reply Check script = done_with (check_read (Ok script))
+script_reply Lint script = done_with (lint_text (script.items))
+script_reply Summary script = record { text = summary_read (Ok script); status = status_at (outcome_read (Ok script)).ending }
+script_reply Print script = done_with (printed script)
 
 -- the same with a text by its reading
 unfoldable pub read_reply : Job → Reading → Reply
 unfolding script_reply line_text
-read_reply job (Ok items) = script_reply job items
+read_reply job (Ok script) = script_reply job script
 read_reply job (Err refusal) = refused_with refusal
 
 abbrev pub judgement_status : Judgement → Status
@@ -66,8 +66,8 @@ judgement_reply it = record { text = judgement_text it; status = judgement_statu
 unfoldable pub judge_reply : List ℕ → Reply
 unfolding judgement judgement_reply last_line line_text script_of trace trace_of
 judge_reply source =
-    cond (nat_lt (limit_number limits.Recorded) (length source))
-    (refused_with (LimitAt limits.Recorded (last_line (limit_number limits.Recorded) source)))
+    cond (nat_lt (common_limit limits.Recorded) (length source))
+    (refused_with (LimitAt limits.Recorded (last_line (common_limit limits.Recorded) source)))
     (judgement_reply (judgement (trace (script_of source)) (trace_of source)))
 
 -- the text of the script that the words speak of

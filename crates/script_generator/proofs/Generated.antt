@@ -3,7 +3,7 @@ use Rattle.std.proofs.Common.{◌≡◌, ◌∙◌, sym, ap, ℕ, ◌≤◌, Lis
 use Rattle.std.proofs.lemmas.Bool.{lt-ltb}
 use Rattle.std.specs.Prelude.{cond, flat_map, codes, Ok}
 use Rattle.text_io.specs.declared.kinds.LimitKind.TheVariants as limits
-use Rattle.text_io.specs.Limits.{limit_number}
+use Rattle.text_io.specs.Limits.{common_limit}
 use Rattle.script_model.specs.Generator.{generated}
 use Rattle.script_model.specs.Reading.{Reading, reading}
 use Rattle.script_model.specs.Syntax.{Item}
@@ -20,7 +20,7 @@ unfolding printed
 ended number =
     let text : List ℕ = script_text (generated_items number) in
     ap (λ short. cond short (text ++ (10 ∷ [])) text)
-    (lt-ltb (length text) (limit_number limits.Script) (let few = text_short number in omega arith))
+    (lt-ltb (length text) (common_limit limits.Script) (let few = text_short number in omega arith))
 
 pub printed_is : (number : ℕ) → printed (generated_items number) ≡ generated number
 unfolding generated

@@ -1,9 +1,11 @@
 -- The table of commands: the first word of a line, the forms of the parts behind it, and what they make. The commands
 -- are this project's own choice; what they do follows the public standards and isn't said here.
 use Rattle.std.specs.Prelude.{List, [], ◌∷◌, codes}
-use Rattle.script_model.specs.Syntax.{Action, Viewport, MakeBlock, MakeImage, MakeFrame, Append, Before, Remove, SetStyle, Grow, Load, MakeResizeObserver, ObserveResize, UnobserveResize, DisconnectResize, MakeIntersectionObserver, ObserveIntersection, UnobserveIntersection, DisconnectIntersection, TakeIntersections, Listen, Unlisten, MakeQueryList, ScrollTo, ScrollBy, RequestFrame, CancelFrame, SetTimer, ClearTimer, Post, Say, Read, Test, Wider, Taller, Matches, Attached, Seen}
+use Rattle.text_io.specs.declared.kinds.Version.{Version}
+use Rattle.text_io.specs.declared.kinds.Version.TheVariants.{First, Second}
+use Rattle.script_model.specs.Syntax.{Action, Viewport, SetRatio, MakeBlock, MakeImage, MakeFrame, Append, Before, Remove, SetStyle, Grow, Load, MakeResizeObserver, ObserveResize, UnobserveResize, DisconnectResize, MakeIntersectionObserver, ObserveIntersection, UnobserveIntersection, DisconnectIntersection, TakeIntersections, Listen, Unlisten, MakeQueryList, ScrollTo, ScrollBy, RequestFrame, CancelFrame, SetTimer, ClearTimer, Post, Say, Read, Test, Wider, Taller, Matches, Attached, Seen}
 use Rattle.script_model.specs.Keywords.{Keyword, keyword}
-use Rattle.script_model.specs.Forms.{Form, NameForm, NodeForm, AimForm, HandlerForm, RootForm, LengthForm, SignedForm, WholeForm, EventForm, BoxForm, DimensionForm, DeclarationForm, JustForm, MarginForm, NumbersForm, QueryForm, From}
+use Rattle.script_model.specs.Forms.{Form, NameForm, NodeForm, AimForm, HandlerForm, RootForm, LengthForm, SignedForm, PercentForm, WholeForm, EventForm, BoxForm, DimensionForm, DeclarationForm, JustForm, MarginForm, ScrollForm, NumbersForm, QueryForm, From}
 
 -- what a `when` asks: its words, and the test that they make
 pub data TestShape : Type 0 where
@@ -27,7 +29,7 @@ pub data Head : Type 0 where
   HandlerHead : Head
   EndHead : Head
 
--- `io NAME DOCUMENT HANDLER root ROOT margin WORD* threshold NUMBER*`
+-- `io NAME DOCUMENT HANDLER root ROOT margin WORD* threshold NUMBER*`; in the second version `scroll WORD*` may stand before `threshold`
 abbrev pub observer_forms : List Form
 observer_forms =
     NameForm
@@ -37,18 +39,20 @@ observer_forms =
     ∷ RootForm
     ∷ JustForm (codes "margin")
     ∷ MarginForm
+    ∷ ScrollForm
     ∷ JustForm (codes "threshold")
     ∷ NumbersForm
     ∷ []
 
 abbrev pub make_observer : From observer_forms Action
-make_observer name document handler root_word root margin_word margin threshold_word thresholds =
+make_observer name document handler root_word root margin_word margin scroll threshold_word thresholds =
     MakeIntersectionObserver (record {
       name = name;
       document = document;
       handler = handler;
       root = root;
       margin = margin;
+      scroll = scroll;
       thresholds = thresholds;
     })
 
@@ -91,3 +95,8 @@ heads =
     ∷ keyword (codes "handler") HandlerHead
     ∷ keyword (codes "end") EndHead
     ∷ []
+
+-- those of a version: the second one has a command more
+abbrev pub heads_in : Version → List (Keyword Head)
+heads_in First = heads
+heads_in Second = keyword (codes "ratio") (ActionHead (PercentForm ∷ []) SetRatio) ∷ heads

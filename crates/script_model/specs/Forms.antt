@@ -1,12 +1,14 @@
 -- The forms that parts of a line have, and the reading of a line's parts from left to right. A fault is the column of the
 -- first word that doesn't fit, or the column after the line's last word where a word is missing. The forms are this
--- project's own choice.
-use Rattle.std.specs.Prelude.{ℕ, ℤ, ◌+◌, ◌-◌, cond, List, [], ◌∷◌, drop, Option, Result, Ok, Err, bytes_eq, codes}
+-- project's own choice. Some read more in the second version of the language.
+use Rattle.std.specs.Prelude.{ℕ, ℤ, ◌+◌, ◌-◌, Bool, ◌||◌, cond, List, [], ◌∷◌, drop, Option, Some, None, Result, Ok, Err, bytes_eq, codes}
 use Rattle.std.specs.List.{join_with_byte}
-use Rattle.word_model.specs.Numbers.{whole_of, length_of, signed_of, number_of}
+use Rattle.word_model.specs.Numbers.{whole_of, length_of, signed_of, percent_of, number_of}
 use Rattle.px_units.specs.declared.BoxKind.{BoxKind}
 use Rattle.layout_model.specs.Styles.{Declaration}
 use Rattle.text_io.specs.declared.kinds.EventKind.{EventKind}
+use Rattle.text_io.specs.declared.kinds.Version.{Version}
+use Rattle.text_io.specs.declared.kinds.Version.TheVariants.{First, Second}
 use Rattle.script_model.specs.Queries.{MediaQuery}
 use Rattle.script_model.specs.Syntax.{Operand, Aim, Dimension}
 use Rattle.script_model.specs.Readers.{◌>>=◌, or_fault, with_fault}
@@ -49,24 +51,44 @@ unfoldable pub declaration_as : Row → Taken Declaration
 unfolding word_as property_of
 declaration_as row = word_as property_of row >>= λ property. word_as property.0 property.1
 
--- the words before the first one that is this word
-unfoldable pub words_before : List ℕ → List Word → List (List ℕ)
-words_before stop [] = []
-words_before stop (w ∷ ws) = cond (bytes_eq w.text stop) [] (w.text ∷ words_before stop ws)
+-- the words before the first one at which a test holds
+unfoldable pub words_before : (List ℕ → Bool) → List Word → List (List ℕ)
+words_before stops [] = []
+words_before stops (w ∷ ws) = cond (stops w.text) [] (w.text ∷ words_before stops ws)
 
 -- that word with those after it
-unfoldable pub words_from : List ℕ → List Word → List Word
-words_from stop [] = []
-words_from stop (w ∷ ws) = cond (bytes_eq w.text stop) (w ∷ ws) (words_from stop ws)
+unfoldable pub words_from : (List ℕ → Bool) → List Word → List Word
+words_from stops [] = []
+words_from stops (w ∷ ws) = cond (stops w.text) (w ∷ ws) (words_from stops ws)
 
--- the words before `threshold`, joined by one space
-unfoldable pub margin_as : Row → Taken (List ℕ)
+-- a margin goes up to the word `threshold`, in the second version also to `scroll`
+abbrev pub ends_margin : Version → List ℕ → Bool
+ends_margin First word = bytes_eq word (codes "threshold")
+ends_margin Second word = bytes_eq word (codes "threshold") || bytes_eq word (codes "scroll")
+
+-- the words of a margin, joined by one space
+unfoldable pub margin_as : Version → Row → Taken (List ℕ)
 unfolding words_before words_from
-margin_as row =
+margin_as version row =
     Ok (
-      join_with_byte 32 (words_before (codes "threshold") row.left),
-      record row { left = words_from (codes "threshold") row.left },
+      join_with_byte 32 (words_before (ends_margin version) row.left),
+      record row { left = words_from (ends_margin version) row.left },
     )
+
+-- a margin behind the word `scroll`, where that stands next
+unfoldable pub scroll_in : List Word → Row → Taken (Option (List ℕ))
+unfolding margin_as
+scroll_in [] row = Ok (None, row)
+scroll_in (w ∷ ws) row =
+    cond (bytes_eq w.text (codes "scroll"))
+    (margin_as Second (record row { left = ws }) >>= λ margin. Ok (Some margin.0, margin.1))
+    (Ok (None, row))
+
+-- a scroll margin, which scripts of the first version don't have
+unfoldable pub scroll_as : Version → Row → Taken (Option (List ℕ))
+unfolding scroll_in
+scroll_as First row = Ok (None, row)
+scroll_as Second row = scroll_in row.left row
 
 unfoldable pub numbers_of : List Word → Result (List ℤ) ℕ
 unfolding number_of
@@ -98,6 +120,7 @@ pub data Form : Type 0 where
   RootForm : Form
   LengthForm : Form
   SignedForm : Form
+  PercentForm : Form
   WholeForm : Form
   EventForm : Form
   BoxForm : Form
@@ -105,6 +128,7 @@ pub data Form : Type 0 where
   DeclarationForm : Form
   JustForm : (word : List ℕ) → Form
   MarginForm : Form
+  ScrollForm : Form
   NumbersForm : Form
   QueryForm : Form
 
@@ -117,6 +141,7 @@ Meant HandlerForm = Option (List ℕ)
 Meant RootForm = Option Operand
 Meant LengthForm = ℕ
 Meant SignedForm = ℤ
+Meant PercentForm = ℕ
 Meant WholeForm = ℕ
 Meant EventForm = EventKind
 Meant BoxForm = BoxKind
@@ -124,28 +149,31 @@ Meant DimensionForm = Dimension
 Meant DeclarationForm = Declaration
 Meant (JustForm word) = Unit {0}
 Meant MarginForm = List ℕ
+Meant ScrollForm = Option (List ℕ)
 Meant NumbersForm = List ℤ
 Meant QueryForm = List MediaQuery
 
--- the part of this form that stands next in a line
-unfoldable pub part_as : (form : Form) → Row → Taken (Meant form)
-unfolding word_as name_of node_of aim_of or_dash length_of signed_of whole_of lookup declaration_as just margin_as numbers_as query_as
-part_as NameForm row = word_as name_of row
-part_as NodeForm row = word_as node_of row
-part_as AimForm row = word_as aim_of row
-part_as HandlerForm row = word_as (or_dash name_of) row
-part_as RootForm row = word_as (or_dash node_of) row
-part_as LengthForm row = word_as length_of row
-part_as SignedForm row = word_as signed_of row
-part_as WholeForm row = word_as whole_of row
-part_as EventForm row = word_as (lookup events) row
-part_as BoxForm row = word_as (lookup boxes) row
-part_as DimensionForm row = word_as (lookup dimensions) row
-part_as DeclarationForm row = declaration_as row
-part_as (JustForm word) row = word_as (just word) row
-part_as MarginForm row = margin_as row
-part_as NumbersForm row = numbers_as row
-part_as QueryForm row = query_as row
+-- the part of this form that stands next in a line of a script of this version
+unfoldable pub part_as : Version → (form : Form) → Row → Taken (Meant form)
+unfolding word_as name_of node_of aim_of or_dash length_of signed_of percent_of whole_of lookup declaration_as just margin_as scroll_as numbers_as query_as
+part_as version NameForm row = word_as name_of row
+part_as version NodeForm row = word_as node_of row
+part_as version AimForm row = word_as aim_of row
+part_as version HandlerForm row = word_as (or_dash name_of) row
+part_as version RootForm row = word_as (or_dash node_of) row
+part_as version LengthForm row = word_as length_of row
+part_as version SignedForm row = word_as signed_of row
+part_as version PercentForm row = word_as percent_of row
+part_as version WholeForm row = word_as whole_of row
+part_as version EventForm row = word_as (lookup events) row
+part_as version BoxForm row = word_as (lookup (boxes version)) row
+part_as version DimensionForm row = word_as (lookup dimensions) row
+part_as version DeclarationForm row = declaration_as row
+part_as version (JustForm word) row = word_as (just word) row
+part_as version MarginForm row = margin_as version row
+part_as version ScrollForm row = scroll_as version row
+part_as version NumbersForm row = numbers_as row
+part_as version QueryForm row = query_as row
 
 -- what makes a value of the parts of these forms
 abbrev pub From : List Form → Type 0 → Type 0
@@ -153,7 +181,7 @@ From [] A = A
 From (form ∷ forms) A = Meant form → From forms A
 
 -- the value that the words of a line make, all of them
-unfoldable pub made : {A : Type 0} (forms : List Form) → From forms A → Row → Result A ℕ
+unfoldable pub made : {A : Type 0} → Version → (forms : List Form) → From forms A → Row → Result A ℕ
 unfolding none_left part_as
-made [] value row = none_left row >>= λ end. Ok value
-made (form ∷ forms) makes row = part_as form row >>= λ part. made forms (makes part.0) part.1
+made version [] value row = none_left row >>= λ end. Ok value
+made version (form ∷ forms) makes row = part_as version form row >>= λ part. made version forms (makes part.0) part.1

@@ -3,7 +3,7 @@
 ghost use Rattle.std.specs.Prelude.{◌≡◌, ◌≤◌, map, length, count_by, ◌==◌, IfOk};
 ghost use Rattle.std.specs.List.{All};
 ghost use Rattle.text_io.specs.declared.kinds.LimitKind.TheVariants as limits;
-ghost use Rattle.text_io.specs.Limits.{limit_number};
+ghost use Rattle.text_io.specs.Limits.{common_limit};
 ghost use Rattle.script_lexer.specs.Texts.{text_seen, line_seen, ending_seen, LineFits};
 ghost use Rattle.script_model.specs.Lexing.{lexed};
 ghost use Rattle.script_model.specs.Reading as model;
@@ -51,8 +51,8 @@ pub fn parse(alloc: Global, text: &Text) -> Result<Script, ParseFault>
 /// The line of the first byte that a text has too many.
 #[tactic(auto, unfolding(script_model::specs::Reading::last_line))]
 fn last_line(bytes: &[u8]) -> u32
-    requires { limit_number limits.Script ≤ length bytes.now }
-    ensures { result ≡ model.last_line (limit_number limits.Script) bytes.now }
+    requires { common_limit limits.Script ≤ length bytes.now }
+    ensures { result ≡ model.last_line (common_limit limits.Script) bytes.now }
 {
     let most = LimitKind::Script.number() as usize;
     let feeds = feeds(&bytes[..most]);

@@ -3,7 +3,7 @@ use Rattle.std.proofs.Common.{◌≡◌, ◌∙◌, refl, sym, ap, ℕ, ◌+◌,
 use Rattle.std.specs.Prelude.{Ok, Err, codes}
 use Rattle.std.proofs.lemmas.List.Elements.{All-tail}
 use Rattle.text_io.specs.declared.kinds.LimitKind.TheVariants as limits
-use Rattle.text_io.specs.Limits.{limit_number}
+use Rattle.text_io.specs.Limits.{common_limit}
 use Rattle.script_model.specs.Syntax.{Item}
 use Rattle.script_model.specs.Lexing.{Lexed, lexed}
 use Rattle.script_model.specs.Reading.{LimitAt, last_line, read_lines, read_lexed, reading}
@@ -19,7 +19,7 @@ use Rattle.script_text.proofs.LexedLines.{LineLaws, IsLexed, text_lexed}
 
 -- a text beyond the limit isn't read
 abbrev pub AboveLaw : Type 0
-AboveLaw = (text : List ℕ) → limit_number limits.Script < length text → reading text ≡ Err (LimitAt limits.Script (last_line (limit_number limits.Script) text))
+AboveLaw = (text : List ℕ) → common_limit limits.Script < length text → reading text ≡ Err (LimitAt limits.Script (last_line (common_limit limits.Script) text))
 
 pub record ReadingLaws : Type 0 where
   pub lines : LineLaws

@@ -4,7 +4,7 @@ use Rattle.std.proofs.Common.{◌≡◌, ◌∙◌, refl, sym, ap, ℕ, ◌+◌,
 use Rattle.std.specs.Prelude.{map, reverse, Result, Ok, codes}
 use Rattle.std.proofs.lemmas.Bool.{ltb-true}
 use Rattle.text_io.specs.declared.kinds.LimitKind.TheVariants as limits
-use Rattle.text_io.specs.Limits.{limit_number}
+use Rattle.text_io.specs.Limits.{common_limit}
 use Rattle.script_model.specs.Readers.{◌>>=◌, with_fault}
 use Rattle.script_model.specs.Syntax.{Command, Simple, Each, When, Block, NoMore, Then, Item, Outside, Tick, Handler}
 use Rattle.script_model.specs.Lexing.{Word, Line, Ending, Whole, line_start, lex_on, lexed}
@@ -24,7 +24,7 @@ use Rattle.script_text.proofs.Nesting.{AllRead, may_all, all_read}
 
 -- a text within its limit is read by its lines
 abbrev pub WithinLaw : Type 0
-WithinLaw = (text : List ℕ) → length text ≤ limit_number limits.Script → reading text ≡ read_lexed (lexed text)
+WithinLaw = (text : List ℕ) → length text ≤ common_limit limits.Script → reading text ≡ read_lexed (lexed text)
 
 lines_joined : (ls ms : List NumberedLine) → AreLines ls → AreLines ms → AreLines (ls ++ ms)
 unfolding AreLines
@@ -93,7 +93,7 @@ pub script_text_is : (items : List Item) → script_text items ≡ codes "script
 unfolding script_text
 script_text_is items = refl
 
-printed_is : (items : List Item) → printed items ≡ cond (nat_lt (length (script_text items)) (limit_number limits.Script)) (script_text items ++ (10 ∷ [])) (script_text items)
+printed_is : (items : List Item) → printed items ≡ cond (nat_lt (length (script_text items)) (common_limit limits.Script)) (script_text items ++ (10 ∷ [])) (script_text items)
 unfolding printed
 printed_is items = refl
 
@@ -138,7 +138,7 @@ printed_again law last within items is =
     let short : length text ≤ 16777216 = is.short_text in
     let more : length (text ++ (10 ∷ [])) ≡ length text + 1 = length-append text (10 ∷ []) in
     ap reading (printed_is items)
-    ∙ elim (nat_lt (length text) (limit_number limits.Script)) as (λ fed. nat_lt (length text) (limit_number limits.Script) ≡ fed → reading (cond fed (text ++ (10 ∷ [])) text) ≡ Ok items) [
+    ∙ elim (nat_lt (length text) (common_limit limits.Script)) as (λ fed. nat_lt (length text) (common_limit limits.Script) ≡ fed → reading (cond fed (text ++ (10 ∷ [])) text) ≡ Ok items) [
       | true ↦ λ e.
           let below : length text < 16777216 = ltb-true (length text) 16777216 e in
           within (text ++ (10 ∷ [])) (omega arith) ∙ text_read law last true items is

@@ -1,8 +1,9 @@
 -- The words of commands and tests: each is said by its word in the table of commands and the values of its parts, whose
 -- forms are those that the table has at that word.
 use Rattle.std.specs.Prelude.{ℕ, cond, List, [], ◌∷◌, ◌++◌, Option, Some, None, codes}
-use Rattle.script_model.specs.Syntax.{Action, Viewport, MakeBlock, MakeImage, MakeFrame, Append, Before, Remove, SetStyle, Grow, Load, MakeResizeObserver, ObserveResize, UnobserveResize, DisconnectResize, MakeIntersectionObserver, ObserveIntersection, UnobserveIntersection, DisconnectIntersection, TakeIntersections, Listen, Unlisten, MakeQueryList, ScrollTo, ScrollBy, RequestFrame, CancelFrame, SetTimer, ClearTimer, Post, Say, Read, Test, Wider, Taller, Matches, Attached, Seen, Condition}
-use Rattle.script_model.specs.Commands.{TestShape, TestOf, tests, Head, ActionHead, heads}
+use Rattle.text_io.specs.declared.kinds.Version.TheVariants.{Second}
+use Rattle.script_model.specs.Syntax.{Action, Viewport, SetRatio, MakeBlock, MakeImage, MakeFrame, Append, Before, Remove, SetStyle, Grow, Load, MakeResizeObserver, ObserveResize, UnobserveResize, DisconnectResize, MakeIntersectionObserver, ObserveIntersection, UnobserveIntersection, DisconnectIntersection, TakeIntersections, Listen, Unlisten, MakeQueryList, ScrollTo, ScrollBy, RequestFrame, CancelFrame, SetTimer, ClearTimer, Post, Say, Read, Test, Wider, Taller, Matches, Attached, Seen, Condition}
+use Rattle.script_model.specs.Commands.{TestShape, TestOf, tests, Head, ActionHead, heads_in}
 use Rattle.script_text.specs.Parts.{Part, all_words}
 use Rattle.script_text.specs.Entries.{Entry, entry_at, Takes, Phrase, phrase_at, parts_behind}
 
@@ -10,14 +11,16 @@ abbrev pub action_entry : Option Head → Option (Entry Action)
 action_entry (Some (ActionHead forms makes)) = Some (record { forms = forms; makes = makes })
 action_entry other = None
 
+-- the second version of the language has all commands
 abbrev pub action_at : List ℕ → Option (Entry Action)
-action_at word = action_entry (entry_at heads word)
+action_at word = action_entry (entry_at (heads_in Second) word)
 
 abbrev pub says : (word : List ℕ) → Takes (action_at word) (Phrase action_at)
 says word = phrase_at action_at word
 
 abbrev pub action_phrase : Action → Phrase action_at
 action_phrase (Viewport width height) = says (codes "viewport") width height
+action_phrase (SetRatio hundredths) = says (codes "ratio") hundredths
 action_phrase (MakeBlock name document) = says (codes "block") name document
 action_phrase (MakeImage name document width height) = says (codes "image") name document width height
 action_phrase (MakeFrame name document inside) = says (codes "frame") name document inside
@@ -32,7 +35,7 @@ action_phrase (ObserveResize observer node observed) = says (codes "ro-observe")
 action_phrase (UnobserveResize observer node) = says (codes "ro-unobserve") observer node
 action_phrase (DisconnectResize observer) = says (codes "ro-disconnect") observer
 action_phrase (MakeIntersectionObserver making) =
-    says (codes "io") making.name making.document making.handler tt making.root tt making.margin tt making.thresholds
+    says (codes "io") making.name making.document making.handler tt making.root tt making.margin making.scroll tt making.thresholds
 action_phrase (ObserveIntersection observer node) = says (codes "io-observe") observer node
 action_phrase (UnobserveIntersection observer node) = says (codes "io-unobserve") observer node
 action_phrase (DisconnectIntersection observer) = says (codes "io-disconnect") observer
