@@ -3,6 +3,8 @@
 ghost use Rattle.std.specs.Prelude.{◌≡◌, ℕ, suc, ◌+◌, ◌<◌, IsTrue, length, Option, false};
 ghost use Rattle.std.specs.List.{AllByRecursion};
 ghost use Rattle.px_units.specs.declared.BoxKind.{BoxKind};
+ghost use Rattle.text_io.specs.declared.kinds.LimitKind.TheVariants as limits;
+ghost use Rattle.text_io.specs.Limits.{limit_number};
 ghost use Rattle.script_model.specs.Syntax.{Action, Operand, Read};
 ghost use Rattle.page_model.specs.World.{Screen, Tree, World};
 ghost use Rattle.page_model.specs.Lookups.{no_extent};
@@ -14,7 +16,7 @@ ghost use Rattle.page_model.specs.Ranges.{IsInRange, IsPresentIn};
 ghost use Rattle.page_laws.specs.Successors.{IsSuccessor, OnDid};
 
 /// No command takes an element out, or takes back what an earlier one did to the states of documents or to names: a Dead
-/// document stays Dead, and a name goes on to name the same thing. Nor does it move the clock or the count of commands. (A command that throws or
+/// document stays Dead, and a name goes on to name the same thing. Nor does it move the clock, the count of commands or the version. (A command that throws or
 /// meets a limit comes to no world at all, so the world is then as it was.)
 pub fn commands_take_nothing_back()
     ensures { (handlers : Handlers) (world : World) (present : Present) (action : Action) →
@@ -35,11 +37,11 @@ pub fn readings_change_nothing()
         OnDid (does handlers world present (Read operand)) (λ effect. effect.world ≡ world) }
 {}
 
-/// A command that begins raises the count by one and changes nothing else, and it begins only where fewer than 1,000,000
-/// were begun.
+/// A command that begins raises the count by one and changes nothing else, and it begins only where fewer were begun than
+/// its version allows.
 pub fn commands_are_counted()
     ensures { (world : World) →
-        OnDid (begun_in world) (λ after. (after ≡ record world { begun = suc world.begun }) × (world.begun < 1000000)) }
+        OnDid (begun_in world) (λ after. (after ≡ record world { begun = suc world.begun }) × (world.begun < limit_number (world.version) limits.Commands)) }
 {}
 
 /// Only Active documents are listed as Active.

@@ -134,23 +134,27 @@ moved_out margins r =
       bottom = r.bottom +ℤ margin_units width (margins.bottom);
     }
 
--- the padding box of an element that clips, moved outward by the scroll margins where it is a scroll container
-abbrev pub clip_of_element : Shown → Margins → ℕ → Bool → Rect
-clip_of_element shown scroll_margins element true = moved_out scroll_margins (padding_rect shown element)
-clip_of_element shown scroll_margins element false = padding_rect shown element
+-- the padding box of an element that clips, and the viewport of a document
+abbrev pub clip_of : Shown → Container → Option Rect
+clip_of shown (InElement element) = cond (clips_in shown element) (Some (padding_rect shown element)) None
+clip_of shown (InDocument document) = Some (viewport_rect shown document)
 
--- what a container clips for an observer with these scroll margins: an element that clips at its padding box, and a document at its
--- viewport. (That scroll margins leave viewports alone is this project's own.)
-abbrev pub clip_of : Shown → Margins → Container → Option Rect
-clip_of shown scroll_margins (InElement element) =
-    cond (clips_in shown element) (Some (clip_of_element shown scroll_margins element (is_scroll_container (nodes_of (shown.tree) element)))) None
-clip_of shown scroll_margins (InDocument document) = Some (viewport_rect shown document)
+-- an observer's scroll margins move the clips of scroll containers outward (Intersection Observer, 2.2: scrollMargin). That they leave the
+-- viewports of documents alone is this project's own
+abbrev pub has_scroll_margins : Tree → Container → Bool
+has_scroll_margins tree (InElement element) = is_scroll_container (nodes_of tree element)
+has_scroll_margins tree (InDocument document) = false
+
+-- the clip of a container for an observer with these scroll margins
+abbrev pub clip_for : Shown → Margins → Container → Option Rect
+clip_for shown scroll_margins container =
+    cond (has_scroll_margins (shown.tree) container) (option_map (moved_out scroll_margins) (clip_of shown container)) (clip_of shown container)
 
 -- the clips strictly between a target and a root
 unfoldable pub clips_between : Shown → Margins → Root → ℕ → List Rect
 unfolding containers_from viewport_rect padding_rect
 clips_between shown scroll_margins root target =
-    filter_map (clip_of shown scroll_margins) (take_while (λ c. not (is_root root c)) (containers_of (shown.tree) target))
+    filter_map (clip_for shown scroll_margins) (take_while (λ c. not (is_root root c)) (containers_of (shown.tree) target))
 
 -- the common part of a rectangle and others, none where no point is common to all
 unfoldable pub common_part : Rect → List Rect → Option Rect

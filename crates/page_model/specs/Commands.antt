@@ -1,7 +1,7 @@
 -- What each command does (this project's own commands, over the steps of DOM, CSSOM, CSSOM View, HTML, Resize Observer and
 -- Intersection Observer). The operands are looked up from left to right, then come the exceptions of the command, then its
 -- limits. A command that throws or meets a limit changes nothing.
-use Rattle.std.specs.Prelude.{ℕ, ℤ, suc, unwrap_or, Bool, true, false, not, nat_lt, nat_le, ◌+◌, Option, Some, None, List, [], ◌∷◌, ◌++◌, length, is_some}
+use Rattle.std.specs.Prelude.{ℕ, ℤ, suc, unwrap_or, Bool, true, false, not, nat_lt, nat_le, ◌+◌, Option, Some, None, List, [], ◌∷◌, length, is_some}
 use Rattle.px_units.specs.declared.BoxKind.TheVariants.{Border}
 use Rattle.layout_model.specs.Items.{Kind, BlockKind, ImageKind}
 use Rattle.text_io.specs.declared.kinds.EventKind.{EventKind}
@@ -12,7 +12,7 @@ use Rattle.script_model.specs.Syntax.{Dimension, Action, Viewport, SetRatio, Mak
 use Rattle.script_model.specs.TraceLines.{TakeLine, SayLine}
 use Rattle.script_model.specs.Queries.{MediaQuery}
 use Rattle.page_model.specs.World.{Extent, Entry, EventTarget, Posted, ElementThing, DocumentThing, ResizeObserverThing, IntersectionObserverThing, QueryListThing, QueryList, Listener, IntersectionObservers, Table, Tree, World}
-use Rattle.page_model.specs.Lookups.{element_at, document_at, resize_observer_at, intersection_observer_at, query_list_at}
+use Rattle.page_model.specs.Lookups.{no_margins, put_at, element_at, document_at, resize_observer_at, intersection_observer_at, query_list_at}
 use Rattle.page_model.specs.Names.{with_name, intersection_observer_text}
 use Rattle.page_model.specs.Documents.{Container, InElement, InDocument, is_same_container, container_of, is_inclusive_ancestor, element_depth, levels_of, removed, inserted}
 use Rattle.text_io.specs.Limits.{common_limit}
@@ -209,7 +209,7 @@ does handlers world present (MakeIntersectionObserver making) = do
   becomes (record world {
     names = with_name (making.name) (IntersectionObserverThing (length world.intersection_observers.made)) (world.names);
     intersection_observers = with_intersection_observer owner called root margins thresholds (world.intersection_observers);
-    scroll_margins = world.scroll_margins ++ scroll_margins ∷ [];
+    scroll_margins = put_at no_margins (length world.intersection_observers.made) scroll_margins (world.scroll_margins);
   })
 does handlers world present (ObserveIntersection observer node) = do
   o ← intersection_observer_named (world.names) observer

@@ -1,6 +1,6 @@
 -- That each number in a world is the number of something, so that no lookup ever comes to a default; and that nothing is
 -- stored past what there is, so that what is made later begins unscrolled, with no size noted and no notify task queued.
-use Rattle.std.specs.Prelude.{ℕ, ◌≡◌, ◌<◌, ◌≤◌, List, length, IfSome, ⊤}
+use Rattle.std.specs.Prelude.{ℕ, ◌<◌, ◌≤◌, List, length, IfSome, ⊤}
 use Rattle.std.specs.List.{AllByRecursion}
 use Rattle.page_model.specs.World.{Element, Document, Tree, Scrolls, ScrollTarget, ScrolledElement, ScrolledDocument, Thing, DocumentThing, ElementThing, ResizeObserverThing, IntersectionObserverThing, QueryListThing, Observation, ResizeObserver, Root, ImplicitRoot, DocumentRoot, ElementRoot, Registration, Entry, IntersectionObserver, EventTarget, ElementTarget, DocumentTarget, WindowTarget, QueryTarget, Listener, FrameCallback, Timer, Task, Notify, Posted, World}
 use Rattle.page_model.specs.Operands.{Present, NoEntry, ResizeEntry, IntersectionEntry}
@@ -105,7 +105,7 @@ pub record IsWithin (counts : Counts) (world : World) : Type 0 where
   pub scrolls : AreScrollsIn counts world.scrolls
   pub resize_observers : AllByRecursion (IsResizeObserverIn counts) world.resize_observers.made
   pub intersection_observers : AllByRecursion (IsIntersectionObserverIn counts) world.intersection_observers.made
-  pub scroll_margins : length world.scroll_margins ≡ counts.intersection_observers
+  pub scroll_margins : length world.scroll_margins ≤ counts.intersection_observers
   pub notifying : length world.notifying ≤ counts.documents
   pub queries : AllByRecursion (λ list. list.document < counts.documents) world.queries
   pub listeners : AllByRecursion (IsListenerIn counts) world.listeners.held

@@ -191,9 +191,9 @@ pub record Table (A : Type 0) : Type 0 where
 
 -- the whole --------------------------------------------------------------------------------------------------------------------
 
--- `scroll_margins` are those of each intersection observer, in order of making (Intersection Observer, 2.2: scrollMargin); `notifying`
--- tells for each document whether a notify task is queued; `version` is that of the script, which decides on limits and lines; `begun`
--- is the number of commands begun
+-- `scroll_margins` are those of each intersection observer (Intersection Observer, 2.2: scrollMargin); `notifying` tells for each
+-- document whether a notify task is queued; `version` is that of the script, which decides on limits and lines; `begun` is the number
+-- of commands begun
 pub record World : Type 0 where
   pub tree : Tree
   pub names : List Name
