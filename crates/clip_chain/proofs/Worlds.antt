@@ -1,19 +1,21 @@
 -- Chains in a world.
 use Rattle.std.proofs.Common.{◌≡◌, ◌∙◌, ℕ, zero, suc, ◌≤◌, Bool, true, false, cond, List, [], ◌∷◌, length, Option, Some, None, ap, sym, refl, subst, arith}
-use Rattle.std.specs.Prelude.{not, filter_map, take_while, option_map, ◌==◌}
+use Rattle.std.specs.Prelude.{not, ◌&&◌, filter_map, take_while, option_map, unwrap_or, ◌==◌}
 use Rattle.std.specs.List.{cons_option}
 use Rattle.std.proofs.lemmas.List.Sums.{take_while-cons}
 use Rattle.std.proofs.lemmas.Bool.{eqb-true}
 use Rattle.px_units.specs.declared.Rect.{Rect}
+use Rattle.script_model.specs.Margins.{Margins}
 use Rattle.page_model.specs.World.{Root, ImplicitRoot, DocumentRoot, ElementRoot}
 use Rattle.page_model.specs.Documents.{Container, InElement, InDocument}
 use Rattle.page_model.specs.Shown.{Shown}
-use Rattle.page_model.specs.Chains.{containers_by, containers_from, container_beyond, most_containers, is_root, clip_of, clips_between, border_rect, zero_rect, common_part}
+use Rattle.page_model.specs.Chains.{containers_by, containers_from, container_beyond, most_containers, is_root, clip_of, has_scroll_margins, clip_for, clips_between, moved_out, border_rect, zero_rect, common_part}
 use Rattle.clip_chain.specs.declared.spot.Spot.{Spot}
 use Rattle.clip_chain.specs.declared.spot.Spot.TheVariants.{Node, View}
 use Rattle.clip_chain.specs.Chains.{Leads}
+use Rattle.clip_chain.specs.Scenes.{root_bounds}
 use Rattle.clip_chain.specs.Visible.{part_between}
-use Rattle.clip_chain.specs.Worlds.{element_spot, spot_of, container_at, spot_of_root, has_box_at, scene_of}
+use Rattle.clip_chain.specs.Worlds.{element_spot, spot_of, container_at, spot_of_root, has_box_at, scene_of, is_moved, scene_for}
 
 -- what stands in something has a box
 boxed : (b : Bool) (o : Option Spot) (next : Spot) → cond b o None ≡ Some next → (b ≡ true) × (o ≡ Some next)
@@ -83,17 +85,18 @@ before_more root container others e =
 abbrev outwards : Shown → ℕ → Container → List Container
 outwards shown most container = containers_by (containers_from most (shown.tree)) (container_beyond (shown.tree) container)
 
-abbrev clips_before : Shown → Root → List Container → List Rect
-clips_before shown root containers = filter_map (clip_of shown) (before root containers)
+abbrev clips_before : Shown → Margins → Root → List Container → List Rect
+clips_before shown margins root containers = filter_map (clip_for shown margins) (before root containers)
 
-last_by : (shown : Shown) (root : Root) (most : ℕ) (outer : Container) → is_root root outer ≡ true → [] ≡ clips_before shown root (containers_from most (shown.tree) outer)
+last_by : (shown : Shown) (margins : Margins) (root : Root) (most : ℕ) (outer : Container) → is_root root outer ≡ true → [] ≡ clips_before shown margins root (containers_from most (shown.tree) outer)
 unfolding containers_from
-last_by shown root zero outer e = refl
-last_by shown root (suc most) outer e = sym (ap (filter_map (clip_of shown)) (before_root root outer (outwards shown most outer) e))
+last_by shown margins root zero outer e = refl
+last_by shown margins root (suc most) outer e = sym (ap (filter_map (clip_for shown margins)) (before_root root outer (outwards shown most outer) e))
 
-next_by : (shown : Shown) (root : Root) (most : ℕ) (outer : Container) → is_root root outer ≡ false → clips_before shown root (containers_from (suc most) (shown.tree) outer) ≡ cons_option (clip_of shown outer) (clips_before shown root (outwards shown most outer))
+next_by : (shown : Shown) (margins : Margins) (root : Root) (most : ℕ) (outer : Container) → is_root root outer ≡ false →
+    clips_before shown margins root (containers_from (suc most) (shown.tree) outer) ≡ cons_option (clip_for shown margins outer) (clips_before shown margins root (outwards shown most outer))
 unfolding containers_from
-next_by shown root most outer e = ap (filter_map (clip_of shown)) (before_more root outer (outwards shown most outer) e)
+next_by shown margins root most outer e = ap (filter_map (clip_for shown margins)) (before_more root outer (outwards shown most outer) e)
 
 -- a spot that a chain goes on from clips as in the world
 clips_as : (shown : Shown) (outer : Container) → has_box_at shown (spot_of outer) ≡ true → (scene_of shown).clip (spot_of outer) ≡ clip_of shown outer
@@ -101,34 +104,68 @@ clips_as shown outer e =
     ap (λ b. cond b (clip_of shown (container_at (spot_of outer))) None) e
     ∙ ap (clip_of shown) (back outer)
 
+and_not_false : {A : Type 0} (b : Bool) (x y : A) → cond (b && not false) x y ≡ cond b x y
+and_not_false true x y = refl
+and_not_false false x y = refl
+
+and_not_true : {A : Type 0} (b : Bool) (x y : A) → cond (b && not true) x y ≡ y
+and_not_true true x y = refl
+and_not_true false x y = refl
+
+-- so does it for an observer, unless it is the root
+clips_through : (shown : Shown) (margins : Margins) (root : Root) (outer : Container) → has_box_at shown (spot_of outer) ≡ true → is_root root outer ≡ false →
+    (scene_for shown root margins).clip (spot_of outer) ≡ clip_for shown margins outer
+clips_through shown margins root outer e apart =
+    let own : Option Rect = (scene_of shown).clip (spot_of outer) in
+    let moved : Bool = has_scroll_margins (shown.tree) outer in
+    ap (λ c. cond (has_scroll_margins (shown.tree) c && not (is_root root c)) (option_map (moved_out margins) own) own) (back outer)
+    ∙ ap (λ b. cond (moved && not b) (option_map (moved_out margins) own) own) apart
+    ∙ and_not_false moved (option_map (moved_out margins) own) own
+    ∙ ap (λ (clip : Option Rect). cond moved (option_map (moved_out margins) clip) clip) (clips_as shown outer e)
+
+is_itself : (root : Root) → is_root root (container_at (spot_of_root root)) ≡ true
+is_itself ImplicitRoot = refl
+is_itself (DocumentRoot document) = same_number document document refl
+is_itself (ElementRoot element) = same_number element element refl
+
+-- the root itself is left alone
+pub root_alone : (shown : Shown) (margins : Margins) (root : Root) → root_bounds (scene_for shown root margins) (spot_of_root root) ≡ root_bounds (scene_of shown) (spot_of_root root)
+root_alone shown margins root =
+    let own : Option Rect = (scene_of shown).clip (spot_of_root root) in
+    let moved : Bool = has_scroll_margins (shown.tree) (container_at (spot_of_root root)) in
+    ap (λ (clip : Option Rect). unwrap_or clip ((scene_of shown).bounds (spot_of_root root)))
+    (ap (λ b. cond (moved && not b) (option_map (moved_out margins) own) own) (is_itself root)
+    ∙ and_not_true moved (option_map (moved_out margins) own) own)
+
 goes_on : (shown : Shown) (root : Spot) (from : Container) (between : List Spot) → Leads (scene_of shown) (spot_of from) between root → has_box_at shown (spot_of from) ≡ true
 goes_on shown root from [] h = (beyond shown from root h).0
 goes_on shown root from (next ∷ others) h = (beyond shown from next h.0).0
 
-along : (shown : Shown) (root : Root) (most : ℕ) (from : Container) (between : List Spot) → Leads (scene_of shown) (spot_of from) between (spot_of_root root) → length between ≤ most → filter_map (scene_of shown).clip between ≡ clips_before shown root (outwards shown most from)
-along shown root most from [] h few =
+along : (shown : Shown) (margins : Margins) (root : Root) (most : ℕ) (from : Container) (between : List Spot) → Leads (scene_of shown) (spot_of from) between (spot_of_root root) → length between ≤ most → filter_map (scene_for shown root margins).clip between ≡ clips_before shown margins root (outwards shown most from)
+along shown margins root most from [] h few =
     let there = beyond shown from (spot_of_root root) h in
     let outer = there.1.0 in
-    last_by shown root most outer (root_found root outer there.1.2)
-    ∙ ap (λ o. clips_before shown root (containers_by (containers_from most (shown.tree)) o)) (sym there.1.1)
-along shown root zero from (next ∷ others) h few = absurd (let no : ⊥ = omega (arith, few) in no)
-along shown root (suc most) from (next ∷ others) h few =
+    last_by shown margins root most outer (root_found root outer there.1.2)
+    ∙ ap (λ o. clips_before shown margins root (containers_by (containers_from most (shown.tree)) o)) (sym there.1.1)
+along shown margins root zero from (next ∷ others) h few = absurd (let no : ⊥ = omega (arith, few) in no)
+along shown margins root (suc most) from (next ∷ others) h few =
     let there = beyond shown from next h.0 in
     let outer = there.1.0 in
     let same : spot_of outer ≡ next = there.1.2 in
     let rest = subst (λ (spot : Spot). Leads (scene_of shown) spot others (spot_of_root root)) (sym same) h.2 in
     let apart : ¬ spot_of outer ≡ spot_of_root root = λ e. h.1 (sym same ∙ e) in
-    ap (λ spot. cons_option ((scene_of shown).clip spot) (filter_map (scene_of shown).clip others)) (sym same)
-    ∙ ap (λ o. cons_option o (filter_map (scene_of shown).clip others)) (clips_as shown outer (goes_on shown (spot_of_root root) outer others rest))
-    ∙ ap (cons_option (clip_of shown outer)) (along shown root most outer others rest (omega (arith, few)))
-    ∙ sym (next_by shown root most outer (root_missed root outer apart))
-    ∙ ap (λ o. clips_before shown root (containers_by (containers_from (suc most) (shown.tree)) o)) (sym there.1.1)
+    let missed : is_root root outer ≡ false = root_missed root outer apart in
+    ap (λ spot. cons_option ((scene_for shown root margins).clip spot) (filter_map (scene_for shown root margins).clip others)) (sym same)
+    ∙ ap (λ o. cons_option o (filter_map (scene_for shown root margins).clip others)) (clips_through shown margins root outer (goes_on shown (spot_of_root root) outer others rest) missed)
+    ∙ ap (cons_option (clip_for shown margins outer)) (along shown margins root most outer others rest (omega (arith, few)))
+    ∙ sym (next_by shown margins root most outer missed)
+    ∙ ap (λ o. clips_before shown margins root (containers_by (containers_from (suc most) (shown.tree)) o)) (sym there.1.1)
 
-pub clips_are : (shown : Shown) (root : Root) (target : ℕ) (between : List Spot) → Leads (scene_of shown) (element_spot target) between (spot_of_root root) → length between ≤ most_containers → filter_map (scene_of shown).clip between ≡ clips_between shown root target
+pub clips_are : (shown : Shown) (margins : Margins) (root : Root) (target : ℕ) (between : List Spot) → Leads (scene_of shown) (element_spot target) between (spot_of_root root) → length between ≤ most_containers → filter_map (scene_for shown root margins).clip between ≡ clips_between shown margins root target
 unfolding clips_between
-clips_are shown root target between h few = along shown root most_containers (InElement target) between h few
+clips_are shown margins root target between h few = along shown margins root most_containers (InElement target) between h few
 
-pub part_is : (shown : Shown) (root : Root) (target : ℕ) (between : List Spot) (limits : Rect) → Leads (scene_of shown) (element_spot target) between (spot_of_root root) → length between ≤ most_containers → part_between (scene_of shown) (element_spot target) between limits ≡ common_part (border_rect shown target) (limits ∷ clips_between shown root target)
-part_is shown root target between limits h few =
-    ap (λ b. common_part (cond b (border_rect shown target) zero_rect) (limits ∷ filter_map (scene_of shown).clip between)) (goes_on shown (spot_of_root root) (InElement target) between h)
-    ∙ ap (λ clips. common_part (border_rect shown target) (limits ∷ clips)) (clips_are shown root target between h few)
+pub part_is : (shown : Shown) (margins : Margins) (root : Root) (target : ℕ) (between : List Spot) (limits : Rect) → Leads (scene_of shown) (element_spot target) between (spot_of_root root) → length between ≤ most_containers → part_between (scene_for shown root margins) (element_spot target) between limits ≡ common_part (border_rect shown target) (limits ∷ clips_between shown margins root target)
+part_is shown margins root target between limits h few =
+    ap (λ b. common_part (cond b (border_rect shown target) zero_rect) (limits ∷ filter_map (scene_for shown root margins).clip between)) (goes_on shown (spot_of_root root) (InElement target) between h)
+    ∙ ap (λ clips. common_part (border_rect shown target) (limits ∷ clips)) (clips_are shown margins root target between h few)
