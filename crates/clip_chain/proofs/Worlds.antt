@@ -15,7 +15,7 @@ use Rattle.clip_chain.specs.declared.spot.Spot.TheVariants.{Node, View}
 use Rattle.clip_chain.specs.Chains.{Leads}
 use Rattle.clip_chain.specs.Scenes.{root_bounds}
 use Rattle.clip_chain.specs.Visible.{part_between}
-use Rattle.clip_chain.specs.Worlds.{element_spot, spot_of, container_at, spot_of_root, has_box_at, scene_of, is_moved, scene_for}
+use Rattle.clip_chain.specs.Worlds.{element_spot, spot_of, container_at, spot_of_root, has_box_at, scene_of, scene_for}
 
 -- what stands in something has a box
 boxed : (b : Bool) (o : Option Spot) (next : Spot) → cond b o None ≡ Some next → (b ≡ true) × (o ≡ Some next)

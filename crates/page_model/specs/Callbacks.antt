@@ -1,7 +1,6 @@
 -- Callbacks and events: how a handler's commands are run (WebIDL, invoking callbacks; DOM, 2.9 and 2.10). What a
 -- handler is, and that a callback isn't invoked where its document isn't Active, is this project's own.
-use Rattle.std.specs.Prelude.{ℕ, ◌+◌, Bool, ◌==◌, ◌&&◌, List, [], ◌∷◌, map, filter, slice_get, Option, Some, None, option_map, unwrap_or, pos}
-use Rattle.std.specs.List.{list_any}
+use Rattle.std.specs.Prelude.{ℕ, ◌+◌, List, [], ◌∷◌, map, slice_get, Option, Some, None, option_map, unwrap_or, pos}
 use Rattle.text_io.specs.declared.kinds.EventKind.{EventKind}
 use Rattle.text_io.specs.declared.kinds.EventKind.TheVariants as events
 use Rattle.text_io.specs.declared.kinds.Version.{Version}

@@ -1,6 +1,6 @@
 -- The outcome of a script: its trace, how it ends and the world then; and the texts that are written of it. All of this is
 -- this project's own choice.
-use Rattle.std.specs.Prelude.{ℕ, false, List, [], ◌∷◌, ◌++◌, flat_map, None, Ok, Err, codes}
+use Rattle.std.specs.Prelude.{ℕ, List, [], ◌∷◌, ◌++◌, flat_map, None, Ok, Err, codes}
 use Rattle.word_model.specs.Numbers.{decimal}
 use Rattle.text_io.specs.declared.kinds.Version.{Version}
 use Rattle.text_io.specs.declared.kinds.Version.TheVariants.{First}
