@@ -4,6 +4,7 @@ use Rattle.std.specs.Prelude.{ℕ, suc, ◌<◌, List, [], ◌∷◌, ◌++◌, 
 use Rattle.text_io.specs.Limits.{limit_number}
 use Rattle.text_io.specs.declared.kinds.LimitKind.TheVariants as limits
 use Rattle.text_io.specs.declared.kinds.Version.{Version}
+use Rattle.text_io.specs.declared.kinds.Version.TheVariants.{First, Second}
 use Rattle.layout_model.specs.Items.{Kind}
 use Rattle.script_model.specs.Syntax.{Action, Viewport, SetRatio, MakeBlock, MakeImage, MakeFrame, Append, Before, Remove, SetStyle, Grow, Load, MakeResizeObserver, ObserveResize, UnobserveResize, DisconnectResize, MakeIntersectionObserver, ObserveIntersection, UnobserveIntersection, DisconnectIntersection, TakeIntersections, Listen, Unlisten, MakeQueryList, ScrollTo, ScrollBy, RequestFrame, CancelFrame, SetTimer, ClearTimer, Post, Say, Read}
 use Rattle.page_model.specs.World.{Posted, ResizeObserver, IntersectionObservers, QueryList, Listener, Table, ScrollTarget, Tree, Name, World}
@@ -21,6 +22,11 @@ use Rattle.page_laws.proofs.Lists.{changed}
 use Rattle.page_laws.proofs.Successors.{IsTreeNext, removed-next}
 use Rattle.page_laws.proofs.Commands.{placing-next, growing-next, loading-next}
 use Rattle.page_laws.proofs.Waiting.{tasks-alike, posted-within}
+
+-- no version lets more commands begin
+pub most-commands : (version : Version) → limit_number version limits.Commands ≤ 2000000
+most-commands First = omega arith
+most-commands Second = omega arith
 
 length-more : {A : Type 0} (xs : List A) (y : A) → length (xs ++ y ∷ []) ≡ suc (length xs)
 length-more [] y = refl
