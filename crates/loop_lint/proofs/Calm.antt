@@ -177,7 +177,7 @@ module _ (document : ℕ) (handlers : Handlers) (world : World) (within : IsInRa
   does-calm present (MakeResizeObserver name owner handler) quiet = search (both, bind, did, made-observer) depth 12
   does-calm present (UnobserveResize observer node) quiet = search (bind, did, no-target) depth 9
   does-calm present (DisconnectResize observer) quiet = search (bind, did, no-targets) depth 9
-  does-calm present (MakeIntersectionObserver made) quiet = search (both, bind, did, here) depth 12
+  does-calm present (MakeIntersectionObserver made) quiet = search (both, bind, did, here) depth 14
   does-calm present (ObserveIntersection observer node) quiet = search (bind, intersections-calm) depth 9
   does-calm present (UnobserveIntersection observer node) quiet = search (bind, did, here) depth 9
   does-calm present (DisconnectIntersection observer) quiet = search (bind, did, here) depth 9

@@ -97,7 +97,7 @@ module _ (handlers : Handlers) (world : World) where
   does-plain present (ObserveResize observer node observed) = search (both, bind, did, nothing-said) depth 9
   does-plain present (UnobserveResize observer node) = search (bind, did, nothing-said) depth 9
   does-plain present (DisconnectResize observer) = search (bind, did, nothing-said) depth 9
-  does-plain present (MakeIntersectionObserver made) = search (both, bind, did, nothing-said) depth 12
+  does-plain present (MakeIntersectionObserver made) = search (both, bind, did, nothing-said) depth 14
   does-plain present (ObserveIntersection observer node) = search (bind, intersections-step) depth 9
   does-plain present (UnobserveIntersection observer node) = search (bind, did, nothing-said) depth 9
   does-plain present (DisconnectIntersection observer) = search (bind, did, nothing-said) depth 9

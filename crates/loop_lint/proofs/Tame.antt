@@ -175,7 +175,7 @@ module _ (test : Action → Bool) (unnamed : List ℕ → Bool) where
         does-tame present (ObserveResize observer node observed) named = search (both, bind, did, target-tame) depth 9
         does-tame present (UnobserveResize observer node) named = search (bind, did, target-tame) depth 9
         does-tame present (DisconnectResize observer) named = search (bind, did, target-tame) depth 9
-        does-tame present (MakeIntersectionObserver made) named = search (both, bind, did, here) depth 12
+        does-tame present (MakeIntersectionObserver made) named = search (both, bind, did, here) depth 14
         does-tame present (ObserveIntersection observer node) named = search (bind, intersections-tame) depth 9
         does-tame present (UnobserveIntersection observer node) named = search (bind, did, here) depth 9
         does-tame present (DisconnectIntersection observer) named = search (bind, did, here) depth 9

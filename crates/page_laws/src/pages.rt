@@ -9,7 +9,7 @@ ghost use Rattle.script_model.specs.Syntax.{Action, Operand, Read};
 ghost use Rattle.page_model.specs.World.{Screen, Tree, World};
 ghost use Rattle.page_model.specs.Lookups.{no_extent};
 ghost use Rattle.page_model.specs.Documents.{InElement, active_documents, element_depth, is_active};
-ghost use Rattle.page_model.specs.PageBoxes.{has_box, size_of};
+ghost use Rattle.page_model.specs.PageBoxes.{inputs_of, has_box, size_of, view_of, viewport_of};
 ghost use Rattle.page_model.specs.Operands.{Handlers, Present, present_target};
 ghost use Rattle.page_model.specs.Commands.{begun_in, does, placing};
 ghost use Rattle.page_model.specs.Ranges.{IsInRange, IsPresentIn};
@@ -52,6 +52,16 @@ pub fn listed_documents_are_active()
 /// An element without a box has the size 0 by 0.
 pub fn no_box_has_no_size()
     ensures { (tree : Tree) (screen : Screen) (n : ℕ) (kind : BoxKind) → has_box tree screen n ≡ false → size_of tree screen n kind ≡ no_extent }
+{}
+
+/// What boxes are laid out from, and viewports, are those of a screen's size: a ratio of device pixels changes none of them.
+pub fn boxes_do_not_read_the_ratio()
+    ensures views { (tree : Tree) (screen : Screen) (hundredths document : ℕ) →
+        view_of tree (record screen { ratio = hundredths }) document ≡ view_of tree screen document }
+    ensures inputs { (tree : Tree) (screen : Screen) (hundredths n : ℕ) →
+        inputs_of tree (record screen { ratio = hundredths }) n ≡ inputs_of tree screen n }
+    ensures viewports { (tree : Tree) (screen : Screen) (hundredths document : ℕ) →
+        viewport_of tree (record screen { ratio = hundredths }) document ≡ viewport_of tree screen document }
 {}
 
 /// An element that is put into another one, last or before a sibling, stands one level deeper than that one.
