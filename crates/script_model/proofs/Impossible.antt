@@ -38,25 +38,25 @@ head_taken version outside row taken h =
     let value = bind_ok (or_fault next.0.0.column (head_of version outside next.0.0.text)) _ taken next.2 in
     (next.0.0.text, or_ok next.0.0.column (head_of version outside next.0.0.text) value.0 value.1 ∙ ap (λ (pair : Head × Row). Some pair.0) (ok_is (value.0, next.0.1) taken value.2))
 
-operands_end : (version : Version) (names : List (List ℕ)) (head : Head) (row : Row) → operands_of version names head row ≡ Ok Ends → head ≡ EndHead
+operands_end : (names : List (List ℕ)) (head : Head) (row : Row) → operands_of names head row ≡ Ok Ends → head ≡ EndHead
 unfolding operands_of made handler_as
-operands_end version names (ActionHead forms makes) row h = let action = bind_ok (made version forms makes row) _ Ends h in absurd (cc action.2)
-operands_end version names TickHead row h =
-    let time = bind_ok (part_as version WholeForm row) _ Ends h in
+operands_end names (ActionHead forms makes) row h = let action = bind_ok (made forms makes row) _ Ends h in absurd (cc action.2)
+operands_end names TickHead row h =
+    let time = bind_ok (part_as WholeForm row) _ Ends h in
     let end = bind_ok (none_left time.0.1) _ Ends time.2 in
     absurd (cc end.2)
-operands_end version names EachHead row h = let end = bind_ok (none_left row) _ Ends h in absurd (cc end.2)
-operands_end version names WhenHead row h = let condition = bind_ok (condition_as version row) _ Ends h in absurd (cc condition.2)
-operands_end version names HandlerHead row h =
+operands_end names EachHead row h = let end = bind_ok (none_left row) _ Ends h in absurd (cc end.2)
+operands_end names WhenHead row h = let condition = bind_ok (condition_as row) _ Ends h in absurd (cc condition.2)
+operands_end names HandlerHead row h =
     let name = bind_ok (word_as (fresh_name_of names) row) _ Ends h in
     let end = bind_ok (none_left name.0.1) _ Ends name.2 in
     absurd (cc end.2)
-operands_end version names EndHead row h = refl
+operands_end names EndHead row h = refl
 
 pub no_end_outside : (version : Version) (names : List (List ℕ)) (row : Row) → statement_of (record { version = version; outside = true; names = names }) row ≡ Ok Ends → ⊥
 unfolding statement_of head_of
 no_end_outside version names row h =
     let head = bind_ok (word_as (head_of version true) row) _ Ends h in
     let taken = head_taken version true row head.0 head.1 in
-    let is_end = operands_end version names head.0.0 head.0.1 head.2 in
+    let is_end = operands_end names head.0.0 head.0.1 head.2 in
     not_end true (lookup (heads_in version) taken.0) refl (taken.1 ∙ ap (λ (x : Head). Some x) is_end)

@@ -1,6 +1,6 @@
 -- The forms that parts of a line have, and the reading of a line's parts from left to right. A fault is the column of the
 -- first word that doesn't fit, or the column after the line's last word where a word is missing. The forms are this
--- project's own choice. Some read more in the second version of the language.
+-- project's own choice. A form that reads more in the second version of the language has the version.
 use Rattle.std.specs.Prelude.{ℕ, ℤ, ◌+◌, ◌-◌, Bool, ◌||◌, cond, List, [], ◌∷◌, drop, Option, Some, None, Result, Ok, Err, bytes_eq, codes}
 use Rattle.std.specs.List.{join_with_byte}
 use Rattle.word_model.specs.Numbers.{whole_of, length_of, signed_of, percent_of, number_of}
@@ -90,6 +90,15 @@ unfolding scroll_in
 scroll_as First row = Ok (None, row)
 scroll_as Second row = scroll_in row.left row
 
+-- a margin, and a scroll margin if there is one
+abbrev pub MarginTexts : Type 0
+MarginTexts = List ℕ × Option (List ℕ)
+
+unfoldable pub margins_as : Version → Row → Taken MarginTexts
+unfolding margin_as scroll_as
+margins_as version row =
+    margin_as version row >>= λ margin. scroll_as version margin.1 >>= λ scroll. Ok ((margin.0, scroll.0), scroll.1)
+
 unfoldable pub numbers_of : List Word → Result (List ℤ) ℕ
 unfolding number_of
 numbers_of [] = Ok []
@@ -123,12 +132,11 @@ pub data Form : Type 0 where
   PercentForm : Form
   WholeForm : Form
   EventForm : Form
-  BoxForm : Form
+  BoxForm : (version : Version) → Form
   DimensionForm : Form
   DeclarationForm : Form
   JustForm : (word : List ℕ) → Form
-  MarginForm : Form
-  ScrollForm : Form
+  MarginForm : (version : Version) → Form
   NumbersForm : Form
   QueryForm : Form
 
@@ -144,36 +152,34 @@ Meant SignedForm = ℤ
 Meant PercentForm = ℕ
 Meant WholeForm = ℕ
 Meant EventForm = EventKind
-Meant BoxForm = BoxKind
+Meant (BoxForm version) = BoxKind
 Meant DimensionForm = Dimension
 Meant DeclarationForm = Declaration
 Meant (JustForm word) = Unit {0}
-Meant MarginForm = List ℕ
-Meant ScrollForm = Option (List ℕ)
+Meant (MarginForm version) = MarginTexts
 Meant NumbersForm = List ℤ
 Meant QueryForm = List MediaQuery
 
--- the part of this form that stands next in a line of a script of this version
-unfoldable pub part_as : Version → (form : Form) → Row → Taken (Meant form)
-unfolding word_as name_of node_of aim_of or_dash length_of signed_of percent_of whole_of lookup declaration_as just margin_as scroll_as numbers_as query_as
-part_as version NameForm row = word_as name_of row
-part_as version NodeForm row = word_as node_of row
-part_as version AimForm row = word_as aim_of row
-part_as version HandlerForm row = word_as (or_dash name_of) row
-part_as version RootForm row = word_as (or_dash node_of) row
-part_as version LengthForm row = word_as length_of row
-part_as version SignedForm row = word_as signed_of row
-part_as version PercentForm row = word_as percent_of row
-part_as version WholeForm row = word_as whole_of row
-part_as version EventForm row = word_as (lookup events) row
-part_as version BoxForm row = word_as (lookup (boxes version)) row
-part_as version DimensionForm row = word_as (lookup dimensions) row
-part_as version DeclarationForm row = declaration_as row
-part_as version (JustForm word) row = word_as (just word) row
-part_as version MarginForm row = margin_as version row
-part_as version ScrollForm row = scroll_as version row
-part_as version NumbersForm row = numbers_as row
-part_as version QueryForm row = query_as row
+-- the part of this form that stands next in a line
+unfoldable pub part_as : (form : Form) → Row → Taken (Meant form)
+unfolding word_as name_of node_of aim_of or_dash length_of signed_of percent_of whole_of lookup declaration_as just margins_as numbers_as query_as
+part_as NameForm row = word_as name_of row
+part_as NodeForm row = word_as node_of row
+part_as AimForm row = word_as aim_of row
+part_as HandlerForm row = word_as (or_dash name_of) row
+part_as RootForm row = word_as (or_dash node_of) row
+part_as LengthForm row = word_as length_of row
+part_as SignedForm row = word_as signed_of row
+part_as PercentForm row = word_as percent_of row
+part_as WholeForm row = word_as whole_of row
+part_as EventForm row = word_as (lookup events) row
+part_as (BoxForm version) row = word_as (lookup (boxes version)) row
+part_as DimensionForm row = word_as (lookup dimensions) row
+part_as DeclarationForm row = declaration_as row
+part_as (JustForm word) row = word_as (just word) row
+part_as (MarginForm version) row = margins_as version row
+part_as NumbersForm row = numbers_as row
+part_as QueryForm row = query_as row
 
 -- what makes a value of the parts of these forms
 abbrev pub From : List Form → Type 0 → Type 0
@@ -181,7 +187,7 @@ From [] A = A
 From (form ∷ forms) A = Meant form → From forms A
 
 -- the value that the words of a line make, all of them
-unfoldable pub made : {A : Type 0} → Version → (forms : List Form) → From forms A → Row → Result A ℕ
+unfoldable pub made : {A : Type 0} (forms : List Form) → From forms A → Row → Result A ℕ
 unfolding none_left part_as
-made version [] value row = none_left row >>= λ end. Ok value
-made version (form ∷ forms) makes row = part_as version form row >>= λ part. made version forms (makes part.0) part.1
+made [] value row = none_left row >>= λ end. Ok value
+made (form ∷ forms) makes row = part_as form row >>= λ part. made forms (makes part.0) part.1

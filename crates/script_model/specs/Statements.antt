@@ -47,40 +47,39 @@ unfoldable pub negation_in : List Word → Row → Bool × Row
 negation_in [] row = (false, row)
 negation_in (w ∷ ws) row = cond (bytes_eq w.text (codes "not")) (true, record row { left = ws }) (false, row)
 
-unfoldable pub test_in : Version → TestShape → Row → Result Test ℕ
+unfoldable pub test_in : TestShape → Row → Result Test ℕ
 unfolding made
-test_in version (TestOf forms makes) row = made version forms makes row
+test_in (TestOf forms makes) row = made forms makes row
 
-unfoldable pub condition_behind : Version → Bool → Row → Result Condition ℕ
+unfoldable pub condition_behind : Bool → Row → Result Condition ℕ
 unfolding word_as lookup test_in
-condition_behind version negated row =
+condition_behind negated row =
     word_as (lookup tests) row >>= λ test.
-    test_in version test.0 test.1 >>= λ asks. Ok (record { negated = negated; asks = asks })
+    test_in test.0 test.1 >>= λ asks. Ok (record { negated = negated; asks = asks })
 
-unfoldable pub condition_as : Version → Row → Result Condition ℕ
+unfoldable pub condition_as : Row → Result Condition ℕ
 unfolding negation_in condition_behind
-condition_as version row = condition_behind version (negation_in row.left row).0 (negation_in row.left row).1
+condition_as row = condition_behind (negation_in row.left row).0 (negation_in row.left row).1
 
 unfoldable pub handler_as : List (List ℕ) → Row → Result Statement ℕ
 unfolding word_as fresh_name_of none_left
 handler_as names row =
     word_as (fresh_name_of names) row >>= λ name. none_left name.1 >>= λ end. Ok (OpensHandler name.0)
 
-unfoldable pub operands_of : Version → List (List ℕ) → Head → Row → Result Statement ℕ
+unfoldable pub operands_of : List (List ℕ) → Head → Row → Result Statement ℕ
 unfolding made condition_as handler_as
-operands_of version names (ActionHead forms makes) row = made version forms makes row >>= λ action. Ok (Does action)
-operands_of version names TickHead row = made version (WholeForm ∷ []) Ticks row
-operands_of version names EachHead row = made version [] OpensEach row
-operands_of version names WhenHead row = condition_as version row >>= λ condition. Ok (OpensWhen condition)
-operands_of version names HandlerHead row = handler_as names row
-operands_of version names EndHead row = made version [] Ends row
+operands_of names (ActionHead forms makes) row = made forms makes row >>= λ action. Ok (Does action)
+operands_of names TickHead row = made (WholeForm ∷ []) Ticks row
+operands_of names EachHead row = made [] OpensEach row
+operands_of names WhenHead row = condition_as row >>= λ condition. Ok (OpensWhen condition)
+operands_of names HandlerHead row = handler_as names row
+operands_of names EndHead row = made [] Ends row
 
 -- what a line says, or the column of its fault
 unfoldable pub statement_of : Standing → Row → Result Statement ℕ
 unfolding word_as head_of operands_of
 statement_of standing row =
-    word_as (head_of standing.version standing.outside) row >>= λ head.
-    operands_of standing.version standing.names head.0 head.1
+    word_as (head_of standing.version standing.outside) row >>= λ head. operands_of standing.names head.0 head.1
 
 -- a script's first line, which names its version
 unfoldable pub version_as : Row → Result Version ℕ

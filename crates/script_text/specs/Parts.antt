@@ -4,7 +4,7 @@ use Rattle.std.specs.Prelude.{ℕ, List, [], ◌∷◌, ◌++◌, map, Option, S
 use Rattle.word_model.specs.Numbers.{decimal}
 use Rattle.text_io.specs.Kinds.{event_word}
 use Rattle.script_model.specs.MarginText.{parts_of}
-use Rattle.script_model.specs.Forms.{Form, NameForm, NodeForm, AimForm, HandlerForm, RootForm, LengthForm, SignedForm, PercentForm, WholeForm, EventForm, BoxForm, DimensionForm, DeclarationForm, JustForm, MarginForm, ScrollForm, NumbersForm, QueryForm, Meant}
+use Rattle.script_model.specs.Forms.{Form, NameForm, NodeForm, AimForm, HandlerForm, RootForm, LengthForm, SignedForm, PercentForm, WholeForm, EventForm, BoxForm, DimensionForm, DeclarationForm, JustForm, MarginForm, NumbersForm, QueryForm, Meant}
 use Rattle.media_queries.specs.LengthText.{length_text}
 use Rattle.media_queries.specs.QueryText.{list_text}
 use Rattle.script_text.specs.NumberText.{percent_text, signed_text, number_text}
@@ -32,12 +32,11 @@ part_words SignedForm units = signed_text units ∷ []
 part_words PercentForm hundredths = percent_text hundredths ∷ []
 part_words WholeForm number = decimal number ∷ []
 part_words EventForm event = event_word event ∷ []
-part_words BoxForm box = box_text box ∷ []
+part_words (BoxForm version) box = box_text box ∷ []
 part_words DimensionForm dimension = dimension_text dimension ∷ []
 part_words DeclarationForm declaration = property_text declaration ∷ value_text declaration ∷ []
 part_words (JustForm word) unit = word ∷ []
-part_words MarginForm margin = parts_of margin
-part_words ScrollForm margin = scroll_words margin
+part_words (MarginForm version) margins = parts_of margins.0 ++ scroll_words margins.1
 part_words NumbersForm numbers = map number_text numbers
 part_words QueryForm queries = list_text queries ∷ []
 

@@ -19,7 +19,7 @@ use Rattle.script_model.specs.Lines.{is_word_byte}
 use Rattle.script_model.specs.MarginText.{parts_of}
 use Rattle.script_model.specs.Syntax.{Operand, Named, Target, Aim, PlainAim, WindowAim, Command, Simple, Each, When, Block, NoMore, Then, Action, Item, Outside, Tick, Handler, Script}
 use Rattle.script_model.specs.Scripts.{NamedBlock, handlers_in}
-use Rattle.script_model.specs.Forms.{Form, NameForm, NodeForm, AimForm, HandlerForm, RootForm, LengthForm, SignedForm, PercentForm, WholeForm, EventForm, BoxForm, DimensionForm, DeclarationForm, JustForm, MarginForm, ScrollForm, NumbersForm, QueryForm, Meant, ends_margin}
+use Rattle.script_model.specs.Forms.{Form, NameForm, NodeForm, AimForm, HandlerForm, RootForm, LengthForm, SignedForm, PercentForm, WholeForm, EventForm, BoxForm, DimensionForm, DeclarationForm, JustForm, MarginForm, NumbersForm, QueryForm, Meant, ends_margin}
 use Rattle.script_model.specs.Commands.{heads_in}
 use Rattle.script_text.specs.Entries.{entry_at}
 use Rattle.script_text.specs.Parts.{Part, PartOf}
@@ -130,42 +130,41 @@ abbrev pub IsQueryList : List MediaQuery → Type 0
 IsQueryList [] = ⊥
 IsQueryList (q ∷ qs) = AreQueries (q ∷ qs)
 
--- what a part of this form may stand for in a script of this version
-abbrev pub IsMeant : Version → (form : Form) → Meant form → Type 0
-IsMeant version NameForm name = IsName name
-IsMeant version NodeForm operand = IsOperand operand
-IsMeant version AimForm aim = IsAim aim
-IsMeant version HandlerForm handler = IfSome IsName handler
-IsMeant version RootForm root = IfSome IsOperand root
-IsMeant version LengthForm units = IsLength units
-IsMeant version SignedForm units = IsLength (unsigned_abs units)
-IsMeant version PercentForm hundredths = IsPercentage hundredths
-IsMeant version WholeForm number = number ≤ 1000000000000
-IsMeant version EventForm event = Unit {0}
-IsMeant version BoxForm box = IsBox version box
-IsMeant version DimensionForm dimension = Unit {0}
-IsMeant version DeclarationForm declaration = IsDeclaration declaration
-IsMeant version (JustForm word) unit = Unit {0}
-IsMeant version MarginForm margin = IsMargin version margin
-IsMeant version ScrollForm margin = IsScrollMargin version margin
-IsMeant version NumbersForm numbers = AreNumbers numbers
-IsMeant version QueryForm queries = IsQueryList queries
+-- what a part of this form may stand for
+abbrev pub IsMeant : (form : Form) → Meant form → Type 0
+IsMeant NameForm name = IsName name
+IsMeant NodeForm operand = IsOperand operand
+IsMeant AimForm aim = IsAim aim
+IsMeant HandlerForm handler = IfSome IsName handler
+IsMeant RootForm root = IfSome IsOperand root
+IsMeant LengthForm units = IsLength units
+IsMeant SignedForm units = IsLength (unsigned_abs units)
+IsMeant PercentForm hundredths = IsPercentage hundredths
+IsMeant WholeForm number = number ≤ 1000000000000
+IsMeant EventForm event = Unit {0}
+IsMeant (BoxForm version) box = IsBox version box
+IsMeant DimensionForm dimension = Unit {0}
+IsMeant DeclarationForm declaration = IsDeclaration declaration
+IsMeant (JustForm word) unit = Unit {0}
+IsMeant (MarginForm version) margins = IsMargin version margins.0 × IsScrollMargin version margins.1
+IsMeant NumbersForm numbers = AreNumbers numbers
+IsMeant QueryForm queries = IsQueryList queries
 
-abbrev pub AreMeant : Version → List Part → Type 0
-AreMeant version [] = Unit {0}
-AreMeant version (PartOf form value ∷ parts) = IsMeant version form value × AreMeant version parts
+abbrev pub AreMeant : List Part → Type 0
+AreMeant [] = Unit {0}
+AreMeant (PartOf form value ∷ parts) = IsMeant form value × AreMeant parts
 
--- a command that may stand in a script of this version: the version has its word, and its operands are in their forms and ranges
+-- a command that may stand in a script of this version: the version has its word, and its operands are in the forms and ranges there
 pub record IsAction (version : Version) (action : Action) : Type 0 where
-  pub known : is_some (entry_at (heads_in version) (action_head action)) ≡ true
-  pub operands : AreMeant version (action_parts action)
+  pub known : is_some (entry_at (heads_in version) (action_head version action)) ≡ true
+  pub operands : AreMeant (action_parts version action)
 
 -- commands, those in blocks included
 unfoldable mutual
   pub IsCommand : Version → Command → Type 0
   IsCommand version (Simple line action) = IsAction version action
   IsCommand version (Each line block last) = IsBlock version block
-  IsCommand version (When line condition block last) = AreMeant version (test_parts (condition.asks)) × IsBlock version block
+  IsCommand version (When line condition block last) = AreMeant (test_parts (condition.asks)) × IsBlock version block
 
   pub IsBlock : Version → Block → Type 0
   IsBlock version NoMore = Unit {0}
