@@ -4,6 +4,7 @@ use Rattle.std.specs.Prelude.{ℕ, cond, List, [], ◌∷◌, ◌++◌, Option, 
 use Rattle.text_io.specs.declared.kinds.Version.{Version}
 use Rattle.text_io.specs.declared.kinds.Version.TheVariants.{Second}
 use Rattle.script_model.specs.Syntax.{Action, Viewport, SetRatio, MakeBlock, MakeImage, MakeFrame, Append, Before, Remove, SetStyle, Grow, Load, MakeResizeObserver, ObserveResize, UnobserveResize, DisconnectResize, MakeIntersectionObserver, ObserveIntersection, UnobserveIntersection, DisconnectIntersection, TakeIntersections, Listen, Unlisten, MakeQueryList, ScrollTo, ScrollBy, RequestFrame, CancelFrame, SetTimer, ClearTimer, Post, Say, Read, Test, Wider, Taller, Matches, Attached, Seen, Condition}
+use Rattle.script_model.specs.Keywords.{Keyword}
 use Rattle.script_model.specs.Commands.{TestShape, TestOf, tests, Head, ActionHead, heads, ratio_head}
 use Rattle.script_text.specs.Parts.{Part, all_words}
 use Rattle.script_text.specs.Entries.{Entry, entry_at, Takes, Phrase, phrase_at, parts_behind}
@@ -12,9 +13,12 @@ abbrev pub action_entry : Option Head → Option (Entry Action)
 action_entry (Some (ActionHead forms makes)) = Some (record { forms = forms; makes = makes })
 action_entry other = None
 
--- the table of a version with all commands, so that each action has a phrase there
+-- a version's table with all commands, so that each action has a phrase there
+abbrev pub all_heads : Version → List (Keyword Head)
+all_heads version = ratio_head ∷ heads version
+
 abbrev pub action_at : Version → List ℕ → Option (Entry Action)
-action_at version word = action_entry (entry_at (ratio_head ∷ heads version) word)
+action_at version word = action_entry (entry_at (all_heads version) word)
 
 abbrev pub says : (version : Version) (word : List ℕ) → Takes (action_at version word) (Phrase (action_at version))
 says version word = phrase_at (action_at version) word
