@@ -11,9 +11,9 @@ use Rattle.text_io.specs.declared.kinds.Version.TheVariants.{First, Second}
 use Rattle.script_model.specs.Syntax.{Action}
 use Rattle.script_model.specs.Readers.{◌>>=◌}
 use Rattle.script_model.specs.Keywords.{lookup}
-use Rattle.script_model.specs.Lexing.{Row}
+use Rattle.script_model.specs.Lexing.{Word, Row}
 use Rattle.script_model.specs.Lines.{words_of, after_words, row_of}
-use Rattle.script_model.specs.Forms.{Form, WholeForm, word_as, none_left, From, made}
+use Rattle.script_model.specs.Forms.{Form, WholeForm, word_as, none_in, none_left, From, made}
 use Rattle.script_model.specs.Commands.{Head, ActionHead, TickHead, EachHead, WhenHead, HandlerHead, EndHead, heads_in}
 use Rattle.script_model.specs.Words.{just, versions}
 use Rattle.script_model.specs.Statements.{Statement, Does, Ticks, OpensEach, OpensWhen, OpensHandler, Ends, Standing, permitted, head_of, fresh_name_of, condition_as, handler_as, operands_of, statement_of, version_as}
@@ -27,7 +27,7 @@ use Rattle.script_text.proofs.WordBytes.{not_true}
 use Rattle.script_text.proofs.ReadValues.{chosen_some}
 use Rattle.script_text.proofs.Tables.{Each, looked_up}
 use Rattle.script_text.proofs.StatementsAgain.{words_in}
-use Rattle.script_text.proofs.ReadRows.{room, IsRow, line_row, line_short}
+use Rattle.script_text.proofs.ReadRows.{room, some_room, IsRow, line_row, line_short}
 use Rattle.script_text.proofs.ReadForms.{Shows, Made, made_read, nothing_left}
 use Rattle.script_text.proofs.ReadConditions.{WordRead, word_read, ConditionRead, condition_read}
 
@@ -218,43 +218,53 @@ statement_read standing line statement h =
 
 -- The first line.
 
--- a version's word
+-- words of these lengths
+abbrev IsScript : List ℕ → Unit {0} → Type 0
+IsScript word unit = length word ≡ 6
+
 abbrev IsVersion : List ℕ → Version → Type 0
 IsVersion word version = length word ≡ 1
+
+script_shows : (word : List ℕ) → IfSome (IsScript word) (just (codes "script") word)
+unfolding just
+script_shows word =
+    chosen_some (IsScript word) (bytes_eq word (codes "script")) (Some tt) None (λ h. ap length ((bytes_eq-Decides word (codes "script")).0 h)) (λ h. tt)
 
 version_shows : (word : List ℕ) → IfSome (IsVersion word) (lookup versions word)
 version_shows word = looked_up IsVersion versions (refl, (refl, tt)) word
 
+-- a line that is read so far has this many bytes
+abbrev HasRoom : ℕ → ℕ → Version → Type 0
+HasRoom column last version = column + 9 ≤ last + 1
+
+end_room : (column last : ℕ) (version : Version) (r : Row) → column + 9 ≤ last + 1 → OnValue (HasRoom column last) (none_left r >>= λ end. Ok version)
+unfolding none_left none_in
+end_room column last version r h = by_words r.left where
+  by_words : (words : List Word) → OnValue (HasRoom column last) (none_in words >>= λ end. Ok version)
+  by_words [] = h
+  by_words (w ∷ ws) = tt
+
 -- `script` and a version's word have eight bytes
-version_room : (column last : ℕ) (r : Row) → IsRow column last r → OnValue (λ version. column + 9 ≤ last + 1) (version_as r)
+version_room : (column last : ℕ) (r : Row) → IsRow column last r → OnValue (HasRoom column last) (version_as r)
 unfolding version_as
 version_room column last r row =
-    let Script : List ℕ → Unit {0} → Type 0 = λ word unit. length word ≡ 6 in
-    then_on (WordRead Script column last) (λ version. column + 9 ≤ last + 1) (word_as (just (codes "script")) r)
+    then_on (WordRead IsScript column last) (HasRoom column last) (word_as (just (codes "script")) r)
     (λ script. word_as (lookup versions) script.1 >>= λ version. none_left version.1 >>= λ end. Ok version.0)
-    (word_read (just (codes "script")) Script script_shows column last r row)
-    (λ script w.
-    let next : ℕ = column + (length w.word + 1) in
-    then_on (WordRead IsVersion next last) (λ version. column + 9 ≤ last + 1) (word_as (lookup versions) script.1) (λ version. none_left version.1 >>= λ end. Ok version.0)
-    (word_read (lookup versions) IsVersion version_shows next last script.1 w.row)
+    (word_read (just (codes "script")) IsScript script_shows column last r row)
+    (λ script s.
+    let next : ℕ = column + (length s.word + 1) in
+    then_on (WordRead IsVersion next last) (HasRoom column last) (word_as (lookup versions) script.1) (λ version. none_left version.1 >>= λ end. Ok version.0)
+    (word_read (lookup versions) IsVersion version_shows next last script.1 s.row)
     (λ version v.
-    let behind : ℕ = next + (length v.word + 1) in
-    let first = w.is in
+    let first = s.is in
     let second = v.is in
-    weaker_on (Made (λ (value : Version) parts. Unit {0}) behind last) (λ version. column + 9 ≤ last + 1) (none_left version.1 >>= λ end. Ok version.0)
-    (nothing_left (λ value parts. Unit {0}) version.0 tt behind last version.1 v.row) (λ value m. room_for m.parts behind m.fits (omega arith))))
-  where
-  script_shows : (word : List ℕ) → IfSome (λ unit. length word ≡ 6) (just (codes "script") word)
-  unfolding just
-  script_shows word =
-      chosen_some (λ unit. length word ≡ 6) (bytes_eq word (codes "script")) (Some tt) None (λ h. ap length ((bytes_eq-Decides word (codes "script")).0 h)) (λ h. tt)
-  room_for : (parts : List Part) (behind : ℕ) → behind + room (all_words parts) ≤ last + 1 → column + 9 ≤ behind → column + 9 ≤ last + 1
-  room_for parts behind fits far = omega (arith, fits, far)
+    let behind = some_room (next + (length v.word + 1)) last version.1.left v.row.words in
+    end_room column last version.0 version.1 (omega arith)))
 
 pub version_long : (version : Version) (line : List ℕ) → version_as (row_of (words_of line) line) ≡ Ok version → 8 ≤ length line
 version_long version line h =
     let l = line_row line in
     let last : ℕ = after_words 1 (words_of line) in
-    let fits = subst (OnValue (λ version. 1 + 9 ≤ last + 1)) h (version_room 1 last (row_of (words_of line) line) l.row) in
+    let fits = subst (OnValue (HasRoom 1 last)) h (version_room 1 last (row_of (words_of line) line) l.row) in
     let ends = l.ends in
     omega arith
