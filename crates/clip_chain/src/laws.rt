@@ -6,7 +6,7 @@ ghost use Rattle.px_units.specs.declared.Rect.{Rect};
 ghost use Rattle.script_model.specs.Margins.{Margins};
 ghost use Rattle.page_model.specs.World.{Root};
 ghost use Rattle.page_model.specs.Shown.{Shown};
-ghost use Rattle.page_model.specs.Chains.{most_containers, border_rect, clips_between, common_part, root_bounds as root_bounds_in};
+ghost use Rattle.page_model.specs.Chains.{most_containers, border_rect, clips_between, clips_for, common_part, root_bounds as root_bounds_in};
 ghost use Rattle.clip_chain.specs.declared.spot.Spot.{Spot as SpotOf};
 ghost use Rattle.clip_chain.specs.Scenes.{Scene, root_bounds};
 ghost use Rattle.clip_chain.specs.Chains.{Leads};
@@ -28,18 +28,29 @@ pub fn a_chain_is_the_only_one()
         Leads scene from some root → Leads scene from others root → some ≡ others }
 {}
 
-/// In any world, the chain from a target to a root has the clips between that the world's definition names for an observer with these
-/// scroll margins, so that what is seen of the target is the common part which its finding cuts to. The root rectangle before a margin
-/// moves it is the world's too, and scroll margins leave it alone. A chain is no longer than that definition looks.
+/// In any world, the chain from a target to a root has the clips between that the world's definition names, so that what is
+/// seen of the target is the common part which its finding cuts to. The root rectangle before a margin moves it is the
+/// world's too. A chain is no longer than that definition looks.
 pub fn chains_are_those_of_any_world()
+    ensures clips { (shown : Shown) (root : Root) (target : ℕ) (between : List SpotOf) →
+        Leads (scene_of shown) (element_spot target) between (spot_of_root root) → length between ≤ most_containers →
+        filter_map (scene_of shown).clip between ≡ clips_between shown root target }
+    ensures part { (shown : Shown) (root : Root) (target : ℕ) (between : List SpotOf) (limits : Rect) →
+        Leads (scene_of shown) (element_spot target) between (spot_of_root root) → length between ≤ most_containers →
+        part_between (scene_of shown) (element_spot target) between limits
+        ≡ common_part (border_rect shown target) (limits ∷ clips_between shown root target) }
+    ensures root { (shown : Shown) (root : Root) → root_bounds (scene_of shown) (spot_of_root root) ≡ root_bounds_in shown root }
+{}
+
+/// The same holds of the page as an observer with scroll margins sees it. They leave its root rectangle alone.
+pub fn chains_with_scroll_margins_are_those_of_any_world()
     ensures clips { (shown : Shown) (margins : Margins) (root : Root) (target : ℕ) (between : List SpotOf) →
         Leads (scene_of shown) (element_spot target) between (spot_of_root root) → length between ≤ most_containers →
-        filter_map (scene_for shown root margins).clip between ≡ clips_between shown margins root target }
+        filter_map (scene_for shown root margins).clip between ≡ clips_for shown margins root target }
     ensures part { (shown : Shown) (margins : Margins) (root : Root) (target : ℕ) (between : List SpotOf) (limits : Rect) →
         Leads (scene_of shown) (element_spot target) between (spot_of_root root) → length between ≤ most_containers →
         part_between (scene_for shown root margins) (element_spot target) between limits
-        ≡ common_part (border_rect shown target) (limits ∷ clips_between shown margins root target) }
-    ensures root { (shown : Shown) (root : Root) → root_bounds (scene_of shown) (spot_of_root root) ≡ root_bounds_in shown root }
-    ensures root_alone { (shown : Shown) (margins : Margins) (root : Root) →
+        ≡ common_part (border_rect shown target) (limits ∷ clips_for shown margins root target) }
+    ensures root { (shown : Shown) (margins : Margins) (root : Root) →
         root_bounds (scene_for shown root margins) (spot_of_root root) ≡ root_bounds (scene_of shown) (spot_of_root root) }
 {}

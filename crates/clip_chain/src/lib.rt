@@ -14,6 +14,6 @@ pub use chains::{reaches, root_rect, visible_rect};
 pub use geometry::Geometry;
 pub use laws::{
     a_chain_goes_from_container_to_container, a_chain_is_the_only_one,
-    chains_are_those_of_any_world,
+    chains_are_those_of_any_world, chains_with_scroll_margins_are_those_of_any_world,
 };
 pub use spot::Spot;

@@ -11,7 +11,7 @@ use Rattle.page_model.specs.Lookups.{element_at}
 use Rattle.page_model.specs.Documents.{nodes_of}
 use Rattle.page_model.specs.PageBoxes as boxes
 use Rattle.page_model.specs.Shown.{Shown, has_box}
-use Rattle.page_model.specs.Chains.{zero_point, zero_rect, moved_back, origin, origin_of_element, border_rect, clips_between, common_part, root_rect}
+use Rattle.page_model.specs.Chains.{zero_point, zero_rect, moved_back, origin, origin_of_element, border_rect, clips_for, common_part, root_rect}
 
 -- how a target lies to a root: apart from it, without a box, or in a chain of containers that leads to it
 pub data Relation : Type 0 where
@@ -93,13 +93,13 @@ found shown scroll_margins observer target root Chained =
     (observer.thresholds)
     (origin_of_element shown target)
     bounds
-    (common_part bounds (root_rect shown (observer.root) (observer.margins) ∷ clips_between shown scroll_margins (observer.root) target))
+    (common_part bounds (root_rect shown (observer.root) (observer.margins) ∷ clips_for shown scroll_margins (observer.root) target))
     root
 
 -- the finding of a target by an observer with these scroll margins; its rectangles are in the coordinates of the target's document, the
 -- root rectangle in those of the root's
 unfoldable pub finding : Shown → Margins → IntersectionObserver → ℕ → Finding
-unfolding root_rect clips_between common_part ratio_of origin border_rect boxes.has_box is_in_path
+unfolding root_rect clips_for common_part ratio_of origin border_rect boxes.has_box is_in_path
 finding shown scroll_margins observer target =
     found
     shown
