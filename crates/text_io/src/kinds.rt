@@ -1,6 +1,6 @@
 ghost use Rattle.std.specs.Prelude.{◌≡◌};
 ghost use Rattle.text_io.specs.Kinds.{version_word, limit_word, throw_word, event_word};
-ghost use Rattle.text_io.specs.Limits.{by_version, limit_number};
+ghost use Rattle.text_io.specs.Limits.{by_version, limit_number, common_limit};
 
 /// A version of the script language. A script names it in its first line.
 #[derive(Clone, Copy, Debug, PartialEq, Eq, Hash)]
@@ -131,6 +131,13 @@ impl LimitKind {
             LimitKind::Recorded => 67_108_864,
             LimitKind::Pages => 8,
         }
+    }
+
+    /// The same where no version is known: for the limits that are the same in each.
+    pub fn common(&self) -> u64
+        ensures { result ≡ common_limit self.now }
+    {
+        self.number(Version::First)
     }
 }
 
