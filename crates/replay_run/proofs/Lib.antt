@@ -11,3 +11,6 @@ pub mod Written
 mod Wordless
 mod Judged
 pub mod Asking
+pub mod Stopping
+pub mod Sighting
+mod Worded

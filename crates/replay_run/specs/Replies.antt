@@ -8,6 +8,8 @@ use Rattle.script_model.specs.Generator.{generated}
 use Rattle.script_model.specs.Reading.{Reading, reading, Refusal, LimitAt, refusal_line, last_line}
 use Rattle.script_model.specs.TraceText.{line_text}
 use Rattle.script_text.specs.ScriptText.{printed}
+use Rattle.page_model.specs.World.{World}
+use Rattle.page_model.specs.Runs.{Flow, Next, Thrown, Limited, Said}
 use Rattle.page_model.specs.Outcome.{Outcome, refused_ending, outcome_read, bytes_of, check_read, summary_read, trace}
 use Rattle.trace_judge.specs.declared.judgement.Judgement.{Judgement}
 use Rattle.trace_judge.specs.declared.judgement.Judgement.TheVariants as judgements
@@ -15,11 +17,13 @@ use Rattle.trace_judge.specs.Judging.{judgement}
 use Rattle.trace_judge.specs.Recordings.{script_of, trace_of}
 use Rattle.trace_judge.specs.Texts.{judgement_text}
 use Rattle.replay_run.specs.Certificates.{lint_text}
+use Rattle.replay_run.specs.Stops.{after, last_of, sight_text, tick_count, ticks_text}
 use Rattle.replay_run.specs.Statuses.{status_at}
 use Rattle.replay_run.specs.declared.status.Status.{Status}
-use Rattle.replay_run.specs.declared.status.Status.TheVariants.{Done, Differs}
+use Rattle.replay_run.specs.declared.status.Status.TheVariants.{Done, Limit, Differs}
 use Rattle.replay_run.specs.declared.words.Job.{Job}
-use Rattle.replay_run.specs.declared.words.Job.TheVariants.{Replay, Check, Lint, Summary, Print}
+use Rattle.replay_run.specs.declared.words.Job.TheVariants.{Replay, Check, Lint, Summary, Print, AtTick}
+use Rattle.replay_run.specs.declared.words.Sight.{Sight}
 use Rattle.replay_run.specs.declared.words.Words.{Words}
 use Rattle.replay_run.specs.declared.words.Words.TheVariants.{Script, Generated, Judge}
 
@@ -38,14 +42,30 @@ refused_with refusal = record { text = line_text (refusal_line refusal); status 
 abbrev pub outcome_reply : Outcome → Reply
 outcome_reply outcome = record { text = bytes_of outcome.lines; status = status_at outcome.ending }
 
+-- what is told of the page of a script as a tick of it ends; the number of its ticks where it has fewer
+unfoldable pub told_text : Sight → ℕ → List Item → World → List ℕ
+unfolding sight_text tick_count ticks_text
+told_text sight number items world = cond (nat_lt (tick_count items) number) (ticks_text (tick_count items)) (sight_text sight world)
+
+-- the same by how the run up to that tick goes on: of one that meets a limit the line that says so
+abbrev pub told_with : Sight → ℕ → List Item → Said World → Flow → Reply
+told_with sight number items said Next = done_with (told_text sight number items (said.state))
+told_with sight number items said Thrown = done_with (told_text sight number items (said.state))
+told_with sight number items said Limited = record { text = bytes_of (last_of (said.lines)); status = Limit }
+
+unfoldable pub sight_reply : Sight → ℕ → List Item → Reply
+unfolding after bytes_of last_of told_text
+sight_reply sight number items = told_with sight number items (after items number) (after items number).flow
+
 -- what is done with a script
 unfoldable pub script_reply : Job → List Item → Reply
-unfolding outcome_read bytes_of check_read lint_text summary_read printed
+unfolding outcome_read bytes_of check_read lint_text sight_reply summary_read printed
 script_reply Replay items = outcome_reply (outcome_read (Ok items))
 script_reply Check items = done_with (check_read (Ok items))
 script_reply Lint items = done_with (lint_text items)
 script_reply Summary items = record { text = summary_read (Ok items); status = status_at (outcome_read (Ok items)).ending }
 script_reply Print items = done_with (printed items)
+script_reply (AtTick sight number) items = sight_reply sight number items
 
 -- the same with a text by its reading
 unfoldable pub read_reply : Job → Reading → Reply

@@ -20,6 +20,7 @@ use crate::input::{ScriptText, read_script};
 use crate::judging::judge_source;
 use crate::play::play;
 use crate::printing::write_script;
+use crate::sights::write_sight;
 use crate::status::Status;
 use crate::summary::{status_of, summarize};
 use crate::words::{Job, Words};
@@ -179,6 +180,10 @@ fn perform<K: Sink, L: Ledger>(
             status: write_script(alloc, script, sink),
             page: None,
         },
+        Job::AtTick(sight, number) => Report {
+            status: write_sight(alloc, sight, number, script, sink, steps),
+            page: None,
+        },
     }
 }
 
@@ -248,12 +253,15 @@ fn perform_on_number<K: Sink, L: Ledger>(
 /// - `--lint`: reads it, and writes whether its resize loops always go deeper (`steady`) and whether none of them ends with the error
 ///   (`quiet`), by what its loop handlers hold, or the line of the first command that stands in the way (`unsteady`, `unquiet`);
 /// - `--summary`: replays it, and writes for each kind of trace lines how many there are;
+/// - `--inspect K`: runs it until its K-th tick ends, and writes each box of the page then with what is seen of it, or `ticks` and the
+///   number of its ticks where it has fewer, or the line of a limit that is met before;
+/// - `--hit K X Y`: the same with the elements that the point hits, the uppermost first, or `miss`;
 /// - `--judge`: replays the script that stands before the source's first line `trace`, and judges the trace that was recorded behind
 ///   that line: writes `equal` and the number of lines, or `differs`, the line and how;
 /// - `--generate N`: writes the script of the number N, which is at most 1,000,000; reads nothing;
 /// - `--generate-run N`: replays the script of the number, and writes its summary; reads nothing.
 ///
-/// Of a source that is no script, the first four write the line that says where alone; for a judgement that line is the script's
+/// Of a source that is no script, the first six write the line that says where alone; for a judgement that line is the script's
 /// trace. `steps` counts the boxes that are computed: a `read`, and a tick where there is an observer, compute the boxes that are due.
 ///
 /// - `Done`, `Syntax`, `Limit` and `Differs`: exactly by the reply to the words and the source's bytes, and all of its text was written.

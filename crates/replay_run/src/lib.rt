@@ -13,7 +13,9 @@ mod lines;
 mod play;
 mod printing;
 mod recorded;
+mod sights;
 mod status;
+mod stops;
 mod summary;
 mod words;
 
