@@ -21,6 +21,7 @@ The rules of docs/ as a second, plain program. It writes what the proved program
   --lint             says whether the resize loops are steady and quiet, or the first line that may spoil it (docs/LOOPS.md)
   --summary          replays the script, and writes how many lines of each kind its trace has
   --judge            compares a trace that was recorded, behind a line `trace`, with the script's (docs/CONFORMANCE.md)
+  --pages            runs several scripts of one stream, in which a line `page NAME` says whose the next lines are
   --generate N       writes the script of a number, 0 to 1000000: a list of lazily loaded cards
   --generate-run N   replays the script of a number, and writes its summary
 
@@ -28,7 +29,6 @@ These words the proved program doesn't have yet, nor version 2 of the language (
 
   --inspect K        writes each box as the K-th tick ends, and what is seen of it
   --hit K X Y        writes what lies below a point of the viewport as the K-th tick ends, the uppermost first
-  --pages            runs several scripts of one stream, in which a line `page NAME` says whose the next lines are
 '''
 
 

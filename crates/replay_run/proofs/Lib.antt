@@ -9,3 +9,8 @@ pub mod Written
 mod Wordless
 mod Judged
 pub mod Asking
+pub mod NamedLines
+pub mod Turning
+pub mod SideBySide
+pub mod NoItems
+pub mod PagesAsked

@@ -10,9 +10,12 @@ mod input;
 mod judging;
 mod laws;
 mod lines;
+mod named;
 mod play;
 mod printing;
+mod side_by_side;
 mod status;
+mod stream_page;
 mod summary;
 mod words;
 

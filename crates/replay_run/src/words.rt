@@ -32,6 +32,8 @@ pub enum Words {
     Generated(Job, u64),
     /// A judgement of the recorded trace that the source holds behind its script.
     Judge,
+    /// The scripts of several pages that the source holds, side by side.
+    Pages,
 }
 
 // A number of at most 1,000,000, without a sign or a leading zero.
@@ -45,7 +47,7 @@ fn number_of(word: &[u8]) -> Option<u64>
 
 impl Words {
     /// What these words ask for: no words to replay the script of the source, `--check`, `--lint` and `--summary` to check, to certify or
-    /// to summarize it, `--judge` to judge the trace behind it, `--generate N` and `--generate-run N` to print or to summarize the script
+    /// to summarize it, `--judge` to judge the trace behind it, `--pages` to run the scripts of its pages, `--generate N` and `--generate-run N` to print or to summarize the script
     /// of a number. None for any other list of words. No memory.
     #[tactic(auto, unfolding(crate::specs::Words::asked))]
     pub fn read(words: &[String]) -> Option<Words>
@@ -71,6 +73,8 @@ impl Words {
             Some(Words::Script(Job::Summary))
         } else if word == "--judge" {
             Some(Words::Judge)
+        } else if word == "--pages" {
+            Some(Words::Pages)
         } else {
             None
         }

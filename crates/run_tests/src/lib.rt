@@ -10,6 +10,8 @@ mod loop_lint_tests;
 #[cfg(test)]
 mod replay_run_forms;
 #[cfg(test)]
+mod replay_run_pages;
+#[cfg(test)]
 mod replay_run_limits;
 #[cfg(test)]
 mod replay_run_scripts;
