@@ -19,11 +19,12 @@ proof rests on it. Each module follows one part of the rules, in the plainest wa
     update        a tick: timers, the update of the rendering, tasks
     trace         the lines of a trace
     inspector     boxes and hits (`--inspect`, `--hit`)
+    streams       several pages in one stream (`--pages`)
     program       the words of the command line and the statuses
     generator     the scripts of `--generate N`
     shrinking     cuts a script down while something still holds of it
     random_scripts  random scripts by kind
 
-One module is of a word that the proved program doesn't have yet: `streams` (`--pages`). So is version 2 of the language: positions and
-insets, the pixel ratio, the box `device` and scroll margins. `available` says what the proved program has.
+Version 2 of the language the proved program doesn't have yet: positions and insets, the pixel ratio, the box `device` and scroll margins.
+`available` says what the proved program has.
 """

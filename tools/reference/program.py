@@ -23,12 +23,11 @@ The rules of docs/ as a second, plain program. It writes what the proved program
   --inspect K        writes each box as the K-th tick ends, and what is seen of it
   --hit K X Y        writes what lies below a point of the viewport as the K-th tick ends, the uppermost first
   --judge            compares a trace that was recorded, behind a line `trace`, with the script's (docs/CONFORMANCE.md)
+  --pages            runs several scripts of one stream, in which a line `page NAME` says whose the next lines are
   --generate N       writes the script of a number, 0 to 1000000: a list of lazily loaded cards
   --generate-run N   replays the script of a number, and writes its summary
 
-This word the proved program doesn't have yet, nor version 2 of the language (a first line `script 2`):
-
-  --pages            runs several scripts of one stream, in which a line `page NAME` says whose the next lines are
+Version 2 of the language (a first line `script 2`) the proved program doesn't have yet.
 '''
 
 

@@ -14,3 +14,8 @@ pub mod Asking
 pub mod Stopping
 pub mod Sighting
 mod Worded
+pub mod NamedLines
+pub mod Turning
+pub mod SideBySide
+pub mod NoItems
+pub mod PagesAsked

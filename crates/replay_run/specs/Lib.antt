@@ -3,5 +3,8 @@ pub mod Certificates
 pub mod Words
 pub mod Recorded
 pub mod Stops
+pub mod PageRuns
+pub mod StreamRuns
+pub mod StreamPages
 pub mod Replies
 pub mod Answers

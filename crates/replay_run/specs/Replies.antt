@@ -1,11 +1,11 @@
 -- The reply to the words of a command line: the text that is written, and the status once it is. It is one function of the words and
 -- of the source's bytes. All of this is this project's own choice.
-use Rattle.std.specs.Prelude.{ℕ, cond, nat_lt, List, length, Ok, Err}
+use Rattle.std.specs.Prelude.{ℕ, cond, nat_lt, List, length, Option, Some, None, Ok, Err}
 use Rattle.text_io.specs.declared.kinds.LimitKind.TheVariants as limits
 use Rattle.text_io.specs.Limits.{limit_number}
 use Rattle.script_model.specs.Syntax.{Item}
 use Rattle.script_model.specs.Generator.{generated}
-use Rattle.script_model.specs.Reading.{Reading, reading, Refusal, LimitAt, refusal_line, last_line}
+use Rattle.script_model.specs.Reading.{Reading, reading, Refusal, SyntaxAt, LimitAt, refusal_line, last_line}
 use Rattle.script_model.specs.TraceText.{line_text}
 use Rattle.script_text.specs.ScriptText.{printed}
 use Rattle.page_model.specs.World.{World}
@@ -16,16 +16,18 @@ use Rattle.trace_judge.specs.declared.judgement.Judgement.TheVariants as judgeme
 use Rattle.trace_judge.specs.Judging.{judgement}
 use Rattle.trace_judge.specs.Recordings.{script_of, trace_of}
 use Rattle.trace_judge.specs.Texts.{judgement_text}
+use Rattle.page_stream.specs.Pages.{is_stream, page_line_past}
 use Rattle.replay_run.specs.Certificates.{lint_text}
 use Rattle.replay_run.specs.Stops.{after, last_of, sight_text, tick_count, ticks_text}
 use Rattle.replay_run.specs.Statuses.{status_at}
+use Rattle.replay_run.specs.StreamRuns.{StreamRun, stream_run, stream_status}
 use Rattle.replay_run.specs.declared.status.Status.{Status}
 use Rattle.replay_run.specs.declared.status.Status.TheVariants.{Done, Limit, Differs}
 use Rattle.replay_run.specs.declared.words.Job.{Job}
 use Rattle.replay_run.specs.declared.words.Job.TheVariants.{Replay, Check, Lint, Summary, Print, AtTick}
 use Rattle.replay_run.specs.declared.words.Sight.{Sight}
 use Rattle.replay_run.specs.declared.words.Words.{Words}
-use Rattle.replay_run.specs.declared.words.Words.TheVariants.{Script, Generated, Judge}
+use Rattle.replay_run.specs.declared.words.Words.TheVariants.{Script, Generated, Judge, Pages}
 
 pub record Reply : Type 0 where
   pub text : List ℕ
@@ -90,13 +92,31 @@ judge_reply source =
     (refused_with (LimitAt limits.Recorded (last_line (limit_number limits.Recorded) source)))
     (judgement_reply (judgement (trace (script_of source)) (trace_of source)))
 
+abbrev pub run_reply : StreamRun → Reply
+run_reply run = record { text = run.text; status = stream_status run.pages }
+
+-- a stream by the first page line of a page too many
+abbrev pub few_pages_reply : Option ℕ → List ℕ → Reply
+few_pages_reply None source = run_reply (stream_run source)
+few_pages_reply (Some line) source = refused_with (LimitAt limits.Pages line)
+
+-- what several pages in one stream write, and how they end; or the one line that refuses the stream, without a name
+unfoldable pub pages_reply : List ℕ → Reply
+unfolding is_stream page_line_past stream_run line_text last_line
+pages_reply source =
+    cond (nat_lt (limit_number limits.Script) (length source))
+    (refused_with (LimitAt limits.Script (last_line (limit_number limits.Script) source)))
+    (cond (is_stream source) (few_pages_reply (page_line_past (limit_number limits.Pages) source) source) (refused_with (SyntaxAt 1 1)))
+
 -- the text of the script that the words speak of
 abbrev pub script_text : Words → List ℕ → List ℕ
 script_text (Script job) source = source
 script_text (Generated job number) source = generated number
 script_text Judge source = script_of source
+script_text Pages source = source
 
 abbrev pub reply : Words → List ℕ → Reply
 reply (Script job) source = read_reply job (reading source)
 reply (Generated job number) source = read_reply job (reading (generated number))
 reply Judge source = judge_reply source
+reply Pages source = pages_reply source

@@ -7,7 +7,7 @@ use Rattle.replay_run.specs.declared.words.Job.TheVariants.{Replay, Check, Lint,
 use Rattle.replay_run.specs.declared.words.Sight.{Sight}
 use Rattle.replay_run.specs.declared.words.Sight.TheVariants.{Boxes, Hits}
 use Rattle.replay_run.specs.declared.words.Words.{Words}
-use Rattle.replay_run.specs.declared.words.Words.TheVariants.{Script, Generated, Judge}
+use Rattle.replay_run.specs.declared.words.Words.TheVariants.{Script, Generated, Judge, Pages}
 
 -- the number of a generated script: `0`, or digits without a leading zero, at most 1,000,000
 unfoldable pub number_of : List ℕ → Option ℕ
@@ -37,7 +37,8 @@ asked (word ∷ []) =
     cond (bytes_eq word (codes "--check")) (Some (Script Check))
     (cond (bytes_eq word (codes "--lint")) (Some (Script Lint))
     (cond (bytes_eq word (codes "--summary")) (Some (Script Summary))
-    (cond (bytes_eq word (codes "--judge")) (Some Judge) None)))
+    (cond (bytes_eq word (codes "--judge")) (Some Judge)
+    (cond (bytes_eq word (codes "--pages")) (Some Pages) None))))
 asked (word ∷ number ∷ []) =
     cond (bytes_eq word (codes "--generate")) (option_map (Generated Print) (number_of number))
     (cond (bytes_eq word (codes "--generate-run")) (option_map (Generated Summary) (number_of number))
@@ -52,12 +53,14 @@ abbrev pub looked_at : Words → ℕ
 looked_at (Script job) = 16777217
 looked_at (Generated job number) = 0
 looked_at Judge = 67108865
+looked_at Pages = 16777217
 
 -- what is seen of a source, where it tells its bytes
 abbrev pub seen : Words → Option (List ℕ) → Option (List ℕ)
 seen (Script job) left = left
 seen (Generated job number) left = Some []
 seen Judge left = left
+seen Pages left = left
 
 -- whether a script is run so that there is a page
 abbrev pub is_run : Job → Bool
@@ -73,3 +76,4 @@ has_page None = false
 has_page (Some (Script job)) = is_run job
 has_page (Some (Generated job number)) = is_run job
 has_page (Some Judge) = false
+has_page (Some Pages) = false

@@ -21,6 +21,7 @@ use crate::judging::judge_source;
 use crate::play::play;
 use crate::printing::write_script;
 use crate::sights::write_sight;
+use crate::side_by_side::run_pages;
 use crate::status::Status;
 use crate::summary::{status_of, summarize};
 use crate::words::{Job, Words};
@@ -74,7 +75,7 @@ pub(crate) fn with_page(status: Status, page: Page) -> Report
     }
 }
 
-fn write_limit<K: Sink>(
+pub(crate) fn write_limit<K: Sink>(
     alloc: Global,
     kind: LimitKind,
     line: u32,
@@ -95,8 +96,8 @@ pub(crate) fn meet_limit<K: Sink>(alloc: Global, kind: LimitKind, line: u32, sin
     status_of(write_limit(alloc, kind, line, sink), Status::Limit)
 }
 
-// A text that is no script.
-fn refuse_text<K: Sink>(alloc: Global, fault: ParseFault, sink: &mut K) -> Status
+/// A text that is no script.
+pub(crate) fn refuse_text<K: Sink>(alloc: Global, fault: ParseFault, sink: &mut K) -> Status
     ensures tells { (job : Job) (read : Reading) → Parses (Err fault) read → Tells result (read_reply job read)
         (K.taken sink.old) (K.taken sink.new) (K.faults sink.old) (K.faults sink.new) }
     ensures done { is_done result ≡ false }
@@ -258,6 +259,8 @@ fn perform_on_number<K: Sink, L: Ledger>(
 /// - `--hit K X Y`: the same with the elements that the point hits, the uppermost first, or `miss`;
 /// - `--judge`: replays the script that stands before the source's first line `trace`, and judges the trace that was recorded behind
 ///   that line: writes `equal` and the number of lines, or `differs`, the line and how;
+/// - `--pages`: replays the scripts of several pages, whose lines stand in the source in any turn, each behind a line `page NAME`: each
+///   page as if it ran alone. Writes their traces as they are said, each line with the name of its page;
 /// - `--generate N`: writes the script of the number N, which is at most 1,000,000; reads nothing;
 /// - `--generate-run N`: replays the script of the number, and writes its summary; reads nothing.
 ///
@@ -296,6 +299,10 @@ pub fn run<S: Source, K: Sink, L: Ledger>(
         Some(Words::Generated(job, number)) => perform_on_number(alloc, job, number, sink, steps),
         Some(Words::Judge) => Report {
             status: judge_source(alloc, source, sink, steps),
+            page: None,
+        },
+        Some(Words::Pages) => Report {
+            status: run_pages(alloc, source, sink, steps),
             page: None,
         },
     }

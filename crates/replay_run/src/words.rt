@@ -46,6 +46,8 @@ pub enum Words {
     Generated(Job, u64),
     /// A judgement of the recorded trace that the source holds behind its script.
     Judge,
+    /// The scripts of several pages that the source holds, side by side.
+    Pages,
 }
 
 // A number of at most 1,000,000, without a sign or a leading zero.
@@ -78,9 +80,9 @@ fn point_of(left: &[u8], top: &[u8]) -> Option<Point>
 
 impl Words {
     /// What these words ask for: no words to replay the script of the source, `--check`, `--lint` and `--summary` to check, to certify or
-    /// to summarize it, `--judge` to judge the trace behind it, `--inspect K` and `--hit K X Y` to tell of its page as its tick of the
-    /// number K ends, `--generate N` and `--generate-run N` to print or to summarize the script of a number. None for any other list of
-    /// words. No memory.
+    /// to summarize it, `--judge` to judge the trace behind it, `--pages` to run the scripts of its pages, `--inspect K` and `--hit K X Y`
+    /// to tell of its page as its tick of the number K ends, `--generate N` and `--generate-run N` to print or to summarize the script of a
+    /// number. None for any other list of words. No memory.
     #[tactic(auto, unfolding(crate::specs::Words::asked))]
     pub fn read(words: &[String]) -> Option<Words>
         ensures { result ≡ asked (map string_bytes words.now) }
@@ -109,6 +111,8 @@ impl Words {
             Some(Words::Script(Job::Summary))
         } else if word == "--judge" {
             Some(Words::Judge)
+        } else if word == "--pages" {
+            Some(Words::Pages)
         } else {
             None
         }

@@ -14,6 +14,8 @@ mod replay_run_forms;
 #[cfg(test)]
 mod replay_run_judging;
 #[cfg(test)]
+mod replay_run_pages;
+#[cfg(test)]
 mod replay_run_limits;
 #[cfg(test)]
 mod replay_run_scripts;

@@ -70,9 +70,8 @@ KINDS['lints'] = Kind('scripts of loops with --lint', KINDS['loops'].weights, KI
 KINDS['judgements'] = Kind('mixed scripts and their traces with --judge', _MIXED, words=lambda chance: ['--judge'])
 KINDS['inspections'] = Kind('mixed scripts with --inspect', _MIXED, words=_inspected)
 KINDS['hits'] = Kind('mixed scripts with --hit', _MIXED, words=_hit)
-KINDS_OF_THE_REFERENCE_ALONE = {
-    'streams': Kind('mixed scripts in one stream with --pages', _MIXED, words=lambda chance: ['--pages']),
-}
+KINDS['streams'] = Kind('mixed scripts in one stream with --pages', _MIXED, words=lambda chance: ['--pages'])
+KINDS_OF_THE_REFERENCE_ALONE = {}
 ALL_KINDS = {**KINDS, **KINDS_OF_THE_REFERENCE_ALONE}
 
 _SCENES = (scenes.sizes, scenes.keys_that_come_back, scenes.documents_that_die, scenes.documents_that_begin,
