@@ -60,8 +60,12 @@ function showTick(step, place) {
   at('summary').textContent = trace.summary(step);
   fill('troubles', story.troubles(step));
   at('number').value = step.kind === 'tick' ? step.number : '';
-  at('page-title').textContent = PAGE_TITLES[step.kind];
+  at('page-title').textContent = pageTitle(step, place);
   if (isRefused()) showRefusal(step);
+}
+function pageTitle(step, place) {
+  if (trace.counts(step).limits) return 'The page as the limit is met';
+  return data.stopped && place === data.steps.length - 1 ? 'The page as the run is stopped' : PAGE_TITLES[step.kind];
 }
 function markTick(place) {
   for (const button of at('ticks').querySelectorAll('[aria-current]')) {

@@ -82,7 +82,7 @@ def _recording_parts(recorded, trace, notes):
     _note_left_out(recorded, trace, notes)
     return {'elements': elements, 'documents': documents, 'handlers': {
         handler.name: handler.line for handler in recorded.script.handlers.values()},
-            'lines': lines, 'steps': [_step(step) for step in recorded.steps], 'ticks': recorded.ticks,
+            'lines': lines, 'steps': [_step(step) for step in recorded.steps], 'ticks': recorded.ticks, 'stopped': not recorded.ended,
             'lineCount': len(trace.lines), 'firstLine': start}
 
 

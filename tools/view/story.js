@@ -95,7 +95,7 @@ class Story {
   }
   round({ items, depth, ended }, count, chosen) {
     return html`<div class="round"><h4>Round ${count}</h4><ol class="items">${this.some(items, chosen)}</ol>${
-      ended < 0 ? html`<p class="after">The loop broke off: its document ended, or a limit was met.</p>`
+      ended < 0 ? html`<p class="after">The loop broke off here: its document ended, a limit was met, or the run was stopped.</p>`
         : html`<p class="after" ${this.mark(ended, chosen)}>The least depth told is ${depth}: a next round tells only what is deeper. <code class="trace">${
           this.trace.text(ended)}</code></p>`}</div>`;
   }

@@ -7,6 +7,7 @@ use crate::common::{failing, script_of};
 use event_tables::HandlerId;
 use handlers::{Entries, run_command, run_handler};
 use page_state::Page;
+use replay_run::{Report, Status};
 use script_syntax::{Command, Item, Script, What};
 use std::alloc::{AllocError, Global};
 use std::marker::Brand;
@@ -92,7 +93,7 @@ fn run_text<L: Ledger>(
     )
 }
 
-// Runs a script on a page of its own. It is the one place where a page is dropped, which is long to prove.
+// Runs a script on a page of its own. The page goes as that of a report, where it is proved once that it can be dropped.
 fn run_alone(
     alloc: Global,
     script: &Script,
@@ -102,7 +103,13 @@ fn run_alone(
     let Ok(mut page) = Page::new(alloc) else {
         return Err(RunFault::Memory);
     };
-    run_text::<Brand>(Blank::new(1), alloc, &mut page, script, document, sink)
+    let ran = run_text::<Brand>(Blank::new(1), alloc, &mut page, script, document, sink);
+    let report = Report {
+        status: Status::Done,
+        page: Some(page),
+    };
+    report.into_status();
+    ran
 }
 
 // Runs a text over a sink that takes 64 bytes a call, of which the one of this number fails, and compares.
