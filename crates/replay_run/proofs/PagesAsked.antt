@@ -1,15 +1,16 @@
 -- What is written of a source with several pages, by its bytes.
 use Rattle.std.proofs.Common.{◌≡◌, ◌≤◌, ◌<◌, ◌∙◌, ◌+◌, refl, ap, sym, subst, arith, tests, ℕ, List, [], length, take, Option}
 use Rattle.std.proofs.lemmas.List.{drop_all}
-use Rattle.std.specs.Prelude.{Some, None, IfSome, Bool, cond, count_by, false, true, nat_lt, ◌==◌}
+use Rattle.std.specs.Prelude.{Some, None, Err, IfSome, Bool, cond, count_by, false, true, nat_lt, ◌==◌}
 use Rattle.text_io.specs.Streams.{PassesLimit}
 use Rattle.text_io.specs.declared.kinds.LimitKind.TheVariants as limits
 use Rattle.script_model.specs.Reading.{SyntaxAt, LimitAt, last_line}
 use Rattle.page_stream.specs.Pages.{is_stream, page_line_past}
 use Rattle.replay_run.specs.Answers.{Ends, IsTaken, Tells}
-use Rattle.replay_run.specs.Replies.{Reply, few_pages_reply, pages_reply, refused_with, run_reply}
+use Rattle.replay_run.specs.Replies.{Reply, few_pages_reply, pages_reply, read_reply, refused_with, run_reply}
 use Rattle.replay_run.specs.StreamRuns.{stream_run}
 use Rattle.replay_run.specs.declared.status.Status.{Status}
+use Rattle.replay_run.specs.declared.words.Job.TheVariants.{Replay}
 use Rattle.replay_run.proofs.Endings.{tells_end}
 use Rattle.replay_run.proofs.Taking.{taken}
 
@@ -34,8 +35,8 @@ pages_run source fits stream few =
     ∙ short_is source fits
 
 pub pages_none : (source : List ℕ) → length source ≤ 16777216 → is_stream source ≡ false → refused_with (SyntaxAt 1 1) ≡ pages_reply source
-pages_none source fits no =
-    ap (λ test. cond test (few_pages_reply (page_line_past 8 source) source) (refused_with (SyntaxAt 1 1))) (sym no) ∙ short_is source fits
+pages_none source fits other =
+    ap (λ test. cond test (few_pages_reply (page_line_past 8 source) source) (refused_with (SyntaxAt 1 1))) (sym other) ∙ short_is source fits
 
 is-true : (test : Bool) → (test ≡ false → ⊥) → test ≡ true
 is-true true other = refl
@@ -83,3 +84,7 @@ pub pages_taken_past : (status : Status) (left rest : Option (List ℕ)) (feeds 
     → IfSome left (λ source. IsTaken status 16777217 source rest)
 pages_taken_past status None rest feeds passes = tt
 pages_taken_past status (Some source) rest feeds passes = taken status 16777217 source rest passes.taken
+
+pub syntax_reply : (line column : ℕ) → read_reply Replay (Err (SyntaxAt line column)) ≡ refused_with (SyntaxAt line column)
+unfolding read_reply
+syntax_reply line column = refl

@@ -1,6 +1,6 @@
 -- Pages of a stream side by side: how they are opened, and how they take their turns.
-use Rattle.std.proofs.Common.{◌≡◌, ◌∙◌, refl, sym, ap, subst, ℕ, zero, suc, ◌+◌, ◌<◌, ◌≤◌, Bool, true, false, cond, ◌||◌, List, [], ◌∷◌, ◌++◌, length, map, drop, get_or, Option, append_assoc, arith}
-use Rattle.std.specs.Prelude.{Some, None, Result, Ok, Err, OnOk, OnErr, flat_map, fold, slice_get, slice_set}
+use Rattle.std.proofs.Common.{◌≡◌, ◌∙◌, refl, sym, ap, subst, ℕ, zero, suc, ◌+◌, ◌<◌, ◌≤◌, Bool, true, false, cond, ◌||◌, List, [], ◌∷◌, ◌++◌, length, map, drop, get_or, Option, append_assoc, arith, tests}
+use Rattle.std.specs.Prelude.{Some, None, Result, Ok, Err, OnOk, OnErr, flat_map, fold, slice_get, slice_set, is_some, nat_lt}
 use Rattle.std.specs.Io.KnownBytes.{Appends}
 use Rattle.std.specs.List.{All, list_any}
 use Rattle.std.proofs.lemmas.List.{append-nil, map-append, drop_all}
@@ -265,15 +265,37 @@ whole-at false false = tt
 whole-status : (pages : List PageRun) → IsWhole (stream_status pages)
 whole-status pages = whole-at (list_any (λ page. is_faulty (ending_at page.standing)) pages) (list_any (λ page. met_limit (ending_at page.standing)) pages)
 
-pub stream_tells : {A : Type 0} (r : Result A RunFault) (source : List ℕ) (status : Status) (before mid after : Option (List ℕ)) (f fm g : ℕ) → Appends before mid (stream_opened (scripts_of source)).text → fm ≡ f
-    → Wrote r mid after fm g (parts_run (stream_opened (scripts_of source)).pages (parts_of source)).text → status ≡ stream_status (parts_run (stream_opened (scripts_of source)).pages (parts_of source)).pages
+-- a text that was cut off
+fault_tells : (it : RunFault) (reply : Reply) (before after : Option (List ℕ)) (f g : ℕ) → Wrote {A = Unit {0}} (Err it) before after f g reply.text → Tells (status_of it) reply before after f g
+fault_tells (fault.Limit kind line) reply before after f g cut = absurd cut
+fault_tells fault.Memory reply before after f g cut = cut
+fault_tells fault.WriteFault reply before after f g cut = cut
+
+pub stream_tells : (r : Result (Unit {0}) RunFault) (source : List ℕ) (status : Status) (start : List PageRun) (parts : List Part) (after_pages : List PageRun) (before mid after : Option (List ℕ)) (f fm g : ℕ)
+    → start ≡ (stream_opened (scripts_of source)).pages → parts ≡ parts_of source → Appends before mid (stream_opened (scripts_of source)).text → fm ≡ f
+    → Wrote r mid after fm g (parts_run start parts).text → OnOk r (after_pages ≡ (parts_run start parts).pages) → status ≡ stream_status after_pages
     → Tells (status_after r status) (run_reply (stream_run source)) before after f g
-stream_tells r source status before mid after f fm g begun unfailed wrote is =
-    let run : StreamRun = parts_run (stream_opened (scripts_of source)).pages (parts_of source) in
-    let text : List ℕ = (stream_opened (scripts_of source)).text ++ run.text in
-    subst (λ (reply : Reply). Tells (status_after r status) reply before after f g)
-    (ap (λ (s : Status). record { text = text; status = s }) is ∙ ap run_reply (sym (stream_parts source)))
-    (wrote_tells r status text before after f g (subst IsWhole (sym is) (whole-status run.pages)) (wrote_behind r before mid after f fm g (stream_opened (scripts_of source)).text run.text begun unfailed wrote))
+stream_tells r source status start parts after_pages before mid after f fm g opens has begun unfailed wrote ends is = by_result r wrote ends
+  where
+    text : List ℕ
+    text = (stream_opened (scripts_of source)).text ++ (parts_run start parts).text
+
+    run-is : record { text = text; pages = (parts_run start parts).pages } ≡ stream_run source
+    run-is =
+        ap (λ (pages : List PageRun). behind_text (stream_opened (scripts_of source)).text (parts_run pages parts)) opens
+        ∙ ap (λ (ps : List Part). behind_text (stream_opened (scripts_of source)).text (parts_run (stream_opened (scripts_of source)).pages ps)) has
+        ∙ sym (stream_parts source)
+
+    by_result : (r : Result (Unit {0}) RunFault) → Wrote r mid after fm g (parts_run start parts).text → OnOk r (after_pages ≡ (parts_run start parts).pages) → Tells (status_after r status) (run_reply (stream_run source)) before after f g
+    by_result (Ok done) wrote ends =
+        let ended : status ≡ stream_status (parts_run start parts).pages = is ∙ ap stream_status ends in
+        subst (λ (reply : Reply). Tells status reply before after f g) (ap (λ (s : Status). record { text = text; status = s }) ended ∙ ap run_reply run-is)
+        (wrote_tells {A = Unit {0}} (Ok (tt {0})) status text before after f g (subst IsWhole (sym is) (whole-status after_pages))
+        (wrote_behind {A = Unit {0}} (Ok (tt {0})) before mid after f fm g (stream_opened (scripts_of source)).text (parts_run start parts).text begun unfailed wrote))
+    by_result (Err it) wrote ends =
+        fault_tells it (run_reply (stream_run source)) before after f g
+        (subst (λ (t : List ℕ). Wrote {A = Unit {0}} (Err it) before after f g t) (ap (λ (run : StreamRun). run.text) run-is)
+        (wrote_behind {A = Unit {0}} (Err it) before mid after f fm g (stream_opened (scripts_of source)).text (parts_run start parts).text begun unfailed wrote))
 
 pub cut_tells : (A : Type 0) (it : RunFault) (source : List ℕ) (before after : Option (List ℕ)) (f g : ℕ) → Wrote {A = A} (Err it) before after f g (stream_opened (scripts_of source)).text
     → Tells (status_of it) (run_reply (stream_run source)) before after f g
@@ -332,3 +354,10 @@ refused_none name read items is = ap (λ (it : Reading). named_text name (refuse
 pub refused_one : (name : List ℕ) (read : Reading) (refusal : Refusal) → read ≡ Err refusal → named_text name (refusal_line refusal ∷ []) ≡ refused_text (record { name = name; read = read })
 unfolding refused_text
 refused_one name read refusal is = ap (λ (it : Reading). named_text name (refused_lines it)) (sym is)
+
+-- ---- a page that is lent
+
+pub page_at : (xs : List StreamPage) (k : ℕ) (d : StreamPage) → k < length xs → slice_get xs k ≡ Some (get_or xs k d)
+page_at [] k d inside = absurd (omega arith)
+page_at (y ∷ ys) zero d inside = refl
+page_at (y ∷ ys) (suc k) d inside = page_at ys k d (omega arith)

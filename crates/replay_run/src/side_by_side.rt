@@ -1,6 +1,7 @@
 //! Several pages of one stream, side by side.
 
-ghost use Rattle.std.specs.Prelude.{◌≡◌, ◌≤◌, ◌++◌, ◌∷◌, [], length, map, ◌<◌, Ok, Err, IfOk, IfSome, OnOk, OnErr};
+ghost use Rattle.std.specs.Io.KnownBytes.{Appends};
+ghost use Rattle.std.specs.Prelude.{ℕ, List, Option, ◌≡◌, ◌≤◌, ◌++◌, ◌∷◌, [], length, map, ◌<◌, Ok, Err, IfOk, IfSome, OnOk, OnErr};
 ghost use Rattle.std.specs.List.{All, list_any};
 ghost use Rattle.text_io.specs.Streams.{Rose};
 ghost use Rattle.script_model.specs.Reading.{reading};
@@ -198,7 +199,8 @@ fn run_parts<K: Sink, L: Ledger>(
     ensures pages { OnOk result (map seen_page pages.new ≡ (parts_run (map seen_page pages.old) parts.now).pages) }
 {
     for part in parts {
-        if let Some(page) = pages.get_mut(part.page) {
+        if part.page < pages.len() {
+            let page = &mut pages[part.page];
             if let Err(fault) = take_turn(alloc, page, part.line, sink, steps) {
                 return Err(fault);
             }
@@ -233,6 +235,24 @@ fn status_by(pages: &[StreamPage]) -> Status
     }
 }
 
+// A stream whose pages are opened.
+fn run_opened<K: Sink, L: Ledger>(
+    alloc: Global,
+    stream: &Stream<'_>,
+    pages: &mut [StreamPage],
+    sink: &mut K,
+    steps: &mut Steps<L>,
+) -> Status
+    requires opened { map seen_page pages.old ≡ (stream_opened (scripts_of stream.now)).pages }
+    requires ready { All IsReadyPage pages.old }
+    // behind what was written when the pages were opened
+    ensures { (before : Option (List ℕ)) (faults : ℕ) → Appends before (K.taken sink.old) (stream_opened (scripts_of stream.now)).text → K.faults sink.old ≡ faults
+        → Tells result (run_reply (stream_run stream.now)) before (K.taken sink.new) faults (K.faults sink.new) }
+{
+    let wrote = run_parts(alloc, pages, stream.parts(), sink, steps);
+    status_of(wrote, status_by(pages))
+}
+
 // A stream with room for its pages.
 fn run_with<K: Sink, L: Ledger>(
     alloc: Global,
@@ -244,11 +264,10 @@ fn run_with<K: Sink, L: Ledger>(
     requires { pages.old.items ≡ [] }
     ensures { Tells result (run_reply (stream_run stream.now)) (K.taken sink.old) (K.taken sink.new) (K.faults sink.old) (K.faults sink.new) }
 {
-    if let Err(fault) = open_pages(alloc, stream, pages, sink) {
-        return status_of(Err(fault), Status::Done);
+    match open_pages(alloc, stream, pages, sink) {
+        Ok(()) => run_opened(alloc, stream, pages, sink, steps),
+        Err(fault) => status_of(Err(fault), Status::Done),
     }
-    let wrote = run_parts(alloc, pages, stream.parts(), sink, steps);
-    status_of(wrote, status_by(pages))
 }
 
 // A stream. Here its pages are dropped.
