@@ -14,9 +14,9 @@ mod replay_run_forms;
 #[cfg(test)]
 mod replay_run_judging;
 #[cfg(test)]
-mod replay_run_pages;
-#[cfg(test)]
 mod replay_run_limits;
+#[cfg(test)]
+mod replay_run_pages;
 #[cfg(test)]
 mod replay_run_scripts;
 #[cfg(test)]

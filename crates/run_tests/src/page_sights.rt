@@ -7,13 +7,16 @@ use std::process::Abort;
 use std::test::Fail;
 
 /// A scroll container with a block that is higher than it, and one of ten pixels behind that one, which is seen once it is scrolled.
-const SCROLLED: &str = "script 1\nblock r top\nappend top r\nblock s top\nset s height 100px\nset s overflow hidden\nappend r s\nblock u top\nset u height 300px\nappend s u\nblock t top\nset t height 10px\nappend s t\nio i top - root - margin threshold 0\nio-observe i t\ntick 0\nscroll s 0px 250px\ntick 16\n";
+const SCROLLED: &str =
+    "script 1\nblock r top\nappend top r\nblock s top\nset s height 100px\nset s overflow hidden\nappend r s\nblock u top\nset u height 300px\nappend s u\nblock t top\nset t height 10px\nappend s t\nio i top - root - margin threshold 0\nio-observe i t\ntick 0\nscroll s 0px 250px\ntick 16\n";
 
 /// A document in a frame of 100 by 50 pixels, which stands 10 pixels from the left and the top and has a block of 60 pixels.
-const FRAMED: &str = "script 1\nblock r top\nset r padding 10px\nappend top r\nframe f top d\nset f width 100px\nset f height 50px\nappend r f\nblock b d\nset b height 60px\nappend d b\ntick 0\n";
+const FRAMED: &str =
+    "script 1\nblock r top\nset r padding 10px\nappend top r\nframe f top d\nset f width 100px\nset f height 50px\nappend r f\nblock b d\nset b height 60px\nappend d b\ntick 0\n";
 
 /// A tick that throws, since the clock doesn't go back, and two others.
-const THROWN: &str = "script 1\nblock r top\nset r height 5px\nappend top r\ntick 5\ntick 0\nset r height 6px\ntick 9\n";
+const THROWN: &str =
+    "script 1\nblock r top\nset r height 5px\nappend top r\ntick 5\ntick 0\nset r height 6px\ntick 9\n";
 
 /// Words, the text of the source, and the status and the text that they give.
 const SIGHTS: [(&[&str], &str, Status, &str); 15] = [
@@ -60,12 +63,7 @@ const SIGHTS: [(&[&str], &str, Status, &str); 15] = [
         Status::Done,
         "miss\n",
     ),
-    (
-        &["--inspect", "3"],
-        SCROLLED,
-        Status::Done,
-        "ticks 2\n",
-    ),
+    (&["--inspect", "3"], SCROLLED, Status::Done, "ticks 2\n"),
     (
         &["--hit", "1000000", "5px", "95px"],
         SCROLLED,
@@ -102,12 +100,7 @@ const SIGHTS: [(&[&str], &str, Status, &str); 15] = [
         Status::Syntax,
         "syntax 1 1\n",
     ),
-    (
-        &["--inspect", "1"],
-        "script 1\n",
-        Status::Done,
-        "ticks 0\n",
-    ),
+    (&["--inspect", "1"], "script 1\n", Status::Done, "ticks 0\n"),
 ];
 
 /// Words that are of none of the forms.
