@@ -265,7 +265,7 @@ fn perform_on_number<K: Sink, L: Ledger>(
 /// - `--generate-run N`: replays the script of the number, and writes its summary; reads nothing.
 ///
 /// Of a source that is no script, the first six write the line that says where alone; for a judgement that line is the script's
-/// trace. `steps` counts the boxes that are computed: a `read`, and a tick where there is an observer, compute the boxes that are due.
+/// trace. `steps` is handed to whatever computes boxes, clips and findings; no clause here says how far it rises, but that `Usage` leaves it.
 ///
 /// - `Done`, `Syntax`, `Limit` and `Differs`: exactly by the reply to the words and the source's bytes, and all of its text was written.
 ///   A source that was read is at its end then; of more bytes than it may have one more than that many were taken.
