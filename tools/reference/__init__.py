@@ -18,12 +18,13 @@ proof rests on it. Each module follows one part of the rules, in the plainest wa
     resize_loop   the resize loop and its error
     update        a tick: timers, the update of the rendering, tasks
     trace         the lines of a trace
+    inspector     boxes and hits (`--inspect`, `--hit`)
+    streams       several pages in one stream (`--pages`)
     program       the words of the command line and the statuses
     generator     the scripts of `--generate N`
     shrinking     cuts a script down while something still holds of it
     random_scripts  random scripts by kind
 
-Two modules are of words that the proved program doesn't have yet: `inspector` (`--inspect`, `--hit`) and `streams` (`--pages`). So is
-version 2 of the language: positions and insets, the pixel ratio,
-the box `device` and scroll margins. `available` says what the proved program has.
+Version 2 of the language the proved program doesn't have yet: positions and insets, the pixel ratio, the box `device` and scroll margins.
+`available` says what the proved program has.
 """

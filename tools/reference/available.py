@@ -5,5 +5,5 @@ tools/compare compares it and bin/explain explains it.
 """
 
 VERSIONS = (1,)
-WORDS = ('--check', '--lint', '--summary', '--judge', '--generate', '--generate-run')
-WORDS_OF_THE_REFERENCE_ALONE = ('--inspect', '--hit', '--pages')
+WORDS = ('--check', '--lint', '--summary', '--inspect', '--hit', '--judge', '--pages', '--generate', '--generate-run')
+WORDS_OF_THE_REFERENCE_ALONE = ()

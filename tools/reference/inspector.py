@@ -1,4 +1,4 @@
-"""The boxes of a page and what lies below a point (`--inspect`, `--hit`). The proved program doesn't have these words yet."""
+"""The boxes of a page and what lies below a point (`--inspect`, `--hit`)."""
 from . import lengths
 from .intersection import Clip, clips_between, common_part, seen_from
 from .layout import BORDER

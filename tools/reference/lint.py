@@ -1,5 +1,5 @@
-"""What a script's resize loops can't do, by what its loop handlers hold (docs/LOOPS.md). The proved program doesn't have this
-word yet; its crate `loop_lint` has the verdicts and their proofs.
+"""What a script's resize loops can't do, by what its loop handlers hold (docs/LOOPS.md). The crate `loop_lint` has the verdicts and their
+proofs.
 """
 from .grammar import every_command
 

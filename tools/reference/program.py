@@ -20,15 +20,14 @@ The rules of docs/ as a second, plain program. It writes what the proved program
   --check            writes ok and how many commands the script has
   --lint             says whether the resize loops are steady and quiet, or the first line that may spoil it (docs/LOOPS.md)
   --summary          replays the script, and writes how many lines of each kind its trace has
+  --inspect K        writes each box as the K-th tick ends, and what is seen of it
+  --hit K X Y        writes what lies below a point of the viewport as the K-th tick ends, the uppermost first
   --judge            compares a trace that was recorded, behind a line `trace`, with the script's (docs/CONFORMANCE.md)
+  --pages            runs several scripts of one stream, in which a line `page NAME` says whose the next lines are
   --generate N       writes the script of a number, 0 to 1000000: a list of lazily loaded cards
   --generate-run N   replays the script of a number, and writes its summary
 
-These words the proved program doesn't have yet, nor version 2 of the language (a first line `script 2`):
-
-  --inspect K        writes each box as the K-th tick ends, and what is seen of it
-  --hit K X Y        writes what lies below a point of the viewport as the K-th tick ends, the uppermost first
-  --pages            runs several scripts of one stream, in which a line `page NAME` says whose the next lines are
+Version 2 of the language (a first line `script 2`) the proved program doesn't have yet.
 '''
 
 

@@ -1,4 +1,4 @@
-"""Several pages in one stream, each apart from the others (`--pages`). The proved program doesn't have this word yet.
+"""Several pages in one stream, each apart from the others (`--pages`).
 
 A line `page NAME` says whose the lines behind it are, up to the next one.
 """

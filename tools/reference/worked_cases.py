@@ -300,7 +300,7 @@ case('a root element has no position',
      'script 2 / block a top / set a position absolute / set a left 10px / append top a / read a / remove a / block r top / '
      'append top r / append r a / read a', 'read a 0 0 800 0 0 0 / read a 10 0 790 0 0 0')
 
-# --- what the proved program doesn't have yet: words ------------------------------------------------------------------------
+# --- words ------------------------------------------------------------------------
 
 case('boxes are listed', SCROLLED,
      'box r 1 0 0 800 100 seen 0 0 800 100 / box s 2 0 0 800 100 seen 0 0 800 100 / box u 3 0 -210 800 300 seen 0 0 800 90 / '

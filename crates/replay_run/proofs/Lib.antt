@@ -11,3 +11,11 @@ pub mod Written
 mod Wordless
 mod Judged
 pub mod Asking
+pub mod Stopping
+pub mod Sighting
+mod Worded
+pub mod NamedLines
+pub mod Turning
+pub mod SideBySide
+pub mod NoItems
+pub mod PagesAsked

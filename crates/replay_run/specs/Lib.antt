@@ -2,5 +2,9 @@ pub mod Statuses
 pub mod Certificates
 pub mod Words
 pub mod Recorded
+pub mod Stops
+pub mod PageRuns
+pub mod StreamRuns
+pub mod StreamPages
 pub mod Replies
 pub mod Answers

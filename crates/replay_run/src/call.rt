@@ -20,6 +20,8 @@ use crate::input::{ScriptText, read_script};
 use crate::judging::judge_source;
 use crate::play::play;
 use crate::printing::write_script;
+use crate::side_by_side::run_pages;
+use crate::sights::write_sight;
 use crate::status::Status;
 use crate::summary::{status_of, summarize};
 use crate::words::{Job, Words};
@@ -73,7 +75,7 @@ pub(crate) fn with_page(status: Status, page: Page) -> Report
     }
 }
 
-fn write_limit<K: Sink>(
+pub(crate) fn write_limit<K: Sink>(
     alloc: Global,
     kind: LimitKind,
     line: u32,
@@ -94,8 +96,8 @@ pub(crate) fn meet_limit<K: Sink>(alloc: Global, kind: LimitKind, line: u32, sin
     status_of(write_limit(alloc, kind, line, sink), Status::Limit)
 }
 
-// A text that is no script.
-fn refuse_text<K: Sink>(alloc: Global, fault: ParseFault, sink: &mut K) -> Status
+/// A text that is no script.
+pub(crate) fn refuse_text<K: Sink>(alloc: Global, fault: ParseFault, sink: &mut K) -> Status
     ensures tells { (job : Job) (read : Reading) → Parses (Err fault) read → Tells result (read_reply job read)
         (K.taken sink.old) (K.taken sink.new) (K.faults sink.old) (K.faults sink.new) }
     ensures done { is_done result ≡ false }
@@ -179,6 +181,10 @@ fn perform<K: Sink, L: Ledger>(
             status: write_script(alloc, script, sink),
             page: None,
         },
+        Job::AtTick(sight, number) => Report {
+            status: write_sight(alloc, sight, number, script, sink, steps),
+            page: None,
+        },
     }
 }
 
@@ -248,13 +254,18 @@ fn perform_on_number<K: Sink, L: Ledger>(
 /// - `--lint`: reads it, and writes whether its resize loops always go deeper (`steady`) and whether none of them ends with the error
 ///   (`quiet`), by what its loop handlers hold, or the line of the first command that stands in the way (`unsteady`, `unquiet`);
 /// - `--summary`: replays it, and writes for each kind of trace lines how many there are;
+/// - `--inspect K`: runs it until its K-th tick ends, and writes each box of the page then with what is seen of it, or `ticks` and the
+///   number of its ticks where it has fewer, or the line of a limit that is met before;
+/// - `--hit K X Y`: the same with the elements that the point hits, the uppermost first, or `miss`;
 /// - `--judge`: replays the script that stands before the source's first line `trace`, and judges the trace that was recorded behind
 ///   that line: writes `equal` and the number of lines, or `differs`, the line and how;
+/// - `--pages`: replays the scripts of several pages, whose lines stand in the source in any turn, each behind a line `page NAME`: each
+///   page as if it ran alone. Writes their traces as they are said, each line with the name of its page;
 /// - `--generate N`: writes the script of the number N, which is at most 1,000,000; reads nothing;
 /// - `--generate-run N`: replays the script of the number, and writes its summary; reads nothing.
 ///
-/// Of a source that is no script, the first four write the line that says where alone; for a judgement that line is the script's
-/// trace. `steps` counts the boxes that are computed: a `read`, and a tick where there is an observer, compute the boxes that are due.
+/// Of a source that is no script, the first six write the line that says where alone; for a judgement that line is the script's
+/// trace. `steps` is handed to whatever computes boxes, clips and findings; no clause here says how far it rises, but that `Usage` leaves it.
 ///
 /// - `Done`, `Syntax`, `Limit` and `Differs`: exactly by the reply to the words and the source's bytes, and all of its text was written.
 ///   A source that was read is at its end then; of more bytes than it may have one more than that many were taken.
@@ -288,6 +299,10 @@ pub fn run<S: Source, K: Sink, L: Ledger>(
         Some(Words::Generated(job, number)) => perform_on_number(alloc, job, number, sink, steps),
         Some(Words::Judge) => Report {
             status: judge_source(alloc, source, sink, steps),
+            page: None,
+        },
+        Some(Words::Pages) => Report {
+            status: run_pages(alloc, source, sink, steps),
             page: None,
         },
     }

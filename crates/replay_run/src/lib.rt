@@ -10,10 +10,15 @@ mod input;
 mod judging;
 mod laws;
 mod lines;
+mod named;
 mod play;
 mod printing;
 mod recorded;
+mod side_by_side;
+mod sights;
 mod status;
+mod stops;
+mod stream_page;
 mod summary;
 mod words;
 

@@ -1,11 +1,14 @@
 //! The words of the command line.
 
-ghost use Rattle.std.specs.Prelude.{◌≡◌, ◌∷◌, [], map, string_bytes};
-ghost use Rattle.replay_run.specs.Words.{asked, number_of};
+ghost use Rattle.std.specs.Prelude.{◌≡◌, ◌∷◌, [], None, bytes_eq, codes, cond, map, option_and_then, option_map, string_bytes};
+ghost use Rattle.replay_run.specs.Words.{asked, at_tick, number_of, point_of, tick_of};
+ghost use Rattle.replay_run.specs.declared.words.Sight.TheVariants.{Hits};
+ghost use Rattle.replay_run.specs.declared.words.Words.TheVariants.{Generated};
 
-use word_model::whole;
+use px_units::Point;
+use word_model::{signed_length, whole};
 
-/// The greatest number of a generated script.
+/// The greatest number of a generated script, and of a tick.
 const MOST: u64 = 1_000_000;
 
 /// What is done with a script.
@@ -21,6 +24,17 @@ pub enum Job {
     Summary,
     /// It is written.
     Print,
+    /// It is run until its tick of this number ends, counted from 1, and what is seen of its page then is written.
+    AtTick(Sight, u64),
+}
+
+/// What is seen of a page.
+#[derive(Clone, Copy, Debug, PartialEq, Eq)]
+pub enum Sight {
+    /// Each box, and how much of it is seen.
+    Boxes,
+    /// The elements that a point of the viewport of `top` hits.
+    Hits(Point),
 }
 
 /// What the words of the command line ask for.
@@ -32,6 +46,8 @@ pub enum Words {
     Generated(Job, u64),
     /// A judgement of the recorded trace that the source holds behind its script.
     Judge,
+    /// The scripts of several pages that the source holds, side by side.
+    Pages,
 }
 
 // A number of at most 1,000,000, without a sign or a leading zero.
@@ -43,10 +59,30 @@ fn number_of(word: &[u8]) -> Option<u64>
     if number <= MOST { Some(number) } else { None }
 }
 
+// The number of a tick, from 1 to 1,000,000.
+#[tactic(auto, unfolding(crate::specs::Words::tick_of))]
+fn tick_of(word: &[u8]) -> Option<u64>
+    ensures { result ≡ tick_of word.now }
+{
+    let number = number_of(word)?;
+    if number == 0 { None } else { Some(number) }
+}
+
+// A point by its distances from the left and the top, as of 5px or -0.5px.
+#[tactic(auto, unfolding(crate::specs::Words::point_of))]
+fn point_of(left: &[u8], top: &[u8]) -> Option<Point>
+    ensures { result ≡ point_of left.now top.now }
+{
+    let left = signed_length(left)?;
+    let top = signed_length(top)?;
+    Some(Point { left, top })
+}
+
 impl Words {
     /// What these words ask for: no words to replay the script of the source, `--check`, `--lint` and `--summary` to check, to certify or
-    /// to summarize it, `--judge` to judge the trace behind it, `--generate N` and `--generate-run N` to print or to summarize the script
-    /// of a number. None for any other list of words. No memory.
+    /// to summarize it, `--judge` to judge the trace behind it, `--pages` to run the scripts of its pages, `--inspect K` and `--hit K X Y`
+    /// to tell of its page as its tick of the number K ends, `--generate N` and `--generate-run N` to print or to summarize the script of a
+    /// number. None for any other list of words. No memory.
     #[tactic(auto, unfolding(crate::specs::Words::asked))]
     pub fn read(words: &[String]) -> Option<Words>
         ensures { result ≡ asked (map string_bytes words.now) }
@@ -55,6 +91,10 @@ impl Words {
             [] => Some(Words::Script(Job::Replay)),
             [word] => Words::alone(word.as_str()),
             [word, number] => Words::with_number(word.as_str(), number.as_bytes()),
+            [word, number, left, top] => {
+                let at = point_of(left.as_bytes(), top.as_bytes());
+                Words::hit(word.as_str(), number.as_bytes(), at)
+            }
             _ => None,
         }
     }
@@ -71,6 +111,8 @@ impl Words {
             Some(Words::Script(Job::Summary))
         } else if word == "--judge" {
             Some(Words::Judge)
+        } else if word == "--pages" {
+            Some(Words::Pages)
         } else {
             None
         }
@@ -80,14 +122,41 @@ impl Words {
     fn with_number(word: &str, number: &[u8]) -> Option<Words>
         ensures { result ≡ asked (word.now ∷ number.now ∷ []) }
     {
-        let job = if word == "--generate" {
-            Job::Print
+        if word == "--generate" {
+            Words::generated(Job::Print, number)
         } else if word == "--generate-run" {
-            Job::Summary
+            Words::generated(Job::Summary, number)
+        } else if word == "--inspect" {
+            Words::at_tick(Sight::Boxes, number)
         } else {
-            return None;
-        };
+            None
+        }
+    }
+
+    // Something with the script of a number.
+    fn generated(job: Job, number: &[u8]) -> Option<Words>
+        ensures { result ≡ option_map (Generated job) (number_of number.now) }
+    {
         let number = number_of(number)?;
         Some(Words::Generated(job, number))
+    }
+
+    // What is seen as a tick ends.
+    #[tactic(auto, unfolding(crate::specs::Words::at_tick))]
+    fn at_tick(sight: Sight, number: &[u8]) -> Option<Words>
+        ensures { result ≡ at_tick sight number.now }
+    {
+        let number = tick_of(number)?;
+        Some(Words::Script(Job::AtTick(sight, number)))
+    }
+
+    // What a point hits as a tick ends.
+    fn hit(word: &str, number: &[u8], at: Option<Point>) -> Option<Words>
+        ensures { result ≡ cond (bytes_eq word.now (codes "--hit")) (option_and_then (λ at. at_tick (Hits at) number.now) at) None }
+    {
+        if word != "--hit" {
+            return None;
+        }
+        Words::at_tick(Sight::Hits(at?), number)
     }
 }

@@ -8,11 +8,15 @@ mod handlers_tests;
 #[cfg(test)]
 mod loop_lint_tests;
 #[cfg(test)]
+mod page_sights;
+#[cfg(test)]
 mod replay_run_forms;
 #[cfg(test)]
 mod replay_run_judging;
 #[cfg(test)]
 mod replay_run_limits;
+#[cfg(test)]
+mod replay_run_pages;
 #[cfg(test)]
 mod replay_run_scripts;
 #[cfg(test)]

@@ -1,8 +1,10 @@
-//! The tests of the crates of texts, from `word_model` to `trace_judge`, a module for each, over what they offer in public.
+//! The tests of the crates of texts, from `word_model` to `page_stream`, a module for each, over what they offer in public.
 #![tactic(auto)]
 
 #[cfg(test)]
 mod media_queries_tests;
+#[cfg(test)]
+mod page_stream_tests;
 #[cfg(test)]
 mod px_units_tests;
 #[cfg(test)]

@@ -68,11 +68,10 @@ KINDS = {
 KINDS['lints'] = Kind('scripts of loops with --lint', KINDS['loops'].weights, KINDS['loops'].liked,
                       words=lambda chance: ['--lint'])
 KINDS['judgements'] = Kind('mixed scripts and their traces with --judge', _MIXED, words=lambda chance: ['--judge'])
-KINDS_OF_THE_REFERENCE_ALONE = {
-    'inspections': Kind('mixed scripts with --inspect', _MIXED, words=_inspected),
-    'hits': Kind('mixed scripts with --hit', _MIXED, words=_hit),
-    'streams': Kind('mixed scripts in one stream with --pages', _MIXED, words=lambda chance: ['--pages']),
-}
+KINDS['inspections'] = Kind('mixed scripts with --inspect', _MIXED, words=_inspected)
+KINDS['hits'] = Kind('mixed scripts with --hit', _MIXED, words=_hit)
+KINDS['streams'] = Kind('mixed scripts in one stream with --pages', _MIXED, words=lambda chance: ['--pages'])
+KINDS_OF_THE_REFERENCE_ALONE = {}
 ALL_KINDS = {**KINDS, **KINDS_OF_THE_REFERENCE_ALONE}
 
 _SCENES = (scenes.sizes, scenes.keys_that_come_back, scenes.documents_that_die, scenes.documents_that_begin,

@@ -1,5 +1,4 @@
-"""Sources that hold more than one script: streams of pages, and recorded traces to be judged.
-"""
+"""Sources that hold more than one script: streams of pages, and recorded traces to be judged."""
 
 _NUMBERS = [b'0', b'1', b'01', b'-0', b'0.5', b'0.015625', b'0.01', b'0.50', b'yes', b'no', b'top', b'true',
             b'340282366920938463463374607431768211456', b'18446744073709551616', b'4294967296', b'1125899906842624',

@@ -1,5 +1,6 @@
 use Rattle.replay_run.proofs.Asking.{job_tells}
 use Rattle.replay_run.proofs.Summaries.{replay_tells, check_tells, lint_tells, print_tells}
+use Rattle.replay_run.proofs.Stopping.{sight_tells}
 use Rattle.replay_run.proofs.call.perform.Goals as goal
 
 pub returns-in-Replay-clause-tells : goal.returns-in-Replay-clause-tells
@@ -18,3 +19,7 @@ returns-in-Summary-clause-tells g c = job_tells c.summarize.result.status _ _ _ 
 
 pub returns-in-Print-clause-tells : goal.returns-in-Print-clause-tells
 returns-in-Print-clause-tells g c = job_tells c.write_script.result _ _ _ _ _ _ _ c.in-Print.is (print_tells c.write_script.result _ _ _ _ _ c.write_script.ensures)
+
+pub returns-in-AtTick-clause-tells : goal.returns-in-AtTick-clause-tells
+returns-in-AtTick-clause-tells g c =
+    job_tells c.write_sight.result _ _ _ _ _ _ _ c.in-AtTick.is (sight_tells c.write_sight.result c.in-AtTick.sight c.in-AtTick.number _ _ _ _ _ c.write_sight.ensures)

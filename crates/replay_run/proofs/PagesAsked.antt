@@ -1,0 +1,90 @@
+-- What is written of a source with several pages, by its bytes.
+use Rattle.std.proofs.Common.{◌≡◌, ◌≤◌, ◌<◌, ◌∙◌, ◌+◌, refl, ap, sym, subst, arith, tests, ℕ, List, [], length, take, Option}
+use Rattle.std.proofs.lemmas.List.{drop_all}
+use Rattle.std.specs.Prelude.{Some, None, Err, IfSome, Bool, cond, count_by, false, true, nat_lt, ◌==◌}
+use Rattle.text_io.specs.Streams.{PassesLimit}
+use Rattle.text_io.specs.declared.kinds.LimitKind.TheVariants as limits
+use Rattle.script_model.specs.Reading.{SyntaxAt, LimitAt, last_line}
+use Rattle.page_stream.specs.Pages.{is_stream, page_line_past}
+use Rattle.replay_run.specs.Answers.{Ends, IsTaken, Tells}
+use Rattle.replay_run.specs.Replies.{Reply, few_pages_reply, pages_reply, read_reply, refused_with, run_reply}
+use Rattle.replay_run.specs.StreamRuns.{stream_run}
+use Rattle.replay_run.specs.declared.status.Status.{Status}
+use Rattle.replay_run.specs.declared.words.Job.TheVariants.{Replay}
+use Rattle.replay_run.proofs.Endings.{tells_end}
+use Rattle.replay_run.proofs.Taking.{taken}
+
+within : (n : ℕ) → n ≤ 16777216 → nat_lt 16777216 n ≡ false
+within n fits = grind (arith, tests)
+
+past : (n : ℕ) → 16777216 < n → nat_lt 16777216 n ≡ true
+past n more = grind (arith, tests)
+
+-- the reply to a source that isn't too long
+abbrev short_reply : List ℕ → Reply
+short_reply source = cond (is_stream source) (few_pages_reply (page_line_past 8 source) source) (refused_with (SyntaxAt 1 1))
+
+short_is : (source : List ℕ) → length source ≤ 16777216 → short_reply source ≡ pages_reply source
+unfolding pages_reply
+short_is source fits = ap (λ long. cond long (refused_with (LimitAt limits.Script (last_line 16777216 source))) (short_reply source)) (sym (within (length source) fits))
+
+pub pages_run : (source : List ℕ) → length source ≤ 16777216 → is_stream source ≡ true → page_line_past 8 source ≡ None → run_reply (stream_run source) ≡ pages_reply source
+pages_run source fits stream few =
+    ap (λ it. few_pages_reply it source) (sym few)
+    ∙ ap (λ test. cond test (few_pages_reply (page_line_past 8 source) source) (refused_with (SyntaxAt 1 1))) (sym stream)
+    ∙ short_is source fits
+
+pub pages_none : (source : List ℕ) → length source ≤ 16777216 → is_stream source ≡ false → refused_with (SyntaxAt 1 1) ≡ pages_reply source
+pages_none source fits other =
+    ap (λ test. cond test (few_pages_reply (page_line_past 8 source) source) (refused_with (SyntaxAt 1 1))) (sym other) ∙ short_is source fits
+
+is-true : (test : Bool) → (test ≡ false → ⊥) → test ≡ true
+is-true true other = refl
+is-true false other = absurd (other refl)
+
+pub pages_many : (source : List ℕ) (line : ℕ) → length source ≤ 16777216 → (is_stream source ≡ false → ⊥) → page_line_past 8 source ≡ Some line → refused_with (LimitAt limits.Pages line) ≡ pages_reply source
+pages_many source line fits stream many =
+    ap (λ it. few_pages_reply it source) (sym many)
+    ∙ ap (λ test. cond test (few_pages_reply (page_line_past 8 source) source) (refused_with (SyntaxAt 1 1))) (sym (is-true (is_stream source) stream))
+    ∙ short_is source fits
+
+line-past : (source : List ℕ) (feeds : ℕ) → feeds ≡ count_by (λ b. b == 10) (take 16777216 source) → feeds + 1 ≡ last_line 16777216 source
+unfolding last_line
+line-past source feeds is = omega arith
+
+pages_past : (source : List ℕ) (after : Option (List ℕ)) (feeds : ℕ) → PassesLimit source after 16777216 feeds → refused_with (LimitAt limits.Script (feeds + 1)) ≡ pages_reply source
+unfolding pages_reply
+pages_past source after feeds passes =
+    ap (λ line. refused_with (LimitAt limits.Script line)) (line-past source feeds passes.feeds_counted)
+    ∙ ap (λ long. cond long (refused_with (LimitAt limits.Script (last_line 16777216 source))) (short_reply source)) (sym (past (length source) passes.longer))
+
+pub reply_told : (status : Status) (one other : Reply) (before after : Option (List ℕ)) (f g : ℕ) → one ≡ other → Tells status one before after f g → Tells status other before after f g
+reply_told status one other before after f g is told = subst (λ (it : Reply). Tells status it before after f g) is told
+
+-- the source that was read
+pub pages_end : (status : Status) (left : Option (List ℕ)) (bytes : List ℕ) (before after : Option (List ℕ)) (f g : ℕ) → IfSome left (λ source. bytes ≡ source)
+    → Tells status (pages_reply bytes) before after f g → IfSome left (λ source. Ends status (pages_reply source) before after f g)
+pages_end status None bytes before after f g all told = tt
+pages_end status (Some source) bytes before after f g all told =
+    tells_end status (pages_reply source) before after f g (subst (λ it. Tells status (pages_reply it) before after f g) all told)
+
+pub pages_end_past : (status : Status) (left rest : Option (List ℕ)) (feeds : ℕ) (before after : Option (List ℕ)) (f g : ℕ) → IfSome left (λ source. PassesLimit source rest 16777216 feeds)
+    → Tells status (refused_with (LimitAt limits.Script (feeds + 1))) before after f g → IfSome left (λ source. Ends status (pages_reply source) before after f g)
+pages_end_past status None rest feeds before after f g passes told = tt
+pages_end_past status (Some source) rest feeds before after f g passes told =
+    tells_end status (pages_reply source) before after f g (subst (λ (it : Reply). Tells status it before after f g) (pages_past source rest feeds passes) told)
+
+pub pages_taken : (status : Status) (left rest : Option (List ℕ)) (bytes : List ℕ) → IfSome left (λ source. bytes ≡ source) → IfSome left (λ _. rest ≡ Some []) → length bytes ≤ 16777216
+    → IfSome left (λ source. IsTaken status 16777217 source rest)
+pages_taken status None rest bytes all end fits = tt
+pages_taken status (Some source) rest bytes all end fits =
+    taken status 16777217 source rest (end ∙ ap Some (sym (drop_all 16777217 source (omega (arith, fits, ap length all)))))
+
+pub pages_taken_past : (status : Status) (left rest : Option (List ℕ)) (feeds : ℕ) → IfSome left (λ source. PassesLimit source rest 16777216 feeds)
+    → IfSome left (λ source. IsTaken status 16777217 source rest)
+pages_taken_past status None rest feeds passes = tt
+pages_taken_past status (Some source) rest feeds passes = taken status 16777217 source rest passes.taken
+
+pub syntax_reply : (line column : ℕ) → read_reply Replay (Err (SyntaxAt line column)) ≡ refused_with (SyntaxAt line column)
+unfolding read_reply
+syntax_reply line column = refl

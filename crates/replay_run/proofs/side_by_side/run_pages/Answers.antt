@@ -1,0 +1,13 @@
+use Rattle.std.proofs.Common.{◌≤◌, arith, length}
+use Rattle.replay_run.proofs.PagesAsked.{pages_end_past, pages_taken}
+use Rattle.replay_run.proofs.side_by_side.run_pages.Goals as goal
+
+pub returns-in-Ok-clause-read : goal.returns-in-Ok-clause-read
+returns-in-Ok-clause-read g c =
+    let fits : length c.in-Ok.bytes.items ≤ 16777216 = omega (arith, c.in-Ok.bytes.ok, c.in-Ok.ensures.within) in
+    pages_taken c.run_bytes.result _ _ c.in-Ok.bytes.items c.in-Ok.ensures.all c.in-Ok.ensures.end fits
+
+pub returns-in-Err-TooLong-clause-ends : goal.returns-in-Err-TooLong-clause-ends
+returns-in-Err-TooLong-clause-ends g c =
+    let cause = rw c.in-Err-TooLong.field-0-is at c.in-Err-TooLong.ensures.fault in
+    pages_end_past c.meet_limit.result _ _ c.in-Err-TooLong.feeds _ _ _ _ cause.2 c.meet_limit.ensures.tells
