@@ -197,24 +197,24 @@ pub fn fault_before_the_limit()
 pub fn nested_blocks()
     ensures { reading (codes "script 1\nhandler h\neach\nwhen not seen\nsay a\nend\nend\nsay b\nend\nsay c\n") ≡
         Ok (record {
-        version = First;
-        items = Handler
-        2
-        (codes "h")
-        (Then
-        (Each
-        3
-        (Then
-        (When
-        4
-        (record { negated = true; asks = Seen })
-        (Then (Simple 5 (Say (codes "a"))) NoMore)
-        6)
-        NoMore)
-        7)
-        (Then (Simple 8 (Say (codes "b"))) NoMore))
-        9
-        ∷ Outside (Simple 10 (Say (codes "c"))) ∷ [];
+          version = First;
+          items = Handler
+              2
+              (codes "h")
+              (Then
+              (Each
+              3
+              (Then
+              (When
+              4
+              (record { negated = true; asks = Seen })
+              (Then (Simple 5 (Say (codes "a"))) NoMore)
+              6)
+              NoMore)
+              7)
+              (Then (Simple 8 (Say (codes "b"))) NoMore))
+              9
+              ∷ Outside (Simple 10 (Say (codes "c"))) ∷ [];
         }) }
 {}
 
@@ -223,21 +223,21 @@ pub fn observer_line()
     ensures missing_threshold { reading (codes "script 1\nio i top - root $target margin 1px  2% # all\n") ≡ Err (SyntaxAt 2 39) }
     ensures read { reading (codes "script 1\nio i top h root - margin 1px  2% threshold 0.5 -1\n") ≡
         Ok (record {
-        version = First;
-        items = Outside
-        (Simple
-        2
-        (MakeIntersectionObserver
-        (record {
-          name = codes "i";
-          document = codes "top";
-          handler = Some (codes "h");
-          root = None;
-          margin = codes "1px 2%";
-          scroll = None;
-          thresholds = pos 5000 ∷ negsuc 9999 ∷ [];
-        })))
-        ∷ [];
+          version = First;
+          items = Outside
+              (Simple
+              2
+              (MakeIntersectionObserver
+              (record {
+                name = codes "i";
+                document = codes "top";
+                handler = Some (codes "h");
+                root = None;
+                margin = codes "1px 2%";
+                scroll = None;
+                thresholds = pos 5000 ∷ negsuc 9999 ∷ [];
+              })))
+              ∷ [];
         }) }
 {}
 
@@ -249,39 +249,39 @@ pub fn second_version()
         Ok (record { version = Second; items = Outside (Simple 2 (ObserveResize (codes "o") (Named (codes "r")) Device)) ∷ [] }) }
     ensures scroll { reading (codes "script 2\nio i top - root - margin 1px scroll 2px  3% threshold\n") ≡
         Ok (record {
-        version = Second;
-        items = Outside
-        (Simple
-        2
-        (MakeIntersectionObserver
-        (record {
-          name = codes "i";
-          document = codes "top";
-          handler = None;
-          root = None;
-          margin = codes "1px";
-          scroll = Some (codes "2px 3%");
-          thresholds = [];
-        })))
-        ∷ [];
+          version = Second;
+          items = Outside
+              (Simple
+              2
+              (MakeIntersectionObserver
+              (record {
+                name = codes "i";
+                document = codes "top";
+                handler = None;
+                root = None;
+                margin = codes "1px";
+                scroll = Some (codes "2px 3%");
+                thresholds = [];
+              })))
+              ∷ [];
         }) }
     ensures nothing_behind_scroll { reading (codes "script 2\nio i top - root - margin scroll threshold\n") ≡
         Ok (record {
-        version = Second;
-        items = Outside
-        (Simple
-        2
-        (MakeIntersectionObserver
-        (record {
-          name = codes "i";
-          document = codes "top";
-          handler = None;
-          root = None;
-          margin = [];
-          scroll = Some [];
-          thresholds = [];
-        })))
-        ∷ [];
+          version = Second;
+          items = Outside
+              (Simple
+              2
+              (MakeIntersectionObserver
+              (record {
+                name = codes "i";
+                document = codes "top";
+                handler = None;
+                root = None;
+                margin = [];
+                scroll = Some [];
+                thresholds = [];
+              })))
+              ∷ [];
         }) }
 {}
 
@@ -301,20 +301,20 @@ pub fn second_version_in_the_first()
     ensures device { reading (codes "script 1\nro-observe o r device\n") ≡ Err (SyntaxAt 2 16) }
     ensures scroll { reading (codes "script 1\nio i top - root - margin scroll 1px threshold\n") ≡
         Ok (record {
-        version = First;
-        items = Outside
-        (Simple
-        2
-        (MakeIntersectionObserver
-        (record {
-          name = codes "i";
-          document = codes "top";
-          handler = None;
-          root = None;
-          margin = codes "scroll 1px";
-          scroll = None;
-          thresholds = [];
-        })))
-        ∷ [];
+          version = First;
+          items = Outside
+              (Simple
+              2
+              (MakeIntersectionObserver
+              (record {
+                name = codes "i";
+                document = codes "top";
+                handler = None;
+                root = None;
+                margin = codes "scroll 1px";
+                scroll = None;
+                thresholds = [];
+              })))
+              ∷ [];
         }) }
 {}
