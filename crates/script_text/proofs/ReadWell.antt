@@ -1,5 +1,5 @@
 -- Whatever is read is well formed, and no line printed for it is longer than the line that was read.
-use Rattle.std.proofs.Common.{◌≡◌, ◌∙◌, refl, sym, ap, ℕ, ◌+◌, ◌<◌, ◌≤◌, Bool, true, false, nat_lt, List, [], ◌∷◌, length, arith, subst, append-nil, length-append, ltb-true, ltb-false, All}
+use Rattle.std.proofs.Common.{◌≡◌, ◌∙◌, refl, sym, ap, ℕ, ◌+◌, ◌<◌, ◌≤◌, Bool, true, false, nat_lt, List, ◌∷◌, length, arith, subst, append-nil, length-append, ltb-true, ltb-false, All}
 use Rattle.std.specs.Prelude.{Ok, Err}
 use Rattle.std.proofs.lemmas.List.Elements.{All-tail}
 use Rattle.text_io.specs.declared.kinds.LimitKind.TheVariants as limits

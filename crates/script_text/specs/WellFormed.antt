@@ -1,6 +1,6 @@
--- Scripts that are well formed: the version has the commands, names and operands are in the grammar's forms and ranges, blocks and handlers within
--- their limits, handlers have different names, line numbers rise, and the printed lines and text are within their limits.
--- That `tick` and handlers stand outside alone is in the type of items.
+-- Scripts that are well formed: the version has the commands, names and operands are in the grammar's forms and ranges,
+-- blocks and handlers within their limits, handlers have different names, line numbers rise, and the printed lines and text
+-- are within their limits. That `tick` and handlers stand outside alone is in the type of items.
 use Rattle.std.specs.Prelude.{◌≡◌, ℕ, ◌<◌, ◌≤◌, ℤ, unsigned_abs, max, suc, Bool, true, false, not, ◌&&◌, List, [], ◌∷◌, length, Option, Some, None, is_some, bytes_eq}
 use Rattle.std.specs.List.{list_all, list_any}
 use Rattle.word_model.specs.Names.{is_name}
@@ -154,7 +154,8 @@ abbrev pub AreMeant : List Part → Type 0
 AreMeant [] = Unit {0}
 AreMeant (PartOf form value ∷ parts) = IsMeant form value × AreMeant parts
 
--- a command that may stand in a script of this version: the version has its word, and its operands are in the forms and ranges there
+-- a command that may stand in a script of this version: the version has its word, and its operands are in the forms and
+-- ranges there
 pub record IsAction (version : Version) (action : Action) : Type 0 where
   pub known : is_some (entry_at (heads_in version) (action_head version action)) ≡ true
   pub operands : AreMeant (action_parts version action)

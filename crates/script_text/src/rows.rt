@@ -25,8 +25,11 @@ pub fn lines_stand_on_their_numbers()
 
 /// A handler, and blocks one in the other, each with its `end`.
 pub fn handler_with_blocks()
-    ensures { printed (record { version = First; items =
-        Handler 2 (codes "show") (Then (Each 3 (Then (When 4 (record { negated = true; asks = Seen }) (Then (Simple 5 (Say (codes "out"))) NoMore) 6) NoMore) 8) NoMore) 9 ∷ [] }) ≡
+    ensures { printed (record {
+      version = First;
+      items =
+          Handler 2 (codes "show") (Then (Each 3 (Then (When 4 (record { negated = true; asks = Seen }) (Then (Simple 5 (Say (codes "out"))) NoMore) 6) NoMore) 8) NoMore) 9 ∷ [];
+    }) ≡
         codes "script 1\nhandler show\neach\nwhen not seen\nsay out\nend\n\nend\nend\n" }
 {}
 
@@ -54,18 +57,27 @@ pub fn declarations()
 
 /// A list of queries has one space for each gap and no other one.
 pub fn queries()
-    ensures { printed (record { version = First; items =
-        Outside (Simple 2 (MakeQueryList (codes "m") (codes "top") (Typed OnlyPrefix ScreenMedia (WidthFeature AtLeast 32 ∷ []) ∷ NotFeature (OrientationFeature true) ∷ []))) ∷ [] }) ≡
+    ensures { printed (record {
+      version = First;
+      items =
+          Outside (Simple 2 (MakeQueryList (codes "m") (codes "top") (Typed OnlyPrefix ScreenMedia (WidthFeature AtLeast 32 ∷ []) ∷ NotFeature (OrientationFeature true) ∷ []))) ∷ [];
+    }) ≡
         codes "script 1\nmedia m top only screen and (min-width:0.5px),not (orientation:portrait)\n" }
 {}
 
 /// The words of a margin stand as they were read, those of a scroll margin behind it.
 pub fn margins()
-    ensures alone { printed (record { version = First; items =
-        Outside (Simple 2 (MakeIntersectionObserver (record { name = codes "o"; document = codes "top"; handler = None; root = None; margin = codes "1.50px x 0"; scroll = None; thresholds = pos 0 ∷ pos 5000 ∷ [] }))) ∷ [] }) ≡
+    ensures alone { printed (record {
+      version = First;
+      items =
+          Outside (Simple 2 (MakeIntersectionObserver (record { name = codes "o"; document = codes "top"; handler = None; root = None; margin = codes "1.50px x 0"; scroll = None; thresholds = pos 0 ∷ pos 5000 ∷ [] }))) ∷ [];
+    }) ≡
         codes "script 1\nio o top - root - margin 1.50px x 0 threshold 0 0.5\n" }
-    ensures scrolled { printed (record { version = Second; items =
-        Outside (Simple 2 (MakeIntersectionObserver (record { name = codes "o"; document = codes "top"; handler = None; root = None; margin = codes "1px"; scroll = Some (codes "50%"); thresholds = [] }))) ∷ [] }) ≡
+    ensures scrolled { printed (record {
+      version = Second;
+      items =
+          Outside (Simple 2 (MakeIntersectionObserver (record { name = codes "o"; document = codes "top"; handler = None; root = None; margin = codes "1px"; scroll = Some (codes "50%"); thresholds = [] }))) ∷ [];
+    }) ≡
         codes "script 2\nio o top - root - margin 1px scroll 50% threshold\n" }
 {}
 
