@@ -150,7 +150,7 @@ module _ (script : Script) where
 
   module _ (world : World) (within : IsWithinLimits world) where
     left-first : AreTasksLeft (tasks_left world) world
-    left-first = record { commands = within.commands; most = omega arith }
+    left-first = record { commands = few-begun world within; most = omega arith }
 
     pub tasks-same : (most more : ℕ) → tasks_left world < most → tasks_left world < more → tasks_up_to most script world ≡ tasks_up_to more script world
     unfolding tasks_up_to
