@@ -1,6 +1,6 @@
 -- Fields joined to a line's text.
 use Rattle.std.proofs.Common.{◌≡◌, ℕ, ℤ, List, [], ◌∷◌, ◌++◌, refl, ap, sym, ◌∙◌, append_assoc}
-use Rattle.std.specs.Prelude.{◌-ℤ◌, unsigned_abs, Option, codes}
+use Rattle.std.specs.Prelude.{◌-ℤ◌, unsigned_abs, Option, Some, codes}
 use Rattle.word_model.specs.Numbers.{decimal}
 use Rattle.std.specs.List.{join_with_byte}
 use Rattle.px_units.specs.declared.Rect.{Rect}
@@ -73,6 +73,16 @@ whole_pushed old a b new number first second third =
     let digits : List ℕ = decimal (unsigned_abs number) in
     third ∙ ap (λ l. l ++ digits) second ∙ ap (λ l. l ++ sign_text number ++ digits) first ∙ append_assoc (old ++ (32 ∷ [])) (sign_text number) digits
     ∙ append_assoc old (32 ∷ []) (sign_text number ++ digits)
+
+pub whole_same : (old new : List ℕ) (pushed number : ℤ) → pushed ≡ number → new ≡ with_fields old (whole_text pushed ∷ []) → new ≡ with_fields old (whole_text number ∷ [])
+whole_same old new pushed number same e = e ∙ ap (λ z. with_fields old (whole_text z ∷ [])) same
+
+pub pixels_pushed : (old a b new : List ℕ) (size : Size) → a ≡ with_fields old (codes "device" ∷ []) → b ≡ with_fields a (whole_text size.width ∷ [])
+    → new ≡ with_fields b (whole_text size.height ∷ []) → new ≡ with_fields old (device_fields (Some size))
+unfolding device_fields
+pixels_pushed old a b new size first second third =
+    let width : List ℕ = whole_text size.width in
+    then_fields old b new (codes "device" ∷ width ∷ []) (whole_text size.height ∷ []) (then_fields old a b (codes "device" ∷ []) (width ∷ []) first second) third
 
 pub boxes_pushed : (old a b c new : List ℕ) (r : Rect) (border : Size) (device : Option Size) → a ≡ with_fields old (codes "rect" ∷ rect_fields r)
     → b ≡ with_fields a (codes "border" ∷ []) → c ≡ with_fields b (size_fields border) → new ≡ with_fields c (device_fields device)

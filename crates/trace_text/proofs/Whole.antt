@@ -330,7 +330,7 @@ event_line = record { exact = as_last events_at; each = λ e h. (refl, refl, rec
 
 resize_line : IsExact kind.Resize (both names_at boxes_at) resized ResizedFits (λ (p : Resized). ResizeLine p.0.0 p.0.1 p.1.0 p.1.1.0 p.1.1.1)
 unfolding fields_of rect_fields size_fields
-resize_line = record { exact = resizes; each = λ p h. (refl, refl, record { fits = h.0; reach = h.1 }) }
+resize_line = record { exact = resizes; each = λ p h. (refl, refl, record { fits = h.0; reach = (h.1.0, h.1.1.0, h.1.1.1) }) }
 
 round_line : IsExact kind.Round (both name_at u32_at) counted (λ p. IsName p.0 × (p.1 < 2 ^ 32)) (λ (p : Counted). RoundLine p.0 p.1)
 unfolding fields_of
@@ -392,7 +392,7 @@ line_written (TimerLine document key) h = (kind.Timer, refl, again kind.Timer na
 line_written (FrameLine document key) h = (kind.Frame, refl, again kind.Frame names_at two_names AreNames (λ (p : Names). FrameLine p.0 p.1) frame_line (document, key) h.fits, clean kind.Frame names_at two_names AreNames (λ (p : Names). FrameLine p.0 p.1) frame_line (document, key) h.fits)
 line_written (TaskLine document handler) h = (kind.Task, refl, again kind.Task names_at two_names AreNames (λ (p : Names). TaskLine p.0 p.1) task_line (document, handler) h.fits, clean kind.Task names_at two_names AreNames (λ (p : Names). TaskLine p.0 p.1) task_line (document, handler) h.fits)
 line_written (EventLine fired) h = (kind.Event, refl, again kind.Event event_at event_fields EventFits EventLine event_line fired h.fits, clean kind.Event event_at event_fields EventFits EventLine event_line fired h.fits)
-line_written (ResizeLine observer target rect border device) h = (kind.Resize, refl, again kind.Resize (both names_at boxes_at) resized ResizedFits (λ (p : Resized). ResizeLine p.0.0 p.0.1 p.1.0 p.1.1.0 p.1.1.1) resize_line ((observer, target), (rect, (border, device))) (h.fits, h.reach), clean kind.Resize (both names_at boxes_at) resized ResizedFits (λ (p : Resized). ResizeLine p.0.0 p.0.1 p.1.0 p.1.1.0 p.1.1.1) resize_line ((observer, target), (rect, (border, device))) (h.fits, h.reach))
+line_written (ResizeLine observer target rect border device) h = (kind.Resize, refl, again kind.Resize (both names_at boxes_at) resized ResizedFits (λ (p : Resized). ResizeLine p.0.0 p.0.1 p.1.0 p.1.1.0 p.1.1.1) resize_line ((observer, target), (rect, (border, device))) (h.fits, (h.reach.0, (h.reach.1, h.reach.2))), clean kind.Resize (both names_at boxes_at) resized ResizedFits (λ (p : Resized). ResizeLine p.0.0 p.0.1 p.1.0 p.1.1.0 p.1.1.1) resize_line ((observer, target), (rect, (border, device))) (h.fits, (h.reach.0, (h.reach.1, h.reach.2))))
 line_written (RoundLine document depth) h = (kind.Round, refl, again kind.Round (both name_at u32_at) counted (λ p. IsName p.0 × (p.1 < 2 ^ 32)) (λ (p : Counted). RoundLine p.0 p.1) round_line (document, depth) h.fits, clean kind.Round (both name_at u32_at) counted (λ p. IsName p.0 × (p.1 < 2 ^ 32)) (λ (p : Counted). RoundLine p.0 p.1) round_line (document, depth) h.fits)
 line_written (IntersectLine found) h = (kind.Intersect, refl, again kind.Intersect (both seen_at rects_at) entry_fields EntryAll (λ p. IntersectLine (entry p)) intersect_line (entry_parts found) (entry_all found h.fits h.reach), clean kind.Intersect (both seen_at rects_at) entry_fields EntryAll (λ p. IntersectLine (entry p)) intersect_line (entry_parts found) (entry_all found h.fits h.reach))
 line_written (TakeLine observer count) h = (kind.Take, refl, again kind.Take (both name_at u64_at) counted (λ p. IsName p.0 × (p.1 < 2 ^ 64)) (λ (p : Counted). TakeLine p.0 p.1) take_line (observer, count) h.fits, clean kind.Take (both name_at u64_at) counted (λ p. IsName p.0 × (p.1 < 2 ^ 64)) (λ (p : Counted). TakeLine p.0 p.1) take_line (observer, count) h.fits)

@@ -9,8 +9,9 @@ ghost use Rattle.trace_text.specs.Reading.{event_by, event_at, line_by, ended, l
 ghost use Rattle.trace_text.specs.Views.{read_of};
 
 use crate::fields::{
-    behind_message, bool_at, device_at, event_kind_at, limit_at, meets_at, name_at, names_at, point_at,
-    ratio_at, rect_at, rect_behind, size_behind, split_field, throw_at, u32_at, u64_at, window_at,
+    behind_message, bool_at, device_at, event_kind_at, limit_at, meets_at, name_at, names_at,
+    point_at, ratio_at, rect_at, rect_behind, size_behind, split_field, throw_at, u32_at, u64_at,
+    window_at,
 };
 use crate::kinds::LineKind;
 use crate::{EventLine, TraceFault, TraceLine};

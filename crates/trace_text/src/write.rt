@@ -1,6 +1,6 @@
 //! The texts of lines.
 
-ghost use Rattle.std.specs.Prelude.{◌≡◌, List, [], ◌∷◌, ◌++◌, OnOk, OnErr, codes};
+ghost use Rattle.std.specs.Prelude.{◌≡◌, List, [], ◌∷◌, ◌++◌, OnOk, OnErr, Some, IfSome, codes};
 ghost use Rattle.word_model.specs.Numbers.{decimal};
 ghost use Rattle.px_units.specs.Texts.{sign_text, pixel_text};
 ghost use Rattle.text_io.specs.Kinds.{limit_word, throw_word};
@@ -212,17 +212,24 @@ fn push_limit(out: &mut Vec<u8>, kind: LimitKind, number: u32, most: u64) -> Res
     push_numbers(out, u64::from(number), most)
 }
 
+/// A size in device pixels.
+fn push_pixels(out: &mut Vec<u8>, size: &Size) -> Result<(), AllocError>
+    requires { SizeReaches size.now }
+    ensures { OnOk result (out.new.items ≡ with_fields out.old.items (device_fields (Some size.now))) }
+{
+    push_field(out, b"device")?;
+    push_whole(out, size.width)?;
+    push_whole(out, size.height)
+}
+
 /// A size in device pixels, if it is told.
 #[tactic(auto, unfolding(script_model::specs::TraceText::device_fields))]
-fn push_device(out: &mut Vec<u8>, device: Option<Size>) -> Result<(), AllocError>
-    ensures { OnOk result (out.new.items ≡ with_fields out.old.items (device_fields device)) }
+fn push_device(out: &mut Vec<u8>, device: &Option<Size>) -> Result<(), AllocError>
+    requires { IfSome device.now SizeReaches }
+    ensures { OnOk result (out.new.items ≡ with_fields out.old.items (device_fields device.now)) }
 {
     match device {
-        Some(size) => {
-            push_field(out, b"device")?;
-            push_whole(out, size.width)?;
-            push_whole(out, size.height)
-        }
+        Some(size) => push_pixels(out, size),
         None => Ok(()),
     }
 }
@@ -232,11 +239,12 @@ fn push_boxes(
     out: &mut Vec<u8>,
     rect: &Rect,
     border: &Size,
-    device: Option<Size>,
+    device: &Option<Size>,
 ) -> Result<(), AllocError>
     requires rect { RectReaches rect.now }
     requires border { SizeReaches border.now }
-    ensures { OnOk result (out.new.items ≡ with_fields out.old.items ((codes "rect" ∷ rect_fields rect.now) ++ (codes "border" ∷ size_fields border.now) ++ device_fields device)) }
+    requires device { IfSome device.now SizeReaches }
+    ensures { OnOk result (out.new.items ≡ with_fields out.old.items ((codes "rect" ∷ rect_fields rect.now) ++ (codes "border" ∷ size_fields border.now) ++ device_fields device.now)) }
 {
     push_rect_behind(out, b"rect", rect)?;
     push_field(out, b"border")?;
@@ -250,11 +258,12 @@ fn push_resize(
     target: &Name,
     rect: &Rect,
     border: &Size,
-    device: Option<Size>,
+    device: &Option<Size>,
 ) -> Result<(), AllocError>
     requires rect { RectReaches rect.now }
     requires border { SizeReaches border.now }
-    ensures { OnOk result (out.new.items ≡ with_fields out.old.items (fields_of (ResizeLine observer.now target.now rect.now border.now device))) }
+    requires device { IfSome device.now SizeReaches }
+    ensures { OnOk result (out.new.items ≡ with_fields out.old.items (fields_of (ResizeLine observer.now target.now rect.now border.now device.now))) }
 {
     push_names(out, observer, target)?;
     push_boxes(out, rect, border, device)
@@ -323,7 +332,7 @@ fn push_fields(out: &mut Vec<u8>, line: &TraceLine) -> Result<(), AllocError>
             rect,
             border,
             device,
-        } => push_resize(out, observer, target, rect, border, *device),
+        } => push_resize(out, observer, target, rect, border, device),
         TraceLine::Round(document, depth) => push_counted(out, document, u64::from(*depth)),
         TraceLine::Intersect {
             observer,
