@@ -1,6 +1,6 @@
 -- Chains in a world.
 use Rattle.std.proofs.Common.{◌≡◌, ◌∙◌, ℕ, zero, suc, ◌≤◌, Bool, true, false, cond, List, [], ◌∷◌, length, Option, Some, None, ap, sym, refl, subst, arith}
-use Rattle.std.specs.Prelude.{not, ◌&&◌, filter_map, take_while, option_map, unwrap_or, ◌==◌}
+use Rattle.std.specs.Prelude.{not, ◌&&◌, filter_map, take_while, option_map, ◌==◌}
 use Rattle.std.specs.List.{cons_option}
 use Rattle.std.proofs.lemmas.List.Sums.{take_while-cons}
 use Rattle.std.proofs.lemmas.Bool.{eqb-true}
@@ -13,9 +13,10 @@ use Rattle.page_model.specs.Chains.{containers_by, containers_from, container_be
 use Rattle.clip_chain.specs.declared.spot.Spot.{Spot}
 use Rattle.clip_chain.specs.declared.spot.Spot.TheVariants.{Node, View}
 use Rattle.clip_chain.specs.Chains.{Leads}
-use Rattle.clip_chain.specs.Scenes.{root_bounds}
+use Rattle.clip_chain.specs.Scenes.{root_bounds, is_spot}
 use Rattle.clip_chain.specs.Visible.{part_between}
 use Rattle.clip_chain.specs.Worlds.{element_spot, spot_of, container_at, spot_of_root, has_box_at, scene_of, scene_for}
+use Rattle.clip_chain.proofs.Moving.{root_through}
 
 -- what stands in something has a box
 boxed : (b : Bool) (o : Option Spot) (next : Spot) → cond b o None ≡ Some next → (b ≡ true) × (o ≡ Some next)
@@ -95,9 +96,14 @@ and_not_false : {A : Type 0} (b : Bool) (x y : A) → cond (b && not false) x y 
 and_not_false true x y = refl
 and_not_false false x y = refl
 
-and_not_true : {A : Type 0} (b : Bool) (x y : A) → cond (b && not true) x y ≡ y
-and_not_true true x y = refl
-and_not_true false x y = refl
+-- the spot of the root is its spot alone
+root_test : (root : Root) (container : Container) → is_spot (spot_of_root root) (spot_of container) ≡ is_root root container
+root_test ImplicitRoot (InDocument document) = refl
+root_test ImplicitRoot (InElement element) = refl
+root_test (DocumentRoot root) (InDocument document) = refl
+root_test (DocumentRoot root) (InElement element) = refl
+root_test (ElementRoot root) (InElement element) = refl
+root_test (ElementRoot root) (InDocument document) = refl
 
 -- so does it for an observer, unless it is the root
 clips_through : (shown : Shown) (margins : Margins) (root : Root) (outer : Container) → has_box_at shown (spot_of outer) ≡ true → is_root root outer ≡ false →
@@ -105,24 +111,14 @@ clips_through : (shown : Shown) (margins : Margins) (root : Root) (outer : Conta
 clips_through shown margins root outer e apart =
     let own : Option Rect = (scene_of shown).clip (spot_of outer) in
     let moved : Bool = has_scroll_margins (shown.tree) outer in
-    ap (λ c. cond (has_scroll_margins (shown.tree) c && not (is_root root c)) (option_map (moved_out margins) own) own) (back outer)
-    ∙ ap (λ b. cond (moved && not b) (option_map (moved_out margins) own) own) apart
+    ap (λ c. cond (has_scroll_margins (shown.tree) c && not (is_spot (spot_of_root root) (spot_of outer))) (option_map (moved_out margins) own) own) (back outer)
+    ∙ ap (λ b. cond (moved && not b) (option_map (moved_out margins) own) own) (root_test root outer ∙ apart)
     ∙ and_not_false moved (option_map (moved_out margins) own) own
     ∙ ap (λ (clip : Option Rect). cond moved (option_map (moved_out margins) clip) clip) (clips_as shown outer e)
 
-is_itself : (root : Root) → is_root root (container_at (spot_of_root root)) ≡ true
-is_itself ImplicitRoot = refl
-is_itself (DocumentRoot document) = same_number document document refl
-is_itself (ElementRoot element) = same_number element element refl
-
 -- the root itself is left alone
 pub root_alone : (shown : Shown) (margins : Margins) (root : Root) → root_bounds (scene_for shown root margins) (spot_of_root root) ≡ root_bounds (scene_of shown) (spot_of_root root)
-root_alone shown margins root =
-    let own : Option Rect = (scene_of shown).clip (spot_of_root root) in
-    let moved : Bool = has_scroll_margins (shown.tree) (container_at (spot_of_root root)) in
-    ap (λ (clip : Option Rect). unwrap_or clip ((scene_of shown).bounds (spot_of_root root)))
-    (ap (λ b. cond (moved && not b) (option_map (moved_out margins) own) own) (is_itself root)
-    ∙ and_not_true moved (option_map (moved_out margins) own) own)
+root_alone shown margins root = root_through (scene_of shown) margins (spot_of_root root)
 
 goes_on : (shown : Shown) (root : Spot) (from : Container) (between : List Spot) → Leads (scene_of shown) (spot_of from) between root → has_box_at shown (spot_of from) ≡ true
 goes_on shown root from [] h = (beyond shown from root h).0
