@@ -29,8 +29,7 @@ pub use resizing::{
     a_box_that_comes_and_goes, a_document_that_dies_ends_the_loop, a_first_size_is_delivered,
     a_ratio_in_the_first_version, a_round_may_go_no_deeper, an_observer_may_disconnect_itself,
     an_unchanged_size_is_not_delivered_again, device_pixels_are_rounded,
-    disconnecting_drops_what_is_active,
-    each_round_goes_deeper, observing_a_second_box_is_skipped,
+    disconnecting_drops_what_is_active, each_round_goes_deeper, observing_a_second_box_is_skipped,
     observing_anew_makes_another_observation, sizes_are_those_at_the_delivery,
     unobserving_leaves_what_is_active,
 };
