@@ -80,7 +80,7 @@ module _ (test : Action → Bool) (unnamed : List ℕ → Bool) (script : Script
   next-held : (before now : World) → IsNext before now → AreTame test unnamed script now.resize_observers → IsHeld before → IsHeld now
   next-held before now next tame here = record {
     range = next.within (length script) (here.range);
-    limits = as-many before (here.limits) now next.observers next.queries next.successor.begun next.tasks;
+    limits = as-many before (here.limits) now next.observers next.queries next.successor.begun next.successor.version next.tasks;
     tame = tame;
   }
 

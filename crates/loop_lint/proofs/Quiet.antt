@@ -329,9 +329,9 @@ module _ (items : List Item) (quiet : is_quiet items ≡ true) where
         (opening_world version) (opening-held disturbs (is_unnamed items) script version)).lines
 
 -- of the text of a script
-pub quiet-outcome : (text : List ℕ) (script : WholeScript) → reading text ≡ Ok script →
-    AllByRecursion IsPlain (run_items (script.items) (opening_world (script.version))).lines →
+pub quiet-outcome : (text : List ℕ) (whole : WholeScript) → reading text ≡ Ok whole →
+    AllByRecursion IsPlain (run_items (whole.items) (opening_world (whole.version))).lines →
     AllByRecursion IsPlain (outcome text).lines
 unfolding outcome outcome_read
-quiet-outcome text script is plain =
+quiet-outcome text whole is plain =
     subst (λ (read : Reading). AllByRecursion (λ (line : TraceLine). is_error_line line ≡ false) (outcome_read read).lines) (sym is) plain
