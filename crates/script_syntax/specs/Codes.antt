@@ -1,7 +1,7 @@
 -- Codes of commands and blocks: trees of numbers that tell them apart.
-use Rattle.std.proofs.Common.{◌≡◌, List, refl}
+use Rattle.std.proofs.Common.{◌≡◌, refl}
 use base.Stored.{Gv, gnil, gnum, gcons}
-use Rattle.std.specs.Coded.{Coded, codes, coded_list}
+use Rattle.std.specs.Coded.{Coded, codes}
 use Rattle.script_model.specs.Reading.{State}
 use Rattle.script_model.specs.Syntax.{Action, Condition, Command, Simple, Each, When, Block, NoMore, Then, Item, Script}
 

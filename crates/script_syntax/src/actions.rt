@@ -17,7 +17,6 @@ use std::alloc::Global;
 use text_io::Version;
 
 /// The command whose operands these words are, all of them.
-#[tactic(auto, unfolding(crate::specs::Acts::Acts))]
 pub fn action(
     alloc: Global,
     version: Version,

@@ -29,11 +29,7 @@ impl Words<'_> {
 
     /// `scroll` and the words of a margin, where that word stands next, in scripts of the second version.
     #[tactic(auto, unfolding(script_model::specs::Forms::scroll_as))]
-    fn scroll(
-        &mut self,
-        alloc: Global,
-        version: Version,
-    ) -> Result<Option<MarginText>, LineFault>
+    fn scroll(&mut self, alloc: Global, version: Version) -> Result<Option<MarginText>, LineFault>
         ensures { Gives (λ text. (text, self.new)) result (scroll_as version self.old) }
     {
         match version {

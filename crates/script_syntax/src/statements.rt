@@ -225,7 +225,7 @@ fn asked(shape: Shape, words: &mut Words<'_>) -> Result<Test, LineFault>
 }
 
 /// `script 1` or `script 2`, the first line.
-#[tactic(auto, unfolding(script_model::specs::Statements::version_as))]
+#[tactic(auto, unfolding(script_model::specs::Statements::version_as, script_model::specs::Forms::part_as))]
 pub fn version(words: &mut Words<'_>) -> Result<Version, LineFault>
     ensures { Gives (λ version. version) result (model.version_as words.old) }
 {

@@ -2,6 +2,7 @@
 
 ghost use Rattle.std.specs.Prelude.{◌≡◌, map, option_map};
 ghost use Rattle.text_io.specs.declared.kinds.Version.{Version};
+ghost use Rattle.text_io.specs.declared.kinds.Version.TheVariants.{Second};
 ghost use Rattle.script_model.specs.Keywords.{keyword, lookup};
 ghost use Rattle.script_model.specs.Words.{events, boxes, dimensions, versions};
 ghost use Rattle.script_model.specs.Commands.{tests, heads, heads_in};
@@ -138,18 +139,23 @@ fn head_of_both(word: &[u8]) -> Option<Head>
     find(&HEADS, word)
 }
 
+/// What this word begins as the first of a line, in scripts of the second version.
+#[tactic(auto, using(crate::proofs::Lookups::found_first, crate::proofs::Lookups::passed_first))]
+fn head_of_second(word: &[u8]) -> Option<Head>
+    ensures { option_map (head_of Second) result ≡ lookup (heads_in Second) word.now }
+{
+    if word == b"ratio".as_slice() {
+        return Some(Head::Act(Verb::Ratio));
+    }
+    head_of_both(word)
+}
+
 /// What this word begins as the first of a line, in scripts of this version.
-#[tactic(auto, unfolding(script_model::specs::Keywords::lookup))]
 pub fn head(version: Version, word: &[u8]) -> Option<Head>
     ensures { option_map (head_of version) result ≡ lookup (heads_in version) word.now }
 {
     match version {
         Version::First => head_of_both(word),
-        Version::Second => {
-            if word == b"ratio".as_slice() {
-                return Some(Head::Act(Verb::Ratio));
-            }
-            head_of_both(word)
-        }
+        Version::Second => head_of_second(word),
     }
 }
