@@ -1,16 +1,21 @@
 -- Scenes as observers see them through scroll margins: what is known of chains is known there too, and which clips are exact.
-use Rattle.std.proofs.Common.{◌≡◌, ◌∙◌, ℕ, Bool, cond, not, ◌&&◌, nat_le, nat_lt, List, [], ◌∷◌, ◌++◌, get_or, Option, Some, None, option_map, unwrap_or, ap, refl, sym, subst}
+use Rattle.std.proofs.Common.{◌≡◌, ◌∙◌, ℕ, zero, suc, ◌<◌, Bool, false, cond, not, ◌&&◌, nat_le, nat_lt, List, [], ◌∷◌, ◌++◌, get_or, length, filter, map, Option, Some, None, option_map, unwrap_or, ap, refl, sym, subst, arith}
 use Rattle.std.specs.Prelude.{IfSome}
 use Rattle.std.specs.List.{All, list_all}
+use Rattle.std.specs.FinMap.{FinMap}
+use Rattle.std.specs.Ordering.{nat_cmp}
+use Rattle.std.proofs.lemmas.List.Elements.{All-head, All-tail, All-cons, All-nil, All-weaker}
 use Rattle.script_model.specs.Margins.{Margins}
-use Rattle.page_model.specs.World.{Root, IntersectionObservers}
+use Rattle.page_model.specs.World.{Root, Registration, IntersectionObservers}
 use Rattle.page_model.specs.Lookups.{intersection_observer_at, scroll_margins_at}
 use Rattle.page_model.specs.Chains.{moved_out}
 use Rattle.clip_chain.specs.declared.spot.Spot.{Spot}
 use Rattle.clip_chain.specs.Scenes.{Scene, is_spot, through}
 use Rattle.clip_chain.specs.Chains.{Leads}
 use Rattle.clip_chain.specs.Worlds.{element_spot, spot_of_root}
-use Rattle.clip_chain.proofs.Moving.{leads_through, leads_back}
+use Rattle.clip_chain.proofs.Moving.{root_unmoved, leads_through, leads_back}
+use Rattle.intersection_observer.specs.Places.{Standing as Place}
+use Rattle.intersection_observer.specs.Serials.{HasSerials, IsFound, registrations_at}
 use Rattle.kept_clips.specs.declared.pair.Pair.{Pair}
 use Rattle.kept_clips.specs.declared.pair.Computed.{Computed}
 use Rattle.kept_clips.specs.Clips.{clip_between}
@@ -20,11 +25,13 @@ use Rattle.kept_clips.specs.Chains.{chain_of, is_untouched, stands, IsExactPair,
 use Rattle.kept_clips.specs.Scenes.{AgreesAt, IsSpotwise}
 use Rattle.kept_clips.proofs.Pairs.{no_pair}
 use Rattle.candidate_index.specs.declared.scene.Standing.{Standing}
-use Rattle.candidate_index.specs.Registrations.{observer_of, target_of, standing_for, IsBetween}
+use Rattle.candidate_index.specs.declared.index.Kept.{Kept}
+use Rattle.candidate_index.specs.Registrations.{place_of, observer_of, target_of, serials_at, standing_for, IsBetween, IsRootUnmoved}
+use Rattle.candidate_index.specs.Held.{is_stale_now}
 use Rattle.candidate_index.proofs.Keeping.{if_still}
 use Rattle.kept_findings.proofs.Along.{all_weaker}
 use Rattle.kept_findings.specs.Walks.{EachAlong, AlongChain}
-use Rattle.kept_findings.specs.Views.{seen_by}
+use Rattle.kept_findings.specs.Views.{seen_by, seen_for}
 
 through_agrees : (root : Spot) (margins : Margins) (seen now : Scene) (spot : Spot) → AgreesAt seen now spot → AgreesAt (through root margins seen) (through root margins now) spot
 through_agrees root margins seen now spot agrees = record {
@@ -33,7 +40,49 @@ through_agrees root margins seen now spot agrees = record {
   scrolls = agrees.scrolls;
 }
 
+-- an observer's scroll margins among all of them
+pub margins_got : (margins : List Margins) (n : ℕ) (default : Margins) → n < length margins → get_or margins n default ≡ scroll_margins_at margins n
+margins_got [] n default there = absurd (elim there [ ])
+margins_got (x ∷ xs) zero default there = refl
+margins_got (x ∷ xs) (suc n) default there = margins_got xs n default (omega (arith, there))
+
+pub view_is : (it : IntersectionObservers) (margins : List Margins) (watcher : ℕ) (root : Spot) (own : Margins) (scene : Scene) → root ≡ spot_of_root (intersection_observer_at it watcher).root → own ≡ scroll_margins_at margins watcher
+    → through root own scene ≡ seen_by it margins watcher scene
+view_is it margins watcher root own scene rooted has = λ i. through (rooted i) (has i) scene
+
+-- the registrations of an observer stand there
+all_to_map : (P : ℕ → Type 0) (xs : List Registration) → All (λ (r : Registration). P (r.serial)) xs → All P (map (λ (r : Registration). r.serial) xs)
+all_to_map P [] all = All-nil P
+all_to_map P (x ∷ xs) all =
+    All-cons P x.serial (map (λ (r : Registration). r.serial) xs) (All-head (λ (r : Registration). P (r.serial)) x xs all) (all_to_map P xs (All-tail (λ (r : Registration). P (r.serial)) x xs all))
+
+pub places_at : (it : IntersectionObservers) (watcher : ℕ) → HasSerials it → All (λ serial. (place_of it serial).watcher ≡ watcher) (serials_at it watcher)
+places_at it watcher serials =
+    all_to_map (λ serial. (place_of it serial).watcher ≡ watcher) (registrations_at it watcher)
+    (All-weaker (IsFound it watcher) (λ (r : Registration). (place_of it (r.serial)).watcher ≡ watcher) (λ r found. ap (λ (o : Option Place). (unwrap_or o (record { watcher = 0; target = 0 })).watcher) found)
+    (registrations_at it watcher) (serials.found watcher))
+
+pub filter_same : (f g : ℕ → Bool) (xs : List ℕ) → All (λ x. f x ≡ g x) xs → filter f xs ≡ filter g xs
+filter_same f g [] all = refl
+filter_same f g (x ∷ xs) all =
+    let here : f x ≡ g x = All-head (λ n. f n ≡ g n) x xs all in
+    let rest : filter f xs ≡ filter g xs = filter_same f g xs (All-tail (λ n. f n ≡ g n) x xs all) in
+    λ i. cond (here i) (x ∷ rest i) (rest i)
+
 module _ (it : IntersectionObservers) (margins : List Margins) (watcher : ℕ) where
+  -- which of them are stale, by what is kept
+  pub stale_alike : (standings : Root → ℕ → Standing) (scene : Scene) (between : ℕ → List Spot) (kept : FinMap nat_cmp (Option Kept)) (serials : List ℕ) → All (λ serial. (place_of it serial).watcher ≡ watcher) serials
+      → filter (is_stale_now (seen_by it margins watcher scene) standings it between kept) serials ≡ filter (λ serial. is_stale_now (seen_for it margins serial scene) standings it between kept serial) serials
+  stale_alike standings scene between kept serials at =
+      filter_same (is_stale_now (seen_by it margins watcher scene) standings it between kept) (λ serial. is_stale_now (seen_for it margins serial scene) standings it between kept serial) serials
+      (λ k d below. ap (λ w. is_stale_now (seen_by it margins w scene) standings it between kept (get_or serials k d)) (sym (at k d below)))
+
+  pub all_unmoved : (scene : Scene) (serials : List ℕ) → All (λ serial. (place_of it serial).watcher ≡ watcher) serials → All (IsRootUnmoved (seen_by it margins watcher scene) it) serials
+  all_unmoved scene serials at =
+      λ k d below.
+      subst (λ w. (seen_by it margins watcher scene).moved (spot_of_root (intersection_observer_at it w).root) ≡ false) (sym (at k d below))
+      (root_unmoved scene (scroll_margins_at margins watcher) (spot_of_root (intersection_observer_at it watcher).root))
+
   pub seen_spotwise : IsSpotwise (seen_by it margins watcher)
   seen_spotwise = λ before after spot agrees. through_agrees (spot_of_root (intersection_observer_at it watcher).root) (scroll_margins_at margins watcher) before after spot agrees
 

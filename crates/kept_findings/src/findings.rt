@@ -5,7 +5,7 @@ ghost use Rattle.std.specs.List.{All};
 ghost use Rattle.std.specs.FinMap.{insert, contains_key};
 ghost use Rattle.script_model.specs.Margins.{Margins as ScrollMargins};
 ghost use Rattle.page_model.specs.World.{IntersectionObservers};
-ghost use Rattle.page_model.specs.Lookups.{intersection_observer_at};
+ghost use Rattle.page_model.specs.Lookups.{intersection_observer_at, scroll_margins_at};
 ghost use Rattle.clip_chain.specs.declared.spot.Spot.{Spot as SpotOf};
 ghost use Rattle.clip_chain.specs.Scenes.{Scene as SceneOf, root_bounds};
 ghost use Rattle.clip_chain.specs.Worlds.{element_spot, spot_of_root};
@@ -80,6 +80,14 @@ fn root_spot(watchers: &Watchers, watcher: WatcherId) -> Spot
     ensures { result ≡ spot_of_root (intersection_observer_at watchers.now.part watcher.0).root }
 {
     spot_of_root(watchers.root_of(watcher))
+}
+
+// An observer's scroll margins.
+fn margins_at(scroll_margins: &[Margins], watcher: WatcherId) -> Margins
+    requires { watcher.0 < length scroll_margins.now }
+    ensures { result ≡ scroll_margins_at scroll_margins.now watcher.0 }
+{
+    scroll_margins[watcher.0 as usize]
 }
 
 impl KeptFindings {
@@ -188,7 +196,7 @@ impl KeptFindings {
         requires walked { All (IsWalked (S.scene scene.now) (S.standings scene.now) watchers.now.part self.old.seen) (serials_at watchers.now.part watcher.0) }
         ensures stale { (between : ℕ → List SpotOf) → All (IsBetween (S.scene scene.now) (S.standings scene.now) watchers.now.part between) (serials_at watchers.now.part watcher.0) →
             IfOk result (λ stale. serial_numbers stale.items
-            ≡ filter (is_stale_now (seen_by watchers.now.part scroll_margins.now watcher.0 (S.scene scene.now)) (S.standings scene.now) watchers.now.part between self.old.kept) (serials_at watchers.now.part watcher.0)) }
+            ≡ filter (λ serial. is_stale_now (seen_for watchers.now.part scroll_margins.now serial (S.scene scene.now)) (S.standings scene.now) watchers.now.part between self.old.kept serial) (serials_at watchers.now.part watcher.0)) }
         ensures clips { (between : ℕ → List SpotOf) → All (IsBetween (S.scene scene.now) (S.standings scene.now) watchers.now.part between) (serials_at watchers.now.part watcher.0) →
             OnOk result (self.new.clips ≡ all_asked (seen_by watchers.now.part scroll_margins.now watcher.0 (S.scene scene.now)) (S.standings scene.now) watchers.now.part between (serials_at watchers.now.part watcher.0) self.old.clips) }
         ensures ticks { (between : ℕ → List SpotOf) → All (IsBetween (S.scene scene.now) (S.standings scene.now) watchers.now.part between) (serials_at watchers.now.part watcher.0) →
@@ -212,7 +220,7 @@ impl KeptFindings {
         let view = Through {
             geometry: &seen,
             root: root_spot(watchers, watcher),
-            margins: scroll_margins[watcher.0 as usize],
+            margins: margins_at(scroll_margins, watcher),
         };
         self.index
             .stale_registrations(&view, &mut self.clips, watchers, watcher, steps)
@@ -258,7 +266,7 @@ impl KeptFindings {
         let view = Through {
             geometry: &seen,
             root: root_spot(watchers, watcher),
-            margins: scroll_margins[watcher.0 as usize],
+            margins: margins_at(scroll_margins, watcher),
         };
         self.index
             .recompute(&view, &mut self.clips, watchers, registration, steps)
