@@ -7,8 +7,8 @@ ghost use Rattle.script_text.specs.Phrases.{action_words};
 ghost use Rattle.script_text.specs.ScriptText.{line_text};
 
 use crate::operands::Entry::{
-    Aimed, Declared, Dimension, Event, Handler, Length, Node, Observed, Percentage, Root, Signed, Whole,
-    Word,
+    Aimed, Declared, Dimension, Event, Handler, Length, Node, Observed, Percentage, Root, Signed,
+    Whole, Word,
 };
 use crate::operands::{
     push_line, push_margins, push_phrase, push_query, push_thresholds, push_word,
@@ -27,7 +27,7 @@ pub fn push_action(into: &mut Vec<u8>, what: &What) -> Result<(), AllocError>
 {
     match what {
         What::Viewport(size) => viewport(into, *size),
-        What::Ratio(ratio) => ratio(into, *ratio),
+        What::Ratio(percent) => ratio(into, *percent),
         What::Block(name, document) => block(into, *name, *document),
         What::Image(name, document, size) => image(into, *name, *document, *size),
         What::Frame(name, document, inside) => frame(into, *name, *document, *inside),

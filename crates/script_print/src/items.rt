@@ -90,11 +90,7 @@ fn push_items(into: &mut Vec<u8>, items: &[Item]) -> Result<(), AllocError>
 
 /// Appends the text of a script of this version with these items, without a line feed behind its last line.
 #[tactic(auto, using(crate::proofs::Blocks::script_pushed))]
-pub fn push_script(
-    into: &mut Vec<u8>,
-    version: Version,
-    items: &[Item],
-) -> Result<(), AllocError>
+pub fn push_script(into: &mut Vec<u8>, version: Version, items: &[Item]) -> Result<(), AllocError>
     ensures { OnOk result (into.new.items ≡ into.old.items ++ script_text (record { version = version; items = map item_of items.now })) }
 {
     into.extend_from_slice(b"script ")?;
