@@ -20,7 +20,7 @@ use Rattle.trace_summary.proofs.Splits.{first_fed, behind_fed}
 use Rattle.trace_summary.proofs.Traces.{FeedLaw}
 use Rattle.trace_judge.specs.Lines.{lines_of}
 use Rattle.trace_judge.proofs.Splits.{lines_by_first}
-use Rattle.replay_run.specs.StreamRuns.{named_text}
+use Rattle.stream_runs.specs.StreamRuns.{named_text}
 
 -- the lines of a text with a name before each
 abbrev pub named_lines : List ℕ → List ℕ → List ℕ

@@ -19,9 +19,10 @@ use Rattle.page_stream.specs.declared.stream.Part.{Part}
 use Rattle.page_stream.specs.Pages.{pages_of}
 use Rattle.page_stream.specs.Parts.{parts_of, script_of}
 use Rattle.replay_run.specs.Answers.{Tells}
-use Rattle.replay_run.specs.PageRuns.{PageScript, PageRun, Standing, Turn, ending_at, opened, refused_lines, turn_at}
+use Rattle.stream_runs.specs.PageRuns.{PageScript, PageRun, Standing, Turn, ending_at, opened, refused_lines, turn_at}
 use Rattle.replay_run.specs.Replies.{Reply, run_reply}
-use Rattle.replay_run.specs.StreamRuns.{StreamRun, named_text, refused_text, scripts_from, scripts_of, stream_opened, stream_step, turned, with_turn, parts_run, stream_run, is_faulty, met_limit, stream_status}
+use Rattle.stream_runs.specs.StreamRuns.{StreamRun, named_text, refused_text, scripts_from, scripts_of, stream_opened, stream_step, turned, with_turn, parts_run, stream_run}
+use Rattle.replay_run.specs.StreamStatuses.{is_faulty, met_limit, stream_status}
 use Rattle.replay_run.specs.StreamPages.{progress_ending, seen_page, seen_standing, IsReadyBy, IsReadyPage}
 use Rattle.replay_run.specs.declared.stream_page.Progress.{Progress}
 use Rattle.replay_run.specs.declared.stream_page.Progress.TheVariants as progresses

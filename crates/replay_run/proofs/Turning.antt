@@ -17,7 +17,7 @@ use Rattle.page_model.specs.Runs.{Said}
 use Rattle.trace_runs.specs.Runs as Run
 use Rattle.trace_runs.specs.Writes.{Says}
 use Rattle.trace_summary.specs.Counts.{IsTrace}
-use Rattle.replay_run.specs.PageRuns.{Standing, Going as GoesOn, Over, Turn, passed, stands_by, went_on, item_line, turn_at}
+use Rattle.stream_runs.specs.PageRuns.{Standing, Going as GoesOn, Over, Turn, passed, stands_by, went_on, item_line, turn_at}
 use Rattle.replay_run.specs.StreamPages.{seen_standing, item_begins, begins}
 use Rattle.replay_run.specs.declared.stream_page.Progress.{Progress}
 use Rattle.replay_run.specs.declared.stream_page.Progress.TheVariants.{Going, Faulty, LimitMet}

@@ -20,7 +20,8 @@ use Rattle.page_stream.specs.Pages.{is_stream, page_line_past}
 use Rattle.replay_run.specs.Certificates.{lint_text}
 use Rattle.replay_run.specs.Stops.{after, last_of, sight_text, tick_count, ticks_text}
 use Rattle.replay_run.specs.Statuses.{status_at}
-use Rattle.replay_run.specs.StreamRuns.{StreamRun, stream_run, stream_status}
+use Rattle.stream_runs.specs.StreamRuns.{StreamRun, stream_run}
+use Rattle.replay_run.specs.StreamStatuses.{stream_status}
 use Rattle.replay_run.specs.declared.status.Status.{Status}
 use Rattle.replay_run.specs.declared.status.Status.TheVariants.{Done, Limit, Differs}
 use Rattle.replay_run.specs.declared.words.Job.{Job}

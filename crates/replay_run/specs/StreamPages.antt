@@ -5,7 +5,7 @@ use Rattle.script_model.specs.Scripts.{handlers_in}
 use Rattle.page_model.specs.World.{World}
 use Rattle.page_model.specs.Outcome as outcomes
 use Rattle.frame_update.specs.Ready.{IsReady}
-use Rattle.replay_run.specs.PageRuns.{PageRun, Standing, Going as GoesOn, Over, item_line}
+use Rattle.stream_runs.specs.PageRuns.{PageRun, Standing, Going as GoesOn, Over, item_line}
 use Rattle.replay_run.specs.declared.stream_page.Progress.{Progress}
 use Rattle.replay_run.specs.declared.stream_page.Progress.TheVariants.{Going, Faulty, LimitMet}
 use Rattle.replay_run.specs.declared.stream_page.StreamPage.{StreamPage}

@@ -12,9 +12,10 @@ ghost use Rattle.trace_text.specs.Seen.{seen_line};
 ghost use Rattle.page_stream.specs.Pages.{pages_of};
 ghost use Rattle.page_stream.specs.Parts.{script_of};
 ghost use Rattle.replay_run.specs.Answers.{Ends, IsTaken, Tells};
-ghost use Rattle.replay_run.specs.PageRuns.{opened};
+ghost use Rattle.stream_runs.specs.PageRuns.{opened};
 ghost use Rattle.replay_run.specs.Replies.{pages_reply, run_reply};
-ghost use Rattle.replay_run.specs.StreamRuns.{named_text, is_faulty, met_limit, parts_run, refused_text, scripts_of, stream_opened, stream_run, stream_status};
+ghost use Rattle.stream_runs.specs.StreamRuns.{named_text, parts_run, refused_text, scripts_of, stream_opened, stream_run};
+ghost use Rattle.replay_run.specs.StreamStatuses.{is_faulty, met_limit, stream_status};
 ghost use Rattle.replay_run.specs.StreamPages.{progress_ending, seen_page, seen_standing, IsReadyPage};
 
 use crate::call::{meet_limit, refuse_text};

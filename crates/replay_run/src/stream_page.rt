@@ -7,8 +7,9 @@ ghost use Rattle.script_syntax.specs.Seen.{item_of};
 ghost use Rattle.page_model.specs.Outcome.{opening_world};
 ghost use Rattle.trace_runs.specs.Writes.{Wrote};
 ghost use Rattle.trace_summary.specs.Counts.{IsTrace};
-ghost use Rattle.replay_run.specs.PageRuns.{item_line, turn_at};
-ghost use Rattle.replay_run.specs.StreamRuns.{is_faulty, met_limit, named_text};
+ghost use Rattle.stream_runs.specs.PageRuns.{item_line, turn_at};
+ghost use Rattle.stream_runs.specs.StreamRuns.{named_text};
+ghost use Rattle.replay_run.specs.StreamStatuses.{is_faulty, met_limit};
 ghost use Rattle.replay_run.specs.StreamPages.{begins, progress_ending, seen_page, IsReadyPage};
 
 use crate::call::write_limit;

@@ -3,7 +3,7 @@ use Rattle.std.specs.Io.KnownBytes.{Appends}
 use Rattle.script_model.specs.Reading.{SyntaxAt, LimitAt, reading}
 use Rattle.script_model.specs.TraceLines.{LimitLine}
 use Rattle.trace_runs.specs.Writes.{Wrote}
-use Rattle.replay_run.specs.StreamRuns.{named_text}
+use Rattle.stream_runs.specs.StreamRuns.{named_text}
 use Rattle.trace_runs.proofs.Writes.{nothing}
 use Rattle.replay_run.proofs.SideBySide.{then_wrote, refused_none, refused_one}
 use Rattle.replay_run.proofs.side_by_side.open_page.Goals as goal

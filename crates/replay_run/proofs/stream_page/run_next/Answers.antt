@@ -2,7 +2,7 @@ use Rattle.std.proofs.Common.{◌≡◌, ◌∙◌, refl, sym, ap, ℕ, ◌<◌,
 use Rattle.std.specs.Prelude.{Some, slice_get}
 use Rattle.script_syntax.specs.Seen.{item_of}
 use Rattle.trace_summary.specs.Gathered.{Gathered}
-use Rattle.replay_run.specs.PageRuns.{Standing, PageRun}
+use Rattle.stream_runs.specs.PageRuns.{Standing, PageRun}
 use Rattle.replay_run.proofs.Turning.{item_there, begins_inside, ended_lines, ended_standing, limit_lines, limit_standing}
 use Rattle.replay_run.proofs.stream_page.run_next.Goals as goal
 

@@ -2,8 +2,8 @@ use Rattle.std.proofs.Common.{◌≡◌, ◌∙◌, refl, sym, ap, subst, ℕ, L
 use Rattle.std.proofs.Common.{rules}
 use Rattle.std.specs.Io.KnownBytes.{Appends}
 use Rattle.trace_runs.proofs.Writes.{nothing}
-use Rattle.replay_run.specs.PageRuns.{Turn, PageRun, turn_at}
-use Rattle.replay_run.specs.StreamRuns.{named_text}
+use Rattle.stream_runs.specs.PageRuns.{Turn, PageRun, turn_at}
+use Rattle.stream_runs.specs.StreamRuns.{named_text}
 use Rattle.replay_run.specs.StreamPages.{begins, seen_standing}
 use Rattle.replay_run.proofs.Turning.{turn_passed}
 use Rattle.replay_run.proofs.NamedLines.{named_nothing}

@@ -1,0 +1,2 @@
+pub mod PageRuns
+pub mod StreamRuns
