@@ -79,7 +79,7 @@ fn first_line(item: &Item) -> u32
 
 // Whether the next item of a page is run at a line.
 fn next_begins(page: &StreamPage, line: u32) -> bool
-    ensures { result ≡ begins line page.now.progress page.now.script page.now.next }
+    ensures { result ≡ begins line page.now.progress page.now.script.items page.now.next }
 {
     match page.progress {
         Progress::Going => match page.script.items().get(page.next) {
@@ -98,7 +98,7 @@ fn run_next<L: Ledger>(
     steps: &mut Steps<L>,
 ) -> Result<GatherSink, RunFault>
     requires ready { IsReadyPage page.old }
-    requires begins { begins line page.old.progress page.old.script page.old.next ≡ true }
+    requires begins { begins line page.old.progress page.old.script.items page.old.next ≡ true }
     ensures lines { IfOk result (λ gathered. IsTrace gathered.taken (turn_at line (seen_page page.old).standing).lines) }
     ensures page { OnOk result (seen_page page.new ≡ record { name = page.old.name; standing = (turn_at line (seen_page page.old).standing).standing }) }
     ensures ready { OnOk result (IsReadyPage page.new) }
@@ -118,9 +118,9 @@ fn run_next<L: Ledger>(
             page.next += 1;
             Ok(gathered)
         }
-        Err(RunFault::Limit { kind, line }) => {
+        Err(RunFault::Limit { kind, line, number }) => {
             page.progress = Progress::LimitMet;
-            match write_limit(alloc, kind, line, &mut gathered) {
+            match write_limit(alloc, kind, line, number, &mut gathered) {
                 Ok(()) => Ok(gathered),
                 Err(_) => Err(RunFault::Memory),
             }

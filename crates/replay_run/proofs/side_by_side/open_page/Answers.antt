@@ -24,5 +24,5 @@ returns-in-Err-ScriptLimit-clause-wrote g c =
     let read = rw c.in-Err-ScriptLimit.field-0-is at c.in-Err-ScriptLimit.ensures in
     subst (λ (text : List ℕ). Wrote c.refuse_page-in-Err-ScriptLimit.result (g.K.Sink.taken c.args.sink.now) (g.K.Sink.taken c.refuse_page-in-Err-ScriptLimit.new.sink) (g.K.Sink.faults c.args.sink.now)
     (g.K.Sink.faults c.refuse_page-in-Err-ScriptLimit.new.sink) text)
-    (ap (λ (number : ℕ). named_text c.args.name (LimitLine c.in-Err-ScriptLimit.kind c.in-Err-ScriptLimit.line number ∷ [])) c.number.ensures
+    (ap (λ (number : ℕ). named_text c.args.name (LimitLine c.in-Err-ScriptLimit.kind c.in-Err-ScriptLimit.line number ∷ [])) c.common.ensures
     ∙ refused_one c.args.name (reading c.args.text) (LimitAt c.in-Err-ScriptLimit.kind c.in-Err-ScriptLimit.line) read) c.refuse_page-in-Err-ScriptLimit.ensures.wrote
