@@ -100,7 +100,7 @@ fn run_alone(
     document: u32,
     sink: &mut MemorySink,
 ) -> Result<(), RunFault> {
-    let Ok(mut page) = Page::new(alloc) else {
+    let Ok(mut page) = Page::new(alloc, script.version()) else {
         return Err(RunFault::Memory);
     };
     let ran = run_text::<Brand>(Blank::new(1), alloc, &mut page, script, document, sink);
@@ -176,6 +176,7 @@ fn a_limit_ends_the_run(rt: HostRuntime) -> Result<(), Fail> {
     let met = Err(RunFault::Limit {
         kind: LimitKind::Depth,
         line: 5,
+        number: 256,
     });
     expect(&rt, rt.alloc(), &text, 0, None, met, "say first\n")
 }
