@@ -225,10 +225,12 @@ fn a_script_has_its_version(rt: HostRuntime) -> Result<(), Fail> {
 /// The bytes of a margin, and of a scroll margin that was given.
 fn margins_of(item: &Item) -> Option<(&[u8], Option<&[u8]>)> {
     match item {
-        Item::Command(Command {
-            what: What::Io(making),
-            ..
-        }) => Some((
+        Item::Command(
+            Command {
+                what: What::Io(making),
+                ..
+            },
+        ) => Some((
             making.margin.as_slice(),
             making.scroll.as_ref().map(MarginText::as_slice),
         )),
@@ -238,7 +240,10 @@ fn margins_of(item: &Item) -> Option<(&[u8], Option<&[u8]>)> {
 
 fn see_margins(rt: &impl Abort, script: &Script, place: usize, margin: &str, scroll: Option<&str>) {
     let margins = script.items().get(place).and_then(margins_of);
-    assert!(rt; margins == Some((margin.as_bytes(), scroll.map(str::as_bytes))), "{margin}");
+    assert!(rt;
+        margins == Some((margin.as_bytes(), scroll.map(str::as_bytes))),
+        "{margin}"
+    );
 }
 
 #[test]
