@@ -74,6 +74,11 @@ places_more default test first (suc place) (x ∷ xs) there =
       | false ↦ rest
     ]
 
+-- the entries of these numbers changed, one after the other
+abbrev pub changed_in_turn : {A : Type 0} → (ℕ → A → A) → List ℕ → List A → List A
+changed_in_turn change [] xs = xs
+changed_in_turn change (n ∷ ns) xs = changed_in_turn change ns (change_at (change n) n xs)
+
 module _ {A : Type 0} (default : A) (test : A → Bool) (change : ℕ → A → A) where
   -- one that passes is changed, by its number
   abbrev pub either : ℕ → A → A
@@ -85,11 +90,6 @@ module _ {A : Type 0} (default : A) (test : A → Bool) (change : ℕ → A → 
 
   abbrev pub firsts : ℕ → List A → List A
   firsts place xs = firsts_from 0 place xs
-
-  -- those of these numbers changed, one after the other
-  abbrev pub changed_in_turn : List ℕ → List A → List A
-  changed_in_turn [] xs = xs
-  changed_in_turn (n ∷ ns) xs = changed_in_turn ns (change_at (change n) n xs)
 
   pub first_at : (first place : ℕ) (xs : List A) → entry_or default (firsts_from first place xs) place ≡ entry_or default xs place
   first_at first zero [] = refl
@@ -119,26 +119,26 @@ module _ {A : Type 0} (default : A) (test : A → Bool) (change : ℕ → A → 
   longer (y ∷ before) x = ap suc (longer before x)
 
   -- those at the places of those that pass are changed
-  each_among : (before xs rest : List A) → changed_in_turn (places_from (length before) test xs) (before ++ (xs ++ rest)) ≡ before ++ (map_from (length before) either xs ++ rest)
+  each_among : (before xs rest : List A) → changed_in_turn change (places_from (length before) test xs) (before ++ (xs ++ rest)) ≡ before ++ (map_from (length before) either xs ++ rest)
   each_among before [] rest = refl
   each_among before (x ∷ xs) rest =
-      let next : (y : A) → changed_in_turn (places_from (suc (length before)) test xs) ((before ++ y ∷ []) ++ (xs ++ rest)) ≡ before ++ (y ∷ (map_from (suc (length before)) either xs ++ rest)) =
+      let next : (y : A) → changed_in_turn change (places_from (suc (length before)) test xs) ((before ++ y ∷ []) ++ (xs ++ rest)) ≡ before ++ (y ∷ (map_from (suc (length before)) either xs ++ rest)) =
       λ y.
-      ap (λ n. changed_in_turn (places_from n test xs) ((before ++ y ∷ []) ++ (xs ++ rest))) (sym (longer before y))
+      ap (λ n. changed_in_turn change (places_from n test xs) ((before ++ y ∷ []) ++ (xs ++ rest))) (sym (longer before y))
       ∙ each_among (before ++ y ∷ []) xs rest
       ∙ append_assoc before (y ∷ []) (map_from (length (before ++ y ∷ [])) either xs ++ rest)
       ∙ ap (λ n. before ++ (y ∷ (map_from n either xs ++ rest))) (longer before y)
       in
-      elim (test x) as (λ is. changed_in_turn (cond is (length before ∷ places_from (suc (length before)) test xs) (places_from (suc (length before)) test xs)) (before ++ (x ∷ (xs ++ rest))) ≡ before ++ (cond is (change (length before) x) x ∷ (map_from (suc (length before)) either xs ++ rest))) [
-        | true ↦ ap (changed_in_turn (places_from (suc (length before)) test xs)) (seam (change (length before)) before x (xs ++ rest)) ∙ next (change (length before) x)
-        | false ↦ ap (changed_in_turn (places_from (suc (length before)) test xs)) (sym (append_assoc before (x ∷ []) (xs ++ rest))) ∙ next x
+      elim (test x) as (λ is. changed_in_turn change (cond is (length before ∷ places_from (suc (length before)) test xs) (places_from (suc (length before)) test xs)) (before ++ (x ∷ (xs ++ rest))) ≡ before ++ (cond is (change (length before) x) x ∷ (map_from (suc (length before)) either xs ++ rest))) [
+        | true ↦ ap (changed_in_turn change (places_from (suc (length before)) test xs)) (seam (change (length before)) before x (xs ++ rest)) ∙ next (change (length before) x)
+        | false ↦ ap (changed_in_turn change (places_from (suc (length before)) test xs)) (sym (append_assoc before (x ∷ []) (xs ++ rest))) ∙ next x
       ]
 
-  pub each_first : (place : ℕ) (xs : List A) → changed_in_turn (places_from 0 test (take place xs)) xs ≡ firsts place xs
-  each_first place xs = ap (changed_in_turn (places_from 0 test (take place xs))) (sym (take-append-drop place xs)) ∙ each_among [] (take place xs) (drop place xs)
+  pub each_first : (place : ℕ) (xs : List A) → changed_in_turn change (places_from 0 test (take place xs)) xs ≡ firsts place xs
+  each_first place xs = ap (changed_in_turn change (places_from 0 test (take place xs))) (sym (take-append-drop place xs)) ∙ each_among [] (take place xs) (drop place xs)
 
-  pub each_place : (xs : List A) → changed_in_turn (places_from 0 test xs) xs ≡ map_from 0 either xs
-  each_place xs = ap (changed_in_turn (places_from 0 test xs)) (sym (append-nil xs)) ∙ each_among [] xs [] ∙ append-nil (map_from 0 either xs)
+  pub each_place : (xs : List A) → changed_in_turn change (places_from 0 test xs) xs ≡ map_from 0 either xs
+  each_place xs = ap (changed_in_turn change (places_from 0 test xs)) (sym (append-nil xs)) ∙ each_among [] xs [] ∙ append-nil (map_from 0 either xs)
 
   at_seam : (before : List A) (x : A) (xs : List A) (n : ℕ) → n ≡ length before → entry_or default (before ++ x ∷ xs) n ≡ x
   at_seam before x xs n is = ap (entry_or default (before ++ x ∷ xs)) is ∙ there before

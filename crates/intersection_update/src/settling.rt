@@ -79,7 +79,14 @@ fn settle_stale<L: Ledger>(
     findings.look(shown, looks, watchers, watcher);
     // It tells that no clip was computed at a touch to come.
     findings.clips();
-    let stale = findings.stale_registrations(shown, looks, watchers, scroll_margins, watcher, steps)?;
+    let stale = findings.stale_registrations(
+        shown,
+        looks,
+        watchers,
+        scroll_margins,
+        watcher,
+        steps,
+    )?;
     let mut queued = false;
     for registration in &stale {
         queued |= findings.settle(

@@ -209,8 +209,12 @@ returns-in_err-queued-clause-computed g c =
     let serial = (get_or names c.loop-registration.registration-index none).0 in
     let now = c.loop-registration.watchers.part in
     let between = spots_between (scene_of shown) (standings_of shown) chained now in
-    computed_asked (scene_of shown) (standings_of shown) now between serial c.args.findings.now.clips c.loop-registration.findings.clips c.settle.new.self.clips c.loop-registration.invariant.computed
+    computed_asked (seen_for now margins serial (scene_of shown)) (standings_of shown) now between serial c.args.findings.now.clips c.loop-registration.findings.clips c.settle.new.self.clips c.loop-registration.invariant.computed
     (c.settle.ensures.clips between (is_between (scene_of shown) (standings_of shown) chained now serial))
+
+pub returns-in_err-queued-clause-room : goal.returns-in_err-queued-clause-room
+returns-in_err-queued-clause-room g c =
+    room_same (length c.args.shown.now.tree.elements) (length c.args.shown.now.tree.documents) c.loop-registration.findings c.settle.new.self c.settle.ensures.seen c.settle.ensures.touches c.loop-registration.invariant.room
 
 pub returns-in_err-queued-clause-looked : goal.returns-in_err-queued-clause-looked
 returns-in_err-queued-clause-looked g c =
