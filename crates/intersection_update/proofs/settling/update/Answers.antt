@@ -197,7 +197,7 @@ returns-clause-settled g c =
     let was : HeldWatchers = c.args.watchers.now in
     let it : HeldWatchers = c.loop-number.watchers in
     let whole : it ≡ record was { part = updated shown margins shown.tree c.args.document c.args.time (was.part) } =
-    all_observers shown shown.tree c.args.document c.args.time was c.loop-number.number it c.loop-number.invariant.kept.rest c.loop-number.invariant.kept.given
+    all_observers shown margins shown.tree c.args.document c.args.time was c.loop-number.number it c.loop-number.invariant.kept.rest c.loop-number.invariant.kept.given
     (omega (arith, c.loop-number.invariant.end, c.loop-number-test.false, c.loop-number.auto.number-end)) c.loop-number.invariant.settled in
     subst (AreSettled shown margins c.args.document was.part) (sym (ap (λ (all : HeldWatchers). all.part) whole))
     (λ watcher place registration. settled_each shown margins c.args.document c.args.time watcher place registration was.part c.tell_serials.ensures)
