@@ -1,7 +1,6 @@
 use Rattle.std.proofs.Common.{◌∷◌, ap, sym, subst, ◌∙◌}
 use Rattle.std.specs.Prelude.{IfSome}
 use Rattle.page_model.specs.Chains.{border_rect, clips_for}
-use Rattle.clip_chain.specs.declared.spot.Spot.{Spot}
 use Rattle.clip_chain.specs.Scenes.{through}
 use Rattle.clip_chain.specs.Chains.{Leads, IsAbove}
 use Rattle.clip_chain.specs.Visible.{part_between}
