@@ -1,2 +1,3 @@
 pub mod PageRuns
 pub mod StreamRuns
+pub mod Alone
