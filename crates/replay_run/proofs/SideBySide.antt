@@ -317,7 +317,7 @@ ending-seen progresses.LimitMet script k world = refl
 any-seen : (test : Ending → Bool) (pages : List StreamPage) → list_any (λ page. test (ending_at page.standing)) (map seen_page pages) ≡ list_any (λ page. test (progress_ending page.progress)) pages
 any-seen test [] = refl
 any-seen test (p ∷ ps) =
-    ap (λ ending. test ending || list_any (λ page. test (ending_at page.standing)) (map seen_page ps)) (ending-seen p.progress p.script p.next p.page.world)
+    ap (λ ending. test ending || list_any (λ page. test (ending_at page.standing)) (map seen_page ps)) (ending-seen p.progress p.script.items p.next p.page.world)
     ∙ ap (λ others. test (progress_ending p.progress) || others) (any-seen test ps)
 
 pub status_seen : (pages : List StreamPage) → stream_status (map seen_page pages)
