@@ -467,14 +467,20 @@ fn see_sizes(rt: &impl Abort, laid: &mut LaidTree, screen: Screen, sizes: [(i64,
     }
 }
 
+fn screen_of(is_narrow: bool) -> Screen
+    ensures { IsScreen result }
+{
+    if is_narrow { NARROW } else { WIDE }
+}
+
 fn see_changes(rt: &impl Abort, laid: &mut LaidTree) {
-    let mut screen = WIDE;
+    let mut is_narrow = false;
     for (change, sizes) in CHANGES {
         if let Change::Narrow = change {
-            screen = NARROW;
+            is_narrow = true;
         }
         apply(rt, laid, change);
-        see_sizes(rt, laid, screen, sizes);
+        see_sizes(rt, laid, screen_of(is_narrow), sizes);
     }
 }
 
