@@ -172,6 +172,8 @@ def read_script(text):
             reader.take(number, bare, words)
         elif words == ['script', '1']:
             started = True
+        elif words == ['script', '2']:
+            raise Refused("line %d: scripts of version 2, with ratios of device pixels and scroll margins, aren't run in browsers yet" % number)
         else:
             raise Refused("line %d: the first line with words is to be 'script 1'" % number)
     if not started:

@@ -55,7 +55,7 @@ def _tried(text, errors):
     told = []
     try:
         with time_limit(SECONDS):
-            page = Page(grammar.parse(text, available.VERSIONS), lambda text, line, about: told.append(about))
+            page = Page(grammar.parse(text, available.LANGUAGE), lambda text, line, about: told.append(about))
             status = program.DONE if page.run() else program.LIMIT
     except (Fault, TextLimit, TooLong):
         return []

@@ -81,7 +81,7 @@ def _unfit(fault, script):
     if cause.wanted is None:
         return explained + _unknown_command(word, cause.first_words, _version(script))
     if _is_first_word(cause) or cause.wanted.keywords in (('1',), ('1', '2')):
-        return explained + _first_line(word, cause)
+        return explained + _first_line(cause)
     find = hints.wrong_with_value if cause.wanted.shown == 'VALUE' else hints.wrong_with
     found = find(word, cause.wanted)
     if cause.wanted.shown == 'PROPERTY':
@@ -107,14 +107,11 @@ def _unknown_command(word, known, version):
     return explained + ['A line begins with one of: %s.' % ', '.join(known)]
 
 
-def _first_line(word, cause):
+def _first_line(cause):
     if _is_first_word(cause):
-        return ['The first line with words is `script 1`; comments and empty lines may stand before it.']
+        return ['The first line with words is `script 1` or `script 2`; comments and empty lines may stand before it.']
     versions = ' or '.join(['`%d`' % version for version in available.VERSIONS])
-    explained = ['Wanted is a version of the language: %s.' % versions]
-    if word == '2':
-        explained.append('The reference program reads version 2 already: tools/reference/replay.')
-    return explained
+    return ['Wanted is a version of the language: %s.' % versions]
 
 
 def _too_many(fault, script):
@@ -173,7 +170,7 @@ def _left_open(fault, script):
 
 
 def _no_first_line(fault, script):
-    return ['The script has no line with words. The first one is `script 1`.']
+    return ['The script has no line with words. The first one is `script 1` or `script 2`.']
 
 
 _BY_CAUSE = {

@@ -2,7 +2,7 @@
 import difflib
 import re
 
-from reference import available, forms, styles
+from reference import available, forms
 
 
 def close(word, words, most=3):
@@ -13,11 +13,12 @@ def close(word, words, most=3):
 
 def of_version_2(word):
     """A sentence on a word of version 2, or None."""
-    if word not in ('ratio', 'device') and word not in set(styles.known(2)) - set(styles.known(1)):
-        return None
-    if 2 in available.VERSIONS:
+    if word in available.LANGUAGE.without:
+        return ("`%s` the proved program doesn't have yet; the reference program reads it in version 2 of the language: "
+                'tools/reference/replay.' % word)
+    if word in ('ratio', 'device'):
         return '`%s` is of version 2 of the language; such a script begins with `script 2`.' % word
-    return "`%s` is of version 2 of the language, which the proved program doesn't have yet." % word
+    return None
 
 
 def wrong_with(word, form):

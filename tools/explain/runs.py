@@ -77,7 +77,7 @@ class Reference:
 
     def _run(self, text):
         try:
-            self.script = grammar.parse(text, available.VERSIONS)
+            self.script = grammar.parse(text, available.LANGUAGE)
         except (Fault, TextLimit) as refused:
             self.told.append(Told(refused.text(), refused.line, refused))
             self.status = program.SYNTAX if isinstance(refused, Fault) else program.LIMIT

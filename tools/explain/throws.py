@@ -15,7 +15,8 @@ _RULES = {
                              'element (DOM, 4.2.3).',
     'NotFoundError': 'The sibling that `before` names must be a child of the parent that it names (DOM, 4.2.3).',
     'SyntaxError': 'A margin has up to four parts, each a SIGNED length or a percentage with its unit, also `0px` '
-                   '(Intersection Observer, 2.2). It is read before the thresholds.',
+                   '(Intersection Observer, 2.2). It is read before a scroll margin, which version 2 of the language has, and before '
+                   'the thresholds.',
     'RangeError': None,
 }
 _OWN_RULES = {

@@ -25,6 +25,5 @@ proof rests on it. Each module follows one part of the rules, in the plainest wa
     shrinking     cuts a script down while something still holds of it
     random_scripts  random scripts by kind
 
-Version 2 of the language the proved program doesn't have yet: positions and insets, the pixel ratio, the box `device` and scroll margins.
-`available` says what the proved program has.
+Positions and insets, which are of version 2 of the language, the proved program doesn't have yet. `available` says what it has.
 """

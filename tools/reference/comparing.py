@@ -71,10 +71,10 @@ def _answer(lines, status):
     return Answer(''.join([line + '\n' for line in lines]).encode(), status)
 
 
-def short_replay(text, versions):
+def short_replay(text, language):
     """The reference's trace of a script; raises TooLong."""
     try:
-        script = grammar.parse(text, versions)
+        script = grammar.parse(text, language)
     except (Fault, TextLimit) as refused:
         return [refused.text()], program.SYNTAX if isinstance(refused, Fault) else program.LIMIT
     lines = []
@@ -82,14 +82,14 @@ def short_replay(text, versions):
     return lines, program.DONE if page.run() else program.LIMIT
 
 
-def reference_answer(words, text, versions):
+def reference_answer(words, text, language):
     """What the reference answers, or None where that takes long. That it fails is an answer too."""
     try:
         with time_limit(MOST_SECONDS):
             if words and words[0] in ('--pages', '--judge', '--lint', '--check'):
-                return _answer(*program.answer(words, lambda: text, versions))
-            lines, status = short_replay(text, versions)
-            return _answer(lines, status) if not words else _answer(*program.answer(words, lambda: text, versions))
+                return _answer(*program.answer(words, lambda: text, language))
+            lines, status = short_replay(text, language)
+            return _answer(lines, status) if not words else _answer(*program.answer(words, lambda: text, language))
     except TooLong:
         return None
     except Exception as fault:
@@ -108,10 +108,10 @@ def program_answer(command, words, text):
 class Case:
     """A random script with the words it is run with, and what the reference answers."""
 
-    def __init__(self, kind, seed, version, versions):
-        self.kind, self.seed, self.version, self.versions = kind, seed, version, versions
-        for self.words, self.text in random_scripts.candidates(kind, seed, version, self._trace):
-            self.wanted = reference_answer(self.words, self.text, versions)
+    def __init__(self, kind, seed, version, language):
+        self.kind, self.seed, self.version, self.language = kind, seed, version, language
+        for self.words, self.text in random_scripts.candidates(kind, seed, version, self._trace, language.without):
+            self.wanted = reference_answer(self.words, self.text, language)
             if self.wanted is not None:
                 return
         raise ValueError('%s %d: no candidate ends soon' % (kind, seed))
@@ -119,7 +119,7 @@ class Case:
     def _trace(self, text):
         try:
             with time_limit(MOST_SECONDS):
-                return short_replay(text, self.versions)[0]
+                return short_replay(text, self.language)[0]
         except TooLong:
             return None
 
@@ -127,7 +127,7 @@ class Case:
         return program_answer(command, self.words, self.text) != self.wanted
 
     def still_differs(self, command, text):
-        wanted = reference_answer(self.words, text, self.versions)
+        wanted = reference_answer(self.words, text, self.language)
         return wanted is not None and program_answer(command, self.words, text) != wanted
 
 

@@ -92,8 +92,8 @@ SCROLL_MARGIN = Form('WORD*', None, 'the words of a scroll margin')
 THRESHOLDS = Form('NUMBER*', None, 'thresholds')
 
 
-def property_form(version):
-    names = styles.known(version)
+def property_form(version, without=()):
+    names = styles.known(version, without)
 
     def read(word):
         text = word.decode('ascii', 'replace')

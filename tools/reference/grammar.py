@@ -84,6 +84,16 @@ class Handler:
         self.line, self.name, self.commands = line, name, []
 
 
+class Language:
+    """What is known of the language: these versions, and all of their properties but those in `without`."""
+
+    def __init__(self, versions=(1, 2), without=()):
+        self.versions, self.without = versions, without
+
+
+WHOLE = Language()
+
+
 class Script:
     def __init__(self):
         self.version = 0
@@ -181,9 +191,9 @@ class Words:
             raise self.fault(TooMany(self.next()))
 
 
-def _read_set(words, version):
+def _read_set(words, version, without):
     node = words.operand(ELEMENT_NODE)
-    property_ = words.operand(forms.property_form(version))
+    property_ = words.operand(forms.property_form(version, without))
     return (node, property_, words.operand(forms.value_form(property_.value)))
 
 
@@ -240,8 +250,8 @@ def _read_condition(words):
     return turned, asked, tuple([words.operand(form) for form in CONDITIONS[asked]])
 
 
-def read_command(words, version):
-    """The command of a line whose first word is looked at next."""
+def read_command(words, version, without=()):
+    """The command of a line whose first word is looked at next; these properties aren't known."""
     name = words.next().decode('ascii')
     words.at = 1
     if name == 'when':
@@ -249,7 +259,7 @@ def read_command(words, version):
         command = Command(words.number, name, operands)
         command.turned, command.condition = turned, asked
     elif name == 'set':
-        command = Command(words.number, name, _read_set(words, version))
+        command = Command(words.number, name, _read_set(words, version, without))
     elif name == 'io':
         command = Command(words.number, name, _read_intersection_observer(words, version))
     elif name == 'media':
@@ -268,7 +278,7 @@ def form_of(name, version):
     """A command's form as docs/SCRIPT.md writes it; of `when` there is one for each condition."""
     if name == 'when':
         return [' '.join(['when [not] ' + asked] + [form.shown for form in operands]) for asked, operands in CONDITIONS.items()]
-    special = {'handler': 'handler NAME', 'end': 'end', 'script': 'script 1', 'set': 'set NODE PROPERTY VALUE',
+    special = {'handler': 'handler NAME', 'end': 'end', 'script': 'script %d' % version, 'set': 'set NODE PROPERTY VALUE',
                'media': 'media NAME DOC QUERY',
                'io': 'io NAME DOC HANDLER root NODE margin WORD* %sthreshold NUMBER*' % (
                    '' if version == 1 else '[scroll WORD*] ')}
@@ -294,12 +304,12 @@ class _Open:
 class _Reader:
     """Takes the lines with words in order."""
 
-    def __init__(self, versions):
-        self.versions, self.script, self.open = versions, Script(), []
+    def __init__(self, language):
+        self.language, self.script, self.open = language, Script(), []
 
     def first_line(self, words):
         words.take(forms.keywords('script'))
-        self.script.version = int(words.take(forms.keywords(*[str(version) for version in self.versions])))
+        self.script.version = int(words.take(forms.keywords(*[str(version) for version in self.language.versions])))
         words.end()
 
     def line(self, words):
@@ -339,7 +349,7 @@ class _Reader:
         self.open.pop()
 
     def command(self, words):
-        command = read_command(words, self.script.version)
+        command = read_command(words, self.script.version, self.language.without)
         commands = self.open[-1].commands if self.open else self.script.commands
         commands.append(command)
         self.script.count += 1
@@ -351,10 +361,10 @@ class _Reader:
             self.open.append(_Open('block', words.number, command.body))
 
 
-def parse(text, versions=(1, 2)):
-    """The script of these bytes, in one of these versions of the language."""
+def parse(text, language=WHOLE):
+    """The script of these bytes, as far as the language is known."""
     check_size(text)
-    reader = _Reader(versions)
+    reader = _Reader(language)
     for number, line, ended in lines_of(text):
         check_bytes(number, line, ended)
         words = Words(number, line)

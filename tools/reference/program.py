@@ -1,6 +1,6 @@
 """The words of the command line and the statuses (docs/TRACE.md, 'Words' and 'Statuses').
 
-A word's job is given the bytes of the source and the versions of the language that it knows, and answers the lines to be
+A word's job is given the bytes of the source and what is known of the language, and answers the lines to be
 written, and the status. The whole answer is made before anything is written.
 """
 import os
@@ -27,7 +27,7 @@ The rules of docs/ as a second, plain program. It writes what the proved program
   --generate N       writes the script of a number, 0 to 1000000: a list of lazily loaded cards
   --generate-run N   replays the script of a number, and writes its summary
 
-Version 2 of the language (a first line `script 2`) the proved program doesn't have yet.
+Positions and insets (`set NODE position ..` in version 2 of the language) the proved program doesn't have yet.
 '''
 
 
@@ -39,43 +39,43 @@ class Refused(Exception):
         self.status, self.line = status, line
 
 
-def read_script(text, versions):
+def read_script(text, language):
     try:
-        return grammar.parse(text, versions)
+        return grammar.parse(text, language)
     except Fault as fault:
         raise Refused(SYNTAX, fault.text()) from fault
     except TextLimit as limit:
         raise Refused(LIMIT, limit.text()) from limit
 
 
-def replay(text, versions):
+def replay(text, language):
     """The trace of a script."""
     lines = []
-    page = Page(read_script(text, versions), lambda line, script_line, about: lines.append(line))
+    page = Page(read_script(text, language), lambda line, script_line, about: lines.append(line))
     return lines, DONE if page.run() else LIMIT
 
 
-def check(text, versions):
-    return ['ok %d' % read_script(text, versions).count], DONE
+def check(text, language):
+    return ['ok %d' % read_script(text, language).count], DONE
 
 
-def summary(text, versions):
-    read_script(text, versions)
-    lines, status = replay(text, versions)
+def summary(text, language):
+    read_script(text, language)
+    lines, status = replay(text, language)
     counts = dict.fromkeys(trace.KINDS, 0)
     for line in lines:
         counts[line.split(' ', 1)[0]] += 1
     return ['%s %d' % (kind, counts[kind]) for kind in trace.KINDS], status
 
 
-def lint_script(text, versions):
-    return lint.verdicts(read_script(text, versions)), DONE
+def lint_script(text, language):
+    return lint.verdicts(read_script(text, language)), DONE
 
 
-def _page_after(text, versions, ticks):
+def _page_after(text, language, ticks):
     """The page as the tick of this number ends."""
     lines = []
-    script = read_script(text, versions)
+    script = read_script(text, language)
     page = Page(script, lambda line, script_line, about: lines.append(line))
     seen = 0
     for command in script.commands:
@@ -87,29 +87,29 @@ def _page_after(text, versions, ticks):
     raise Refused(DONE, 'ticks %d' % seen)
 
 
-def inspect(text, versions, ticks):
-    return inspector.boxes(_page_after(text, versions, ticks).world), DONE
+def inspect(text, language, ticks):
+    return inspector.boxes(_page_after(text, language, ticks).world), DONE
 
 
-def hit(text, versions, ticks, left, top):
-    return inspector.hits(_page_after(text, versions, ticks).world, left, top), DONE
+def hit(text, language, ticks, left, top):
+    return inspector.hits(_page_after(text, language, ticks).world, left, top), DONE
 
 
-def judge_trace(text, versions):
+def judge_trace(text, language):
     if len(text) > judge.MOST_RECORDED:
         return ['limit recorded %d %d' % (1 + text.count(b'\n', 0, judge.MOST_RECORDED), judge.MOST_RECORDED)], LIMIT
     script, recorded = judge.parts(text)
     try:
-        expected = replay(script, versions)[0]
+        expected = replay(script, language)[0]
     except Refused as refused:
         expected = [refused.line]
     answer = judge.verdict([line.encode() + b'\n' for line in expected], judge.split_after_line_feeds(recorded))
     return [answer], DONE if answer.startswith('equal') else DIFFERS
 
 
-def pages(text, versions):
+def pages(text, language):
     try:
-        lines, endings = streams.run(text, versions)
+        lines, endings = streams.run(text, language)
     except streams.Refused as refused:
         return [refused.line], SYNTAX if refused.line.startswith('syntax') else LIMIT
     return lines, SYNTAX if 'syntax' in endings else LIMIT if 'limit' in endings else DONE
@@ -135,12 +135,12 @@ def plan(words):
         return _plan_generated(words[0], _whole(words[1], 0, generator.MOST))
     if len(words) == 2 and words[0] == '--inspect':
         ticks = _whole(words[1], 1, 1000000)
-        return None if ticks is None else (True, lambda text, versions: inspect(text, versions, ticks))
+        return None if ticks is None else (True, lambda text, language: inspect(text, language, ticks))
     if len(words) == 4 and words[0] == '--hit':
         ticks = _whole(words[1], 1, 1000000)
         left, top = lengths.read_signed(words[2].encode()), lengths.read_signed(words[3].encode())
         if None not in (ticks, left, top):
-            return True, lambda text, versions: hit(text, versions, ticks, left, top)
+            return True, lambda text, language: hit(text, language, ticks, left, top)
     return None
 
 
@@ -148,18 +148,18 @@ def _plan_generated(word, number):
     if number is None:
         return None
     if word == '--generate':
-        return False, lambda text, versions: (generator.script(number).decode().splitlines(), DONE)
-    return False, lambda text, versions: summary(generator.script(number), versions)
+        return False, lambda text, language: (generator.script(number).decode().splitlines(), DONE)
+    return False, lambda text, language: summary(generator.script(number), language)
 
 
-def answer(words, read, versions=(1, 2)):
+def answer(words, read, language=grammar.WHOLE):
     """(lines, status); `read` gives the bytes of the source."""
     planned = plan(words)
     if planned is None:
         return [], USAGE
     reads, job = planned
     try:
-        return job(read() if reads else b'', versions)
+        return job(read() if reads else b'', language)
     except Refused as refused:
         return [refused.line], refused.status
 

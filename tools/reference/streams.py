@@ -49,14 +49,14 @@ def split(text):
     return pages
 
 
-def run(text, versions):
+def run(text, language):
     """The lines written, each with its page's name before it, and whether a page was no script or met a limit."""
     written, endings, waiting = [], set(), []
     for name, lines in split(text).items():
         def write(line, script_line=0, about=None, name=name):
             written.append('%s %s' % (name, line))
         try:
-            script = grammar.parse(b''.join([line for _, line in lines]), versions)
+            script = grammar.parse(b''.join([line for _, line in lines]), language)
         except (Fault, TextLimit) as refused:
             write(refused.text())
             endings.add('syntax' if isinstance(refused, Fault) else 'limit')

@@ -1,10 +1,12 @@
-"""Style properties and their values (docs/SCRIPT.md, 'Style properties'); `position` and the insets are of version 2.
+"""Style properties and their values (docs/SCRIPT.md, 'Style properties'); `position` and the insets are of version 2, and not of
+what the proved program has (`available`).
 
 A form of values says how docs/SCRIPT.md writes it and answers None for a word that isn't of it.
 """
 from .lengths import AUTO, NONE, read_length, read_percent, read_signed, read_signed_percent
 
 SIDES = ('top', 'right', 'bottom', 'left')
+POSITIONED = ('position',) + SIDES
 ZERO = ('px', 0)
 
 
@@ -84,6 +86,6 @@ PROPERTIES = _properties()
 FIRST_VALUES = _first_values()
 
 
-def known(version):
-    """The names of the properties of a version of the language."""
-    return [name for name, row in PROPERTIES.items() if row.version <= version]
+def known(version, without=()):
+    """The names of the properties of a version of the language, but these."""
+    return [name for name, row in PROPERTIES.items() if row.version <= version and name not in without]

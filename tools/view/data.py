@@ -38,7 +38,7 @@ def of(text, name, tick=None, say=lambda sentence: None):
 
 def _recorded(text, tick, say):
     try:
-        script = grammar.parse(text, available.VERSIONS)
+        script = grammar.parse(text, available.LANGUAGE)
     except (Fault, TextLimit):
         return None
     count = sum([command.name == 'tick' for command in script.commands])

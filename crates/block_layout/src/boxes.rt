@@ -42,14 +42,15 @@ impl Model for BoxOf {
 }
 
 impl BoxOf {
-    /// The size of the content box or of the border box.
+    /// The size of the content box or of the border box. Device pixels are counted from the size of the content box, which it is then.
     pub fn size(&self, kind: BoxKind) -> Size
         ensures content { kind ≡ BoxKind.Content → result ≡ as_size (content_size self.now) }
         ensures border { kind ≡ BoxKind.Border → result ≡ as_size (border_size self.now) }
+        ensures device { kind ≡ BoxKind.Device → result ≡ as_size (content_size self.now) }
         ensures range { IsBox self.now }
     {
         match kind {
-            BoxKind::Content => self.content_extent().size(),
+            BoxKind::Content | BoxKind::Device => self.content_extent().size(),
             BoxKind::Border => self.border_extent().size(),
         }
     }

@@ -518,6 +518,7 @@ fn see_box(rt: &impl Abort, alloc: Global, row: BoxRow) -> Result<(), Fail> {
     let found = computed::<Brand>(Blank::new(1), &item, inputs, inside);
     let line = line_of(alloc, &item, inputs, &found)?;
     assert_eq!(rt; line.as_str(), wanted, "{declarations}");
+    assert_eq!(rt; found.size(BoxKind::Device), found.size(BoxKind::Content));
     Ok(())
 }
 

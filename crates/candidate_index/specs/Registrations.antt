@@ -1,5 +1,5 @@
 -- Registrations by their serial numbers: what is found of their targets, and what is asked of whoever holds their clips.
-use Rattle.std.specs.Prelude.{◌≡◌, ℕ, List, map, unwrap_or}
+use Rattle.std.specs.Prelude.{◌≡◌, ℕ, false, List, map, unwrap_or}
 use Rattle.page_model.specs.World.{Root, Finding, Registration, IntersectionObserver, IntersectionObservers}
 use Rattle.page_model.specs.Lookups.{intersection_observer_at}
 use Rattle.clip_chain.specs.declared.spot.Spot.{Spot}
@@ -65,3 +65,7 @@ pub record HasClip (scene : Scene) (clips : HeldClips) (serial : ℕ) (root : Ro
 abbrev pub IsReady : Scene → (Root → ℕ → Standing) → IntersectionObservers → HeldClips → ℕ → Type 0
 IsReady scene standings it clips serial =
     IfChained (standing_for standings it serial) (HasClip scene clips serial (observer_of it serial).root (target_of it serial))
+
+-- scroll margins didn't move the clip of its observer's root
+abbrev pub IsRootUnmoved : Scene → IntersectionObservers → ℕ → Type 0
+IsRootUnmoved scene it serial = scene.moved (spot_of_root (observer_of it serial).root) ≡ false

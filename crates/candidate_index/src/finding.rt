@@ -1,6 +1,6 @@
 //! What is found of a target, and from what.
 
-ghost use Rattle.std.specs.Prelude.{◌≡◌, ◌+◌, ℕ, List, IfSome};
+ghost use Rattle.std.specs.Prelude.{◌≡◌, ◌+◌, ℕ, List, false, IfSome};
 ghost use Rattle.page_model.specs.World.{Root as ModelRoot};
 ghost use Rattle.page_model.specs.Chains.{moved_out};
 ghost use Rattle.page_model.specs.Findings.{unseen};
@@ -16,7 +16,7 @@ ghost use Rattle.thresholds.specs.Areas.{LiesIn};
 ghost use Rattle.candidate_index.specs.Ranges.{HasBoundsIn, HasBounds};
 ghost use Rattle.candidate_index.specs.Findings.{cut_to, seen, found_from, sight_over};
 ghost use Rattle.thresholds.specs.Roots.{IsNear};
-ghost use Rattle.candidate_index.specs.Registrations.{observer_of, basis_for, IfChained, HasClip, IsReady, IsBetween};
+ghost use Rattle.candidate_index.specs.Registrations.{observer_of, basis_for, IfChained, HasClip, IsReady, IsBetween, IsRootUnmoved};
 ghost use Rattle.candidate_index.specs.Asked.{asked_if, steps_if, asked_for, steps_for};
 
 use crate::{Basis, Scene, Sight, Standing};
@@ -49,6 +49,7 @@ pub(crate) fn spot_of_root(root: Root) -> Spot
 
 // The root rectangle, moved by the margins.
 fn limits_of<G: Geometry>(scene: &G, root: Root, margins: &Margins) -> Rect
+    requires { (G.scene scene.now).moved (spot_of_root (seen_root root)) ≡ false }
     ensures value { result ≡ moved_out margins.now (root_bounds (G.scene scene.now) (spot_of_root (seen_root root))) }
     ensures near { IsNear (root_bounds (G.scene scene.now) (spot_of_root (seen_root root))) result }
 {
@@ -95,6 +96,7 @@ pub(crate) fn basis_of<S: Scene, L: Ledger>(
 ) -> Basis
     requires standing { IsStanding registration.0 watchers.now.part }
     requires ready { IsReady (S.scene scene.now) (S.standings scene.now) watchers.now.part clips.old registration.0 }
+    requires unmoved { IsRootUnmoved (S.scene scene.now) watchers.now.part registration.0 }
     ensures basis { (between : ℕ → List SpotOf) → IsBetween (S.scene scene.now) (S.standings scene.now) watchers.now.part between registration.0 →
         result ≡ basis_for (S.scene scene.now) (S.standings scene.now) watchers.now.part registration.0 (between registration.0) }
     ensures clips { (between : ℕ → List SpotOf) → IsBetween (S.scene scene.now) (S.standings scene.now) watchers.now.part between registration.0 →

@@ -7,7 +7,7 @@ ghost use Rattle.clip_chain.specs.declared.spot.Spot.{Spot as SpotOf};
 ghost use Rattle.intersection_observer.specs.Places.{IsStanding};
 ghost use Rattle.intersection_observer.specs.Seen.{seen_finding, serial_numbers};
 ghost use Rattle.kept_clips.specs.Chains.{IsExact};
-ghost use Rattle.candidate_index.specs.Registrations.{observer_of, serials_at, basis_for, finding_for, IsReady, IsBetween};
+ghost use Rattle.candidate_index.specs.Registrations.{observer_of, serials_at, basis_for, finding_for, IsReady, IsBetween, IsRootUnmoved};
 ghost use Rattle.candidate_index.specs.Asked.{asked_for, steps_for, all_asked, all_steps};
 ghost use Rattle.candidate_index.specs.Held.{kept_of, IsAdded, is_stale, is_stale_now, AreFound};
 ghost use Rattle.candidate_index.specs.Ranges.{IsPlaced};
@@ -133,6 +133,7 @@ impl Index {
     ) -> Result<Vec<RegistrationId>, AllocError>
         requires made { watcher.0 < length watchers.now.part.made }
         requires ready { All (IsReady (S.scene scene.now) (S.standings scene.now) watchers.now.part clips.old) (serials_at watchers.now.part watcher.0) }
+        requires unmoved { All (IsRootUnmoved (S.scene scene.now) watchers.now.part) (serials_at watchers.now.part watcher.0) }
         ensures stale { (between : ℕ → List SpotOf) → All (IsBetween (S.scene scene.now) (S.standings scene.now) watchers.now.part between) (serials_at watchers.now.part watcher.0) →
             IfOk result (λ stale. serial_numbers stale.items
             ≡ filter (is_stale_now (S.scene scene.now) (S.standings scene.now) watchers.now.part between self.now) (serials_at watchers.now.part watcher.0)) }
@@ -165,6 +166,7 @@ impl Index {
     )
         requires standing { IsStanding registration.0 watchers.now.part }
         requires ready { IsReady (S.scene scene.now) (S.standings scene.now) watchers.now.part clips.old registration.0 }
+        requires unmoved { IsRootUnmoved (S.scene scene.now) watchers.now.part registration.0 }
         requires room { vec_len stale.old < vec_capacity stale.old }
         ensures stale { (between : ℕ → List SpotOf) → IsBetween (S.scene scene.now) (S.standings scene.now) watchers.now.part between registration.0 →
             serial_numbers stale.new.items ≡ serial_numbers stale.old.items ++ filter (is_stale_now (S.scene scene.now) (S.standings scene.now) watchers.now.part between self.now) (registration.0 ∷ []) }
@@ -209,6 +211,7 @@ impl Index {
         requires standing { IsStanding registration.0 watchers.now.part }
         requires added { IsAdded self.old registration.0 }
         requires ready { IsReady (S.scene scene.now) (S.standings scene.now) watchers.now.part clips.old registration.0 }
+        requires unmoved { IsRootUnmoved (S.scene scene.now) watchers.now.part registration.0 }
         ensures finding { (between : ℕ → List SpotOf) → IsBetween (S.scene scene.now) (S.standings scene.now) watchers.now.part between registration.0 →
             seen_finding result ≡ finding_for (S.scene scene.now) (S.standings scene.now) watchers.now.part registration.0 (between registration.0) }
         ensures kept { (between : ℕ → List SpotOf) → IsBetween (S.scene scene.now) (S.standings scene.now) watchers.now.part between registration.0 →

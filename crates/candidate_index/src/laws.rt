@@ -4,10 +4,11 @@
 ghost use Rattle.std.specs.Prelude.{◌≡◌, ◌↔◌, ℕ, List, Option, IsSome, IfSome, true, false};
 ghost use Rattle.std.specs.Ordering.{nat_cmp};
 ghost use Rattle.std.specs.FinMap.{FinMap};
+ghost use Rattle.script_model.specs.Margins.{Margins};
 ghost use Rattle.page_model.specs.Shown.{Shown};
 ghost use Rattle.page_model.specs.World.{Root, IntersectionObserver, IntersectionObservers};
 ghost use Rattle.page_model.specs.Findings.{relation, finding};
-ghost use Rattle.clip_chain.specs.Worlds.{scene_of};
+ghost use Rattle.clip_chain.specs.Worlds.{scene_for};
 ghost use Rattle.clip_chain.specs.declared.spot.Spot.{Spot as SpotOf};
 ghost use Rattle.clip_chain.specs.Scenes.{Scene as SceneOf};
 ghost use Rattle.intersection_observer.specs.Seen.{seen_finding};
@@ -29,11 +30,11 @@ pub fn what_is_not_stale_is_found_as_it_was()
         IsSome (kept_of kept serial) × IfSome (kept_of kept serial) (λ last. seen_finding last.finding ≡ finding_for scene standings it serial (between serial)) }
 {}
 
-/// In any world, what is found over its containers, clips and boxes by how the target lies to the root is the world's finding, once
-/// the target's box and what is seen of it are told in the coordinates of the target's document, and the root rectangle in those
-/// of the root's.
+/// In any world, what is found over its containers, clips and boxes, as an observer with these scroll margins sees them, by how the
+/// target lies to the root is the world's finding, once the target's box and what is seen of it are told in the coordinates of the
+/// target's document, and the root rectangle in those of the root's.
 pub fn findings_are_those_of_any_world()
-    ensures { (shown : Shown) (observer : IntersectionObserver) (target : ℕ) (between : List SpotOf) →
+    ensures { (shown : Shown) (margins : Margins) (observer : IntersectionObserver) (target : ℕ) (between : List SpotOf) →
         IfChained (standing_in (relation shown observer.root target)) (IsChain shown observer.root target between) →
-        finding shown observer target ≡ told shown observer target (relation shown observer.root target) (finding_over (scene_of shown) (standing_in (relation shown observer.root target)) observer target between) }
+        finding shown margins observer target ≡ told shown observer target (relation shown observer.root target) (finding_over (scene_for shown observer.root margins) (standing_in (relation shown observer.root target)) observer target between) }
 {}

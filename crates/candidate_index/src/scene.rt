@@ -3,7 +3,7 @@
 ghost use Rattle.std.specs.Prelude.{◌≡◌};
 ghost use Rattle.intersection_observer.specs.Seen.{seen_root};
 
-use clip_chain::Geometry;
+use clip_chain::{Geometry, Scrolls, Through};
 use element_tree::NodeId;
 use intersection_observer::Root;
 
@@ -31,4 +31,13 @@ pub trait Scene: Geometry {
     /// How a target stands to a root.
     fn standing(&self, root: Root, target: NodeId) -> Standing
         ensures { result ≡ standings self.now (seen_root root) target.0 };
+}
+
+// Scroll margins leave alone how targets stand to roots.
+impl<S: Scene + Scrolls> Scene for Through<'_, S> {
+    ghost standings = { λ it. S.standings it.geometry.now };
+
+    fn standing(&self, root: Root, target: NodeId) -> Standing {
+        self.geometry.standing(root, target)
+    }
 }

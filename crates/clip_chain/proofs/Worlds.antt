@@ -1,19 +1,22 @@
 -- Chains in a world.
 use Rattle.std.proofs.Common.{◌≡◌, ◌∙◌, ℕ, zero, suc, ◌≤◌, Bool, true, false, cond, List, [], ◌∷◌, length, Option, Some, None, ap, sym, refl, subst, arith}
-use Rattle.std.specs.Prelude.{not, filter_map, take_while, option_map, ◌==◌}
+use Rattle.std.specs.Prelude.{not, ◌&&◌, filter_map, take_while, option_map, ◌==◌}
 use Rattle.std.specs.List.{cons_option}
 use Rattle.std.proofs.lemmas.List.Sums.{take_while-cons}
 use Rattle.std.proofs.lemmas.Bool.{eqb-true}
 use Rattle.px_units.specs.declared.Rect.{Rect}
+use Rattle.script_model.specs.Margins.{Margins}
 use Rattle.page_model.specs.World.{Root, ImplicitRoot, DocumentRoot, ElementRoot}
 use Rattle.page_model.specs.Documents.{Container, InElement, InDocument}
 use Rattle.page_model.specs.Shown.{Shown}
-use Rattle.page_model.specs.Chains.{containers_by, containers_from, container_beyond, most_containers, is_root, clip_of, clips_between, border_rect, zero_rect, common_part}
+use Rattle.page_model.specs.Chains.{containers_by, containers_from, container_beyond, most_containers, is_root, containers_between, clip_of, has_scroll_margins, clip_for, clips_between, clips_for, moved_out, border_rect, zero_rect, common_part}
 use Rattle.clip_chain.specs.declared.spot.Spot.{Spot}
 use Rattle.clip_chain.specs.declared.spot.Spot.TheVariants.{Node, View}
 use Rattle.clip_chain.specs.Chains.{Leads}
+use Rattle.clip_chain.specs.Scenes.{root_bounds, is_spot}
 use Rattle.clip_chain.specs.Visible.{part_between}
-use Rattle.clip_chain.specs.Worlds.{element_spot, spot_of, container_at, spot_of_root, has_box_at, scene_of}
+use Rattle.clip_chain.specs.Worlds.{element_spot, spot_of, container_at, spot_of_root, has_box_at, scene_of, scene_for}
+use Rattle.clip_chain.proofs.Moving.{root_through}
 
 -- what stands in something has a box
 boxed : (b : Bool) (o : Option Spot) (next : Spot) → cond b o None ≡ Some next → (b ≡ true) × (o ≡ Some next)
@@ -83,52 +86,102 @@ before_more root container others e =
 abbrev outwards : Shown → ℕ → Container → List Container
 outwards shown most container = containers_by (containers_from most (shown.tree)) (container_beyond (shown.tree) container)
 
-abbrev clips_before : Shown → Root → List Container → List Rect
-clips_before shown root containers = filter_map (clip_of shown) (before root containers)
-
-last_by : (shown : Shown) (root : Root) (most : ℕ) (outer : Container) → is_root root outer ≡ true → [] ≡ clips_before shown root (containers_from most (shown.tree) outer)
-unfolding containers_from
-last_by shown root zero outer e = refl
-last_by shown root (suc most) outer e = sym (ap (filter_map (clip_of shown)) (before_root root outer (outwards shown most outer) e))
-
-next_by : (shown : Shown) (root : Root) (most : ℕ) (outer : Container) → is_root root outer ≡ false → clips_before shown root (containers_from (suc most) (shown.tree) outer) ≡ cons_option (clip_of shown outer) (clips_before shown root (outwards shown most outer))
-unfolding containers_from
-next_by shown root most outer e = ap (filter_map (clip_of shown)) (before_more root outer (outwards shown most outer) e)
-
 -- a spot that a chain goes on from clips as in the world
 clips_as : (shown : Shown) (outer : Container) → has_box_at shown (spot_of outer) ≡ true → (scene_of shown).clip (spot_of outer) ≡ clip_of shown outer
 clips_as shown outer e =
     ap (λ b. cond b (clip_of shown (container_at (spot_of outer))) None) e
     ∙ ap (clip_of shown) (back outer)
 
+and_not_false : {A : Type 0} (b : Bool) (x y : A) → cond (b && not false) x y ≡ cond b x y
+and_not_false true x y = refl
+and_not_false false x y = refl
+
+-- the spot of the root is its spot alone
+root_test : (root : Root) (container : Container) → is_spot (spot_of_root root) (spot_of container) ≡ is_root root container
+root_test ImplicitRoot (InDocument document) = refl
+root_test ImplicitRoot (InElement element) = refl
+root_test (DocumentRoot root) (InDocument document) = refl
+root_test (DocumentRoot root) (InElement element) = refl
+root_test (ElementRoot root) (InElement element) = refl
+root_test (ElementRoot root) (InDocument document) = refl
+
+-- so does it for an observer, unless it is the root
+clips_through : (shown : Shown) (margins : Margins) (root : Root) (outer : Container) → has_box_at shown (spot_of outer) ≡ true → is_root root outer ≡ false →
+    (scene_for shown root margins).clip (spot_of outer) ≡ clip_for shown margins outer
+clips_through shown margins root outer e apart =
+    let own : Option Rect = (scene_of shown).clip (spot_of outer) in
+    let moved : Bool = has_scroll_margins (shown.tree) outer in
+    ap (λ c. cond (has_scroll_margins (shown.tree) c && not (is_spot (spot_of_root root) (spot_of outer))) (option_map (moved_out margins) own) own) (back outer)
+    ∙ ap (λ b. cond (moved && not b) (option_map (moved_out margins) own) own) (root_test root outer ∙ apart)
+    ∙ and_not_false moved (option_map (moved_out margins) own) own
+    ∙ ap (λ (clip : Option Rect). cond moved (option_map (moved_out margins) clip) clip) (clips_as shown outer e)
+
+-- the root itself is left alone
+pub root_alone : (shown : Shown) (margins : Margins) (root : Root) → root_bounds (scene_for shown root margins) (spot_of_root root) ≡ root_bounds (scene_of shown) (spot_of_root root)
+root_alone shown margins root = root_through (scene_of shown) margins (spot_of_root root)
+
 goes_on : (shown : Shown) (root : Spot) (from : Container) (between : List Spot) → Leads (scene_of shown) (spot_of from) between root → has_box_at shown (spot_of from) ≡ true
 goes_on shown root from [] h = (beyond shown from root h).0
 goes_on shown root from (next ∷ others) h = (beyond shown from next h.0).0
 
-along : (shown : Shown) (root : Root) (most : ℕ) (from : Container) (between : List Spot) → Leads (scene_of shown) (spot_of from) between (spot_of_root root) → length between ≤ most → filter_map (scene_of shown).clip between ≡ clips_before shown root (outwards shown most from)
-along shown root most from [] h few =
-    let there = beyond shown from (spot_of_root root) h in
-    let outer = there.1.0 in
-    last_by shown root most outer (root_found root outer there.1.2)
-    ∙ ap (λ o. clips_before shown root (containers_by (containers_from most (shown.tree)) o)) (sym there.1.1)
-along shown root zero from (next ∷ others) h few = absurd (let no : ⊥ = omega (arith, few) in no)
-along shown root (suc most) from (next ∷ others) h few =
-    let there = beyond shown from next h.0 in
-    let outer = there.1.0 in
-    let same : spot_of outer ≡ next = there.1.2 in
-    let rest = subst (λ (spot : Spot). Leads (scene_of shown) spot others (spot_of_root root)) (sym same) h.2 in
-    let apart : ¬ spot_of outer ≡ spot_of_root root = λ e. h.1 (sym same ∙ e) in
-    ap (λ spot. cons_option ((scene_of shown).clip spot) (filter_map (scene_of shown).clip others)) (sym same)
-    ∙ ap (λ o. cons_option o (filter_map (scene_of shown).clip others)) (clips_as shown outer (goes_on shown (spot_of_root root) outer others rest))
-    ∙ ap (cons_option (clip_of shown outer)) (along shown root most outer others rest (omega (arith, few)))
-    ∙ sym (next_by shown root most outer (root_missed root outer apart))
-    ∙ ap (λ o. clips_before shown root (containers_by (containers_from (suc most) (shown.tree)) o)) (sym there.1.1)
+-- where the spots between are told clips as the containers of the world have them
+module _ (shown : Shown) (root : Root) (told : Spot → Option Rect) (clip : Container → Option Rect)
+    (same : (outer : Container) → has_box_at shown (spot_of outer) ≡ true → is_root root outer ≡ false → told (spot_of outer) ≡ clip outer) where
+  abbrev clips_before : List Container → List Rect
+  clips_before containers = filter_map clip (before root containers)
+
+  last_by : (most : ℕ) (outer : Container) → is_root root outer ≡ true → [] ≡ clips_before (containers_from most (shown.tree) outer)
+  unfolding containers_from
+  last_by zero outer e = refl
+  last_by (suc most) outer e = sym (ap (filter_map clip) (before_root root outer (outwards shown most outer) e))
+
+  next_by : (most : ℕ) (outer : Container) → is_root root outer ≡ false
+      → clips_before (containers_from (suc most) (shown.tree) outer) ≡ cons_option (clip outer) (clips_before (outwards shown most outer))
+  unfolding containers_from
+  next_by most outer e = ap (filter_map clip) (before_more root outer (outwards shown most outer) e)
+
+  along : (most : ℕ) (from : Container) (between : List Spot) → Leads (scene_of shown) (spot_of from) between (spot_of_root root) → length between ≤ most
+      → filter_map told between ≡ clips_before (outwards shown most from)
+  along most from [] h few =
+      let there = beyond shown from (spot_of_root root) h in
+      let outer = there.1.0 in
+      last_by most outer (root_found root outer there.1.2)
+      ∙ ap (λ o. clips_before (containers_by (containers_from most (shown.tree)) o)) (sym there.1.1)
+  along zero from (next ∷ others) h few = absurd (let no : ⊥ = omega (arith, few) in no)
+  along (suc most) from (next ∷ others) h few =
+      let there = beyond shown from next h.0 in
+      let outer = there.1.0 in
+      let is : spot_of outer ≡ next = there.1.2 in
+      let rest = subst (λ (spot : Spot). Leads (scene_of shown) spot others (spot_of_root root)) (sym is) h.2 in
+      let apart : ¬ spot_of outer ≡ spot_of_root root = λ e. h.1 (sym is ∙ e) in
+      let missed : is_root root outer ≡ false = root_missed root outer apart in
+      ap (λ spot. cons_option (told spot) (filter_map told others)) (sym is)
+      ∙ ap (λ o. cons_option o (filter_map told others)) (same outer (goes_on shown (spot_of_root root) outer others rest) missed)
+      ∙ ap (cons_option (clip outer)) (along most outer others rest (omega (arith, few)))
+      ∙ sym (next_by most outer missed)
+      ∙ ap (λ o. clips_before (containers_by (containers_from (suc most) (shown.tree)) o)) (sym there.1.1)
+
+  clips_told : (target : ℕ) (between : List Spot) → Leads (scene_of shown) (element_spot target) between (spot_of_root root) → length between ≤ most_containers
+      → filter_map told between ≡ filter_map clip (containers_between (shown.tree) root target)
+  clips_told target between h few = along most_containers (InElement target) between h few
 
 pub clips_are : (shown : Shown) (root : Root) (target : ℕ) (between : List Spot) → Leads (scene_of shown) (element_spot target) between (spot_of_root root) → length between ≤ most_containers → filter_map (scene_of shown).clip between ≡ clips_between shown root target
 unfolding clips_between
-clips_are shown root target between h few = along shown root most_containers (InElement target) between h few
+clips_are shown root target between h few = clips_told shown root (scene_of shown).clip (clip_of shown) (λ outer e apart. clips_as shown outer e) target between h few
 
 pub part_is : (shown : Shown) (root : Root) (target : ℕ) (between : List Spot) (limits : Rect) → Leads (scene_of shown) (element_spot target) between (spot_of_root root) → length between ≤ most_containers → part_between (scene_of shown) (element_spot target) between limits ≡ common_part (border_rect shown target) (limits ∷ clips_between shown root target)
 part_is shown root target between limits h few =
     ap (λ b. common_part (cond b (border_rect shown target) zero_rect) (limits ∷ filter_map (scene_of shown).clip between)) (goes_on shown (spot_of_root root) (InElement target) between h)
     ∙ ap (λ clips. common_part (border_rect shown target) (limits ∷ clips)) (clips_are shown root target between h few)
+
+-- The same for an observer with scroll margins.
+
+pub clips_are_for : (shown : Shown) (margins : Margins) (root : Root) (target : ℕ) (between : List Spot) → Leads (scene_of shown) (element_spot target) between (spot_of_root root) → length between ≤ most_containers → filter_map (scene_for shown root margins).clip between ≡ clips_for shown margins root target
+unfolding clips_for
+clips_are_for shown margins root target between h few =
+    clips_told shown root (scene_for shown root margins).clip (clip_for shown margins) (clips_through shown margins root) target between h few
+
+pub part_is_for : (shown : Shown) (margins : Margins) (root : Root) (target : ℕ) (between : List Spot) (limits : Rect) → Leads (scene_of shown) (element_spot target) between (spot_of_root root) → length between ≤ most_containers → part_between (scene_for shown root margins) (element_spot target) between limits ≡ common_part (border_rect shown target) (limits ∷ clips_for shown margins root target)
+part_is_for shown margins root target between limits h few =
+    ap (λ b. common_part (cond b (border_rect shown target) zero_rect) (limits ∷ filter_map (scene_for shown root margins).clip between)) (goes_on shown (spot_of_root root) (InElement target) between h)
+    ∙ ap (λ clips. common_part (border_rect shown target) (limits ∷ clips)) (clips_are_for shown margins root target between h few)

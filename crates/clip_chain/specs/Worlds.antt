@@ -1,13 +1,14 @@
 -- The spots of a page: what the definitions of a world tell of them (Intersection Observer, 3.2.7).
-use Rattle.std.specs.Prelude.{ℕ, Bool, true, cond, None, option_map}
+use Rattle.std.specs.Prelude.{ℕ, Bool, true, false, cond, None, option_map}
 use Rattle.px_units.specs.declared.Rect.{Rect}
+use Rattle.script_model.specs.Margins.{Margins}
 use Rattle.page_model.specs.World.{Root, ImplicitRoot, DocumentRoot, ElementRoot}
 use Rattle.page_model.specs.Documents.{Container, InElement, InDocument}
 use Rattle.page_model.specs.Shown.{Shown, has_box}
-use Rattle.page_model.specs.Chains.{zero_rect, viewport_rect, border_rect, clip_of, container_beyond}
+use Rattle.page_model.specs.Chains.{zero_rect, viewport_rect, border_rect, clip_of, has_scroll_margins, container_beyond}
 use Rattle.clip_chain.specs.declared.spot.Spot.{Spot}
 use Rattle.clip_chain.specs.declared.spot.Spot.TheVariants.{Node, View}
-use Rattle.clip_chain.specs.Scenes.{Scene}
+use Rattle.clip_chain.specs.Scenes.{Scene, through}
 
 abbrev pub element_spot : ℕ → Spot
 element_spot element = Node (record { 0 = element })
@@ -40,4 +41,10 @@ scene_of shown = record {
   container = λ of. cond (has_box_at shown of) (option_map spot_of (container_beyond (shown.tree) (container_at of))) None;
   clip = λ of. cond (has_box_at shown of) (clip_of shown (container_at of)) None;
   bounds = bounds_at shown;
+  scrolls = λ of. has_scroll_margins (shown.tree) (container_at of);
+  moved = λ of. false;
 }
+
+-- the page as an observer with this root and these scroll margins sees it
+abbrev pub scene_for : Shown → Root → Margins → Scene
+scene_for shown root scroll_margins = through (spot_of_root root) scroll_margins (scene_of shown)

@@ -1,6 +1,6 @@
 //! Chains from a target to a root.
 
-ghost use Rattle.std.specs.Prelude.{◌≡◌, ◌↔◌, ◌⊎◌, ◌<◌, true, ℤ, List, ◌∷◌, filter_map, IfSome, IsTrue};
+ghost use Rattle.std.specs.Prelude.{◌≡◌, ◌↔◌, ◌⊎◌, ◌<◌, true, false, ℤ, List, ◌∷◌, filter_map, IfSome, IsTrue};
 ghost use Rattle.px_units.specs.Rects.{has_points, HeldBy};
 ghost use Rattle.page_model.specs.Chains.{common_part};
 ghost use Rattle.clip_chain.specs.declared.spot.Spot.{Spot as SpotOf};
@@ -30,10 +30,10 @@ pub fn reaches<G: Geometry>(geometry: &G, target: Spot, root: Spot) -> bool
 /// element that clips, the border box of another, zeros for an element without a box. The implicit root is the viewport of
 /// the top document, `View(0)`. No memory.
 ///
-/// Each edge lies between -2^48 and 2^48, the width between -2^42 and 2^42.
+/// Each edge lies between -2^48 and 2^48, the width between -2^42 and 2^42, unless scroll margins moved it.
 pub fn root_rect<G: Geometry>(geometry: &G, root: Spot) -> Rect
     ensures root { result ≡ root_bounds (G.scene geometry.now) root }
-    ensures range { IsClip result }
+    ensures range { (G.scene geometry.now).moved root ≡ false → IsClip result }
 {
     match geometry.clip(root) {
         Some(clip) => clip,

@@ -1,6 +1,6 @@
 //! Where containers, clips and boxes come from.
 
-ghost use Rattle.std.specs.Prelude.{◌≡◌, ◌<◌, IfSome};
+ghost use Rattle.std.specs.Prelude.{◌≡◌, ◌<◌, false, IfSome};
 ghost use Rattle.clip_chain.specs.Ranges.{IsClip, IsBounds};
 
 use crate::Spot;
@@ -26,14 +26,24 @@ pub trait Geometry {
         ensures end { IfSome result (λ next. rank self.now next < rank self.now of) };
 
     /// What a spot clips its content to: the padding box of an element that clips, the viewport of a document. None for an
-    /// element that doesn't clip or has no box. Each edge lies between -2^48 and 2^48, the width between -2^42 and 2^42.
+    /// element that doesn't clip or has no box. Each edge lies between -2^48 and 2^48, the width between -2^42 and 2^42, unless
+    /// scroll margins moved it.
     fn clip(&self, of: Spot) -> Option<Rect>
         ensures clip { result ≡ (scene self.now).clip of }
-        ensures range { IfSome result IsClip };
+        ensures range { (scene self.now).moved of ≡ false → IfSome result IsClip };
 
     /// The border box of an element, zeros without a box; the viewport of a document. Each edge lies between -2^48 and 2^48,
     /// width and height from 0 to 2^40.
     fn bounds(&self, of: Spot) -> Rect
         ensures bounds { result ≡ (scene self.now).bounds of }
         ensures range { IsBounds result };
+}
+
+/// A geometry whose clips scroll margins didn't move yet, and which spots of it are scroll containers.
+pub trait Scrolls: Geometry {
+    /// Whether a spot is an element that clips its content and whose content can be scrolled, so that scroll margins move what it clips to
+    /// (Intersection Observer, 2.2: scrollMargin). The viewport of a document is none.
+    fn scrolls(&self, of: Spot) -> bool
+        ensures scrolls { result ≡ (Self.scene self.now).scrolls of }
+        ensures unmoved { (Self.scene self.now).moved of ≡ false };
 }

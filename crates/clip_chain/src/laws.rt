@@ -3,14 +3,15 @@
 ghost use Rattle.std.specs.Prelude.{◌≡◌, ◌↔◌, ◌+◌, ◌≤◌, ℕ, List, [], ◌∷◌, ◌++◌, length, filter_map, Some};
 ghost use Rattle.std.specs.List.{slice_index_or, Contains};
 ghost use Rattle.px_units.specs.declared.Rect.{Rect};
+ghost use Rattle.script_model.specs.Margins.{Margins};
 ghost use Rattle.page_model.specs.World.{Root};
 ghost use Rattle.page_model.specs.Shown.{Shown};
-ghost use Rattle.page_model.specs.Chains.{most_containers, border_rect, clips_between, common_part, root_bounds as root_bounds_in};
+ghost use Rattle.page_model.specs.Chains.{most_containers, border_rect, clips_between, clips_for, common_part, root_bounds as root_bounds_in};
 ghost use Rattle.clip_chain.specs.declared.spot.Spot.{Spot as SpotOf};
 ghost use Rattle.clip_chain.specs.Scenes.{Scene, root_bounds};
 ghost use Rattle.clip_chain.specs.Chains.{Leads};
 ghost use Rattle.clip_chain.specs.Visible.{part_between};
-ghost use Rattle.clip_chain.specs.Worlds.{scene_of, element_spot, spot_of_root};
+ghost use Rattle.clip_chain.specs.Worlds.{scene_of, scene_for, element_spot, spot_of_root};
 
 /// On a chain each spot after the first is the container of the one before, the last one is the root, and the root stands
 /// nowhere before.
@@ -39,4 +40,17 @@ pub fn chains_are_those_of_any_world()
         part_between (scene_of shown) (element_spot target) between limits
         ≡ common_part (border_rect shown target) (limits ∷ clips_between shown root target) }
     ensures root { (shown : Shown) (root : Root) → root_bounds (scene_of shown) (spot_of_root root) ≡ root_bounds_in shown root }
+{}
+
+/// The same holds of the page as an observer with scroll margins sees it. They leave its root rectangle alone.
+pub fn chains_with_scroll_margins_are_those_of_any_world()
+    ensures clips { (shown : Shown) (margins : Margins) (root : Root) (target : ℕ) (between : List SpotOf) →
+        Leads (scene_of shown) (element_spot target) between (spot_of_root root) → length between ≤ most_containers →
+        filter_map (scene_for shown root margins).clip between ≡ clips_for shown margins root target }
+    ensures part { (shown : Shown) (margins : Margins) (root : Root) (target : ℕ) (between : List SpotOf) (limits : Rect) →
+        Leads (scene_of shown) (element_spot target) between (spot_of_root root) → length between ≤ most_containers →
+        part_between (scene_for shown root margins) (element_spot target) between limits
+        ≡ common_part (border_rect shown target) (limits ∷ clips_for shown margins root target) }
+    ensures root { (shown : Shown) (margins : Margins) (root : Root) →
+        root_bounds (scene_for shown root margins) (spot_of_root root) ≡ root_bounds (scene_of shown) (spot_of_root root) }
 {}

@@ -24,6 +24,7 @@ seen_entry entry = record {
   corner = seen_point entry.corner;
   content = seen_size entry.content;
   border = seen_size entry.border;
+  device = seen_size entry.device;
   depth = entry.depth;
 }
 
@@ -34,10 +35,11 @@ as_entry entry = record {
   corner = as_point entry.corner;
   content = as_size entry.content;
   border = as_size entry.border;
+  device = as_size entry.device;
   depth = entry.depth;
 }
 
--- a length from 0 to 2 ^ 48 units, so that two of them together lie below 2 ^ 50
+-- a length from 0 to 2 ^ 48 units or device pixels, so that two of them together lie below 2 ^ 50
 abbrev pub IsLength : ℤ → Type 0
 IsLength units = (pos 0 ≤ℤ units) × (units ≤ℤ pos 281474976710656)
 
@@ -49,3 +51,5 @@ pub record HasLengths (entry : ResizeEntry) : Type 0 where
   pub height : IsLength entry.content.height
   pub border_width : IsLength entry.border.width
   pub border_height : IsLength entry.border.height
+  pub device_width : IsLength entry.device.width
+  pub device_height : IsLength entry.device.height

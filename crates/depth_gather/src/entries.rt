@@ -6,7 +6,7 @@ use element_tree::NodeId;
 use px_units::{Point, Size};
 use std::marker::Model;
 
-/// What an observer is told of a target (Resize Observer, 2.3: ResizeObserverEntry), in units of 1/64 CSS pixel.
+/// What an observer is told of a target (Resize Observer, 2.3: ResizeObserverEntry), in units of 1/64 CSS pixel but for device pixels.
 #[derive(Clone, Copy, PartialEq, Eq, Debug)]
 pub struct ResizeEntry {
     pub target: NodeId,
@@ -16,6 +16,8 @@ pub struct ResizeEntry {
     pub content: Size,
     /// The size of the border box.
     pub border: Size,
+    /// The size of the content box in device pixels.
+    pub device: Size,
     /// How deep the target stood in its tree.
     pub depth: u32,
 }

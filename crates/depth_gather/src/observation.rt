@@ -39,6 +39,7 @@ pub(crate) fn entry_of<Z: Sizes>(sizes: &Z, observation: &Observation) -> Resize
         corner: sizes.corner_now(target),
         content: sizes.size_now(target, BoxKind::Content),
         border: sizes.size_now(target, BoxKind::Border),
+        device: sizes.size_now(target, BoxKind::Device),
         depth: sizes.depth_now(target),
     }
 }

@@ -6,7 +6,8 @@ ghost use Rattle.depth_gather.specs.Entries.{as_size, as_point, IsLength};
 use element_tree::NodeId;
 use px_units::{BoxKind, Point, Size};
 
-/// Sizes, corners and depths of elements as they are now. All lengths are in units of 1/64 CSS pixel, from 0 to 2^48.
+/// Sizes, corners and depths of elements as they are now. All lengths are in units of 1/64 CSS pixel, or in device pixels where these are
+/// asked for, from 0 to 2^48.
 pub trait Sizes {
     ghost use Rattle.page_model.specs.Gathering.{Sight};
 

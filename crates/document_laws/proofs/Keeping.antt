@@ -19,14 +19,12 @@ use Rattle.page_model.specs.FrameCallbacks.{frame_callbacks_of, frame_callback_s
 use Rattle.page_model.specs.Timers.{due_timers, timer_stands, timer_taken}
 use Rattle.page_model.specs.Tasks.{has_tasks, is_notifying, without_notifying}
 use Rattle.page_model.specs.IntersectionObserving.{without_queue}
-use Rattle.page_model.specs.Findings.{finding}
-use Rattle.page_model.specs.Shown.{shown_of}
 use Rattle.page_model.specs.Gathering.{sight_of, size_entry, has_active, has_skipped, with_reported, without_active, due_at}
 use Rattle.page_model.specs.Operands.{Present, ResizeEntry, IntersectionEntry}
 use Rattle.page_model.specs.Commands.{matches_now}
 use Rattle.page_model.specs.Runs.{Said, silent, say, ◌followed_by◌, only_if, for_each, repeat, most_steps}
 use Rattle.page_model.specs.Callbacks.{Script, handler_text, Entries, SizeEntries, CutEntries, NoEntries, while_active, call, notify_listener, invoke, bubble, fire, presents, document_of_target}
-use Rattle.page_model.specs.Intersections.{is_same_bool, settling, has_queued, with_notify_task, update_intersections, watchers, take_queue, notify_watcher, notify_watchers, notify}
+use Rattle.page_model.specs.Intersections.{is_same_bool, settling, found_now, has_queued, with_notify_task, update_intersections, watchers, take_queue, notify_watcher, notify_watchers, notify}
 use Rattle.page_model.specs.Loop.{Broadcast, emptied, gather, deliver_some, broadcast, round, round_ended, report_skipped, resize_loop}
 use Rattle.page_model.specs.Ticks.{line_while_active, scrolled_text, event_target_of, intersection_steps, run_timers, run_timer, resize_steps, scroll_steps, evaluated, evaluate, media_steps, frame_steps, run_frame_callback, update_rendering, run_task, run_first, run_tasks, tick}
 use Rattle.page_laws.proofs.Changes.{IsNext, active-in, timer-next, frame-next, noted-next, pending-next, matched-next, tasks-next, unnotified-next, queue-next, emptied-next, reported-next, gather-next, update-next}
@@ -53,7 +51,7 @@ update-tree : (document : ℕ) (world : World) → (update_intersections documen
 unfolding update_intersections
 update-tree document world =
     let observers = watchers (world.tree) document (world.intersection_observers) in
-    let settled_ones = settling (world.clock) (finding (shown_of world)) observers (world.intersection_observers) in
+    let settled_ones = settling (world.clock) (found_now world) observers (world.intersection_observers) in
     by_test (record world { intersection_observers = settled_ones }) refl (list_any (has_queued (world.intersection_observers) settled_ones) observers)
   where
     by_test : (now : World) → now.tree ≡ world.tree → (test : Bool) →

@@ -2,11 +2,11 @@
 use Rattle.std.proofs.Common.{◌≡◌, suc, inl, refl, arith}
 use Rattle.std.specs.Prelude.{ℕ, ℤ, ◌<◌, List, [], ◌∷◌, length, find, cond, Bool, true, false, not, option_map, Option, Some, None, IfSome}
 use Rattle.std.specs.List.{AllByRecursion}
-use Rattle.text_io.specs.Limits.{limit_number}
+use Rattle.text_io.specs.Limits.{common_limit}
 use Rattle.text_io.specs.declared.kinds.ThrowKind.TheVariants.{ReferenceError, TypeError}
 use Rattle.text_io.specs.declared.kinds.LimitKind.TheVariants as limits
 use Rattle.layout_model.specs.Items.{Item, Kind}
-use Rattle.script_model.specs.Syntax.{Operand, Named, Target, Dimension, Action, Viewport, MakeBlock, MakeImage, MakeFrame, Append, Before, Remove, SetStyle, Grow, Load, MakeResizeObserver, ObserveResize, UnobserveResize, DisconnectResize, MakeIntersectionObserver, ObserveIntersection, UnobserveIntersection, DisconnectIntersection, TakeIntersections, Listen, Unlisten, MakeQueryList, ScrollTo, ScrollBy, RequestFrame, CancelFrame, SetTimer, ClearTimer, Post, Say, Read}
+use Rattle.script_model.specs.Syntax.{Operand, Named, Target, Dimension, Action, Viewport, SetRatio, MakeBlock, MakeImage, MakeFrame, Append, Before, Remove, SetStyle, Grow, Load, MakeResizeObserver, ObserveResize, UnobserveResize, DisconnectResize, MakeIntersectionObserver, ObserveIntersection, UnobserveIntersection, DisconnectIntersection, TakeIntersections, Listen, Unlisten, MakeQueryList, ScrollTo, ScrollBy, RequestFrame, CancelFrame, SetTimer, ClearTimer, Post, Say, Read}
 use Rattle.page_model.specs.World.{Thing, DocumentThing, ElementThing, ResizeObserverThing, IntersectionObserverThing, QueryListThing, Name, ScrollTarget, IntersectionObservers, Listener, Table, Element, Tree, World}
 use Rattle.page_model.specs.Lookups.{element_at, no_element, no_document}
 use Rattle.page_model.specs.Names.{named_thing}
@@ -49,7 +49,7 @@ module _ (tree : Tree) (levels : IsWithinLevels tree) where
     few = levels.few;
   }
 
-  pub frame_levels_kept : (document : ℕ) → length tree.documents < limit_number limits.Documents → IsWithinLevels (with_frame document tree)
+  pub frame_levels_kept : (document : ℕ) → length tree.documents < common_limit limits.Documents → IsWithinLevels (with_frame document tree)
   frame_levels_kept document less = record {
     framed = frame_framed tree document levels.framed (omega arith);
     low = cut_low tree (with_frame document tree)
@@ -168,7 +168,7 @@ module _ (handlers : Handlers) (world : World) (within : IsInRange (length handl
     unfolding making
     made name document kind =
         both (new_name (world.names) name) _ Holds (bind (document_named (world.names) document) _ Holds (λ d.
-        both (room limits.Nodes (length world.tree.elements)) _ Holds (did _ Holds (element_levels (world.tree) levels kind d))))
+        both (room (world.version) limits.Nodes (length world.tree.elements)) _ Holds (did _ Holds (element_levels (world.tree) levels kind d))))
 
     scrolled : (left top : ℤ) (target : Option ScrollTarget) → IsWithinLevels (scrolled_to left top target world).tree
     scrolled left top None = levels
@@ -186,13 +186,14 @@ module _ (handlers : Handlers) (world : World) (within : IsInRange (length handl
     pub does_levels : (present : Present) (action : Action) → IsPresentIn world present → OnDid (does handlers world present action) Holds
     unfolding does
     does_levels present (Viewport width height) here = did _ Holds levels
+    does_levels present (SetRatio hundredths) here = did _ Holds levels
     does_levels present (MakeBlock name document) here = made name document _
     does_levels present (MakeImage name document width height) here = made name document _
     does_levels present (MakeFrame name document inside) here =
         both (new_name (world.names) name) _ Holds (bind (document_named (world.names) document) _ Holds (λ d.
         both (other_new_name (world.names) name inside) _ Holds
-        (both (room limits.Nodes (length world.tree.elements)) _ Holds
-        (room-then limits.Documents (length world.tree.documents) (limit_number limits.Documents) _ Holds
+        (both (room (world.version) limits.Nodes (length world.tree.elements)) _ Holds
+        (room-then limits.Documents (length world.tree.documents) (common_limit limits.Documents) _ Holds
         (λ less. did _ Holds (frame_levels_kept (world.tree) levels d less))))))
     does_levels present (Append parent node) here =
         bind-in _ _ _ Holds (container_in present parent here) (λ container there.
@@ -209,7 +210,7 @@ module _ (handlers : Handlers) (world : World) (within : IsInRange (length handl
     does_levels present (ObserveResize observer node observed) here = search (both, bind, did) depth 9
     does_levels present (UnobserveResize observer node) here = search (bind, did) depth 9
     does_levels present (DisconnectResize observer) here = search (bind, did) depth 9
-    does_levels present (MakeIntersectionObserver made) here = search (both, bind, did) depth 12
+    does_levels present (MakeIntersectionObserver made) here = search (both, bind, did) depth 14
     does_levels present (ObserveIntersection observer node) here = search (bind, intersections_step) depth 9
     does_levels present (UnobserveIntersection observer node) here = search (bind, did) depth 9
     does_levels present (DisconnectIntersection observer) here = search (bind, did) depth 9

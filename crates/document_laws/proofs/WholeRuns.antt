@@ -5,6 +5,8 @@ use Rattle.std.specs.List.{AllByRecursion}
 use Rattle.script_model.specs.Syntax.{Command, Item, Outside, Tick, Handler}
 use Rattle.script_model.specs.Scripts.{handlers_in}
 use Rattle.script_model.specs.Reading.{Reading, reading}
+use Rattle.text_io.specs.declared.kinds.Version.{Version}
+use Rattle.text_io.specs.declared.kinds.Version.TheVariants.{First}
 use Rattle.page_model.specs.World.{Observation, World}
 use Rattle.page_model.specs.Lookups.{resize_observer_at}
 use Rattle.page_model.specs.Operands.{Present, NoEntry, ResizeEntry, IntersectionEntry}
@@ -125,23 +127,23 @@ module _ (script : Script) where
 
 -- from the opening world ---------------------------------------------------------------------------------------------------------------
 
-pub opening_levels : IsWithinLevels (opening_world.tree)
-opening_levels = record {
-  framed = opening_framed;
-  low = λ n. subst (λ d. d ≤ 256) (sym (deep (opening_world.tree) n)) (let one = depth_top (opening_world.tree) n refl in omega arith);
+pub opening_levels : (version : Version) → IsWithinLevels (opening_world version).tree
+opening_levels version = record {
+  framed = opening_framed version;
+  low = λ n. subst (λ d. d ≤ 256) (sym (deep (opening_world version).tree n)) (let one = depth_top (opening_world version).tree n refl in omega arith);
   few = omega arith;
 }
 
-pub items_levels : (items : List Item) → IsWithinLevels (run_items items opening_world).state.tree
+pub items_levels : (items : List Item) (version : Version) → IsWithinLevels (run_items items (opening_world version)).state.tree
 unfolding run_items
-items_levels items =
-    (for_each-keeps (Running (handlers_in items) 0) (run_item (handlers_in items)) items (item_keeps (handlers_in items) 0) opening_world
-    (begins (handlers_in items) opening_world (opening-in (length (handlers_in items))) opening_levels)).levels
+items_levels items version =
+    (for_each-keeps (Running (handlers_in items) 0) (run_item (handlers_in items)) items (item_keeps (handlers_in items) 0) (opening_world version)
+    (begins (handlers_in items) (opening_world version) (opening-in (length (handlers_in items)) version) (opening_levels version))).levels
 
 read_levels : (read : Reading) → IsWithinLevels (outcome_read read).world.tree
 unfolding outcome_read
-read_levels (Ok items) = items_levels items
-read_levels (Err refusal) = opening_levels
+read_levels (Ok script) = items_levels (script.items) (script.version)
+read_levels (Err refusal) = opening_levels First
 
 pub outcome_levels : (text : List ℕ) → IsWithinLevels (outcome text).world.tree
 unfolding outcome

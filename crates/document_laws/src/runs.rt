@@ -3,6 +3,7 @@
 ghost use Rattle.std.specs.Prelude.{◌≡◌, ◌≤◌, ℕ, List, Option, length};
 ghost use Rattle.std.specs.List.{AllByRecursion};
 ghost use Rattle.layout_model.specs.Nodes.{path_up, path_of};
+ghost use Rattle.text_io.specs.declared.kinds.Version.{Version};
 ghost use Rattle.script_model.specs.Syntax.{Action, Command, Item};
 ghost use Rattle.page_model.specs.Documents.{nodes_of};
 ghost use Rattle.page_model.specs.World.{World};
@@ -23,7 +24,7 @@ use crate::levels::levels_are_never_cut_off;
 /// such world in range each command, a command with its block, a callback, a tick and an item leave one, where the entries that are
 /// handed in are of elements that there are and the handlers are those of the script.
 pub fn trees_are_kept()
-    ensures opening { IsWithinLevels opening_world.tree }
+    ensures opening { (version : Version) → IsWithinLevels (opening_world version).tree }
     ensures steps { (handlers : Handlers) (world : World) → IsInRange (length handlers) world → IsWithinLevels world.tree →
         (present : Present) (action : Action) → IsPresentIn world present →
         OnDid (does handlers world present action) (λ (effect : Effect). IsWithinLevels effect.world.tree) }
@@ -37,7 +38,7 @@ pub fn trees_are_kept()
         IsWithinLevels (tick script world).state.tree }
     ensures items { (script : Script) (item : Item) (world : World) → IsInRange (length script) world → IsWithinLevels world.tree →
         IsWithinLevels (run_item script item world).state.tree }
-    ensures scripts { (items : List Item) → IsWithinLevels (run_items items opening_world).state.tree }
+    ensures scripts { (items : List Item) (version : Version) → IsWithinLevels (run_items items (opening_world version)).state.tree }
     ensures outcomes { (text : List ℕ) → IsWithinLevels (outcome text).world.tree }
 {}
 

@@ -32,7 +32,7 @@ module _ (script : Script) (document : ℕ) (handler : Option ℕ) where
 
   call-inactive : (world : World) → is_active (world.tree) document ≡ false → call script document handler NoEntries world ≡ silent world
   unfolding call
-  call-inactive world is = ap (only_if (λ (now : World). say (entry_lines (now.names) NoEntries) now followed_by run_handler script NoEntries handler) world) is
+  call-inactive world is = ap (only_if (λ (now : World). say (entry_lines (now.version) (now.names) NoEntries) now followed_by run_handler script NoEntries handler) world) is
 
   -- nothing is said where it isn't
   pub told_inactive : (line : TraceLine) (world : World) → is_active (world.tree) document ≡ false → silent world ≡ told_while_active line world

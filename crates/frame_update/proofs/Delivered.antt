@@ -1,16 +1,19 @@
 -- What a delivery hands to a callback.
 use Rattle.std.proofs.Common.{◌≤◌, arith}
 use Rattle.std.proofs.lemmas.Int.{ints}
-use Rattle.std.specs.Prelude.{ℕ, ◌+◌, ◌<◌, ℤ, pos, negsuc, ◌≤ℤ◌, ◌-ℤ◌, unsigned_abs, List, length, map}
+use Rattle.std.specs.Prelude.{ℕ, ◌+◌, ◌<◌, ℤ, pos, negsuc, ◌≤ℤ◌, ◌-ℤ◌, unsigned_abs, List, length, map, IfSome}
 use Rattle.std.specs.List.{AllByRecursion}
 use Rattle.px_units.specs.Rects.{InReach}
-use Rattle.trace_text.specs.Ranges.{HasReach}
+use Rattle.text_io.specs.declared.kinds.Version.{Version}
+use Rattle.text_io.specs.declared.kinds.Version.TheVariants.{First, Second}
+use Rattle.trace_text.specs.Ranges.{SizeReaches, HasReach}
 use Rattle.page_model.specs.World.{World, Name}
 use Rattle.page_model.specs.Gathering.{SizeEntry}
 use Rattle.page_model.specs.Operands.{ResizeEntry as Present}
 use Rattle.page_model.specs.Ranges.{IsPresentIn}
-use Rattle.page_model.specs.Callbacks.{SizeEntries, resize_line}
+use Rattle.page_model.specs.Callbacks.{SizeEntries, device_told, resize_line}
 use Rattle.page_laws.proofs.Lists.{all-mapped}
+use Rattle.resize_observer.specs.Observations.{seen_size}
 use Rattle.depth_gather.specs.Entries.{seen_entry, IsLength, HasLengths}
 use Rattle.depth_gather.specs.declared.entries.ResizeEntry.{ResizeEntry}
 use Rattle.handlers.specs.Entries.{AreHanded}
@@ -26,8 +29,15 @@ reaches units few = record { low = omega (arith, ints); high = omega (arith, int
 across-reaches : (left width : ℕ) → width ≤ 562949953421312 → InReach (pos (left + width) -ℤ pos left)
 across-reaches left width few = record { low = omega (arith, ints); high = omega (arith, ints) }
 
-line-reaches : (names : List Name) (observer : ℕ) (entry : ResizeEntry) → HasLengths entry → HasReach (resize_line names observer (seen_entry entry))
-line-reaches names observer entry has =
+device-reaches : (version : Version) (entry : ResizeEntry) → HasLengths entry → IfSome (device_told version (seen_size entry.device)) SizeReaches
+device-reaches First entry has = tt
+device-reaches Second entry has =
+    let width : unsigned_abs entry.device.width ≤ 281474976710656 = most entry.device.width has.device_width in
+    let height : unsigned_abs entry.device.height ≤ 281474976710656 = most entry.device.height has.device_height in
+    record { width = reaches (unsigned_abs entry.device.width) (omega (arith, width)); height = reaches (unsigned_abs entry.device.height) (omega (arith, height)) }
+
+line-reaches : (version : Version) (names : List Name) (observer : ℕ) (entry : ResizeEntry) → HasLengths entry → HasReach (resize_line version names observer (seen_entry entry))
+line-reaches version names observer entry has =
     let left : unsigned_abs entry.corner.left ≤ 281474976710656 = most entry.corner.left has.left in
     let top : unsigned_abs entry.corner.top ≤ 281474976710656 = most entry.corner.top has.top in
     let width : unsigned_abs entry.content.width ≤ 281474976710656 = most entry.content.width has.width in
@@ -45,6 +55,7 @@ line-reaches names observer entry has =
         height = across-reaches (unsigned_abs entry.corner.top) (unsigned_abs entry.content.height) (omega (arith, height));
       },
       record { width = reaches (unsigned_abs entry.border.width) (omega (arith, border_width)); height = reaches (unsigned_abs entry.border.height) (omega (arith, border_height)) },
+      device-reaches version entry has,
     )
 
 pub are_handed : (world : World) (observer : ℕ) (entries : List ResizeEntry) → observer < length world.resize_observers.made → AreEntriesIn world entries → AllByRecursion HasLengths entries
@@ -55,6 +66,6 @@ are_handed world observer entries made targets lengths = record {
       all-mapped (λ (entry : SizeEntry). entry.target < length world.tree.elements) (IsPresentIn world) (λ entry. Present (entry.target)) (λ entry is. is) (map seen_entry entries)
       (all-mapped (λ (entry : ResizeEntry). entry.target.0 < length world.tree.elements) (λ (entry : SizeEntry). entry.target < length world.tree.elements) seen_entry (λ entry is. is) entries targets);
   reach =
-      all-mapped (λ (entry : SizeEntry). HasReach (resize_line (world.names) observer entry)) HasReach (resize_line (world.names) observer) (λ entry is. is) (map seen_entry entries)
-      (all-mapped HasLengths (λ (entry : SizeEntry). HasReach (resize_line (world.names) observer entry)) seen_entry (line-reaches (world.names) observer) entries lengths);
+      all-mapped (λ (entry : SizeEntry). HasReach (resize_line (world.version) (world.names) observer entry)) HasReach (resize_line (world.version) (world.names) observer) (λ entry is. is) (map seen_entry entries)
+      (all-mapped HasLengths (λ (entry : SizeEntry). HasReach (resize_line (world.version) (world.names) observer entry)) seen_entry (line-reaches (world.version) (world.names) observer) entries lengths);
 }

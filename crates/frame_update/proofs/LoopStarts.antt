@@ -5,6 +5,7 @@ use Rattle.std.specs.List.{AllByRecursion}
 use Rattle.text_io.specs.declared.kinds.EventKind.{EventKind}
 use Rattle.text_io.specs.declared.kinds.EventKind.TheVariants as events
 use Rattle.text_io.specs.declared.kinds.LimitKind.TheVariants as limits
+use Rattle.text_io.specs.Limits.{limit_number}
 use Rattle.text_io.specs.declared.kinds.ThrowKind.TheVariants.{RangeError}
 use Rattle.script_model.specs.TraceLines.{FiredEvent, FiredResize, FiredScroll, FiredChange, FiredError, EventLine, TimerLine, FrameLine}
 use Rattle.page_model.specs.World.{World, EventTarget, ElementTarget, DocumentTarget, WindowTarget, QueryTarget, FrameCallback, Timer}
@@ -205,12 +206,12 @@ module _ (script : Script) where
 -- a tick begins within the limits
 begun-within : (world : World) → IsWithinLimits world → OnDid (begun_in world) IsWithinLimits
 unfolding begun_in
-begun-within world within = room-then limits.Commands (world.begun) 1000000 _ _ (λ room. did (counted world) _ (counted-within world within room))
+begun-within world within = room-then limits.Commands (world.begun) (limit_number (world.version) limits.Commands) _ _ (λ room. did (counted world) _ (counted-within world within room))
 
 timed-by : (time : ℕ) (world : World) (test : Bool) → IsWithinLimits world → OnDid (cond test (Threw RangeError) (Did (record world { clock = time }))) IsWithinLimits
 unfolding OnDid
 timed-by time world true within = tt
-timed-by time world false within = as-many world within (record world { clock = time }) refl refl refl (tasks-alike world (record world { clock = time }) refl refl refl)
+timed-by time world false within = as-many world within (record world { clock = time }) refl refl refl refl (tasks-alike world (record world { clock = time }) refl refl refl)
 
 -- the laws of a resize loop, so of all those of a tick
 pub loops_exact : (script : Script) (time : ℕ) (world : World)

@@ -4,7 +4,7 @@ use Rattle.std.proofs.lemmas.Option.{none-some, same_Some}
 use Rattle.std.specs.Prelude.{ℕ, zero, suc, ◌<◌, ◌==◌, Bool, true, false, cond, List, [], ◌∷◌, ◌++◌, length, filter, take, drop, Option, Some, None, ℤ, ⊤}
 use Rattle.std.specs.List.{AllByRecursion}
 use Rattle.layout_model.specs.Items.{Kind}
-use Rattle.script_model.specs.Syntax.{Action, Viewport, MakeBlock, MakeImage, MakeFrame, Append, Before, Remove, SetStyle, Grow, Load, MakeResizeObserver, ObserveResize, UnobserveResize, DisconnectResize, MakeIntersectionObserver, ObserveIntersection, UnobserveIntersection, DisconnectIntersection, TakeIntersections, Listen, Unlisten, MakeQueryList, ScrollTo, ScrollBy, RequestFrame, CancelFrame, SetTimer, ClearTimer, Post, Say, Read}
+use Rattle.script_model.specs.Syntax.{Action, Viewport, SetRatio, MakeBlock, MakeImage, MakeFrame, Append, Before, Remove, SetStyle, Grow, Load, MakeResizeObserver, ObserveResize, UnobserveResize, DisconnectResize, MakeIntersectionObserver, ObserveIntersection, UnobserveIntersection, DisconnectIntersection, TakeIntersections, Listen, Unlisten, MakeQueryList, ScrollTo, ScrollBy, RequestFrame, CancelFrame, SetTimer, ClearTimer, Post, Say, Read}
 use Rattle.page_model.specs.World.{Observation, ResizeObserver, ResizeObservers, IntersectionObservers, Listener, Table, ScrollTarget, Tree, World}
 use Rattle.page_model.specs.Lookups.{change_at, entry_or, no_resize_observer, resize_observer_at}
 use Rattle.page_model.specs.Documents.{is_active}
@@ -125,6 +125,7 @@ module _ (first : List ResizeObserver) where
     does-stands : (handlers : Handlers) (present : Present) (action : Action) → OnDid (does handlers world present action) Stand
     unfolding does
     does-stands handlers present (Viewport width height) = did _ Stand begin
+    does-stands handlers present (SetRatio hundredths) = did _ Stand begin
     does-stands handlers present (MakeBlock name made_in) = making-stands name made_in _
     does-stands handlers present (MakeImage name made_in width height) = making-stands name made_in _
     does-stands handlers present (MakeFrame name made_in inside) = search (both, bind, did, begin) depth 12
@@ -138,7 +139,7 @@ module _ (first : List ResizeObserver) where
     does-stands handlers present (ObserveResize observer node observed) = search (both, bind, did, changed-stand) depth 9
     does-stands handlers present (UnobserveResize observer node) = search (bind, did, changed-stand) depth 9
     does-stands handlers present (DisconnectResize observer) = search (bind, did, changed-stand) depth 9
-    does-stands handlers present (MakeIntersectionObserver made) = search (both, bind, did, begin) depth 12
+    does-stands handlers present (MakeIntersectionObserver made) = search (both, bind, did, begin) depth 14
     does-stands handlers present (ObserveIntersection observer node) = search (bind, intersections-step) depth 9
     does-stands handlers present (UnobserveIntersection observer node) = search (bind, did, begin) depth 9
     does-stands handlers present (DisconnectIntersection observer) = search (bind, did, begin) depth 9

@@ -1,9 +1,7 @@
 -- A page stays ready for the next step.
-use Rattle.std.proofs.Common.{◌≡◌, sym, subst}
-use Rattle.std.specs.Prelude.{ℕ, ◌≤◌, List, Option, length}
+use Rattle.std.proofs.Common.{◌≡◌, subst}
+use Rattle.std.specs.Prelude.{ℕ, List, Option, length}
 use Rattle.std.specs.List.{AllByRecursion}
-use Rattle.text_io.specs.Limits.{limit_number}
-use Rattle.text_io.specs.declared.kinds.LimitKind.TheVariants as limits
 use Rattle.script_model.specs.Syntax.{Item}
 use Rattle.script_model.specs.Scripts.{handlers_in}
 use Rattle.page_model.specs.World.{World}
@@ -11,17 +9,13 @@ use Rattle.page_model.specs.Callbacks.{Entries, presents, call}
 use Rattle.page_model.specs.Ranges.{IsPresentIn}
 use Rattle.page_laws.specs.Bounds.{IsWithinLimits}
 use Rattle.page_laws.proofs.Changes.{IsNext}
+use Rattle.page_laws.proofs.Limits.{as-many}
 use Rattle.page_laws.proofs.RunsInRange.{call-in}
 use Rattle.page_laws.proofs.Turns.{call-within}
 use Rattle.frame_update.specs.Ready.{IsReady}
 
 pub within_next : (before after : World) → IsNext before after → IsWithinLimits before → IsWithinLimits after
-within_next before after next within = record {
-  resize_observers = subst (λ (count : ℕ). count ≤ limit_number limits.ResizeObservers) (sym next.observers) within.resize_observers;
-  queries = subst (λ (count : ℕ). count ≤ limit_number limits.Queries) (sym next.queries) within.queries;
-  commands = subst (λ (count : ℕ). count ≤ limit_number limits.Commands) (sym next.successor.begun) within.commands;
-  tasks = next.tasks within.tasks;
-}
+within_next before after next within = as-many before within after next.observers next.queries next.successor.begun next.successor.version next.tasks
 
 -- behind a change of a tick
 pub ready_next : (script : List Item) (before after : World) → IsNext before after → IsReady script before → IsReady script after

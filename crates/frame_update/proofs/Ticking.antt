@@ -1,6 +1,7 @@
 -- A tick that is begun, its time and its parts.
 use Rattle.std.proofs.Common.{◌≡◌, ◌∙◌, ℕ, suc, ◌<◌, Bool, true, false, List, [], ◌∷◌, length, Option, refl, ap, sym, subst, ltb-true}
 use Rattle.std.specs.Prelude.{nat_lt, cond, Result, Ok, Err, IfOk}
+use Rattle.text_io.specs.declared.kinds.Version.{Version}
 use Rattle.text_io.specs.Limits.{limit_number}
 use Rattle.text_io.specs.declared.kinds.LimitKind.TheVariants as limits
 use Rattle.text_io.specs.declared.kinds.ThrowKind.{ThrowKind}
@@ -41,20 +42,20 @@ begun-in handlers world within = search
 timed-in : (handlers time : ℕ) (world : World) → IsInRange handlers world → IsInRange handlers (record world { clock = time })
 timed-in handlers time world within = search
 
-begun-did : (old new : World) (room_left : Bool) → nat_lt old.begun (limit_number limits.Commands) ≡ room_left
+begun-did : (old new : World) (room_left : Bool) → nat_lt old.begun (limit_number (old.version) limits.Commands) ≡ room_left
     → met_unless room_left limits.Commands >> Did (record old { begun = suc old.begun }) ≡ Did new
-    → (old.begun < limit_number limits.Commands) × (record old { begun = suc old.begun } ≡ new)
+    → (old.begun < limit_number (old.version) limits.Commands) × (record old { begun = suc old.begun } ≡ new)
 unfolding ◌>>◌
 begun-did old new true room is = (ltb-true _ _ room, cc)
 begun-did old new false room is = absurd (cc)
 
-begun_did : (old new : World) → begun_in old ≡ Did new → (old.begun < limit_number limits.Commands) × (record old { begun = suc old.begun } ≡ new)
+begun_did : (old new : World) → begun_in old ≡ Did new → (old.begun < limit_number (old.version) limits.Commands) × (record old { begun = suc old.begun } ≡ new)
 unfolding begun_in
-begun_did old new is = begun-did old new (nat_lt old.begun (limit_number limits.Commands)) refl is
+begun_did old new is = begun-did old new (nat_lt old.begun (limit_number (old.version) limits.Commands)) refl is
 
 pub begun_ready : (script : List Item) (old new : World) → begun_in old ≡ Did new → IsReady script old → IsReady script new
 begun_ready script old new is ready =
-    let did : (old.begun < limit_number limits.Commands) × (record old { begun = suc old.begun } ≡ new) = begun_did old new is in
+    let did : (old.begun < limit_number (old.version) limits.Commands) × (record old { begun = suc old.begun } ≡ new) = begun_did old new is in
     subst (IsReady script) did.1
     (record { range = begun-in (length (handlers_in script)) old ready.range; limits = counted-within old ready.limits did.0 })
 
@@ -70,7 +71,7 @@ timed_ready script time old new is ready =
     subst (IsReady script) (timed_did time old new is)
     (record {
       range = timed-in (length (handlers_in script)) time old ready.range;
-      limits = as-many old ready.limits (record old { clock = time }) refl refl refl (tasks-alike old (record old { clock = time }) refl refl refl);
+      limits = as-many old ready.limits (record old { clock = time }) refl refl refl refl (tasks-alike old (record old { clock = time }) refl refl refl);
     })
 
 pub clock_is : (time : ℕ) (old new : World) → time_set time old ≡ Did new → new.clock ≡ time
@@ -106,15 +107,18 @@ left-run {state = state} fault result before after f g said left run =
     (subst (λ (now : ℕ). Runs goes_on state (Err fault) before before f now said) (sym left.2) run))
 
 -- a call that was refused
-pub refused_run : {A : Type 0} (fault : PageFault) (line : ℕ) (result : Result A RunFault) (before after : Option (List ℕ)) (f g : ℕ) (old new : World) (step : Step World)
-    (next : World → Said World) → Moved (Err fault) old new step → Refused fault line result before after f g
+pub refused_run : {A : Type 0} {version : Version} (fault : PageFault) (line : ℕ) (result : Result A RunFault) (before after : Option (List ℕ)) (f g : ℕ) (old new : World) (step : Step World)
+    (next : World → Said World) → version ≡ new.version → Moved (Err fault) old new step → Refused version fault line result before after f g
     → Runs goes_on (λ (_ : A). new) result before after f g (caught (answered line old next step))
-refused_run (Throw kind) line result before after f g old new step next moved refused =
+refused_run (Throw kind) line result before after f g old new step next same moved refused =
     run_same (caught-throw line kind old next step moved.0)
     (lines_run result {said = say (ThrowLine line kind ∷ []) old} refused (λ value. refl) (λ value. sym moved.1))
-refused_run (Limit kind) line result before after f g old new step next moved refused =
-    left-run (faults.Limit kind line) result before after f g _ refused (caught_cut {flow = λ (_ : Unit {0}). Next} {state = λ (_ : Unit {0}). old} (faults.Limit kind line) (met_run line old next moved.0))
-refused_run Memory line result before after f g old new step next moved refused = absurd moved
+refused_run (Limit kind) line result before after f g old new step next same moved refused =
+    let most : ℕ = limit_number (old.version) kind in
+    left-run (faults.Limit kind line most) result before after f g _
+    (subst (λ (it : Version). IsLeft (faults.Limit kind line (limit_number it kind)) result before after f g) (same ∙ ap (λ (world : World). world.version) moved.1) refused)
+    (caught_cut {flow = λ (_ : Unit {0}). Next} {state = λ (_ : Unit {0}). old} (faults.Limit kind line most) (met_run line old next moved.0))
+refused_run Memory line result before after f g old new step next same moved refused = absurd moved
 
 module _ (script : Script) (line time : ℕ) (old : World) where
   abbrev pub begun_run : World → Said World

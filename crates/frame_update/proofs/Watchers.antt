@@ -3,7 +3,7 @@ use Rattle.std.proofs.Common.{sym, subst, arith, ◌≤◌}
 use Rattle.std.specs.Prelude.{ℕ, Bool, true, false, List, [], ◌∷◌, ◌++◌, length, Option, None, Some, ℤ, ⊤}
 use Rattle.text_io.specs.declared.kinds.LimitKind.TheVariants as limits
 use Rattle.layout_model.specs.Items.{Kind}
-use Rattle.script_model.specs.Syntax.{Action, Viewport, MakeBlock, MakeImage, MakeFrame, Append, Before, Remove, SetStyle, Grow, Load, MakeResizeObserver, ObserveResize, UnobserveResize, DisconnectResize, MakeIntersectionObserver, ObserveIntersection, UnobserveIntersection, DisconnectIntersection, TakeIntersections, Listen, Unlisten, MakeQueryList, ScrollTo, ScrollBy, RequestFrame, CancelFrame, SetTimer, ClearTimer, Post, Say, Read}
+use Rattle.script_model.specs.Syntax.{Action, Viewport, SetRatio, MakeBlock, MakeImage, MakeFrame, Append, Before, Remove, SetStyle, Grow, Load, MakeResizeObserver, ObserveResize, UnobserveResize, DisconnectResize, MakeIntersectionObserver, ObserveIntersection, UnobserveIntersection, DisconnectIntersection, TakeIntersections, Listen, Unlisten, MakeQueryList, ScrollTo, ScrollBy, RequestFrame, CancelFrame, SetTimer, ClearTimer, Post, Say, Read}
 use Rattle.page_model.specs.World.{IntersectionObserver, IntersectionObservers, Listener, Table, ScrollTarget, Tree, World}
 use Rattle.page_model.specs.Lookups.{change_at}
 use Rattle.page_model.specs.IntersectionObserving.{intersection_observations}
@@ -45,12 +45,12 @@ module _ (least : ℕ) where
     unfolding with_listeners
     listeners-step step = bind step _ IsMade (λ it. did _ IsMade made)
 
-    observed-made : (observer n : ℕ) (already : Bool) → OnDid (with_intersections world (observing observer n already (world.intersection_observers))) IsMade
+    observed-made : (observer n : ℕ) (already : Bool) → OnDid (with_intersections world (observing (world.version) observer n already (world.intersection_observers))) IsMade
     unfolding with_intersections observing
     observed-made observer n true = did _ IsMade made
     observed-made observer n false =
         bind-in _ _ (λ (it : IntersectionObservers). least ≤ length it.made) IsMade
-        (both (room limits.IntersectionObservations (intersection_observations (world.intersection_observers))) _ _ (did _ _ (changed_made _ observer)))
+        (both (room (world.version) limits.IntersectionObservations (intersection_observations (world.intersection_observers))) _ _ (did _ _ (changed_made _ observer)))
         (λ it is. did _ IsMade is)
 
     making-made : (name document : List ℕ) (kind : Kind) → OnDid (making world name document kind) IsMade
@@ -68,6 +68,7 @@ module _ (least : ℕ) where
     does-made : (handlers : Handlers) (present : Present) (action : Action) → OnDid (does handlers world present action) IsMade
     unfolding does
     does-made handlers present (Viewport width height) = did _ IsMade made
+    does-made handlers present (SetRatio hundredths) = did _ IsMade made
     does-made handlers present (MakeBlock name made_in) = making-made name made_in _
     does-made handlers present (MakeImage name made_in width height) = making-made name made_in _
     does-made handlers present (MakeFrame name made_in inside) = search (both, bind, did, made) depth 12
@@ -81,7 +82,7 @@ module _ (least : ℕ) where
     does-made handlers present (ObserveResize observer node observed) = search (both, bind, did, made) depth 9
     does-made handlers present (UnobserveResize observer node) = search (bind, did, made) depth 9
     does-made handlers present (DisconnectResize observer) = search (bind, did, made) depth 9
-    does-made handlers present (MakeIntersectionObserver it) = search (both, bind, did, one-more) depth 16
+    does-made handlers present (MakeIntersectionObserver it) = search (both, bind, did, one-more) depth 18
     does-made handlers present (ObserveIntersection observer node) = search (bind, observed-made) depth 9
     does-made handlers present (UnobserveIntersection observer node) = search (bind, did, changed_made) depth 9
     does-made handlers present (DisconnectIntersection observer) = search (bind, did, changed_made) depth 9

@@ -1,5 +1,7 @@
 -- What is written of a tick that was refused on a line.
 use Rattle.std.specs.Prelude.{◌≡◌, ℕ, List, [], ◌∷◌, Option, Result, Err}
+use Rattle.text_io.specs.declared.kinds.Version.{Version}
+use Rattle.text_io.specs.Limits.{limit_number}
 use Rattle.script_model.specs.TraceLines.{ThrowLine}
 use Rattle.trace_runs.specs.declared.faults.RunFault.{RunFault}
 use Rattle.trace_runs.specs.declared.faults.RunFault.TheVariants as run
@@ -11,9 +13,9 @@ use Rattle.page_state.specs.declared.answers.PageFault.TheVariants.{Throw, Limit
 abbrev pub IsLeft : {A : Type 0} → RunFault → Result A RunFault → Option (List ℕ) → Option (List ℕ) → ℕ → ℕ → Type 0
 IsLeft fault result before after faults faults_after = (result ≡ Err fault) × (after ≡ before) × (faults_after ≡ faults)
 
--- the line of an exception is written, which ends the tick alone; a limit ends the run, with its line left to the top call,
--- and so does want of memory
-abbrev pub Refused : {A : Type 0} → PageFault → ℕ → Result A RunFault → Option (List ℕ) → Option (List ℕ) → ℕ → ℕ → Type 0
-Refused (Throw kind) line result before after faults faults_after = Told result before after faults faults_after (ThrowLine line kind ∷ [])
-Refused (Limit kind) line result before after faults faults_after = IsLeft (run.Limit kind line) result before after faults faults_after
-Refused Memory line result before after faults faults_after = IsLeft run.Memory result before after faults faults_after
+-- the line of an exception is written, which ends the tick alone; a limit ends the run, with its line left to the top call and its
+-- number by the version of the page, and so does want of memory
+abbrev pub Refused : {A : Type 0} → Version → PageFault → ℕ → Result A RunFault → Option (List ℕ) → Option (List ℕ) → ℕ → ℕ → Type 0
+Refused version (Throw kind) line result before after faults faults_after = Told result before after faults faults_after (ThrowLine line kind ∷ [])
+Refused version (Limit kind) line result before after faults faults_after = IsLeft (run.Limit kind line (limit_number version kind)) result before after faults faults_after
+Refused version Memory line result before after faults faults_after = IsLeft run.Memory result before after faults faults_after

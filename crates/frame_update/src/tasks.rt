@@ -34,11 +34,11 @@ fn run_posted<K: Sink, L: Ledger>(
     sink: &mut K,
     steps: &mut Steps<L>,
 ) -> Result<(), RunFault>
-    requires ready { IsReady script.now page.old.world }
-    requires handler { handler.0 < length (handlers_in script.now) }
+    requires ready { IsReady script.now.items page.old.world }
+    requires handler { handler.0 < length (handlers_in script.now.items) }
     ensures says { Runs goes_on (λ _. page.new.world) result (K.taken sink.old) (K.taken sink.new) (K.faults sink.old) (K.faults sink.new)
-        (run_task (handlers_in script.now) (Posted document handler.0) page.old.world) }
-    ensures ready { IfOk result (λ _. IsReady script.now page.new.world) }
+        (run_task (handlers_in script.now.items) (Posted document handler.0) page.old.world) }
+    ensures ready { IfOk result (λ _. IsReady script.now.items page.new.world) }
 {
     if !page.is_active(document) {
         return Ok(());
@@ -67,10 +67,10 @@ fn run_task<K: Sink, L: Ledger>(
     sink: &mut K,
     steps: &mut Steps<L>,
 ) -> Result<(), RunFault>
-    requires ready { IsReady script.now (with_first (seen_task task) page.old.world) }
+    requires ready { IsReady script.now.items (with_first (seen_task task) page.old.world) }
     ensures says { Runs goes_on (λ _. page.new.world) result (K.taken sink.old) (K.taken sink.new) (K.faults sink.old) (K.faults sink.new)
-        (run_task (handlers_in script.now) (seen_task task) page.old.world) }
-    ensures ready { IfOk result (λ _. IsReady script.now page.new.world) }
+        (run_task (handlers_in script.now.items) (seen_task task) page.old.world) }
+    ensures ready { IfOk result (λ _. IsReady script.now.items page.new.world) }
 {
     match task {
         Task::Notify(document) => notify(alloc, page, script, document, sink, steps),
@@ -88,10 +88,10 @@ pub(crate) fn run_tasks<K: Sink, L: Ledger>(
     sink: &mut K,
     steps: &mut Steps<L>,
 ) -> Result<(), RunFault>
-    requires ready { IsReady script.now page.old.world }
+    requires ready { IsReady script.now.items page.old.world }
     ensures says { Runs goes_on (λ _. page.new.world) result (K.taken sink.old) (K.taken sink.new) (K.faults sink.old) (K.faults sink.new)
-        (run_tasks (handlers_in script.now) page.old.world) }
-    ensures ready { IfOk result (λ _. IsReady script.now page.new.world) }
+        (run_tasks (handlers_in script.now.items) page.old.world) }
+    ensures ready { IfOk result (λ _. IsReady script.now.items page.new.world) }
 {
     runs_of_tasks_come_to_rest();
     while let Some(task) = page.pop_task() {
@@ -102,8 +102,8 @@ pub(crate) fn run_tasks<K: Sink, L: Ledger>(
 
 // The name of a handler.
 fn handler_name(script: &Script, handler: HandlerId) -> Name
-    requires { handler.0 < length (handlers_in script.now) }
-    ensures { result ≡ handler_text (handlers_in script.now) handler.0 }
+    requires { handler.0 < length (handlers_in script.now.items) }
+    ensures { result ≡ handler_text (handlers_in script.now.items) handler.0 }
 {
     match script.handler(handler.0) {
         Some(Item::Handler { name, .. }) => *name,

@@ -22,7 +22,7 @@ use script_syntax::Script;
 use std::alloc::Global;
 use std::sync::ledger::Ledger;
 use step_count::Steps;
-use text_io::Sink;
+use text_io::{Sink, Version};
 use trace_runs::{RunFault, write_one};
 use trace_text::TraceLine;
 
@@ -35,11 +35,11 @@ fn run_parts<K: Sink, L: Ledger>(
     sink: &mut K,
     steps: &mut Steps<L>,
 ) -> Result<(), RunFault>
-    requires ready { IsReady script.now page.old.world }
+    requires ready { IsReady script.now.items page.old.world }
     requires time { page.old.world.clock ≡ time }
     ensures says { Runs goes_on (λ _. page.new.world) result (K.taken sink.old) (K.taken sink.new) (K.faults sink.old) (K.faults sink.new)
-        (tick (handlers_in script.now) page.old.world) }
-    ensures ready { IfOk result (λ _. IsReady script.now page.new.world) }
+        (tick (handlers_in script.now.items) page.old.world) }
+    ensures ready { IfOk result (λ _. IsReady script.now.items page.new.world) }
 {
     write_one(alloc, &TraceLine::Tick(time), sink)?;
     run_timers(alloc, page, script, sink, steps)?;
@@ -47,13 +47,22 @@ fn run_parts<K: Sink, L: Ledger>(
     run_tasks(alloc, page, script, sink, steps)
 }
 
-// What is written of a call that was refused: an exception ends the tick, and a limit the run.
-fn refuse<K: Sink>(alloc: Global, line: u32, fault: PageFault, sink: &mut K) -> Result<(), RunFault>
-    ensures { Refused fault line result (K.taken sink.old) (K.taken sink.new) (K.faults sink.old) (K.faults sink.new) }
+// What is written of a call that was refused: an exception ends the tick, and a limit the run. The version is that of the page.
+fn refuse<K: Sink>(
+    alloc: Global,
+    line: u32,
+    fault: PageFault,
+    version: Version,
+    sink: &mut K,
+) -> Result<(), RunFault>
+    ensures { Refused version fault line result (K.taken sink.old) (K.taken sink.new) (K.faults sink.old) (K.faults sink.new) }
 {
     match fault {
         PageFault::Throw(kind) => write_one(alloc, &TraceLine::Throw(line, kind), sink),
-        PageFault::Limit(kind) => Err(RunFault::Limit { kind, line }),
+        PageFault::Limit(kind) => {
+            let number = kind.number(version);
+            Err(RunFault::Limit { kind, line, number })
+        }
         PageFault::Memory => Err(RunFault::Memory),
     }
 }
@@ -80,21 +89,21 @@ pub fn tick<K: Sink, L: Ledger>(
     sink: &mut K,
     steps: &mut Steps<L>,
 ) -> Result<(), RunFault>
-    requires ready { IsReady script.now page.old.world }
+    requires ready { IsReady script.now.items page.old.world }
     requires time { IsTime time }
     ensures says { Runs goes_on (λ _. page.new.world) result (K.taken sink.old) (K.taken sink.new) (K.faults sink.old) (K.faults sink.new)
-        (caught (run_tick (handlers_in script.now) line time page.old.world)) }
-    ensures loops { AllByRecursion (IsExact (handlers_in script.now)) (loops_of_tick (handlers_in script.now) time page.old.world) }
-    ensures ready { IfOk result (λ _. IsReady script.now page.new.world) }
+        (caught (run_tick (handlers_in script.now.items) line time page.old.world)) }
+    ensures loops { AllByRecursion (IsExact (handlers_in script.now.items)) (loops_of_tick (handlers_in script.now.items) time page.old.world) }
+    ensures ready { IfOk result (λ _. IsReady script.now.items page.new.world) }
 {
     loops_go_deeper();
     loops_have_few_rounds();
     loop_errors_are_exact();
     if let Err(fault) = page.begin_command() {
-        return refuse(alloc, line, fault, sink);
+        return refuse(alloc, line, fault, page.version(), sink);
     }
     if let Err(fault) = page.set_time(time) {
-        return refuse(alloc, line, fault, sink);
+        return refuse(alloc, line, fault, page.version(), sink);
     }
     run_parts(alloc, page, script, time, sink, steps)
 }

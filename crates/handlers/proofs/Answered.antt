@@ -1,6 +1,7 @@
 -- What is written of a page's calls is what their definitions say.
 use Rattle.std.proofs.Common.{◌≡◌, ℕ, List, [], ◌∷◌, Bool, true, false, Option, Some, None, refl, ap, sym, subst, ◌∙◌}
 use Rattle.std.specs.Prelude.{Result, Ok, Err}
+use Rattle.text_io.specs.declared.kinds.Version.{Version}
 use Rattle.text_io.specs.Limits.{limit_number}
 use Rattle.text_io.specs.declared.kinds.LimitKind.{LimitKind}
 use Rattle.element_tree.specs.declared.node.NodeId.{NodeId}
@@ -10,7 +11,7 @@ use Rattle.page_model.specs.Commands.{begun_in, does, holds}
 use Rattle.page_model.specs.Operands.{Handlers, Present, present_target}
 use Rattle.script_model.specs.Syntax.{Action, Condition}
 use Rattle.page_model.specs.Runs as runs
-use Rattle.page_model.specs.Runs.{Said, say, silent, only_if}
+use Rattle.page_model.specs.Runs.{Said, silent, only_if}
 use Rattle.page_model.specs.Steps.{Step, Did, Threw, Met, Effect as ModelEffect}
 use Rattle.page_model.specs.World.{World}
 use Rattle.trace_runs.specs.declared.faults.Flow.{Flow}
@@ -20,7 +21,8 @@ use Rattle.trace_runs.specs.declared.faults.RunFault.TheVariants as faults
 use Rattle.trace_runs.specs.Flows.{flow_of}
 use Rattle.trace_runs.specs.Runs.{Runs}
 use Rattle.trace_runs.specs.Writes.{Told}
-use Rattle.trace_runs.proofs.Answered.{answered_did, answered_met, met_run, threw_run, once_begun_is}
+use Rattle.trace_runs.proofs.Answered.{answered_did, answered_met, threw_run, once_begun_is}
+use Rattle.trace_runs.proofs.Lines.{says_none}
 use Rattle.trace_runs.proofs.Runs.{run_same, cut_as, ended_as, only_if_true, only_if_false, say_run}
 use Rattle.page_state.specs.Answers.{Applied, Moved}
 use Rattle.page_state.specs.Things.{present_of, present_with}
@@ -44,20 +46,26 @@ applied_failed (Throw kind) old new step applied = applied
 applied_failed (Limit kind) old new step applied = applied
 applied_failed Memory old new step applied = tt
 
-pub refused_run : {A : Type 0} (fault : PageFault) (line : ℕ) (result : Result Flow RunFault) (before after : Option (List ℕ)) (f g : ℕ) (old new : World) (step : Step A) (next : A → Said World)
-    → Failed fault old new step → Refused fault line result before after f g → Runs flow_of (λ (value : Flow). new) result before after f g (answered line old next step)
-refused_run (Throw kind) line result before after f g old new step next failed refused = threw_run line old next failed.0 failed.1 (refused new)
-refused_run (Limit kind) line result before after f g old new step next failed refused =
+abbrev limit_said : LimitKind → ℕ → Version → World → Said World
+limit_said kind line version state = record { lines = LimitLine kind line (limit_number version kind) ∷ []; flow = runs.Limited; state = state }
+
+pub refused_run : {A : Type 0} {version : Version} (fault : PageFault) (line : ℕ) (result : Result Flow RunFault) (before after : Option (List ℕ)) (f g : ℕ) (old new : World) (step : Step A)
+    (next : A → Said World) → version ≡ new.version → Failed fault old new step → Refused version fault line result before after f g
+    → Runs flow_of (λ (value : Flow). new) result before after f g (answered line old next step)
+refused_run (Throw kind) line result before after f g old new step next same failed refused = threw_run line old next failed.0 failed.1 (refused new)
+refused_run (Limit kind) line result before after f g old new step next same failed refused =
     run_same
-    (ap (λ (state : World). record { lines = LimitLine kind line (limit_number kind) ∷ []; flow = runs.Limited; state = state }) failed.1 ∙ sym (answered_met line old next failed.0))
+    (ap (λ (it : Version). limit_said kind line it new) same
+    ∙ ap (λ (state : World). limit_said kind line (state.version) state) failed.1
+    ∙ sym (answered_met line old next failed.0))
     (refused new)
-refused_run Memory line result before after f g old new step next failed refused = refused new (answered line old next step)
+refused_run Memory line result before after f g old new step next same failed refused = refused new (answered line old next step)
 
 -- a command that isn't begun
-pub unbegun_run : (fault : PageFault) (line : ℕ) (result : Result Flow RunFault) (before after : Option (List ℕ)) (f g : ℕ) (old new : World) (run : World → Said World)
-    → Moved (Err fault) old new (begun_in old) → Refused fault line result before after f g → Runs flow_of (λ (value : Flow). new) result before after f g (once_begun line old run)
-unbegun_run fault line result before after f g old new run moved refused =
-    run_same (once_begun_is line old run) (refused_run fault line result before after f g old new (begun_in old) run (moved_failed fault old new (begun_in old) moved) refused)
+pub unbegun_run : {version : Version} (fault : PageFault) (line : ℕ) (result : Result Flow RunFault) (before after : Option (List ℕ)) (f g : ℕ) (old new : World) (run : World → Said World)
+    → version ≡ new.version → Moved (Err fault) old new (begun_in old) → Refused version fault line result before after f g → Runs flow_of (λ (value : Flow). new) result before after f g (once_begun line old run)
+unbegun_run fault line result before after f g old new run same moved refused =
+    run_same (once_begun_is line old run) (refused_run fault line result before after f g old new (begun_in old) run same (moved_failed fault old new (begun_in old) moved) refused)
 
 -- one that is begun
 pub begun_is : (line : ℕ) (old begun : World) (run : World → Said World) → begun_in old ≡ Did begun → run begun ≡ once_begun line old run
@@ -81,10 +89,20 @@ target_same (Some node) None = refl
 target_same (Some node) (Some meets) = refl
 
 -- the line of a limit is left to the top call
-pub limit_refused : (fault : PageFault) (kind : LimitKind) (line : ℕ) (now : Option (List ℕ)) (f : ℕ) → fault ≡ Limit kind → Refused fault line (Err (faults.Limit kind line)) now now f f
-limit_refused fault kind line now f is =
-    subst (λ (it : PageFault). Refused it line (Err (faults.Limit kind line)) now now f f) (sym is)
-    (λ world. run_same (answered_met line world (λ (it : World). say [] it) refl) (met_run line world (λ (it : World). say [] it) refl))
+pub limit_refused : (version : Version) (fault : PageFault) (kind : LimitKind) (line number : ℕ) (now : Option (List ℕ)) (f : ℕ) → fault ≡ Limit kind → number ≡ limit_number version kind
+    → Refused version fault line (Err (faults.Limit kind line number)) now now f f
+limit_refused version fault kind line number now f is most =
+    subst (λ (it : PageFault). Refused version it line (Err (faults.Limit kind line number)) now now f f) (sym is)
+    (λ world. record {
+      ended = tt;
+      cut_off = record {
+        lines = [];
+        last = ap (λ (it : ℕ). LimitLine kind line it ∷ []) (sym most);
+        written = says_none now;
+        unfailed = refl;
+        flow_is = refl;
+      };
+    })
 
 pub same_failed : {A : Type 0} (fault : PageFault) (old new : World) {step other : Step A} → step ≡ other → Failed fault old new step → Failed fault old new other
 same_failed fault old new same failed = subst (Failed fault old new) same failed

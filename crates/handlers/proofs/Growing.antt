@@ -63,7 +63,7 @@ counted-same false old new is = cc
 
 begun-same : (old new : World) → begun_in old ≡ Did new → new.tree ≡ old.tree
 unfolding begun_in
-begun-same old new is = counted-same (nat_lt old.begun (limit_number limits.Commands)) old new is
+begun-same old new is = counted-same (nat_lt old.begun (limit_number (old.version) limits.Commands)) old new is
 
 pub in_after_begun : (old new : World) (entries : List Present) → begun_in old ≡ Did new → AreIn old entries → AreIn new entries
 in_after_begun old new entries is all =

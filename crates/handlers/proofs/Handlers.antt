@@ -53,15 +53,15 @@ no_command items number line command is = let handler = at_number items number _
 -- a callback ---------------------------------------------------------------------------------------------------------------
 
 module _ (script : Script) (document : ℕ) (handler : Option ℕ) (handed : Entries) (world : World) where
-  call-is : only_if (λ now. say (entry_lines (now.names) handed) now followed_by run_handler script handed handler) world (is_active (world.tree) document) ≡ call script document handler handed world
+  call-is : only_if (λ now. say (entry_lines (now.version) (now.names) handed) now followed_by run_handler script handed handler) world (is_active (world.tree) document) ≡ call script document handler handed world
   unfolding call
   call-is = refl
 
   pub call_inactive : is_active (world.tree) document ≡ false → silent world ≡ call script document handler handed world
-  call_inactive inactive = sym (only_if_false (λ now. say (entry_lines (now.names) handed) now followed_by run_handler script handed handler) world inactive) ∙ call-is
+  call_inactive inactive = sym (only_if_false (λ now. say (entry_lines (now.version) (now.names) handed) now followed_by run_handler script handed handler) world inactive) ∙ call-is
 
-  pub call_active : is_active (world.tree) document ≡ true → say (entry_lines (world.names) handed) world followed_by run_handler script handed handler ≡ call script document handler handed world
-  call_active active = sym (only_if_true (λ now. say (entry_lines (now.names) handed) now followed_by run_handler script handed handler) world active) ∙ call-is
+  pub call_active : is_active (world.tree) document ≡ true → say (entry_lines (world.version) (world.names) handed) world followed_by run_handler script handed handler ≡ call script document handler handed world
+  call_active active = sym (only_if_true (λ now. say (entry_lines (now.version) (now.names) handed) now followed_by run_handler script handed handler) world active) ∙ call-is
 
 -- a handler without a block says nothing
 pub unnamed_is : (script : Script) (handed : Entries) (number : ℕ) (world : World) → handler_block script number ≡ NoMore → silent world ≡ run_handler script handed (Some number) world

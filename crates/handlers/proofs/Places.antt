@@ -3,6 +3,7 @@ use Rattle.std.proofs.Common.{◌≡◌, ℕ, zero, suc, ◌<◌, List, [], ◌�
 use Rattle.std.proofs.Common.{ℤ, pos, w64, to_z, of_z, ◌^◌}
 use Rattle.std.proofs.lemmas.Int.{ints}
 use Rattle.std.specs.Prelude.{map}
+use Rattle.text_io.specs.declared.kinds.Version.{Version}
 use Rattle.depth_gather.specs.Entries.{seen_entry}
 use Rattle.depth_gather.specs.declared.entries.ResizeEntry.{ResizeEntry}
 use Rattle.intersection_observer.specs.Seen.{seen_entries}
@@ -90,6 +91,6 @@ pub length_again : (given : ℤ) (units : ℕ) → units < 2 ^ 63 → given ≡ 
 length_again given units low is = ap (λ z. to_z w64 (of_z w64 z)) is ∙ omega (arith, ints)
 
 -- no entries have no lines
-pub nothing_told : (names : List Name) (entries : Entries) (now : Option (List ℕ)) → entries ≡ Nothing → Says now now (entry_lines names (entries_of entries))
-nothing_told names entries now none =
-    subst (λ (it : Entries). Says now now (entry_lines names (entries_of it))) (sym none) (says_none now)
+pub nothing_told : (version : Version) (names : List Name) (entries : Entries) (now : Option (List ℕ)) → entries ≡ Nothing → Says now now (entry_lines version names (entries_of entries))
+nothing_told version names entries now none =
+    subst (λ (it : Entries). Says now now (entry_lines version names (entries_of it))) (sym none) (says_none now)

@@ -1,5 +1,6 @@
 -- What is written of a call of a page that was refused by the command on a line.
 use Rattle.std.specs.Prelude.{ℕ, List, [], ◌∷◌, Option, Result}
+use Rattle.text_io.specs.declared.kinds.Version.{Version}
 use Rattle.text_io.specs.Limits.{limit_number}
 use Rattle.script_model.specs.TraceLines.{ThrowLine, LimitLine}
 use Rattle.page_model.specs.World.{World}
@@ -13,11 +14,11 @@ use Rattle.page_state.specs.declared.answers.PageFault.{PageFault}
 use Rattle.page_state.specs.declared.answers.PageFault.TheVariants.{Throw, Limit, Memory}
 
 -- an exception is thrown on, a limit ends the run, and so does want of memory, which is no step of the definitions. The
--- world is as it was
-abbrev pub Refused : PageFault → ℕ → Result Flow RunFault → Option (List ℕ) → Option (List ℕ) → ℕ → ℕ → Type 0
-Refused (Throw kind) line result before after faults faults_after = (world : World) →
+-- world is as it was, and its version says how much there may be
+abbrev pub Refused : Version → PageFault → ℕ → Result Flow RunFault → Option (List ℕ) → Option (List ℕ) → ℕ → ℕ → Type 0
+Refused version (Throw kind) line result before after faults faults_after = (world : World) →
     Runs flow_of (λ _. world) result before after faults faults_after (record { lines = ThrowLine line kind ∷ []; flow = runs.Thrown; state = world })
-Refused (Limit kind) line result before after faults faults_after = (world : World) →
-    Runs flow_of (λ _. world) result before after faults faults_after (record { lines = LimitLine kind line (limit_number kind) ∷ []; flow = runs.Limited; state = world })
-Refused Memory line result before after faults faults_after = (world : World) (said : Said World) →
+Refused version (Limit kind) line result before after faults faults_after = (world : World) →
+    Runs flow_of (λ _. world) result before after faults faults_after (record { lines = LimitLine kind line (limit_number version kind) ∷ []; flow = runs.Limited; state = world })
+Refused version Memory line result before after faults faults_after = (world : World) (said : Said World) →
     Runs flow_of (λ _. world) result before after faults faults_after said

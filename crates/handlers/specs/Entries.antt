@@ -40,4 +40,4 @@ IsCallerIn world (CutEntries observer entries) = observer < length world.interse
 pub record AreHanded (world : World) (handed : model.Entries) : Type 0 where
   pub caller : IsCallerIn world handed
   pub targets : AreIn world (presents handed)
-  pub reach : AllByRecursion HasReach (entry_lines world.names handed)
+  pub reach : AllByRecursion HasReach (entry_lines world.version world.names handed)

@@ -45,10 +45,10 @@ pub fn run_command<K: Sink, L: Ledger>(
     requires allowed { InnerAllowed command.now }
     requires targets { AreIn page.old.world (presents (entries_of entries.now)) }
     ensures { Runs flow_of (λ _. page.new.world) result (K.taken sink.old) (K.taken sink.new) (K.faults sink.old) (K.faults sink.new)
-        (run_command (handlers_in script.now) (presents (entries_of entries.now)) (command_of command.now) (present_at (presents (entries_of entries.now)) subject) page.old.world) }
+        (run_command (handlers_in script.now.items) (presents (entries_of entries.now)) (command_of command.now) (present_at (presents (entries_of entries.now)) subject) page.old.world) }
 {
     if let Err(fault) = page.begin_command() {
-        return refuse(alloc, command.line, fault, sink);
+        return refuse(alloc, command.line, fault, page.version(), sink);
     }
     match &command.what {
         What::Each(body) => run_each(alloc, page, script, &body.commands, entries, sink, steps),
@@ -84,7 +84,7 @@ fn run_each<K: Sink, L: Ledger>(
 ) -> Result<Flow, RunFault>
     requires targets { AreIn page.old.world (presents (entries_of entries.now)) }
     ensures { Runs flow_of (λ _. page.new.world) result (K.taken sink.old) (K.taken sink.new) (K.faults sink.old) (K.faults sink.new)
-        (for_each (run_block (handlers_in script.now) (presents (entries_of entries.now)) block.now) (presents (entries_of entries.now)) page.old.world) }
+        (for_each (run_block (handlers_in script.now.items) (presents (entries_of entries.now)) block.now) (presents (entries_of entries.now)) page.old.world) }
 {
     runs_take_nothing_back();
     for place in 0..entries.count() {
@@ -124,7 +124,7 @@ fn run_when<K: Sink, L: Ledger>(
     requires targets { AreIn page.old.world (presents (entries_of entries.now)) }
     ensures { Runs flow_of (λ _. page.new.world) result (K.taken sink.old) (K.taken sink.new) (K.faults sink.old) (K.faults sink.new)
         (answered line page.old.world
-        (only_if (run_block (handlers_in script.now) (presents (entries_of entries.now)) block.now (present_at (presents (entries_of entries.now)) subject)) page.old.world)
+        (only_if (run_block (handlers_in script.now.items) (presents (entries_of entries.now)) block.now (present_at (presents (entries_of entries.now)) subject)) page.old.world)
         (holds page.old.world (present_at (presents (entries_of entries.now)) subject) (condition_of condition.now))) }
 {
     let present = subject_at(entries, subject);
@@ -149,7 +149,7 @@ pub(crate) fn run_block<K: Sink, L: Ledger>(
 ) -> Result<Flow, RunFault>
     requires targets { AreIn page.old.world (presents (entries_of entries.now)) }
     ensures { Runs flow_of (λ _. page.new.world) result (K.taken sink.old) (K.taken sink.new) (K.faults sink.old) (K.faults sink.new)
-        (run_block (handlers_in script.now) (presents (entries_of entries.now)) block.now (present_at (presents (entries_of entries.now)) subject) page.old.world) }
+        (run_block (handlers_in script.now.items) (presents (entries_of entries.now)) block.now (present_at (presents (entries_of entries.now)) subject) page.old.world) }
 {
     runs_take_nothing_back();
     for command in block.as_slice() {

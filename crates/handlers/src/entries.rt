@@ -1,12 +1,13 @@
 //! The entries of a callback, the lines that tell of them, and the one that a command is run for.
 
-ghost use Rattle.std.specs.Prelude.{◌≡◌, ◌<◌, ◌^◌, ◌∷◌, pos, unsigned_abs, map, length, Some, None};
+ghost use Rattle.std.specs.Prelude.{◌≡◌, ◌<◌, ◌^◌, ◌∷◌, pos, unsigned_abs, map, length, IfSome, Some, None};
 ghost use Rattle.script_model.specs.TraceLines.{TakeLine};
-ghost use Rattle.trace_text.specs.Ranges.{HasReach};
+ghost use Rattle.trace_text.specs.Ranges.{HasReach, SizeReaches};
 ghost use Rattle.trace_text.specs.Seen.{seen_line};
-ghost use Rattle.page_model.specs.Callbacks.{SizeEntries, presents, entry_lines, resize_line};
+ghost use Rattle.page_model.specs.Callbacks.{SizeEntries, device_told, presents, entry_lines, resize_line};
 ghost use Rattle.page_model.specs.EntryLines.{intersection_line, intersection_lines};
 ghost use Rattle.page_model.specs.Names.{intersection_observer_text};
+ghost use Rattle.resize_observer.specs.Observations.{seen_size};
 ghost use Rattle.depth_gather.specs.Entries.{seen_entry};
 ghost use Rattle.intersection_observer.specs.Seen as cuts;
 ghost use Rattle.intersection_observer.specs.Seen.{seen_entries};
@@ -22,7 +23,7 @@ use page_state::{Label, Page};
 use px_units::{Rect, Size};
 use resize_observer::ObserverId;
 use std::alloc::Global;
-use text_io::Sink;
+use text_io::{Sink, Version};
 use trace_runs::{RunFault, write_one};
 use trace_text::TraceLine;
 
@@ -101,12 +102,26 @@ fn length_of(units: u64) -> i64
     units as i64
 }
 
+// The size in device pixels is told in the second version alone. Its lengths have no sign.
+fn device_told(version: Version, size: Size) -> Option<Size>
+    requires { IfSome (device_told version (seen_size size)) SizeReaches }
+    ensures { result ≡ device_told version (seen_size size) }
+{
+    match version {
+        Version::First => None,
+        Version::Second => Some(Size {
+            width: length_of(size.width.unsigned_abs()),
+            height: length_of(size.height.unsigned_abs()),
+        }),
+    }
+}
+
 // The line of an entry, whose lengths have no sign.
 fn resize_line(page: &Page, observer: ObserverId, entry: &ResizeEntry) -> TraceLine
     requires caller { observer.0 < length page.now.world.resize_observers.made }
     requires target { entry.now.target.0 < length page.now.world.tree.elements }
-    requires reach { HasReach (resize_line page.now.world.names observer.0 (seen_entry entry.now)) }
-    ensures { seen_line result ≡ resize_line page.now.world.names observer.0 (seen_entry entry.now) }
+    requires reach { HasReach (resize_line page.now.world.version page.now.world.names observer.0 (seen_entry entry.now)) }
+    ensures { seen_line result ≡ resize_line page.now.world.version page.now.world.names observer.0 (seen_entry entry.now) }
 {
     let left = entry.corner.left.unsigned_abs();
     let top = entry.corner.top.unsigned_abs();
@@ -123,6 +138,7 @@ fn resize_line(page: &Page, observer: ObserverId, entry: &ResizeEntry) -> TraceL
             width: length_of(entry.border.width.unsigned_abs()),
             height: length_of(entry.border.height.unsigned_abs()),
         },
+        device: device_told(page.version(), entry.device),
     }
 }
 
@@ -136,7 +152,7 @@ fn write_sizes<K: Sink>(
 ) -> Result<(), RunFault>
     requires { AreHanded page.now.world (SizeEntries observer.0 (map seen_entry entries.now)) }
     ensures { Told result (K.taken sink.old) (K.taken sink.new) (K.faults sink.old) (K.faults sink.new)
-        (map (resize_line page.now.world.names observer.0) (map seen_entry entries.now)) }
+        (map (resize_line page.now.world.version page.now.world.names observer.0) (map seen_entry entries.now)) }
 {
     for entry in entries {
         let line = resize_line(page, observer, entry);
@@ -222,7 +238,7 @@ pub(crate) fn write_entries<K: Sink>(
 ) -> Result<(), RunFault>
     requires { AreHanded page.now.world (entries_of entries.now) }
     ensures { Told result (K.taken sink.old) (K.taken sink.new) (K.faults sink.old) (K.faults sink.new)
-        (entry_lines page.now.world.names (entries_of entries.now)) }
+        (entry_lines page.now.world.version page.now.world.names (entries_of entries.now)) }
 {
     match entries {
         Entries::Nothing => Ok(()),

@@ -30,7 +30,7 @@ fn run_numbered<K: Sink, L: Ledger>(
 ) -> Result<(), RunFault>
     requires targets { AreIn page.old.world (presents (entries_of entries.now)) }
     ensures { Runs goes_on (λ _. page.new.world) result (K.taken sink.old) (K.taken sink.new) (K.faults sink.old) (K.faults sink.new)
-        (run_handler (handlers_in script.now) (entries_of entries.now) (Some number) page.old.world) }
+        (run_handler (handlers_in script.now.items) (entries_of entries.now) (Some number) page.old.world) }
 {
     match script.handler(number) {
         None => Ok(()),
@@ -56,7 +56,7 @@ fn run_named<K: Sink, L: Ledger>(
 ) -> Result<(), RunFault>
     requires targets { AreIn page.old.world (presents (entries_of entries.now)) }
     ensures { Runs goes_on (λ _. page.new.world) result (K.taken sink.old) (K.taken sink.new) (K.faults sink.old) (K.faults sink.new)
-        (run_handler (handlers_in script.now) (entries_of entries.now) (option_map (λ it. it.0) handler) page.old.world) }
+        (run_handler (handlers_in script.now.items) (entries_of entries.now) (option_map (λ it. it.0) handler) page.old.world) }
 {
     match handler {
         None => Ok(()),
@@ -83,7 +83,7 @@ pub fn run_handler<K: Sink, L: Ledger>(
 ) -> Result<(), RunFault>
     requires handed { AreHanded page.old.world (entries_of entries.now) }
     ensures { Runs goes_on (λ _. page.new.world) result (K.taken sink.old) (K.taken sink.new) (K.faults sink.old) (K.faults sink.new)
-        (call (handlers_in script.now) document (option_map (λ it. it.0) handler) (entries_of entries.now) page.old.world) }
+        (call (handlers_in script.now.items) document (option_map (λ it. it.0) handler) (entries_of entries.now) page.old.world) }
 {
     if !page.is_active(document) {
         return Ok(());

@@ -21,22 +21,26 @@ use script_syntax::{Command, Script};
 use std::alloc::Global;
 use std::sync::ledger::Ledger;
 use step_count::Steps;
-use text_io::Sink;
+use text_io::{Sink, Version};
 use trace_runs::{Flow, RunFault, write_one, write_throw};
 
 // What is written of a call that was refused by the command on a line: an exception is thrown on, and the line of a limit is
-// left to the top call.
+// left to the top call. The version is that of the page.
 pub(crate) fn refuse<K: Sink>(
     alloc: Global,
     line: u32,
     fault: PageFault,
+    version: Version,
     sink: &mut K,
 ) -> Result<Flow, RunFault>
-    ensures { Refused fault line result (K.taken sink.old) (K.taken sink.new) (K.faults sink.old) (K.faults sink.new) }
+    ensures { Refused version fault line result (K.taken sink.old) (K.taken sink.new) (K.faults sink.old) (K.faults sink.new) }
 {
     match fault {
         PageFault::Throw(kind) => write_throw(alloc, line, kind, sink),
-        PageFault::Limit(kind) => Err(RunFault::Limit { kind, line }),
+        PageFault::Limit(kind) => {
+            let number = kind.number(version);
+            Err(RunFault::Limit { kind, line, number })
+        }
         PageFault::Memory => Err(RunFault::Memory),
     }
 }
@@ -67,7 +71,7 @@ pub(crate) fn apply<K: Sink, L: Ledger>(
     requires allowed { ActionAllowed command.now.what }
     requires subject { IsSubject (length page.old.world.tree.elements) subject.target }
     ensures { Runs flow_of (λ _. page.new.world) result (K.taken sink.old) (K.taken sink.new) (K.faults sink.old) (K.faults sink.new)
-        (answered command.now.line page.old.world said_by (does (handler_names (handlers_in script.now)) page.old.world (subject_of subject) (action_of command.now.what))) }
+        (answered command.now.line page.old.world said_by (does (handler_names (handlers_in script.now.items)) page.old.world (subject_of subject) (action_of command.now.what))) }
 {
     commands_read_the_target_alone();
     match page.apply(script, command, subject.target, steps) {
@@ -75,6 +79,6 @@ pub(crate) fn apply<K: Sink, L: Ledger>(
             Ok(()) => Ok(Flow::Next),
             Err(fault) => Err(fault),
         },
-        Err(fault) => refuse(alloc, command.line, fault, sink),
+        Err(fault) => refuse(alloc, command.line, fault, page.version(), sink),
     }
 }

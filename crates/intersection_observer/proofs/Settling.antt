@@ -160,13 +160,13 @@ whole-subjects : (time : ℕ) (find : ℕ → Finding) (xs : List Registration) 
 whole-subjects time find [] = refl
 whole-subjects time find (x ∷ xs) = ap (λ others. (x.serial, x.target) ∷ others) (whole-subjects time find xs)
 
-pub observers_settled : (time : ℕ) (find : IntersectionObserver → ℕ → Finding) (watchers : List ℕ) (it : IntersectionObservers) → HasSerials it
+pub observers_settled : (time : ℕ) (find : ℕ → IntersectionObserver → ℕ → Finding) (watchers : List ℕ) (it : IntersectionObservers) → HasSerials it
     → all_settled time find watchers it ≡ settling time find watchers it
 observers_settled time find [] it serials = refl
 observers_settled time find (watcher ∷ watchers) it serials =
-    ap (all_settled time find watchers) (observer_settled time find watcher it serials)
-    ∙ observers_settled time find watchers (change_intersection_observer (settled_observer time find) watcher it)
-    (serials-changed (settled_observer time find) (λ observer. whole-subjects time (find observer) (observer.registrations)) watcher it serials)
+    ap (all_settled time find watchers) (observer_settled time (find watcher) watcher it serials)
+    ∙ observers_settled time find watchers (change_intersection_observer (settled_observer time (find watcher)) watcher it)
+    (serials-changed (settled_observer time (find watcher)) (λ observer. whole-subjects time (find watcher observer) (observer.registrations)) watcher it serials)
 
 -- no news -------------------------------------------------------------------------------------------------------------------------
 

@@ -47,8 +47,8 @@ each_settled time find [] it = it
 each_settled time find (registration ∷ others) it =
     each_settled time find others (with_settled (registration.serial) time (find (registration.target)) it)
 
--- the registrations of several observers settled so, one observer after the other
-abbrev pub all_settled : ℕ → (IntersectionObserver → ℕ → Finding) → List ℕ → IntersectionObservers → IntersectionObservers
+-- the registrations of several observers settled so, one observer after the other, each by what is found for it
+abbrev pub all_settled : ℕ → (ℕ → IntersectionObserver → ℕ → Finding) → List ℕ → IntersectionObservers → IntersectionObservers
 all_settled time find [] it = it
 all_settled time find (watcher ∷ watchers) it =
-    all_settled time find watchers (each_settled time (find (intersection_observer_at it watcher)) (registrations_at it watcher) it)
+    all_settled time find watchers (each_settled time (find watcher (intersection_observer_at it watcher)) (registrations_at it watcher) it)

@@ -17,7 +17,7 @@ pub fn settling_each_registration_settles_the_observer()
 /// Observers whose registrations are settled so, observer by observer, are settled as an update of a document settles them.
 #[tactic(auto, using(crate::proofs::Settling::observers_settled))]
 pub fn settling_each_observer_is_an_update()
-    ensures { (time : ℕ) (find : IntersectionObserver → ℕ → Finding) (watchers : List ℕ) (it : IntersectionObservers) → HasSerials it → all_settled time find watchers it ≡ settling time find watchers it }
+    ensures { (time : ℕ) (find : ℕ → IntersectionObserver → ℕ → Finding) (watchers : List ℕ) (it : IntersectionObservers) → HasSerials it → all_settled time find watchers it ≡ settling time find watchers it }
 {}
 
 /// What is no news of a registration changes nothing.

@@ -5,10 +5,10 @@ use Rattle.std.specs.Ordering.{nat_cmp}
 use Rattle.script_model.specs.Margins.{Margins}
 use Rattle.page_model.specs.World.{Root, Finding, Registration, IntersectionObserver, IntersectionObservers}
 use Rattle.page_model.specs.Chains.{moved_out}
-use Rattle.page_model.specs.Lookups.{no_intersection_observer, intersection_observer_at}
+use Rattle.page_model.specs.Lookups.{no_intersection_observer, intersection_observer_at, scroll_margins_at}
 use Rattle.page_documents.proofs.Adopting.{change_length}
 use Rattle.clip_chain.specs.declared.spot.Spot.{Spot}
-use Rattle.clip_chain.specs.Scenes.{Scene, root_bounds}
+use Rattle.clip_chain.specs.Scenes.{Scene, through, root_bounds}
 use Rattle.clip_chain.specs.Worlds.{element_spot, spot_of_root}
 use Rattle.intersection_observer.specs.Places.{Standing as Place, standing_of}
 use Rattle.intersection_observer.specs.Settling.{settled_at, settled_standing, with_settled, each_settled}
@@ -22,6 +22,7 @@ use Rattle.candidate_index.specs.Registrations.{place_of, observer_of, target_of
 use Rattle.candidate_index.specs.Asked.{asked_if, asked_for, steps_if, steps_for}
 use Rattle.candidate_index.specs.Held.{kept_of, is_stale, is_stale_now}
 use Rattle.kept_findings.specs.Walks.{EachAlong, AlongChain, AreChained, chain_between, spots_between}
+use Rattle.kept_findings.specs.Views.{seen_for}
 use Rattle.kept_findings.proofs.Settled.{at_changed, standing_settled, serials_settled}
 use Rattle.intersection_update.specs.Updating.{AreAlike, Carried}
 
@@ -97,6 +98,9 @@ module _ (before after : IntersectionObservers) (carried : Carried before after)
   pub place_still : place_of after serial ≡ place_of before serial
   place_still = ap (λ (o : Option Place). unwrap_or o (record { watcher = 0; target = 0 })) (carried.standing serial)
 
+  watcher_still : (place_of after serial).watcher ≡ (place_of before serial).watcher
+  watcher_still = ap (λ (p : Place). p.watcher) place_still
+
   pub target_still : target_of after serial ≡ target_of before serial
   target_still = ap (λ (p : Place). p.target) place_still
 
@@ -118,20 +122,26 @@ module _ (before after : IntersectionObservers) (carried : Carried before after)
         subst (λ root. Q root (target_of before serial)) root_still (subst (Q (observer_of after serial).root) target_still along)
 
     module _ (chained : AreChained scene standings) where
-      basis_by : Root → Margins → ℕ → Basis
-      basis_by root margins target = record {
-        limits = moved_out margins (root_bounds scene (spot_of_root root));
-        sight = sight_over scene (standings root target) target (chain_between scene standings chained root target);
-      }
+      basis_by : List Margins → ℕ → Root → Margins → ℕ → Basis
+      basis_by scroll watcher root margins target =
+          let view = through (spot_of_root root) (scroll_margins_at scroll watcher) scene in
+          record {
+            limits = moved_out margins (root_bounds view (spot_of_root root));
+            sight = sight_over view (standings root target) target (chain_between scene standings chained root target);
+          }
 
-      pub stale_still : (kept : FinMap nat_cmp (Option Kept)) →
-          is_stale_now scene standings after (spots_between scene standings chained after) kept serial ≡ is_stale_now scene standings before (spots_between scene standings chained before) kept serial
+      pub stale_still : (scroll : List Margins) (kept : FinMap nat_cmp (Option Kept)) →
+          is_stale_now (seen_for after scroll serial scene) standings after (spots_between scene standings chained after) kept serial
+          ≡ is_stale_now (seen_for before scroll serial scene) standings before (spots_between scene standings chained before) kept serial
       unfolding basis_by
-      stale_still kept = λ i. is_stale (kept_of kept serial) (basis_by (root_still i) (margins_still i) (target_still i))
+      stale_still scroll kept = λ i. is_stale (kept_of kept serial) (basis_by scroll (watcher_still i) (root_still i) (margins_still i) (target_still i))
 
       -- and the steps and clips of one
-      pub asked_still : (clips : HeldClips) → asked_for scene standings after (spots_between scene standings chained after) serial clips ≡ asked_for scene standings before (spots_between scene standings chained before) serial clips
-      asked_still clips = λ i. asked_if (standings (root_still i) (target_still i)) scene (chain_between scene standings chained (root_still i) (target_still i)) serial clips
+      pub asked_still : (scroll : List Margins) (clips : HeldClips) →
+          asked_for (seen_for after scroll serial scene) standings after (spots_between scene standings chained after) serial clips
+          ≡ asked_for (seen_for before scroll serial scene) standings before (spots_between scene standings chained before) serial clips
+      asked_still scroll clips = λ i.
+          asked_if (standings (root_still i) (target_still i)) (through (spot_of_root (root_still i)) (scroll_margins_at scroll (watcher_still i)) scene) (chain_between scene standings chained (root_still i) (target_still i)) serial clips
 
       pub steps_still : (clips : HeldClips) → steps_for scene standings after (spots_between scene standings chained after) serial clips ≡ steps_for scene standings before (spots_between scene standings chained before) serial clips
       steps_still clips = λ i. steps_if (standings (root_still i) (target_still i)) (chain_between scene standings chained (root_still i) (target_still i)) serial clips

@@ -5,14 +5,15 @@ use Rattle.std.specs.List.{IsDistinct, AllByRecursion, cons_option}
 use Rattle.std.proofs.lemmas.Bool.{eqb-true, eq-eqb, false≢true}
 use Rattle.std.proofs.lemmas.List.Sums.{sum_by-cons, sum_by-append}
 use Rattle.std.proofs.lemmas.Option.{same_Some}
+use Rattle.script_model.specs.Margins.{Margins}
 use Rattle.page_model.specs.Shown.{Shown}
 use Rattle.page_model.specs.World.{Finding, Entry, Registration, IntersectionObserver, IntersectionObservers}
 use Rattle.page_model.specs.Lookups.{entry_or, no_intersection_observer, intersection_observer_at}
-use Rattle.page_model.specs.Findings.{finding}
-use Rattle.page_model.specs.Intersections.{Settled, is_rooted_in, is_news, settled, settled_observer}
+use Rattle.page_model.specs.Intersections.{Settled, is_rooted_in, watchers, is_news, settled, settled_observer}
 use Rattle.intersection_observer.specs.Serials.{HasSerials, registrations_at, targets_of}
-use Rattle.intersection_update.specs.Updating.{updated, settled_if_rooted, is_of, IsSettledBy}
-use Rattle.intersection_update.proofs.Lists.{each_place}
+use Rattle.intersection_update.specs.Updating.{found_through, updated, settled_if_rooted, is_of, IsSettledBy}
+use Rattle.intersection_update.proofs.Lists.{map_from, each_place}
+use Rattle.intersection_update.proofs.Updates.{in_turn}
 
 module _ (time : ℕ) (find : ℕ → Finding) where
   abbrev each : List Registration → List Settled
@@ -87,32 +88,34 @@ module _ (time : ℕ) (find : ℕ → Finding) where
         ∙ ap (λ n. count x.target (observer.queue) + n) (own (observer.registrations) k x distinct is);
   }
 
-mapped : {A : Type 0} (default : A) (change : A → A) → change default ≡ default → (xs : List A) (k : ℕ) → entry_or default (map change xs) k ≡ change (entry_or default xs k)
-mapped default change same [] k = sym same
-mapped default change same (x ∷ xs) zero = refl
-mapped default change same (x ∷ xs) (suc k) = mapped default change same xs k
+mapped : {A : Type 0} (default : A) (change : ℕ → A → A) → ((n : ℕ) → change n default ≡ default) → (number first k : ℕ) (xs : List A) → number ≡ first + k
+    → entry_or default (map_from first change xs) k ≡ change number (entry_or default xs k)
+mapped default change same number first k [] is = sym (same number)
+mapped default change same number first zero (x ∷ xs) is = ap (λ n. change n x) (let here : first ≡ number = omega (arith, is) in here)
+mapped default change same number first (suc k) (x ∷ xs) is = mapped default change same number (suc first) k xs (omega (arith, is))
 
-module _ (shown : Shown) (document time : ℕ) where
-  none_left : (is : Bool) → cond is (settled_observer time (finding shown) no_intersection_observer) no_intersection_observer ≡ no_intersection_observer
-  none_left true = refl
-  none_left false = refl
+module _ (shown : Shown) (margins : List Margins) (document time : ℕ) where
+  none_left : (watcher : ℕ) (is : Bool) → cond is (settled_observer time (found_through shown margins watcher) no_intersection_observer) no_intersection_observer ≡ no_intersection_observer
+  none_left watcher true = refl
+  none_left watcher false = refl
 
-  updated_at : (watcher : ℕ) (it : IntersectionObservers) → intersection_observer_at (updated shown shown.tree document time it) watcher ≡ settled_if_rooted shown shown.tree document time (intersection_observer_at it watcher)
+  updated_at : (watcher : ℕ) (it : IntersectionObservers) → intersection_observer_at (updated shown margins shown.tree document time it) watcher ≡ settled_if_rooted shown margins shown.tree document time watcher (intersection_observer_at it watcher)
   updated_at watcher it =
-      ap (λ (made : List IntersectionObserver). entry_or no_intersection_observer made watcher)
-      (each_place no_intersection_observer (λ (x : IntersectionObserver). is_rooted_in shown.tree document x.root) (settled_observer time (finding shown)) (it.made))
-      ∙ mapped no_intersection_observer (settled_if_rooted shown shown.tree document time) (none_left (is_rooted_in shown.tree document no_intersection_observer.root)) (it.made) watcher
+      ap (λ (now : IntersectionObservers). intersection_observer_at now watcher) (in_turn shown margins time (watchers shown.tree document it) it)
+      ∙ ap (λ (made : List IntersectionObserver). entry_or no_intersection_observer made watcher)
+      (each_place no_intersection_observer (λ (x : IntersectionObserver). is_rooted_in shown.tree document x.root) (λ n. settled_observer time (found_through shown margins n)) (it.made))
+      ∙ mapped no_intersection_observer (settled_if_rooted shown margins shown.tree document time) (λ n. none_left n (is_rooted_in shown.tree document no_intersection_observer.root)) watcher 0 watcher (it.made) (omega arith)
 
   pub settled_each : (watcher place : ℕ) (registration : Registration) (it : IntersectionObservers) → HasSerials it → is_rooted_in shown.tree document (intersection_observer_at it watcher).root ≡ true →
       slice_get (registrations_at it watcher) place ≡ Some registration →
-      IsSettledBy (finding shown (intersection_observer_at it watcher) registration.target) registration place (intersection_observer_at it watcher) (intersection_observer_at (updated shown shown.tree document time it) watcher)
+      IsSettledBy (found_through shown margins watcher (intersection_observer_at it watcher) registration.target) registration place (intersection_observer_at it watcher) (intersection_observer_at (updated shown margins shown.tree document time it) watcher)
   settled_each watcher place registration it serials rooted at =
       let observer : IntersectionObserver = intersection_observer_at it watcher in
-      subst (IsSettledBy (finding shown observer registration.target) registration place observer)
-      (sym (updated_at watcher it ∙ ap (λ is. cond is (settled_observer time (finding shown) observer) observer) rooted))
-      (settled_by time (finding shown observer) observer place registration (serials.targets watcher) at)
+      subst (IsSettledBy (found_through shown margins watcher observer registration.target) registration place observer)
+      (sym (updated_at watcher it ∙ ap (λ is. cond is (settled_observer time (found_through shown margins watcher) observer) observer) rooted))
+      (settled_by time (found_through shown margins watcher observer) observer place registration (serials.targets watcher) at)
 
   pub others_left : (watcher : ℕ) (it : IntersectionObservers) → is_rooted_in shown.tree document (intersection_observer_at it watcher).root ≡ false →
-      intersection_observer_at (updated shown shown.tree document time it) watcher ≡ intersection_observer_at it watcher
+      intersection_observer_at (updated shown margins shown.tree document time it) watcher ≡ intersection_observer_at it watcher
   others_left watcher it apart =
-      updated_at watcher it ∙ ap (λ is. cond is (settled_observer time (finding shown) (intersection_observer_at it watcher)) (intersection_observer_at it watcher)) apart
+      updated_at watcher it ∙ ap (λ is. cond is (settled_observer time (found_through shown margins watcher) (intersection_observer_at it watcher)) (intersection_observer_at it watcher)) apart

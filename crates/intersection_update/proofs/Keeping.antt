@@ -6,6 +6,7 @@ use Rattle.std.specs.Ordering.{nat_cmp}
 use Rattle.std.proofs.lemmas.Bool.{false≢true}
 use Rattle.std.proofs.lemmas.List.{get_or_default}
 use Rattle.std.proofs.lemmas.List.Elements.{All-head, All-tail, All-cons, All-nil, All-weaker, filter_passes}
+use Rattle.script_model.specs.Margins.{Margins}
 use Rattle.page_model.specs.Shown.{Shown}
 use Rattle.page_model.specs.World.{Registration, IntersectionObservers}
 use Rattle.clip_chain.specs.declared.spot.Spot.{Spot}
@@ -25,6 +26,7 @@ use Rattle.candidate_index.specs.Held.{kept_of, is_stale}
 use Rattle.kept_findings.specs.Held.{HeldFindings}
 use Rattle.kept_findings.specs.Looks.{LookedAt, IsNoted}
 use Rattle.kept_findings.specs.Walks.{AlongChain, IsNot, spots_between}
+use Rattle.kept_findings.specs.Views.{seen_for}
 use Rattle.kept_findings.proofs.Settled.{numbers_apart}
 use Rattle.kept_findings.proofs.Walking.{all_serials, at_serial, along_weaker}
 use Rattle.page_geometry.specs.Scenes.{standings_of}
@@ -60,14 +62,14 @@ all_either P test (x ∷ xs) all others =
       | false ↦ λ is these. All-cons P x xs (others x is) (all_either P test xs these others)
     ] refl all
 
-module _ (shown : Shown) (chained : HaveChains shown) (it : IntersectionObservers) where
+module _ (shown : Shown) (margins : List Margins) (chained : HaveChains shown) (it : IntersectionObservers) where
   abbrev stale : Map → ℕ → Bool
-  stale kept serial = is_stale_in shown chained it kept serial
+  stale kept serial = is_stale_in shown margins chained it kept serial
 
   -- whether one is stale hangs on what is kept of it alone
   pub stale_by : (before after : Map) (serial : ℕ) (is : Bool) → kept_of after serial ≡ kept_of before serial → stale before serial ≡ is → stale after serial ≡ is
   stale_by before after serial is same before_is =
-      ap (λ (o : Option Kept). is_stale o (basis_for (scene_of shown) (standings_of shown) it serial (spots_between (scene_of shown) (standings_of shown) chained it serial))) same ∙ before_is
+      ap (λ (o : Option Kept). is_stale o (basis_for (seen_for it margins serial (scene_of shown)) (standings_of shown) it serial (spots_between (scene_of shown) (standings_of shown) chained it serial))) same ∙ before_is
 
   -- so many of an observer's stale ones were settled
   pub record SoFar (watcher : ℕ) (before now : Map) (names : List RegistrationId) (count : ℕ) : Type 0 where
@@ -100,7 +102,7 @@ module _ (shown : Shown) (chained : HaveChains shown) (it : IntersectionObserver
     ]
 
     -- all but one that was refused memory
-    pub kept_but_one : (place : ℕ) → slice_get (serials_at it watcher) place ≡ Some serial → kept_of next serial ≡ None → AreKeptTo shown chained it watcher place before next
+    pub kept_but_one : (place : ℕ) → slice_get (serials_at it watcher) place ≡ Some serial → kept_of next serial ≡ None → AreKeptTo shown margins chained it watcher place before next
     kept_but_one place here none other = elim (numbers_apart other serial) [
       | inl same ↦ inr (inr (record { at = here ∙ ap Some (sym same); none = ap (kept_of next) same ∙ none }))
       | inr apart ↦ (elim (rest_more other apart) [

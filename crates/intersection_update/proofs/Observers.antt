@@ -4,6 +4,7 @@ use Rattle.std.specs.Prelude.{◌⊎◌, slice_get}
 use Rattle.std.specs.FinMap.{FinMap}
 use Rattle.std.specs.Ordering.{nat_cmp}
 use Rattle.std.proofs.lemmas.Bool.{false≢true}
+use Rattle.script_model.specs.Margins.{Margins}
 use Rattle.page_model.specs.Shown.{Shown}
 use Rattle.page_model.specs.World.{IntersectionObservers}
 use Rattle.page_model.specs.Lookups.{intersection_observer_at}
@@ -146,9 +147,9 @@ module _ (shown : Shown) (document : ℕ) (was it : IntersectionObservers) (carr
 
 -- what is kept -----------------------------------------------------------------------------------------------------------------------
 
-module _ (shown : Shown) (chained : HaveChains shown) (document : ℕ) (was : IntersectionObservers) where
+module _ (shown : Shown) (margins : List Margins) (chained : HaveChains shown) (document : ℕ) (was : IntersectionObservers) where
   abbrev stale : Map → ℕ → Bool
-  stale kept serial = is_stale_in shown chained was kept serial
+  stale kept serial = is_stale_in shown margins chained was kept serial
 
   -- what so many observers that were settled leave
   pub record Leaves (number : ℕ) (before now : Map) : Type 0 where
@@ -166,15 +167,15 @@ module _ (shown : Shown) (chained : HaveChains shown) (document : ℕ) (was : In
   }
 
   module _ (it : IntersectionObservers) (carried : Carried was it) (number : ℕ) (before now next : Map) (so_far : Leaves number before now)
-      (same : (serial : ℕ) → is_stale_in shown chained it now serial ≡ false → kept_of next serial ≡ kept_of now serial)
+      (same : (serial : ℕ) → is_stale_in shown margins chained it now serial ≡ false → kept_of next serial ≡ kept_of now serial)
       (others : (serial : ℕ) → (¬ (place_of it serial).watcher ≡ number) → kept_of next serial ≡ kept_of now serial) where
-    still : (kept : Map) (serial : ℕ) → is_stale_in shown chained it kept serial ≡ stale kept serial
-    still kept serial = stale_still was it carried serial (scene_of shown) (standings_of shown) chained kept
+    still : (kept : Map) (serial : ℕ) → is_stale_in shown margins chained it kept serial ≡ stale kept serial
+    still kept serial = stale_still was it carried serial (scene_of shown) (standings_of shown) chained margins kept
 
     pub same_next : (serial : ℕ) → stale before serial ≡ false → kept_of next serial ≡ kept_of before serial
     same_next serial is =
         let first = so_far.same serial is in
-        same serial (still now serial ∙ stale_by shown chained was before now serial false first is) ∙ first
+        same serial (still now serial ∙ stale_by shown margins chained was before now serial false first is) ∙ first
 
     pub others_next : is_rooted_in shown.tree document (intersection_observer_at it number).root ≡ true → (serial : ℕ) → is_rooted_in shown.tree document (observer_of was serial).root ≡ false → kept_of next serial ≡ kept_of before serial
     others_next rooted serial apart =
@@ -187,7 +188,7 @@ module _ (shown : Shown) (chained : HaveChains shown) (document : ℕ) (was : In
 
     -- what isn't stale stays so
     pub fresh_next : (serial : ℕ) → stale now serial ≡ false → stale next serial ≡ false
-    fresh_next serial is = stale_by shown chained was now next serial false (same serial (still now serial ∙ is)) is
+    fresh_next serial is = stale_by shown margins chained was now next serial false (same serial (still now serial ∙ is)) is
 
     pub rest_by : (serial : ℕ) → kept_of next serial ≡ kept_of now serial → (kept_of next serial ≡ kept_of before serial) ⊎ (stale next serial ≡ false)
     rest_by serial left = elim (so_far.rest serial) [
@@ -196,7 +197,7 @@ module _ (shown : Shown) (chained : HaveChains shown) (document : ℕ) (was : In
     ]
 
     -- where it stops
-    pub kept_to : (place : ℕ) → AreKeptTo shown chained it number place now next → AreKeptTo shown chained was number place before next
+    pub kept_to : (place : ℕ) → AreKeptTo shown margins chained it number place now next → AreKeptTo shown margins chained was number place before next
     kept_to place refused serial = elim (refused serial) [
       | inl left ↦ (elim (rest_by serial left) [
         | inl first ↦ inl first
@@ -207,8 +208,8 @@ module _ (shown : Shown) (chained : HaveChains shown) (document : ℕ) (was : In
     ]
 
     pub leaves_more : is_rooted_in shown.tree document (intersection_observer_at it number).root ≡ true →
-        ((serial : ℕ) → StandsAt it number serial → is_stale_in shown chained it next serial ≡ false) →
-        ((serial : ℕ) → (kept_of next serial ≡ kept_of now serial) ⊎ (is_stale_in shown chained it next serial ≡ false)) → Leaves (number + 1) before next
+        ((serial : ℕ) → StandsAt it number serial → is_stale_in shown margins chained it next serial ≡ false) →
+        ((serial : ℕ) → (kept_of next serial ≡ kept_of now serial) ⊎ (is_stale_in shown margins chained it next serial ≡ false)) → Leaves (number + 1) before next
     leaves_more rooted fresh rest = record {
       same = same_next;
       others = others_next rooted;

@@ -16,20 +16,20 @@ use Rattle.intersection_observer.specs.Settling.{with_settled, each_settled}
 
 -- what is found by observers -----------------------------------------------------------------------------------------------------
 
--- by an observer with a root, margins and thresholds
-pub found_by : Shown → Root → Margins → List ℕ → ℕ → Finding
-found_by shown root margins thresholds target = finding shown (record no_intersection_observer { root = root; margins = margins; thresholds = thresholds }) target
+-- by an observer with scroll margins, a root, margins and thresholds
+pub found_by : Shown → Margins → Root → Margins → List ℕ → ℕ → Finding
+found_by shown scroll root margins thresholds target = finding shown scroll (record no_intersection_observer { root = root; margins = margins; thresholds = thresholds }) target
 
-by_relation : (shown : Shown) (x : IntersectionObserver) (target : ℕ) (root : Rect) (it : Relation) →
-    found shown x target root it ≡ found shown (record no_intersection_observer { root = x.root; margins = x.margins; thresholds = x.thresholds }) target root it
-by_relation shown x target root Apart = refl
-by_relation shown x target root Boxless = refl
-by_relation shown x target root Chained = refl
+by_relation : (shown : Shown) (scroll : Margins) (x : IntersectionObserver) (target : ℕ) (root : Rect) (it : Relation) →
+    found shown scroll x target root it ≡ found shown scroll (record no_intersection_observer { root = x.root; margins = x.margins; thresholds = x.thresholds }) target root it
+by_relation shown scroll x target root Apart = refl
+by_relation shown scroll x target root Boxless = refl
+by_relation shown scroll x target root Chained = refl
 
 -- nothing else of an observer is read
-pub by_parts : (shown : Shown) (x : IntersectionObserver) (target : ℕ) → finding shown x target ≡ found_by shown (x.root) (x.margins) (x.thresholds) target
+pub by_parts : (shown : Shown) (scroll : Margins) (x : IntersectionObserver) (target : ℕ) → finding shown scroll x target ≡ found_by shown scroll (x.root) (x.margins) (x.thresholds) target
 unfolding finding found_by
-by_parts shown x target = by_relation shown x target (moved_back (root_origin shown (x.root)) (root_rect shown (x.root) (x.margins))) (relation shown (x.root) target)
+by_parts shown scroll x target = by_relation shown scroll x target (moved_back (root_origin shown (x.root)) (root_rect shown (x.root) (x.margins))) (relation shown (x.root) target)
 
 -- one more registration ----------------------------------------------------------------------------------------------------------
 

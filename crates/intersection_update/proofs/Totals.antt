@@ -9,6 +9,7 @@ use Rattle.std.proofs.lemmas.List.{take_all}
 use Rattle.std.proofs.lemmas.List.Concat.{flat_map-cons}
 use Rattle.std.proofs.lemmas.List.Elements.{All-head, All-tail, All-weaker}
 use Rattle.std.proofs.lemmas.List.Sums.{sum_by-cons, sum_by-append}
+use Rattle.script_model.specs.Margins.{Margins}
 use Rattle.page_model.specs.Shown.{Shown}
 use Rattle.page_model.specs.World.{IntersectionObserver, IntersectionObservers}
 use Rattle.page_model.specs.Lookups.{intersection_observer_at}
@@ -119,7 +120,7 @@ by_both false false from steps more c1 c2 s1 s1_now s2 c s then less cs ss one t
 lt_before : (a b c : ℕ) → a ≤ b → nat_lt b c ≡ true → nat_lt a c ≡ true
 lt_before a b c less is = grind (arith, nat_tests)
 
-module _ (shown : Shown) (chained : HaveChains shown) (was : IntersectionObservers) where
+module _ (shown : Shown) (margins : List Margins) (chained : HaveChains shown) (was : IntersectionObservers) where
   abbrev standing : ℕ → Standing
   standing serial = standing_for (standings_of shown) was serial
 
@@ -128,29 +129,29 @@ module _ (shown : Shown) (chained : HaveChains shown) (was : IntersectionObserve
 
   steps_both : (xs ys : List ℕ) (old now next : HeldFindings) (from steps more : ℕ) → now.clips.touches.count ≤ next.clips.touches.count → AreLater now.clips.touches next.clips.touches →
       All (λ s. kept_of now.kept s ≡ kept_of old.kept s) ys → All (λ s. pair_of now.clips s ≡ pair_of old.clips s) ys →
-      steps ≤ from + steps_at shown chained was xs old now → more ≤ steps + steps_at shown chained was ys now next → more ≤ from + steps_at shown chained was (xs ++ ys) old next
+      steps ≤ from + steps_at shown margins chained was xs old now → more ≤ steps + steps_at shown margins chained was ys now next → more ≤ from + steps_at shown margins chained was (xs ++ ys) old next
   steps_both xs ys old now next from steps more count later kept pairs one two =
-      let once : HeldFindings → ℕ → ℕ = λ it serial. cond (is_stale_in shown chained was it.kept serial) 1 0 in
-      let stale_same : stale_count shown chained was now ys ≡ stale_count shown chained was old ys =
+      let once : HeldFindings → ℕ → ℕ = λ it serial. cond (is_stale_in shown margins chained was it.kept serial) 1 0 in
+      let stale_same : stale_count shown margins chained was now ys ≡ stale_count shown margins chained was old ys =
       sum_same (once now) (once old) ys
       (All-weaker (λ s. kept_of now.kept s ≡ kept_of old.kept s) (λ s. once now s ≡ once old s)
-      (λ s same. ap (λ (b : Bool). cond b 1 0) (stale_by shown chained was old.kept now.kept s (is_stale_in shown chained was old.kept s) same refl)) ys kept) in
+      (λ s same. ap (λ (b : Bool). cond b 1 0) (stale_by shown margins chained was old.kept now.kept s (is_stale_in shown margins chained was old.kept s) same refl)) ys kept) in
       let spots_same : sum_by (spots_anew shown chained was now next) ys ≡ sum_by (spots_anew shown chained was old next) ys =
       sum_same (spots_anew shown chained was now next) (spots_anew shown chained was old next) ys
       (All-weaker (λ s. pair_of now.clips s ≡ pair_of old.clips s) (λ s. spots_anew shown chained was now next s ≡ spots_anew shown chained was old next s)
       (λ s same. steps_pair (standing s) (between s) s next.clips.touches now.clips old.clips same) ys pairs) in
       by_both (nat_lt now.clips.touches.count last_number) (nat_lt next.clips.touches.count last_number) from steps more
-      (stale_count shown chained was old xs) (stale_count shown chained was now ys)
+      (stale_count shown margins chained was old xs) (stale_count shown margins chained was now ys)
       (sum_by (spots_anew shown chained was old now) xs) (sum_by (spots_anew shown chained was old next) xs) (sum_by (spots_anew shown chained was now next) ys)
-      (stale_count shown chained was old (xs ++ ys)) (sum_by (spots_anew shown chained was old next) (xs ++ ys))
+      (stale_count shown margins chained was old (xs ++ ys)) (sum_by (spots_anew shown chained was old next) (xs ++ ys))
       (lt_before now.clips.touches.count next.clips.touches.count last_number count)
       (sum_at_most (spots_anew shown chained was old now) (spots_anew shown chained was old next)
       (λ s. steps_later (standing s) (between s) s old.clips now.clips.touches next.clips.touches later) xs)
-      (sum_by-append (once old) xs ys ∙ ap (λ n. stale_count shown chained was old xs + n) (sym stale_same))
+      (sum_by-append (once old) xs ys ∙ ap (λ n. stale_count shown margins chained was old xs + n) (sym stale_same))
       (sum_by-append (spots_anew shown chained was old next) xs ys ∙ ap (λ n. sum_by (spots_anew shown chained was old next) xs + n) (sym spots_same))
       one two
 
-module _ (shown : Shown) (chained : HaveChains shown) (document : ℕ) (was : IntersectionObservers) where
+module _ (shown : Shown) (margins : List Margins) (chained : HaveChains shown) (document : ℕ) (was : IntersectionObservers) where
   -- the registrations of so many observers
   abbrev first_serials : ℕ → List ℕ
   first_serials number = flat_map (serials_at was) (first_numbers shown.tree document number (was.made))
@@ -169,7 +170,7 @@ module _ (shown : Shown) (chained : HaveChains shown) (document : ℕ) (was : In
 
   -- so many observers' registrations are paid for, and what is kept of those of later ones is as it was
   pub record Totals (number : ℕ) (old now : HeldFindings) (from steps : ℕ) : Type 0 where
-    pub paid : steps ≤ from + steps_at shown chained was (first_serials number) old now
+    pub paid : steps ≤ from + steps_at shown margins chained was (first_serials number) old now
     pub kept : (serial : ℕ) → number ≤ (place_of was serial).watcher → kept_of now.kept serial ≡ kept_of old.kept serial
     pub pairs : (serial : ℕ) → number ≤ (place_of was serial).watcher → pair_of now.clips serial ≡ pair_of old.clips serial
 
@@ -183,7 +184,7 @@ module _ (shown : Shown) (chained : HaveChains shown) (document : ℕ) (was : In
   pub totals_skip : (it : IntersectionObservers) → Carried was it → (number : ℕ) (old now : HeldFindings) (from steps : ℕ) → number < length was.made →
       is_rooted_in shown.tree document (intersection_observer_at it number).root ≡ false → Totals number old now from steps → Totals (number + 1) old now from steps
   totals_skip it carried number old now from steps there apart so_far = record {
-    paid = subst (λ (these : List ℕ). steps ≤ from + steps_at shown chained was these old now)
+    paid = subst (λ (these : List ℕ). steps ≤ from + steps_at shown margins chained was these old now)
         (sym (append-nil (first_serials number)) ∙ sym (more_serials number false there (sym apart ∙ ap (is_rooted_in shown.tree document) (carried.alike number).root))) so_far.paid;
     kept = λ serial later. so_far.kept serial (omega (arith, later));
     pairs = λ serial later. so_far.pairs serial (omega (arith, later));
@@ -193,24 +194,24 @@ module _ (shown : Shown) (chained : HaveChains shown) (document : ℕ) (was : In
     here : (serial : ℕ) → (place_of it serial).watcher ≡ (place_of was serial).watcher
     here serial = ap (λ (p : Place). p.watcher) (place_still was it carried serial)
 
-    same_steps : steps_at shown chained it (serials_at it number) now next ≡ steps_at shown chained was (serials_at was number) now next
+    same_steps : steps_at shown margins chained it (serials_at it number) now next ≡ steps_at shown margins chained was (serials_at was number) now next
     same_steps = λ i.
-        count_by (λ s. stale_still was it carried s (scene_of shown) (standings_of shown) chained now.kept i) (carried.listed number i)
+        count_by (λ s. stale_still was it carried s (scene_of shown) (standings_of shown) chained margins now.kept i) (carried.listed number i)
         + times_computed next.clips.touches * sum_by (λ s. steps_still was it carried s (scene_of shown) (standings_of shown) chained (record (now.clips) { touches = next.clips.touches }) i) (carried.listed number i)
 
     pub totals_more : number < length was.made → is_rooted_in shown.tree document (intersection_observer_at it number).root ≡ true → Totals number old now from steps → AreNumbered now.clips →
         ChangesByLooks (scene_of shown) now.seen next.seen now.clips.touches next.clips.touches →
         ((serial : ℕ) → (¬ (place_of it serial).watcher ≡ number) → kept_of next.kept serial ≡ kept_of now.kept serial) →
         ((serial : ℕ) → (¬ (place_of it serial).watcher ≡ number) → pair_of next.clips serial ≡ pair_of now.clips serial) →
-        All (λ serial. StandsAt it number serial) (serials_at it number) → more ≤ steps + steps_at shown chained it (serials_at it number) now next → Totals (number + 1) old next from more
+        All (λ serial. StandsAt it number serial) (serials_at it number) → more ≤ steps + steps_at shown margins chained it (serials_at it number) now next → Totals (number + 1) old next from more
     totals_more there rooted so_far numbered changes kept pairs listed taken =
         let its : All (λ s. (place_of was s).watcher ≡ number) (serials_at was number) =
         subst (All (λ s. (place_of was s).watcher ≡ number)) (carried.listed number)
         (All-weaker (λ s. StandsAt it number s) (λ s. (place_of was s).watcher ≡ number) (λ s stands. sym (here s) ∙ watcher_is it number s stands) (serials_at it number) listed) in
         record {
-          paid = subst (λ (these : List ℕ). more ≤ from + steps_at shown chained was these old next)
+          paid = subst (λ (these : List ℕ). more ≤ from + steps_at shown margins chained was these old next)
               (sym (more_serials number true there (sym rooted ∙ ap (is_rooted_in shown.tree document) (carried.alike number).root)))
-              (steps_both shown chained was (first_serials number) (serials_at was number) old now next from steps more changes.count
+              (steps_both shown margins chained was (first_serials number) (serials_at was number) old now next from steps more changes.count
               (later_looked (scene_of shown) now.seen next.seen now.clips.touches next.clips.touches numbered.touched numbered.counted changes)
               (All-weaker (λ s. (place_of was s).watcher ≡ number) (λ s. kept_of now.kept s ≡ kept_of old.kept s) (λ s same. so_far.kept s (omega (arith, same))) (serials_at was number) its)
               (All-weaker (λ s. (place_of was s).watcher ≡ number) (λ s. pair_of now.clips s ≡ pair_of old.clips s) (λ s same. so_far.pairs s (omega (arith, same))) (serials_at was number) its)
@@ -224,8 +225,8 @@ module _ (shown : Shown) (chained : HaveChains shown) (document : ℕ) (was : In
         }
 
   -- those of all observers that are looked at
-  pub totals_all : (number : ℕ) (old now : HeldFindings) (from steps : ℕ) → number ≡ length was.made → Totals number old now from steps → steps ≤ from + most_steps shown chained document was old now
+  pub totals_all : (number : ℕ) (old now : HeldFindings) (from steps : ℕ) → number ≡ length was.made → Totals number old now from steps → steps ≤ from + most_steps shown margins chained document was old now
   totals_all number old now from steps past so_far =
-      subst (λ (these : List ℕ). steps ≤ from + steps_at shown chained was these old now)
+      subst (λ (these : List ℕ). steps ≤ from + steps_at shown margins chained was these old now)
       (ap (λ (made : List IntersectionObserver). flat_map (serials_at was) (places_from 0 (λ (it : IntersectionObserver). is_rooted_in shown.tree document (it.root)) made))
       (ap (λ n. take n (was.made)) past ∙ take_all (length was.made) (was.made) (omega arith))) so_far.paid

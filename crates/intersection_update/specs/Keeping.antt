@@ -1,7 +1,8 @@
 -- What an update does to what is kept of registrations: which are looked at, which of them are stale, and what it leaves of the rest.
-use Rattle.std.specs.Prelude.{◌≡◌, ◌⊎◌, ℕ, Bool, true, false, slice_get, Option, Some, None, IsSome}
+use Rattle.std.specs.Prelude.{◌≡◌, ◌⊎◌, ℕ, Bool, true, false, List, slice_get, Option, Some, None, IsSome}
 use Rattle.std.specs.Ordering.{nat_cmp}
 use Rattle.std.specs.FinMap.{FinMap}
+use Rattle.script_model.specs.Margins.{Margins}
 use Rattle.page_model.specs.Shown.{Shown}
 use Rattle.page_model.specs.World.{Tree, IntersectionObservers}
 use Rattle.page_model.specs.Intersections.{is_rooted_in}
@@ -16,6 +17,7 @@ use Rattle.candidate_index.specs.Registrations.{observer_of, target_of, serials_
 use Rattle.candidate_index.specs.Held.{kept_of, is_stale_now}
 use Rattle.kept_findings.specs.Held.{HeldFindings}
 use Rattle.kept_findings.specs.Walks.{AreChained, AlongChain, IsNot, spots_between}
+use Rattle.kept_findings.specs.Views.{seen_for}
 use Rattle.kept_findings.specs.Looks.{LookedAt, AreLooked}
 use Rattle.page_geometry.specs.Ranks.{rank_of}
 use Rattle.page_geometry.specs.Scenes.{standings_of}
@@ -25,10 +27,10 @@ use Rattle.intersection_update.specs.Updating.{IsBegun, IsStopped}
 abbrev pub HaveChains : Shown → Type 0
 HaveChains shown = AreChained (scene_of shown) (standings_of shown)
 
--- whether a registration is stale by what is shown
-abbrev pub is_stale_in : (shown : Shown) → HaveChains shown → IntersectionObservers → FinMap nat_cmp (Option Kept) → ℕ → Bool
-is_stale_in shown chained it kept serial =
-    is_stale_now (scene_of shown) (standings_of shown) it (spots_between (scene_of shown) (standings_of shown) chained it) kept serial
+-- whether a registration is stale by what is shown, as its observer sees it through its scroll margins
+abbrev pub is_stale_in : (shown : Shown) → List Margins → HaveChains shown → IntersectionObservers → FinMap nat_cmp (Option Kept) → ℕ → Bool
+is_stale_in shown margins chained it kept serial =
+    is_stale_now (seen_for it margins serial (scene_of shown)) (standings_of shown) it (spots_between (scene_of shown) (standings_of shown) chained it) kept serial
 
 -- a registration stands at this observer
 abbrev pub StandsAt : IntersectionObservers → ℕ → ℕ → Type 0
@@ -64,19 +66,19 @@ pub record IsExpired (it : IntersectionObservers) (watcher place : ℕ) (kept : 
   pub none : kept_of kept serial ≡ None
 
 -- each registration is kept as it was, or isn't stale any more, or it is that of this place and was refused memory
-abbrev pub AreKeptTo : (shown : Shown) → HaveChains shown → IntersectionObservers → (watcher place : ℕ) → (was kept : FinMap nat_cmp (Option Kept)) → Type 0
-AreKeptTo shown chained it watcher place was kept =
-    (serial : ℕ) → (kept_of kept serial ≡ kept_of was serial) ⊎ ((is_stale_in shown chained it kept serial ≡ false) ⊎ IsExpired it watcher place kept serial)
+abbrev pub AreKeptTo : (shown : Shown) → List Margins → HaveChains shown → IntersectionObservers → (watcher place : ℕ) → (was kept : FinMap nat_cmp (Option Kept)) → Type 0
+AreKeptTo shown margins chained it watcher place was kept =
+    (serial : ℕ) → (kept_of kept serial ≡ kept_of was serial) ⊎ ((is_stale_in shown margins chained it kept serial ≡ false) ⊎ IsExpired it watcher place kept serial)
 
 -- an observer that was refused memory at a registration, or for the list of those that are stale
-pub record IsRefusedAt (shown : Shown) (chained : HaveChains shown) (time watcher : ℕ) (before now : IntersectionObservers) (was kept : FinMap nat_cmp (Option Kept)) : Type 0 where
-  pub begun : IsBegun shown time watcher before now
-  pub rest : AreKeptTo shown chained before watcher begun.place was kept
+pub record IsRefusedAt (shown : Shown) (margins : List Margins) (chained : HaveChains shown) (time watcher : ℕ) (before now : IntersectionObservers) (was kept : FinMap nat_cmp (Option Kept)) : Type 0 where
+  pub begun : IsBegun shown margins time watcher before now
+  pub rest : AreKeptTo shown margins chained before watcher begun.place was kept
 
 -- an update that was
-pub record IsRefused (shown : Shown) (chained : HaveChains shown) (document time : ℕ) (before now : IntersectionObservers) (was kept : FinMap nat_cmp (Option Kept)) : Type 0 where
-  pub stopped : IsStopped shown shown.tree document time before now
-  pub rest : AreKeptTo shown chained before stopped.number stopped.place was kept
+pub record IsRefused (shown : Shown) (margins : List Margins) (chained : HaveChains shown) (document time : ℕ) (before now : IntersectionObservers) (was kept : FinMap nat_cmp (Option Kept)) : Type 0 where
+  pub stopped : IsStopped shown margins shown.tree document time before now
+  pub rest : AreKeptTo shown margins chained before stopped.number stopped.place was kept
 
 -- a spot that was looked at was seen last as it is shown
 abbrev pub HaveLooked : Shown → Seen → LookedAt → Type 0

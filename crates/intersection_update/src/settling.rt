@@ -2,7 +2,6 @@
 
 ghost use Rattle.std.specs.Prelude.{◌≡◌, ◌⊎◌, ◌<◌, ◌≤◌, ◌+◌, ℕ, All, false, length, IfOk, OnOk, OnErr};
 ghost use Rattle.page_model.specs.Lookups.{change_intersection_observer};
-ghost use Rattle.page_model.specs.Findings.{finding};
 ghost use Rattle.page_model.specs.Intersections.{is_rooted_in, settled_observer, has_queued};
 ghost use Rattle.clip_chain.specs.declared.spot.Spot.{Spot as SpotOf};
 ghost use Rattle.clip_chain.specs.Worlds.{scene_of};
@@ -14,7 +13,7 @@ ghost use Rattle.candidate_index.specs.Held.{kept_of};
 ghost use Rattle.kept_findings.specs.Registered.{AreRegistered};
 ghost use Rattle.kept_findings.specs.Rooms.{HaveRoom};
 ghost use Rattle.intersection_update.specs.Watching.{AreWatchers};
-ghost use Rattle.intersection_update.specs.Updating.{updated, has_news, AreKept, AreSettled, IsBegun, IsStopped};
+ghost use Rattle.intersection_update.specs.Updating.{found_through, updated, has_news, AreKept, AreSettled, IsBegun, IsStopped};
 ghost use Rattle.intersection_update.specs.Keeping.{HaveChains, is_stale_in, StandsAt, IsLookedAt, IsSeen, IsOff, AreLookedAlong, KeepsComputed, IsRefusedAt, IsRefused, HaveLooked};
 ghost use Rattle.intersection_update.specs.Steps.{steps_at, most_steps};
 
@@ -25,6 +24,7 @@ use page_geometry::Shown;
 use std::alloc::AllocError;
 use std::sync::ledger::Ledger;
 use step_count::Steps;
+use thresholds::Margins;
 
 // It tells that each registration has a serial number of its own.
 fn tell_serials(watchers: &Watchers)
@@ -39,6 +39,7 @@ fn tell_serials(watchers: &Watchers)
 fn settle_stale<L: Ledger>(
     shown: &Shown<'_>,
     watchers: &mut Watchers,
+    scroll_margins: &[Margins],
     findings: &mut KeptFindings,
     looks: &mut Looks,
     watcher: WatcherId,
@@ -46,29 +47,30 @@ fn settle_stale<L: Ledger>(
     steps: &mut Steps<L>,
 ) -> Result<bool, AllocError>
     requires watcher { watcher.0 < length watchers.old.part.made }
-    requires registered { AreRegistered watchers.old.part findings.old }
+    requires margins { length scroll_margins.now ≡ length watchers.old.part.made }
+    requires registered { AreRegistered watchers.old.part scroll_margins.now findings.old }
     requires room { HaveRoom (length shown.now.tree.elements) (length shown.now.tree.documents) findings.old }
     requires known { HaveLooked shown.now findings.old.seen looks.old }
-    ensures settled { OnOk result (watchers.new ≡ record watchers.old { part = change_intersection_observer (settled_observer time (finding shown.now)) watcher.0 (watchers.old.part) }) }
-    ensures stopped { OnErr result (IsBegun shown.now time watcher.0 watchers.old.part watchers.new.part) }
+    ensures settled { OnOk result (watchers.new ≡ record watchers.old { part = change_intersection_observer (settled_observer time (found_through shown.now scroll_margins.now watcher.0)) watcher.0 (watchers.old.part) }) }
+    ensures stopped { OnErr result (IsBegun shown.now scroll_margins.now time watcher.0 watchers.old.part watchers.new.part) }
     ensures queued { IfOk result (λ queued. queued ≡ has_queued watchers.old.part watchers.new.part watcher.0) }
     ensures kept { AreKept (length shown.now.tree.elements) watchers.old watchers.new }
-    ensures registered { AreRegistered watchers.new.part findings.new }
+    ensures registered { AreRegistered watchers.new.part scroll_margins.now findings.new }
     ensures room { HaveRoom (length shown.now.tree.elements) (length shown.now.tree.documents) findings.new }
     ensures known { HaveLooked shown.now findings.new.seen looks.new }
     ensures looked { AreLookedAlong shown.now watchers.old.part watcher.0 findings.old findings.new }
-    ensures same { (chained : HaveChains shown.now) (serial : ℕ) → is_stale_in shown.now chained watchers.old.part findings.old.kept serial ≡ false →
+    ensures same { (chained : HaveChains shown.now) (serial : ℕ) → is_stale_in shown.now scroll_margins.now chained watchers.old.part findings.old.kept serial ≡ false →
         kept_of findings.new.kept serial ≡ kept_of findings.old.kept serial }
     ensures others { (serial : ℕ) → (¬ (place_of watchers.old.part serial).watcher ≡ watcher.0) → kept_of findings.new.kept serial ≡ kept_of findings.old.kept serial }
     ensures fresh { (chained : HaveChains shown.now) → OnOk result ((serial : ℕ) → StandsAt watchers.old.part watcher.0 serial →
-        is_stale_in shown.now chained watchers.old.part findings.new.kept serial ≡ false) }
+        is_stale_in shown.now scroll_margins.now chained watchers.old.part findings.new.kept serial ≡ false) }
     ensures rest { (chained : HaveChains shown.now) → OnOk result ((serial : ℕ) →
-        (kept_of findings.new.kept serial ≡ kept_of findings.old.kept serial) ⊎ (is_stale_in shown.now chained watchers.old.part findings.new.kept serial ≡ false)) }
+        (kept_of findings.new.kept serial ≡ kept_of findings.old.kept serial) ⊎ (is_stale_in shown.now scroll_margins.now chained watchers.old.part findings.new.kept serial ≡ false)) }
     ensures computed { KeepsComputed findings.old.clips findings.new.clips }
     ensures listed { OnOk result (All (λ serial. StandsAt watchers.old.part watcher.0 serial) (serials_at watchers.old.part watcher.0)) }
     ensures pairs { OnOk result ((serial : ℕ) → (¬ (place_of watchers.old.part serial).watcher ≡ watcher.0) → pair_of findings.new.clips serial ≡ pair_of findings.old.clips serial) }
-    ensures paid { (chained : HaveChains shown.now) → OnOk result (steps.new ≤ steps.old + steps_at shown.now chained watchers.old.part (serials_at watchers.old.part watcher.0) findings.old findings.new) }
-    ensures refused { (chained : HaveChains shown.now) → OnErr result (IsRefusedAt shown.now chained time watcher.0 watchers.old.part watchers.new.part findings.old.kept findings.new.kept) }
+    ensures paid { (chained : HaveChains shown.now) → OnOk result (steps.new ≤ steps.old + steps_at shown.now scroll_margins.now chained watchers.old.part (serials_at watchers.old.part watcher.0) findings.old findings.new) }
+    ensures refused { (chained : HaveChains shown.now) → OnErr result (IsRefusedAt shown.now scroll_margins.now chained time watcher.0 watchers.old.part watchers.new.part findings.old.kept findings.new.kept) }
 {
     // It tells that chains lead to roots.
     shown.document_count();
@@ -77,16 +79,32 @@ fn settle_stale<L: Ledger>(
     findings.look(shown, looks, watchers, watcher);
     // It tells that no clip was computed at a touch to come.
     findings.clips();
-    let stale = findings.stale_registrations(shown, looks, watchers, watcher, steps)?;
+    let stale = findings.stale_registrations(
+        shown,
+        looks,
+        watchers,
+        scroll_margins,
+        watcher,
+        steps,
+    )?;
     let mut queued = false;
     for registration in &stale {
-        queued |= findings.settle(shown, looks, watchers, watcher, *registration, time, steps)?;
+        queued |= findings.settle(
+            shown,
+            looks,
+            watchers,
+            scroll_margins,
+            watcher,
+            *registration,
+            time,
+            steps,
+        )?;
     }
     Ok(queued)
 }
 
-/// Settles what is found of each registration of the observers whose root is a document or stands in its tree, at a time in
-/// milliseconds, and tells whether an entry was queued at one of them, so that the document's notify task is due (Intersection
+/// Settles what is found of each registration of the observers whose root is a document or stands in its tree, through the scroll
+/// margins of each, which are listed by the observers' numbers, at a time in milliseconds, and tells whether an entry was queued at one of them, so that the document's notify task is due (Intersection
 /// Observer, 3.2.10: run the update intersection observations steps).
 ///
 /// Only the stale registrations are computed: the spots on the chains of all of them are looked at, and what is found of the others is
@@ -99,36 +117,38 @@ fn settle_stale<L: Ledger>(
 pub fn update<L: Ledger>(
     shown: &Shown<'_>,
     watchers: &mut Watchers,
+    scroll_margins: &[Margins],
     findings: &mut KeptFindings,
     document: u32,
     time: u64,
     steps: &mut Steps<L>,
 ) -> Result<bool, AllocError>
-    requires registered { AreRegistered watchers.old.part findings.old }
+    requires margins { length scroll_margins.now ≡ length watchers.old.part.made }
+    requires registered { AreRegistered watchers.old.part scroll_margins.now findings.old }
     requires room { HaveRoom (length shown.now.tree.elements) (length shown.now.tree.documents) findings.old }
-    ensures updated { OnOk result (watchers.new ≡ record watchers.old { part = updated shown.now shown.now.tree document time (watchers.old.part) }) }
-    ensures stopped { OnErr result (IsStopped shown.now shown.now.tree document time watchers.old.part watchers.new.part) }
-    ensures settled { OnOk result (AreSettled shown.now document watchers.old.part watchers.new.part) }
-    ensures queued { IfOk result (λ queued. queued ≡ has_news shown.now.tree document watchers.old.part (updated shown.now shown.now.tree document time watchers.old.part)) }
+    ensures updated { OnOk result (watchers.new ≡ record watchers.old { part = updated shown.now scroll_margins.now shown.now.tree document time (watchers.old.part) }) }
+    ensures stopped { OnErr result (IsStopped shown.now scroll_margins.now shown.now.tree document time watchers.old.part watchers.new.part) }
+    ensures settled { OnOk result (AreSettled shown.now scroll_margins.now document watchers.old.part watchers.new.part) }
+    ensures queued { IfOk result (λ queued. queued ≡ has_news shown.now.tree document watchers.old.part (updated shown.now scroll_margins.now shown.now.tree document time watchers.old.part)) }
     ensures written { AreWatchers (length shown.now.tree.elements) watchers.old.part.made → AreWatchers (length shown.now.tree.elements) watchers.new.part.made }
     ensures limits { watchers.new ≡ record watchers.old { part = watchers.new.part } }
     ensures count { length watchers.new.part.made ≡ length watchers.old.part.made }
     ensures given { watchers.new.part.given ≡ watchers.old.part.given }
-    ensures registered { AreRegistered watchers.new.part findings.new }
+    ensures registered { AreRegistered watchers.new.part scroll_margins.now findings.new }
     ensures room { HaveRoom (length shown.now.tree.elements) (length shown.now.tree.documents) findings.new }
     ensures touched { ChangesByLooks (scene_of shown.now) findings.old.seen findings.new.seen findings.old.clips.touches findings.new.clips.touches }
     ensures left { (spot : SpotOf) → ((serial : ℕ) → IsLookedAt shown.now.tree document watchers.old.part serial → IsOff shown.now watchers.old.part spot serial) →
         IsLeft findings.old.seen findings.new.seen findings.old.clips.touches findings.new.clips.touches spot }
     ensures seen { OnOk result ((serial : ℕ) → IsLookedAt shown.now.tree document watchers.new.part serial → IsSeen shown.now watchers.new.part findings.new.seen serial) }
-    ensures kept { (chained : HaveChains shown.now) (serial : ℕ) → is_stale_in shown.now chained watchers.old.part findings.old.kept serial ≡ false →
+    ensures kept { (chained : HaveChains shown.now) (serial : ℕ) → is_stale_in shown.now scroll_margins.now chained watchers.old.part findings.old.kept serial ≡ false →
         kept_of findings.new.kept serial ≡ kept_of findings.old.kept serial }
     ensures others { (serial : ℕ) → is_rooted_in shown.now.tree document (observer_of watchers.old.part serial).root ≡ false →
         kept_of findings.new.kept serial ≡ kept_of findings.old.kept serial }
     ensures fresh { (chained : HaveChains shown.now) → OnOk result ((serial : ℕ) → IsLookedAt shown.now.tree document watchers.new.part serial →
-        is_stale_in shown.now chained watchers.new.part findings.new.kept serial ≡ false) }
+        is_stale_in shown.now scroll_margins.now chained watchers.new.part findings.new.kept serial ≡ false) }
     ensures computed { KeepsComputed findings.old.clips findings.new.clips }
-    ensures ticks { (chained : HaveChains shown.now) → OnOk result (steps.new ≤ steps.old + most_steps shown.now chained document watchers.old.part findings.old findings.new) }
-    ensures refused { (chained : HaveChains shown.now) → OnErr result (IsRefused shown.now chained document time watchers.old.part watchers.new.part findings.old.kept findings.new.kept) }
+    ensures ticks { (chained : HaveChains shown.now) → OnOk result (steps.new ≤ steps.old + most_steps shown.now scroll_margins.now chained document watchers.old.part findings.old findings.new) }
+    ensures refused { (chained : HaveChains shown.now) → OnErr result (IsRefused shown.now scroll_margins.now chained document time watchers.old.part watchers.new.part findings.old.kept findings.new.kept) }
 {
     // It tells that chains lead to roots.
     shown.document_count();
@@ -140,7 +160,16 @@ pub fn update<L: Ledger>(
         if is_looked_at(shown.page(), watchers, watcher, document) {
             // It tells that no spot was touched at a touch to come.
             findings.clips();
-            queued |= settle_stale(shown, watchers, findings, &mut looks, watcher, time, steps)?;
+            queued |= settle_stale(
+                shown,
+                watchers,
+                scroll_margins,
+                findings,
+                &mut looks,
+                watcher,
+                time,
+                steps,
+            )?;
         }
     }
     Ok(queued)

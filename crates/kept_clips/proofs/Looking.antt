@@ -8,12 +8,12 @@ use Rattle.kept_clips.specs.declared.sightings.Sighting.{Sighting}
 use Rattle.kept_clips.specs.Touches.{Touched, last_number, IsAdded, touched, touched_at}
 use Rattle.kept_clips.specs.Held.{HeldClips, pair_of}
 use Rattle.kept_clips.specs.Chains.{stands, IsExact}
-use Rattle.kept_clips.specs.Scenes.{AgreesAt}
+use Rattle.kept_clips.specs.Scenes.{AgreesAt, IsSpotwise}
 use Rattle.kept_clips.specs.Seen.{Seen, sighting_of, scene_seen, sighting_in, with_sighting, HasRoom}
 use Rattle.kept_clips.specs.Looked.{IsLeft, IsSeenAnew, ChangesByLooks, Looked, MayBeSeen}
 use Rattle.kept_clips.proofs.Touching.{touched_here, untouched_there}
 use Rattle.kept_clips.proofs.Spots.{same_or_apart}
-use Rattle.kept_clips.proofs.Seeing.{seen_there, seen_here, agrees_as_seen}
+use Rattle.kept_clips.proofs.Seeing.{seen_there, seen_here, was_scrolling, agrees_as_seen}
 
 -- room stays
 room_seen : (it : Seen) (of spot : Spot) (s : Sighting) → HasRoom it spot → HasRoom (with_sighting of s it) spot
@@ -36,7 +36,7 @@ module _ (scene : Scene) where
   looked_nowhere seen held = record {
     spots = changes_none seen held.touches;
     pairs = refl;
-    exact = λ number exact. exact;
+    exact = λ view spotwise number exact. exact;
     stood = λ number chain current. current;
     room = λ spot room. room;
     added = λ spot added. added;
@@ -57,7 +57,7 @@ module _ (scene : Scene) where
   pub looked_once : (seen now : Seen) (was held : HeldClips) (of : Spot) → HasRoom seen of → IsAdded was.touches of → (¬ sighting_of seen of ≡ Some (sighting_in scene of))
       → now ≡ with_sighting of (sighting_in scene of) seen → held ≡ record was { touches = touched of (was.touches) }
       → was.touches.count ≤ held.touches.count
-      → ((number : ℕ) → IsExact (scene_seen seen) was number → IsExact (scene_seen now) held number)
+      → ((view : Scene → Scene) → IsSpotwise view → (number : ℕ) → IsExact (view (scene_seen seen)) was number → IsExact (view (scene_seen now)) held number)
       → ((number : ℕ) (chain : List Spot) → stands held.touches (pair_of was number).computed chain ≡ true → stands was.touches (pair_of was number).computed chain ≡ true)
       → Looked scene seen now was held
   looked_once seen now was held of room added differs is is_held count exact stood = record {
@@ -96,7 +96,7 @@ module _ (scene : Scene) where
   looked_then first second third was held last one two = record {
     spots = changes_then first second third was.touches held.touches last.touches one.spots two.spots;
     pairs = two.pairs ∙ one.pairs;
-    exact = λ number exact. two.exact number (one.exact number exact);
+    exact = λ view spotwise number exact. two.exact view spotwise number (one.exact view spotwise number exact);
     stood = λ number chain current.
         one.stood number chain
         (subst (λ pairs. stands held.touches (pair_of (record held { pairs = pairs }) number).computed chain ≡ true) one.pairs
@@ -112,6 +112,7 @@ module _ (scene : Scene) where
     | inl left ↦ record {
       container = agrees.container ∙ sym (ap (option_and_then (λ (s : Sighting). s.container)) left.sighting);
       clip = agrees.clip ∙ sym (ap (option_and_then (λ (s : Sighting). s.clip)) left.sighting);
+      scrolls = agrees.scrolls ∙ sym (ap was_scrolling left.sighting);
     }
     | inr anew ↦ agrees_as_seen now spot scene anew.sighting
   ]

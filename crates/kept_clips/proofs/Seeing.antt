@@ -1,5 +1,5 @@
 -- A spot that is seen anew.
-use Rattle.std.proofs.Common.{◌≡◌, ◌∙◌, ℕ, zero, suc, ◌≤◌, ◌-◌, List, [], ◌∷◌, ◌++◌, length, get_or, Option, Some, None, option_map, unwrap_or, ap, refl, sym, subst, inl, inr, get_or-set_other, get_or-set_same}
+use Rattle.std.proofs.Common.{◌≡◌, ◌∙◌, ℕ, zero, suc, ◌≤◌, ◌-◌, Bool, false, List, [], ◌∷◌, ◌++◌, length, get_or, Option, Some, None, option_map, unwrap_or, ap, refl, sym, subst, inl, inr, get_or-set_other, get_or-set_same}
 use Rattle.std.specs.Prelude.{option_and_then, replicate, slice_set}
 use Rattle.std.proofs.lemmas.Bool.{cases_lt}
 use Rattle.std.proofs.lemmas.List.{get_or-replicate, get_or_past, get_or_append_left, length-replicate}
@@ -25,11 +25,15 @@ pub seen_here : (it : Seen) (of : Spot) (s : Sighting) → HasRoom it of → sig
 seen_here it (Node a) s room = get_or-set_same it.nodes a.0 (Some s) None room
 seen_here it (View d) s room = get_or-set_same it.views d (Some s) None room
 
+abbrev pub was_scrolling : Option Sighting → Bool
+was_scrolling o = unwrap_or (option_map (λ (each : Sighting). each.scrolls) o) false
+
 -- nothing else is seen anew, so that a touch of the spot keeps clips exact of what was seen last
 pub differs_there : (it : Seen) (of : Spot) (s : Sighting) → DiffersOnlyAt of (scene_seen it) (scene_seen (with_sighting of s it))
 differs_there it of s = λ other apart. record {
   container = ap (option_and_then (λ (each : Sighting). each.container)) (seen_there it of other s apart);
   clip = ap (option_and_then (λ (each : Sighting). each.clip)) (seen_there it of other s apart);
+  scrolls = ap was_scrolling (seen_there it of other s apart);
 }
 
 -- the spot is seen as it is
@@ -37,6 +41,7 @@ pub agrees_here : (it : Seen) (of : Spot) (now : Scene) → HasRoom it of → Ag
 agrees_here it of now room = record {
   container = sym (ap (option_and_then (λ (each : Sighting). each.container)) (seen_here it of (sighting_in now of) room));
   clip = sym (ap (option_and_then (λ (each : Sighting). each.clip)) (seen_here it of (sighting_in now of) room));
+  scrolls = sym (ap was_scrolling (seen_here it of (sighting_in now of) room));
 }
 
 -- what is seen as it was leaves what was seen last as it is
@@ -54,6 +59,7 @@ pub agrees_as_seen : (it : Seen) (of : Spot) (now : Scene) → sighting_of it of
 agrees_as_seen it of now e = record {
   container = sym (ap (option_and_then (λ (each : Sighting). each.container)) e);
   clip = sym (ap (option_and_then (λ (each : Sighting). each.clip)) e);
+  scrolls = sym (ap was_scrolling e);
 }
 
 -- a spot that agreed does so still when another one is seen, and that one too
@@ -63,6 +69,7 @@ agrees_still it of other now room was = elim (same_or_apart of other) [
   | inr apart ↦ record {
     container = was.container ∙ sym (differs_there it of (sighting_in now of) other apart).container;
     clip = was.clip ∙ sym (differs_there it of (sighting_in now of) other apart).clip;
+    scrolls = was.scrolls ∙ sym (differs_there it of (sighting_in now of) other apart).scrolls;
   }
 ]
 
@@ -92,7 +99,9 @@ same_scene before after same = λ i. record {
   container = λ of. option_and_then (λ (s : Sighting). s.container) (same of i);
   clip = λ of. option_and_then (λ (s : Sighting). s.clip) (same of i);
   bounds = λ of. unwrap_or (option_map (λ (s : Sighting). s.bounds) (same of i)) zero_rect;
+  scrolls = λ of. was_scrolling (same of i);
+  moved = λ of. false;
 }
 
-pub exact_as_seen : (before after : Seen) → ((spot : Spot) → sighting_of after spot ≡ sighting_of before spot) → (clips : HeldClips) (number : ℕ) → IsExact (scene_seen before) clips number → IsExact (scene_seen after) clips number
-exact_as_seen before after same clips number exact = subst (λ (scene : Scene). IsExact scene clips number) (sym (same_scene before after same)) exact
+pub exact_as_seen : (before after : Seen) → ((spot : Spot) → sighting_of after spot ≡ sighting_of before spot) → (view : Scene → Scene) (clips : HeldClips) (number : ℕ) → IsExact (view (scene_seen before)) clips number → IsExact (view (scene_seen after)) clips number
+exact_as_seen before after same view clips number exact = subst (λ (scene : Scene). IsExact (view scene) clips number) (sym (same_scene before after same)) exact

@@ -1,10 +1,11 @@
 -- Spots that were looked at in a scene: what differs from what was seen last is touched, and what is seen now is kept.
-use Rattle.std.specs.Prelude.{◌≡◌, ◌⊎◌, ℕ, ◌<◌, ◌≤◌, true, List, Some, IfSome}
+use Rattle.std.specs.Prelude.{◌≡◌, ◌⊎◌, ℕ, ◌<◌, ◌≤◌, true, false, List, Some, IfSome}
 use Rattle.clip_chain.specs.declared.spot.Spot.{Spot}
 use Rattle.clip_chain.specs.Ranges.{IsClip, IsBounds}
 use Rattle.clip_chain.specs.Scenes.{Scene}
 use Rattle.kept_clips.specs.Touches.{Touched, last_touch, IsTouchedSince, IsAdded}
 use Rattle.kept_clips.specs.Held.{HeldClips, pair_of}
+use Rattle.kept_clips.specs.Scenes.{IsSpotwise}
 use Rattle.kept_clips.specs.Chains.{stands, IsExact}
 use Rattle.kept_clips.specs.Seen.{Seen, sighting_of, scene_seen, sighting_in, HasRoom}
 
@@ -27,7 +28,7 @@ pub record ChangesByLooks (scene : Scene) (before now : Seen) (was held : Touche
 pub record Looked (scene : Scene) (before now : Seen) (was held : HeldClips) : Type 0 where
   pub spots : ChangesByLooks scene before now was.touches held.touches
   pub pairs : held.pairs ≡ was.pairs
-  pub exact : (number : ℕ) → IsExact (scene_seen before) was number → IsExact (scene_seen now) held number
+  pub exact : (view : Scene → Scene) → IsSpotwise view → (number : ℕ) → IsExact (view (scene_seen before)) was number → IsExact (view (scene_seen now)) held number
   -- what stands afterwards stood before
   pub stood : (number : ℕ) (chain : List Spot) → stands held.touches (pair_of was number).computed chain ≡ true → stands was.touches (pair_of was number).computed chain ≡ true
   pub room : (spot : Spot) → HasRoom before spot → HasRoom now spot
@@ -38,8 +39,9 @@ pub record MayBeSeen (seen : Seen) (clips : HeldClips) (spot : Spot) : Type 0 wh
   pub room : HasRoom seen spot
   pub added : IsAdded clips.touches spot
 
--- what is so of each spot of a geometry: its container is farther outwards, its clip and its box are in range
+-- what is so of each spot of a geometry: its container is farther outwards, its clip and its box are in range, and its clip wasn't moved
 pub record IsInRange (scene : Scene) (rank : Spot → ℕ) (spot : Spot) : Type 0 where
   pub container : IfSome (scene.container spot) (λ (next : Spot). rank next < rank spot)
   pub clip : IfSome (scene.clip spot) IsClip
   pub bounds : IsBounds (scene.bounds spot)
+  pub unmoved : scene.moved spot ≡ false

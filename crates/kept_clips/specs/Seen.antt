@@ -1,5 +1,5 @@
--- What was seen last of each spot: what it stood in, what it clipped to, and its box.
-use Rattle.std.specs.Prelude.{ℕ, suc, ◌<◌, ◌-◌, Bool, nat_lt, List, ◌++◌, length, replicate, slice_set, Option, Some, None, option_and_then, option_map, unwrap_or}
+-- What was seen last of each spot: what it stood in, what it clipped to, its box, and whether it was a scroll container.
+use Rattle.std.specs.Prelude.{ℕ, suc, ◌<◌, ◌-◌, Bool, false, nat_lt, List, ◌++◌, length, replicate, slice_set, Option, Some, None, option_and_then, option_map, unwrap_or}
 use Rattle.std.specs.List.{slice_index_or}
 use Rattle.page_model.specs.Chains.{zero_rect}
 use Rattle.clip_chain.specs.declared.spot.Spot.{Spot}
@@ -23,11 +23,13 @@ scene_seen it = record {
   container = λ of. option_and_then (λ (s : Sighting). s.container) (sighting_of it of);
   clip = λ of. option_and_then (λ (s : Sighting). s.clip) (sighting_of it of);
   bounds = λ of. unwrap_or (option_map (λ (s : Sighting). s.bounds) (sighting_of it of)) zero_rect;
+  scrolls = λ of. unwrap_or (option_map (λ (s : Sighting). s.scrolls) (sighting_of it of)) false;
+  moved = λ of. false;
 }
 
 -- what is seen of a spot of a scene
 abbrev pub sighting_in : Scene → Spot → Sighting
-sighting_in scene of = record { container = scene.container of; clip = scene.clip of; bounds = scene.bounds of }
+sighting_in scene of = record { container = scene.container of; clip = scene.clip of; bounds = scene.bounds of; scrolls = scene.scrolls of }
 
 abbrev pub with_sighting : Spot → Sighting → Seen → Seen
 with_sighting (Node node) s it = record it { nodes = slice_set (it.nodes) (node.0) (Some s) }

@@ -6,22 +6,24 @@ ghost use Rattle.clip_chain.specs.declared.spot.Spot.{Spot as SpotOf};
 ghost use Rattle.kept_clips.specs.Touches.{IsAdded, touched};
 ghost use Rattle.kept_clips.specs.Held.{HeldClips};
 ghost use Rattle.kept_clips.specs.Chains.{IsExact};
-ghost use Rattle.kept_clips.specs.Scenes.{AgreesAt};
+ghost use Rattle.clip_chain.specs.Scenes.{Scene};
+ghost use Rattle.kept_clips.specs.Scenes.{AgreesAt, IsSpotwise};
 ghost use Rattle.kept_clips.specs.Looked.{Looked, IsInRange};
 ghost use Rattle.kept_clips.specs.Seen.{sighting_of, scene_seen, sighting_in, with_sighting, with_room, up_to, HasRoom, has_room};
 
 use crate::Clips;
-use clip_chain::{Geometry, Spot};
+use clip_chain::{Scrolls, Spot};
 use px_units::Rect;
 use std::alloc::{AllocError, Global};
 use std::marker::Model;
 
-/// What was seen of a spot: what it stood in, what it clipped its content to, and its box.
+/// What was seen of a spot: what it stood in, what it clipped its content to, its box, and whether it was a scroll container.
 #[derive(Clone, Copy, Debug, PartialEq, Eq)]
 pub struct Sighting {
     pub container: Option<Spot>,
     pub clip: Option<Rect>,
     pub bounds: Rect,
+    pub scrolls: bool,
 }
 
 fn is_same_rect(one: Rect, other: Rect) -> bool
@@ -50,6 +52,7 @@ impl Sighting {
         self.container == other.container
             && is_same_clip(self.clip, other.clip)
             && is_same_rect(self.bounds, other.bounds)
+            && self.scrolls == other.scrolls
     }
 }
 
@@ -103,7 +106,7 @@ impl Sightings {
         ensures same { OnErr result (self.new ≡ self.old) }
         ensures there { HasRoom self.old of → IsOk result }
         ensures seen { (spot : SpotOf) → sighting_of self.new spot ≡ sighting_of self.old spot }
-        ensures exact { (clips : HeldClips) (number : ℕ) → IsExact (scene_seen self.old) clips number → IsExact (scene_seen self.new) clips number }
+        ensures exact { (view : Scene → Scene) (clips : HeldClips) (number : ℕ) → IsExact (view (scene_seen self.old)) clips number → IsExact (view (scene_seen self.new)) clips number }
     {
         match of {
             Spot::Node(node) => extend(&mut self.nodes, node.0),
@@ -132,11 +135,11 @@ impl Sightings {
         }
     }
 
-    /// Looks at a spot: where its container, clip or box differs from what was seen last, or nothing was seen of it, it is touched.
-    /// What is seen now is kept.
+    /// Looks at a spot: where its container, clip or box differs from what was seen last, or whether it is a scroll container, or nothing was
+    /// seen of it, it is touched. What is seen now is kept.
     ///
-    /// Clips that are exact of what was seen last stay exact of it. No memory.
-    pub fn look<G: Geometry>(&mut self, clips: &mut Clips, geometry: &G, of: Spot)
+    /// Clips that are exact of what was seen last, or of a view of it that tells of each spot by that spot alone, stay exact of it. No memory.
+    pub fn look<G: Scrolls>(&mut self, clips: &mut Clips, geometry: &G, of: Spot)
         requires room { HasRoom self.old of }
         requires added { IsAdded clips.old.touches of }
         ensures seen { self.new ≡ with_sighting of (sighting_in (G.scene geometry.now) of) self.old }
@@ -144,7 +147,7 @@ impl Sightings {
         ensures touched { (¬ sighting_of self.old of ≡ Some (sighting_in (G.scene geometry.now) of)) → clips.new ≡ record clips.old { touches = touched of (clips.old.touches) } }
         ensures agrees { AgreesAt (scene_seen self.new) (G.scene geometry.now) of }
         ensures agreed { (other : SpotOf) → AgreesAt (scene_seen self.old) (G.scene geometry.now) other → AgreesAt (scene_seen self.new) (G.scene geometry.now) other }
-        ensures exact { (number : ℕ) → IsExact (scene_seen self.old) clips.old number → IsExact (scene_seen self.new) clips.new number }
+        ensures exact { (view : Scene → Scene) → IsSpotwise view → (number : ℕ) → IsExact (view (scene_seen self.old)) clips.old number → IsExact (view (scene_seen self.new)) clips.new number }
         ensures looked { Looked (G.scene geometry.now) self.old self.new clips.old clips.new }
         ensures in_range { IsInRange (G.scene geometry.now) (G.rank geometry.now) of }
     {
@@ -152,6 +155,7 @@ impl Sightings {
             container: geometry.container(of),
             clip: geometry.clip(of),
             bounds: geometry.bounds(of),
+            scrolls: geometry.scrolls(of),
         };
         if !self.is_as_seen(of, now) {
             clips.touch(of);

@@ -1,10 +1,11 @@
 -- Clips that are asked for once their chains were seen: exact of what was seen, and for the same spots.
-use Rattle.std.proofs.Common.{◌≡◌, ◌∙◌, ℕ, Bool, true, false, cond, List, [], ◌∷◌, get_or, Option, Some, Result, refl}
+use Rattle.std.proofs.Common.{◌≡◌, ◌∙◌, ℕ, Bool, true, false, cond, List, [], ◌∷◌, get_or, Option, Some, Result, ap, refl, sym, subst, inl, inr}
 use Rattle.std.specs.Prelude.{OnOk, OnErr}
 use Rattle.std.specs.FinMap.{FinMap}
 use Rattle.std.specs.Ordering.{nat_cmp}
 use Rattle.std.specs.List.{All}
 use Rattle.std.proofs.lemmas.List.Elements.{All-head, All-tail}
+use Rattle.script_model.specs.Margins.{Margins}
 use Rattle.page_model.specs.World.{Root, IntersectionObservers}
 use Rattle.clip_chain.specs.declared.spot.Spot.{Spot}
 use Rattle.clip_chain.specs.Scenes.{Scene}
@@ -14,11 +15,13 @@ use Rattle.intersection_observer.specs.Places.{IsStanding}
 use Rattle.intersection_observer.specs.Seen.{serial_numbers}
 use Rattle.intersection_observer.specs.declared.registration.RegistrationId.{RegistrationId}
 use Rattle.kept_clips.specs.Clips.{clip_between}
-use Rattle.kept_clips.specs.Held.{HeldClips, spots_at, with_clip}
-use Rattle.kept_clips.specs.Chains.{is_current, IsExact}
+use Rattle.kept_clips.specs.declared.clip.Clip.{Clip}
+use Rattle.kept_clips.specs.declared.pair.Pair.{Pair}
+use Rattle.kept_clips.specs.Held.{HeldClips, pair_of, spots_at, computed_now, with_clip}
+use Rattle.kept_clips.specs.Chains.{is_current, IsExactPair, IsExact}
 use Rattle.kept_clips.specs.Scenes.{AgreesAt}
-use Rattle.kept_clips.specs.Seen.{Seen}
-use Rattle.kept_clips.proofs.Pairs.{either, spots_computed}
+use Rattle.kept_clips.specs.Seen.{Seen, scene_seen}
+use Rattle.kept_clips.proofs.Pairs.{either, of_inserted, spots_computed}
 use Rattle.kept_clips.proofs.Agreeing.{exact_now, exact_asked}
 use Rattle.candidate_index.specs.declared.index.Kept.{Kept}
 use Rattle.candidate_index.specs.declared.scene.Standing.{Standing}
@@ -27,21 +30,23 @@ use Rattle.candidate_index.specs.Registrations.{observer_of, target_of, standing
 use Rattle.candidate_index.specs.Asked.{asked_if, asked_for, all_asked}
 use Rattle.candidate_index.proofs.Keeping.{if_still}
 use Rattle.kept_findings.specs.Walks.{EachAlong, AlongChain}
+use Rattle.kept_findings.specs.Views.{seen_for}
 use Rattle.kept_findings.specs.Registered.{spots_for, AreHeld}
+use Rattle.kept_findings.proofs.Settled.{numbers_apart, apart_test}
 use Rattle.kept_findings.proofs.Walking.{all_serials, at_serial}
 use Rattle.kept_findings.proofs.Pairing.{IsPairOf, pair_by, standing_spots, agrees_along, leads_of}
 
--- the same spots and touches, and clips as exact of what was seen as before
-pub record Stays (seen : Scene) (before now : HeldClips) : Type 0 where
+-- the same spots and touches, and each clip as exact of what its observer sees of what was seen as before
+pub record Stays (views : ℕ → Scene) (before now : HeldClips) : Type 0 where
   pub spots : (serial : ℕ) → spots_at now serial ≡ spots_at before serial
   pub touches : now.touches ≡ before.touches
-  pub exact : ((serial : ℕ) → IsExact seen before serial) → (serial : ℕ) → IsExact seen now serial
+  pub exact : ((serial : ℕ) → IsExact (views serial) before serial) → (serial : ℕ) → IsExact (views serial) now serial
 
-pub stays_same : (seen : Scene) (clips : HeldClips) → Stays seen clips clips
-stays_same seen clips = record { spots = λ serial. refl; touches = refl; exact = λ all. all }
+pub stays_same : (views : ℕ → Scene) (clips : HeldClips) → Stays views clips clips
+stays_same views clips = record { spots = λ serial. refl; touches = refl; exact = λ all. all }
 
-stays_then : (seen : Scene) (first second third : HeldClips) → Stays seen first second → Stays seen second third → Stays seen first third
-stays_then seen first second third one two = record {
+stays_then : (views : ℕ → Scene) (first second third : HeldClips) → Stays views first second → Stays views second third → Stays views first third
+stays_then views first second third one two = record {
   spots = λ serial. two.spots serial ∙ one.spots serial;
   touches = two.touches ∙ one.touches;
   exact = λ all. two.exact (one.exact all);
@@ -53,15 +58,23 @@ pub record IsKnown (seen now : Scene) (spots : Option (Spot × Spot)) (root targ
   pub agrees : EachAlong (AgreesAt seen now) now target root
   pub leads : Leads now target between root
 
-module _ (seen now : Scene) (standings : Root → ℕ → Standing) (it : IntersectionObservers) (between : ℕ → List Spot) where
+-- the clip of another pair was computed
+exact_apart : (view : Scene) (clips : HeldClips) (serial other : ℕ) (clip : Clip) → (¬ other ≡ serial) → IsExact view clips other → IsExact view (with_clip serial clip clips) other
+exact_apart view clips serial other clip apart exact =
+    let pair : Pair = computed_now clip (clips.touches) (pair_of clips serial) in
+    subst (IsExactPair view clips.touches) (sym (of_inserted clips serial other pair ∙ ap (λ b. cond b pair (pair_of clips other)) (apart_test other serial apart))) exact
+
+-- registrations whose observers see this of what was seen, and this of what there is now
+module _ (views : ℕ → Scene) (seen now : Scene) (standings : Root → ℕ → Standing) (it : IntersectionObservers) (between : ℕ → List Spot) where
   abbrev pub Known : ℕ → Type 0
   Known serial =
-      IfChained (standing_for standings it serial)
+      (views serial ≡ seen)
+      × IfChained (standing_for standings it serial)
       (IsKnown seen now (spots_for it serial) (spot_of_root (observer_of it serial).root) (element_spot (target_of it serial)) (between serial))
 
-  pub known_of : (serial : ℕ) → IsStanding serial it → IfChained (standing_for standings it serial) (EachAlong (AgreesAt seen now) now (element_spot (target_of it serial)) (spot_of_root (observer_of it serial).root))
+  pub known_of : (serial : ℕ) → views serial ≡ seen → IsStanding serial it → IfChained (standing_for standings it serial) (EachAlong (AgreesAt seen now) now (element_spot (target_of it serial)) (spot_of_root (observer_of it serial).root))
       → IsBetween now standings it between serial → Known serial
-  known_of serial there walked leads = by_standing (standing_for standings it serial) walked leads
+  known_of serial is there walked leads = (is, by_standing (standing_for standings it serial) walked leads)
     where
       by_standing : (s : Standing) → IfChained s (EachAlong (AgreesAt seen now) now (element_spot (target_of it serial)) (spot_of_root (observer_of it serial).root))
           → IfChained s (Leads now (element_spot (target_of it serial)) (between serial) (spot_of_root (observer_of it serial).root))
@@ -70,37 +83,42 @@ module _ (seen now : Scene) (standings : Root → ℕ → Standing) (it : Inters
       by_standing NoBox walked leads = tt
       by_standing Chained walked leads = record { spots_are = standing_spots it serial there; agrees = walked; leads = leads }
 
-  one_asked : (clips : HeldClips) (serial : ℕ) (root target : Spot) → IsPairOf clips serial root target → EachAlong (AgreesAt seen now) now target root → Leads now target (between serial) root
-      → (b : Bool) → Stays seen clips (cond b clips (with_clip serial (clip_between now (between serial)) clips))
-  one_asked clips serial root target pair agrees leads true = stays_same seen clips
-  one_asked clips serial root target pair agrees leads false = record {
+  one_asked : (clips : HeldClips) (serial : ℕ) (root target : Spot) → views serial ≡ seen → IsPairOf clips serial root target → EachAlong (AgreesAt seen now) now target root → Leads now target (between serial) root
+      → (b : Bool) → Stays views clips (cond b clips (with_clip serial (clip_between now (between serial)) clips))
+  one_asked clips serial root target is pair agrees leads true = stays_same views clips
+  one_asked clips serial root target is pair agrees leads false = record {
     spots = λ other. spots_computed clips serial other (clip_between now (between serial)) pair.held;
     touches = refl;
-    exact = λ all other.
-        exact_asked seen now clips serial (agrees_along seen now clips serial root target pair agrees) (between serial)
-        (leads_of seen now clips serial root target pair (between serial) leads) other (all other);
+    exact = λ all other. elim (numbers_apart other serial) [
+      | inl same ↦
+          subst (λ n. IsExact (views n) (with_clip serial (clip_between now (between serial)) clips) n) (sym same)
+          (subst (λ (view : Scene). IsExact view (with_clip serial (clip_between now (between serial)) clips) serial) (sym is)
+          (exact_asked seen now clips serial (agrees_along seen now clips serial root target pair agrees) (between serial)
+          (leads_of seen now clips serial root target pair (between serial) leads) serial (subst (λ (view : Scene). IsExact view clips serial) is (all serial))))
+      | inr apart ↦ exact_apart (views other) clips serial other (clip_between now (between serial)) apart (all other)
+    ];
   }
 
-  by_standing_asked : (s : Standing) (clips : HeldClips) (serial : ℕ) (root target : Spot) → spots_at clips serial ≡ spots_for it serial → IfChained s (IsKnown seen now (spots_for it serial) root target (between serial))
-      → Stays seen clips (asked_if s now (between serial) serial clips)
-  by_standing_asked Apart clips serial root target spots known = stays_same seen clips
-  by_standing_asked NoBox clips serial root target spots known = stays_same seen clips
-  by_standing_asked Chained clips serial root target spots known =
-      one_asked clips serial root target (pair_by clips serial root target (spots ∙ known.spots_are)) known.agrees known.leads (is_current clips serial (between serial))
+  by_standing_asked : (s : Standing) (clips : HeldClips) (serial : ℕ) (root target : Spot) → views serial ≡ seen → spots_at clips serial ≡ spots_for it serial → IfChained s (IsKnown seen now (spots_for it serial) root target (between serial))
+      → Stays views clips (asked_if s now (between serial) serial clips)
+  by_standing_asked Apart clips serial root target is spots known = stays_same views clips
+  by_standing_asked NoBox clips serial root target is spots known = stays_same views clips
+  by_standing_asked Chained clips serial root target is spots known =
+      one_asked clips serial root target is (pair_by clips serial root target (spots ∙ known.spots_are)) known.agrees known.leads (is_current clips serial (between serial))
 
-  pub asked_stays : (clips : HeldClips) (serial : ℕ) → spots_at clips serial ≡ spots_for it serial → Known serial → Stays seen clips (asked_for now standings it between serial clips)
+  pub asked_stays : (clips : HeldClips) (serial : ℕ) → spots_at clips serial ≡ spots_for it serial → Known serial → Stays views clips (asked_for now standings it between serial clips)
   asked_stays clips serial spots known =
-      by_standing_asked (standing_for standings it serial) clips serial (spot_of_root (observer_of it serial).root) (element_spot (target_of it serial)) spots known
+      by_standing_asked (standing_for standings it serial) clips serial (spot_of_root (observer_of it serial).root) (element_spot (target_of it serial)) known.0 spots known.1
 
-  pub all_stay : (serials : List ℕ) (clips : HeldClips) → ((serial : ℕ) → spots_at clips serial ≡ spots_for it serial) → All Known serials → Stays seen clips (all_asked now standings it between serials clips)
-  all_stay [] clips spots known = stays_same seen clips
+  pub all_stay : (serials : List ℕ) (clips : HeldClips) → ((serial : ℕ) → spots_at clips serial ≡ spots_for it serial) → All Known serials → Stays views clips (all_asked now standings it between serials clips)
+  all_stay [] clips spots known = stays_same views clips
   all_stay (serial ∷ serials) clips spots known =
-      let one : Stays seen clips (asked_for now standings it between serial clips) = asked_stays clips serial (spots serial) (All-head Known serial serials known) in
-      stays_then seen clips (asked_for now standings it between serial clips) (all_asked now standings it between serials (asked_for now standings it between serial clips)) one
+      let one : Stays views clips (asked_for now standings it between serial clips) = asked_stays clips serial (spots serial) (All-head Known serial serials known) in
+      stays_then views clips (asked_for now standings it between serial clips) (all_asked now standings it between serials (asked_for now standings it between serial clips)) one
       (all_stay serials (asked_for now standings it between serial clips) (λ other. one.spots other ∙ spots other) (All-tail Known serial serials known))
 
   -- what the index asks of the clips
-  pub ready_of : (clips : HeldClips) → ((serial : ℕ) → spots_at clips serial ≡ spots_for it serial) → ((serial : ℕ) → IsExact seen clips serial) → (serial : ℕ) → Known serial → IsReady now standings it clips serial
+  pub ready_of : (clips : HeldClips) → ((serial : ℕ) → spots_at clips serial ≡ spots_for it serial) → ((serial : ℕ) → IsExact (views serial) clips serial) → (serial : ℕ) → Known serial → IsReady now standings it clips serial
   ready_of clips spots exact serial known =
       let root = spot_of_root (observer_of it serial).root in
       let target = element_spot (target_of it serial) in
@@ -112,32 +130,34 @@ module _ (seen now : Scene) (standings : Root → ℕ → Standing) (it : Inters
         root_held = pair.root_held;
         target_held = pair.target_held;
         above = (between serial, this.leads);
-        exact = exact_now seen now clips serial (agrees_along seen now clips serial root target pair this.agrees) (exact serial);
+        exact = exact_now seen now clips serial (agrees_along seen now clips serial root target pair this.agrees) (subst (λ (view : Scene). IsExact view clips serial) known.0 (exact serial));
       })
-      known
+      known.1
 
-  module _ (rs : List RegistrationId) (serials : List ℕ) (same : serial_numbers rs ≡ serials) (standing : All (λ (r : RegistrationId). IsStanding r.0 it) rs)
+  module _ (rs : List RegistrationId) (serials : List ℕ) (same : serial_numbers rs ≡ serials) (alike : All (λ serial. views serial ≡ seen) serials) (standing : All (λ (r : RegistrationId). IsStanding r.0 it) rs)
       (walked : All (AlongChain (AgreesAt seen now) now standings it) serials) (leads : (serial : ℕ) → IsBetween now standings it between serial) where
     all_known : All Known serials
     all_known =
         all_serials Known rs serials same
         (λ k none below.
-        known_of (get_or rs k none).0 (standing k none below) (at_serial (AlongChain (AgreesAt seen now) now standings it) rs serials same walked k none below) (leads (get_or rs k none).0))
+        known_of (get_or rs k none).0 (at_serial (λ serial. views serial ≡ seen) rs serials same alike k none below) (standing k none below) (at_serial (AlongChain (AgreesAt seen now) now standings it) rs serials same walked k none below) (leads (get_or rs k none).0))
 
-    pub all_ready : (clips : HeldClips) → ((serial : ℕ) → spots_at clips serial ≡ spots_for it serial) → ((serial : ℕ) → IsExact seen clips serial) → All (IsReady now standings it clips) serials
+    pub all_ready : (clips : HeldClips) → ((serial : ℕ) → spots_at clips serial ≡ spots_for it serial) → ((serial : ℕ) → IsExact (views serial) clips serial) → All (IsReady now standings it clips) serials
     all_ready clips spots exact = λ k d below. ready_of clips spots exact (get_or serials k d) (all_known k d below)
 
     -- through a call that asks for the clips of all of them, or is refused
     pub stays_asked : {A E : Type 0} (result : Result A E) (clips new : HeldClips) → ((serial : ℕ) → spots_at clips serial ≡ spots_for it serial)
-        → OnOk result (new ≡ all_asked now standings it between serials clips) → OnErr result (new ≡ clips) → Stays seen clips new
+        → OnOk result (new ≡ all_asked now standings it between serials clips) → OnErr result (new ≡ clips) → Stays views clips new
     stays_asked result clips new spots ok err =
-        either result (Stays seen clips) clips new (all_asked now standings it between serials clips) ok err (all_stay serials clips spots all_known) (stays_same seen clips)
+        either result (Stays views clips) clips new (all_asked now standings it between serials clips) ok err (all_stay serials clips spots all_known) (stays_same views clips)
 
 -- what is kept of the registrations through calls that ask for clips
-pub held_still : (it : IntersectionObservers) (seen : Scene) (sightings : Seen) (clips new : HeldClips) (kept : FinMap nat_cmp (Option Kept)) → Stays seen clips new
-    → AreHeld it (record { seen = sightings; clips = clips; kept = kept }) → AreHeld it (record { seen = sightings; clips = new; kept = kept })
-held_still it seen sightings clips new kept stays held = record {
+pub held_still : (it : IntersectionObservers) (margins : List Margins) (sightings : Seen) (clips new : HeldClips) (kept : FinMap nat_cmp (Option Kept))
+    → Stays (λ serial. seen_for it margins serial (scene_seen sightings)) clips new
+    → AreHeld it margins (record { seen = sightings; clips = clips; kept = kept }) → AreHeld it margins (record { seen = sightings; clips = new; kept = kept })
+held_still it margins sightings clips new kept stays held = record {
   pairs = λ serial. stays.spots serial ∙ held.pairs serial;
   added = held.added;
   found = held.found;
+  exact = stays.exact held.exact;
 }

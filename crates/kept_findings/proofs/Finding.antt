@@ -3,8 +3,9 @@ use Rattle.std.proofs.Common.{◌≡◌, ◌∙◌, ℕ, true, false, not, List,
 use Rattle.std.specs.Prelude.{IfSome}
 use Rattle.std.specs.FinMap.{FinMap, insert, contains_key}
 use Rattle.std.specs.Ordering.{nat_cmp}
+use Rattle.script_model.specs.Margins.{Margins}
 use Rattle.page_model.specs.World.{Root, Finding, IntersectionObserver, IntersectionObservers}
-use Rattle.page_model.specs.Lookups.{intersection_observer_at}
+use Rattle.page_model.specs.Lookups.{intersection_observer_at, scroll_margins_at}
 use Rattle.clip_chain.specs.declared.spot.Spot.{Spot}
 use Rattle.clip_chain.specs.Scenes.{Scene}
 use Rattle.intersection_observer.specs.Places.{Standing as Place, standing_of}
@@ -18,6 +19,7 @@ use Rattle.candidate_index.specs.Held.{kept_of, is_stale, is_stale_now}
 use Rattle.candidate_index.proofs.Same.{same_is}
 use Rattle.kept_findings.specs.Held.{HeldFindings, with_expired}
 use Rattle.kept_findings.specs.Walks.{AreChained, spots_between, found_in}
+use Rattle.kept_findings.specs.Views.{seen_for}
 use Rattle.kept_findings.specs.Registered.{AreHeld, IsSettled, AreRegistered}
 use Rattle.kept_findings.proofs.Settled.{registered_settled, registered_expired, kept_own, kept_other}
 
@@ -26,31 +28,32 @@ pub observer_is : (it : IntersectionObservers) (serial watcher target : ℕ) →
 observer_is it serial watcher target stands = ap (λ (o : Option Place). intersection_observer_at it (unwrap_or o (record { watcher = 0; target = 0 })).watcher) stands
 
 -- what is told of it is what its observer finds
-pub told_is : (scene : Scene) (standings : Root → ℕ → Standing) (chained : AreChained scene standings) (telling : Root → ℕ → Finding → Finding) (it : IntersectionObservers) (serial watcher target n : ℕ) (root : Root) (found told : Finding)
+pub told_is : (scene : Scene) (standings : Root → ℕ → Standing) (chained : AreChained scene standings) (telling : Root → ℕ → Finding → Finding) (it : IntersectionObservers) (margins : List Margins) (serial watcher target n : ℕ) (root : Root) (found told : Finding)
     → standing_of serial it ≡ Some (record { watcher = watcher; target = n }) → (intersection_observer_at it watcher).root ≡ root → target_of it serial ≡ target
-    → found ≡ finding_for scene standings it serial (spots_between scene standings chained it serial) → told ≡ telling root target found
-    → told ≡ found_in scene standings chained telling (intersection_observer_at it watcher) (target_of it serial)
-told_is scene standings chained telling it serial watcher target n root found told stands rooted targets finds tells =
+    → found ≡ finding_for (seen_for it margins serial scene) standings it serial (spots_between scene standings chained it serial) → told ≡ telling root target found
+    → told ≡ found_in scene standings chained telling (scroll_margins_at margins watcher) (intersection_observer_at it watcher) (target_of it serial)
+told_is scene standings chained telling it margins serial watcher target n root found told stands rooted targets finds tells =
     let observer = observer_is it serial watcher n stands in
     let roots : root ≡ (observer_of it serial).root = sym rooted ∙ ap (λ (x : IntersectionObserver). x.root) (sym observer) in
     tells
     ∙ (λ i. telling (roots i) (sym targets i) (finds i))
-    ∙ ap (λ (x : IntersectionObserver). found_in scene standings chained telling x (target_of it serial)) observer
+    ∙ ap (λ v. found_in scene standings chained telling (scroll_margins_at margins v) (intersection_observer_at it v) (target_of it serial))
+    (ap (λ (o : Option Place). (unwrap_or o (record { watcher = 0; target = 0 })).watcher) stands)
 
-module _ (it : IntersectionObservers) (before after : HeldFindings) (serial time : ℕ) (last : Kept) (told : Finding) (registered : AreRegistered it before) (held : AreHeld it after)
+module _ (it : IntersectionObservers) (margins : List Margins) (before after : HeldFindings) (serial time : ℕ) (last : Kept) (told : Finding) (registered : AreRegistered it margins before) (held : AreHeld it margins after)
     (kept : after.kept ≡ insert (before.kept) serial (Some last)) where
   others_settled : (other : ℕ) → (¬ other ≡ serial) → IsSettled it other (kept_of after.kept other)
   others_settled other apart =
       subst (IsSettled it other) (sym (ap (λ k. kept_of k other) kept ∙ kept_other before.kept serial other (Some last) apart)) (registered.settled other)
 
-  pub registered_found : HasSerials it → (seen_finding last.finding).index ≡ told.index → (seen_finding last.finding).meets ≡ told.meets → AreRegistered (with_settled serial time told it) after
+  pub registered_found : HasSerials it → (seen_finding last.finding).index ≡ told.index → (seen_finding last.finding).meets ≡ told.meets → AreRegistered (with_settled serial time told it) margins after
   registered_found serials index meets =
-      registered_settled it after serial time told serials held others_settled
+      registered_settled it margins after serial time told serials held others_settled
       (subst (λ (o : Option Kept). IfSome o (λ (k : Kept). ((seen_finding k.finding).index ≡ told.index) × ((seen_finding k.finding).meets ≡ told.meets)))
       (sym (ap (λ k. kept_of k serial) kept ∙ kept_own before.kept serial (Some last))) (index, meets))
 
-  pub registered_refused : contains_key after.kept serial ≡ true → AreRegistered it (with_expired serial after)
-  registered_refused there = registered_expired it after serial held there others_settled
+  pub registered_refused : contains_key after.kept serial ≡ true → AreRegistered it margins (with_expired serial after)
+  registered_refused there = registered_expired it margins after serial held there others_settled
 
 -- what is kept of a registration once it was found
 module _ (scene : Scene) (standings : Root → ℕ → Standing) (it : IntersectionObservers) (serial : ℕ) (before after : FinMap nat_cmp (Option Kept)) (last : Kept) (kept : after ≡ insert before serial (Some last)) where

@@ -3,6 +3,7 @@ pub mod Rooms
 pub mod Noting
 pub mod Walking
 pub mod Pairing
+pub mod Viewing
 pub mod Asking
 pub mod Registering
 pub mod Settled

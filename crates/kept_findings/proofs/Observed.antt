@@ -4,11 +4,13 @@ use Rattle.std.specs.Ordering.{nat_cmp}
 use Rattle.std.specs.Cmp.{nat_cmp_total, unsigned_tied}
 use Rattle.std.specs.FinMap.{FinMap, get, insert, remove, contains_key, get-insert, get-remove}
 use Rattle.std.proofs.lemmas.Bool.{eq-eqb, false≢true}
+use Rattle.script_model.specs.Margins.{Margins}
 use Rattle.page_model.specs.World.{Finding, Registration, IntersectionObserver, IntersectionObservers}
-use Rattle.page_model.specs.Lookups.{entry_or, change_at, no_intersection_observer, intersection_observer_at}
+use Rattle.page_model.specs.Lookups.{entry_or, change_at, no_intersection_observer, intersection_observer_at, scroll_margins_at}
 use Rattle.page_model.specs.IntersectionObserving.{is_registered, with_registration, without_registration}
 use Rattle.page_model.specs.Intersections.{is_news}
 use Rattle.clip_chain.specs.declared.spot.Spot.{Spot}
+use Rattle.clip_chain.specs.Scenes.{Scene, through}
 use Rattle.clip_chain.specs.Worlds.{element_spot, spot_of_root}
 use Rattle.intersection_observer.specs.Places.{Standing as Place, standing_from, standing_of}
 use Rattle.intersection_observer.specs.Seen.{seen_finding}
@@ -19,12 +21,17 @@ use Rattle.intersection_observer.proofs.Standing.{stands-registered}
 use Rattle.intersection_observer.proofs.Subjects.{IsSole, sole}
 use Rattle.intersection_observer.proofs.Numbers.{standing-observed, standing-unobserved}
 use Rattle.kept_clips.specs.declared.pair.Pair.{Pair}
-use Rattle.kept_clips.specs.Held.{new_pair, spots_of as spots_in, spots_at}
+use Rattle.kept_clips.specs.Held.{new_pair, pair_of, spots_of as spots_in, spots_at, with_pair, without_pair}
+use Rattle.kept_clips.specs.Chains.{IsExact}
+use Rattle.kept_clips.specs.Seen.{scene_seen}
+use Rattle.kept_clips.proofs.Pairs.{no_pair, of_inserted, of_removed, exact_inserted, exact_removed, exact_new}
 use Rattle.candidate_index.specs.declared.index.Kept.{Kept}
 use Rattle.candidate_index.specs.Held.{kept_of, IsFound}
 use Rattle.candidate_index.proofs.Found.{kept_removed}
 use Rattle.kept_findings.specs.Held.{HeldFindings, with_findings, without_findings}
+use Rattle.kept_findings.specs.Views.{seen_by, seen_for}
 use Rattle.kept_findings.specs.Registered.{spots_of, spots_for, IsSettled, AreRegistered}
+use Rattle.kept_findings.proofs.Viewing.{exact_uncomputed}
 use Rattle.kept_findings.proofs.Settled.{AreAlike, at_changed, changed_apart, changed_here, numbers_apart, apart_test, kept_own, kept_other}
 
 -- a changed entry as one that is written
@@ -44,7 +51,7 @@ own_test n = eq-eqb n n refl
 
 -- by where registrations stand afterwards: one serial number alone has another place
 
-module _ (before after : IntersectionObservers) (it now : HeldFindings) (number : ℕ) (place : Option Place)
+module _ (before after : IntersectionObservers) (margins : List Margins) (it now : HeldFindings) (number : ℕ) (place : Option Place)
     (standing : (serial : ℕ) → standing_of serial after ≡ cond (number == serial) place (standing_of serial before))
     (alike : (w : ℕ) → AreAlike (intersection_observer_at before w) (intersection_observer_at after w))
     (news : (serial : ℕ) (p : Place) (f : Finding) → (¬ serial ≡ number) → standing_of serial before ≡ Some p → is_news_of (p.target) f (registrations_at before (p.watcher)) ≡ false → is_news_of (p.target) f (registrations_at after (p.watcher)) ≡ false)
@@ -54,7 +61,10 @@ module _ (before after : IntersectionObservers) (it now : HeldFindings) (number 
     (spots_other : (serial : ℕ) → (¬ serial ≡ number) → spots_at now.clips serial ≡ spots_at it.clips serial)
     (added_other : (serial : ℕ) → (¬ serial ≡ number) → contains_key now.kept serial ≡ contains_key it.kept serial)
     (kept_others : (serial : ℕ) → (¬ serial ≡ number) → kept_of now.kept serial ≡ kept_of it.kept serial)
-    (registered : AreRegistered before it) where
+    (seen : now.seen ≡ it.seen)
+    (exact_own : (view : Scene) → IsExact view now.clips number)
+    (exact_other : (serial : ℕ) (view : Scene) → IsExact view it.clips serial → IsExact view now.clips serial)
+    (registered : AreRegistered before margins it) where
   at_own : standing_of number after ≡ place
   at_own = standing number ∙ ap (λ b. cond b place (standing_of number before)) (own_test number)
 
@@ -81,7 +91,15 @@ module _ (before after : IntersectionObservers) (it now : HeldFindings) (number 
       ap (λ (o : Option Place). is_news_at o (seen_finding kept.finding) after) (at_other serial apart)
       ∙ quiet_by serial (seen_finding kept.finding) (standing_of serial before) apart refl quiet
 
-  pub registered_but : AreRegistered after now
+  exact_there : (serial : ℕ) → (¬ serial ≡ number) → IsExact (seen_for after margins serial (scene_seen now.seen)) now.clips serial
+  exact_there serial apart =
+      let watcher : ℕ = (unwrap_or (standing_of serial before) (record { watcher = 0; target = 0 })).watcher in
+      subst (λ (o : Option Place). IsExact (seen_by after margins (unwrap_or o (record { watcher = 0; target = 0 })).watcher (scene_seen now.seen)) now.clips serial) (sym (at_other serial apart))
+      (subst (λ (view : Scene). IsExact view now.clips serial)
+      (λ i. through (spot_of_root (sym (alike watcher).root i)) (scroll_margins_at margins watcher) (scene_seen (sym seen i)))
+      (exact_other serial (seen_by before margins watcher (scene_seen it.seen)) (registered.held.exact serial)))
+
+  pub registered_but : AreRegistered after margins now
   registered_but = record {
     held = record {
       pairs = λ serial. elim (numbers_apart serial number) [
@@ -98,6 +116,10 @@ module _ (before after : IntersectionObservers) (it now : HeldFindings) (number 
           | inr apart ↦ found_other serial apart
         ];
       };
+      exact = λ serial. elim (numbers_apart serial number) [
+        | inl same ↦ subst (λ n. IsExact (seen_for after margins serial (scene_seen now.seen)) now.clips n) (sym same) (exact_own (seen_for after margins serial (scene_seen now.seen)))
+        | inr apart ↦ exact_there serial apart
+      ];
     };
     settled = λ serial. elim (numbers_apart serial number) [
       | inl same ↦ subst (IsSettled after serial) (sym (ap (kept_of now.kept) same ∙ kept_none)) tt
@@ -127,15 +149,15 @@ spots_put pairs number serial pair = ap (λ (o : Option Pair). option_map spots_
 key_put : (kept : FinMap nat_cmp (Option Kept)) (number serial : ℕ) (value : Option Kept) → contains_key (insert kept number value) serial ≡ is_some (cond (serial == number) (Some value) (get kept serial))
 key_put kept number serial value = ap (λ (o : Option (Option Kept)). is_some o) (get-insert nat_cmp_total kept number value serial ∙ ap (λ b. cond b (Some value) (get kept serial)) (unsigned_tied serial number))
 
-pub registered_observed : (it : IntersectionObservers) (w n : ℕ) (kept : HeldFindings) → HasSerials it → w < length it.made → is_registered n (registrations_at it w) ≡ false → AreRegistered it kept
-    → AreRegistered (with_registration w n it) (with_findings (it.given) (spot_of_root (intersection_observer_at it w).root) (element_spot n) kept)
-registered_observed it w n kept serials there free registered =
+pub registered_observed : (it : IntersectionObservers) (margins : List Margins) (w n : ℕ) (kept : HeldFindings) → HasSerials it → w < length it.made → is_registered n (registrations_at it w) ≡ false → AreRegistered it margins kept
+    → AreRegistered (with_registration w n it) margins (with_findings (it.given) (spot_of_root (intersection_observer_at it w).root) (element_spot n) kept)
+registered_observed it margins w n kept serials there free registered =
     let new : Registration = made_as it.given n in
     let change : IntersectionObserver → IntersectionObserver = λ each. record each { registrations = each.registrations ++ new ∷ [] } in
     let old : IntersectionObserver = entry_or no_intersection_observer it.made w in
     let root : Spot = spot_of_root old.root in
     let pair : Pair = new_pair root (element_spot n) in
-    registered_but it (with_registration w n it) kept (with_findings (it.given) root (element_spot n) kept) it.given (Some (record { watcher = w; target = n }))
+    registered_but it (with_registration w n it) margins kept (with_findings (it.given) root (element_spot n) kept) it.given (Some (record { watcher = w; target = n }))
     (λ serial.
     ap (standing_from serial 0) (change_is_set no_intersection_observer change w it.made there)
     ∙ standing-observed it.made w old (change old) new there (entry_got no_intersection_observer w it.made there) refl (serials.fresh it.given (omega arith)) serial)
@@ -156,6 +178,11 @@ registered_observed it w n kept serials there free registered =
     (λ serial apart. spots_put kept.clips.pairs it.given serial pair ∙ ap (λ b. option_map spots_in (cond b (Some pair) (get kept.clips.pairs serial))) (apart_test serial it.given apart))
     (λ serial apart. key_put kept.kept it.given serial None ∙ ap (λ b. is_some (cond b (Some None) (get kept.kept serial))) (apart_test serial it.given apart))
     (λ serial apart. kept_other kept.kept it.given serial None apart)
+    refl
+    (λ view.
+    exact_uncomputed view (with_pair it.given root (element_spot n) kept.clips) it.given
+    (ap (λ (p : Pair). p.computed) (of_inserted kept.clips it.given it.given pair ∙ ap (λ b. cond b pair (pair_of kept.clips it.given)) (own_test it.given))))
+    (λ serial view exact. exact_inserted view kept.clips it.given pair serial (exact_new view kept.clips.touches root (element_spot n)) exact)
     registered
 
 -- one that is taken out ------------------------------------------------------------------------------------------------------------------
@@ -182,13 +209,13 @@ spots_out pairs number serial = ap (λ (o : Option Pair). option_map spots_in o)
 key_out : (kept : FinMap nat_cmp (Option Kept)) (number serial : ℕ) → contains_key (remove kept number) serial ≡ is_some (cond (serial == number) None (get kept serial))
 key_out kept number serial = ap (λ (o : Option (Option Kept)). is_some o) (get-remove nat_cmp_total kept number serial ∙ ap (λ b. cond b None (get kept serial)) (unsigned_tied serial number))
 
-pub registered_unobserved : (it : IntersectionObservers) (w n number : ℕ) (kept : HeldFindings) → HasSerials it → w < length it.made → serial_of n (registrations_at it w) ≡ Some number → AreRegistered it kept
-    → AreRegistered (without_registration w n it) (without_findings number kept)
-registered_unobserved it w n number kept serials there found registered =
+pub registered_unobserved : (it : IntersectionObservers) (margins : List Margins) (w n number : ℕ) (kept : HeldFindings) → HasSerials it → w < length it.made → serial_of n (registrations_at it w) ≡ Some number → AreRegistered it margins kept
+    → AreRegistered (without_registration w n it) margins (without_findings number kept)
+registered_unobserved it margins w n number kept serials there found registered =
     let change : IntersectionObserver → IntersectionObserver = λ each. record each { registrations = filter (λ (registration : Registration). not (registration.target == n)) (each.registrations) } in
     let old : IntersectionObserver = entry_or no_intersection_observer it.made w in
     let only : IsSole n number old.registrations = sole n number old.registrations (serials.targets w) found in
-    registered_but it (without_registration w n it) kept (without_findings number kept) number None
+    registered_but it (without_registration w n it) margins kept (without_findings number kept) number None
     (λ serial.
     ap (standing_from serial 0) (change_is_set no_intersection_observer change w it.made there)
     ∙ standing-unobserved it.given it.made w n number old (change old) there (entry_got no_intersection_observer w it.made there) refl serials only serial)
@@ -202,4 +229,9 @@ registered_unobserved it w n number kept serials there found registered =
     (λ serial apart. spots_out kept.clips.pairs number serial ∙ ap (λ b. option_map spots_in (cond b None (get kept.clips.pairs serial))) (apart_test serial number apart))
     (λ serial apart. key_out kept.kept number serial ∙ ap (λ b. is_some (cond b None (get kept.kept serial))) (apart_test serial number apart))
     (λ serial apart. kept_removed kept.kept number serial ∙ ap (λ b. cond b None (kept_of kept.kept serial)) (apart_test serial number apart))
+    refl
+    (λ view.
+    exact_uncomputed view (without_pair number kept.clips) number
+    (ap (λ (p : Pair). p.computed) (of_removed kept.clips number number ∙ ap (λ b. cond b no_pair (pair_of kept.clips number)) (own_test number))))
+    (λ serial view exact. exact_removed view kept.clips number serial exact)
     registered

@@ -6,6 +6,7 @@ use Rattle.std.specs.FinMap.{FinMap, get, insert, remove, contains_key, get-inse
 use Rattle.std.specs.Ordering.{nat_cmp, eq_by_cmp}
 use Rattle.std.specs.Prelude.{replicate, OnOk, OnErr}
 use Rattle.std.proofs.lemmas.List.{length-replicate}
+use Rattle.script_model.specs.Margins.{Margins}
 use Rattle.page_model.specs.World.{IntersectionObservers}
 use Rattle.clip_chain.specs.declared.spot.Spot.{Spot}
 use Rattle.clip_chain.specs.declared.spot.Spot.TheVariants.{Node, View}
@@ -15,11 +16,13 @@ use Rattle.kept_clips.specs.Touches.{Touched, last_touch, IsAdded, with_spot}
 use Rattle.kept_clips.specs.Held.{HeldClips, spots_of as spots_in}
 use Rattle.kept_clips.proofs.Adding.{same_last}
 use Rattle.kept_clips.proofs.Pairs.{either}
-use Rattle.kept_clips.specs.Seen.{Seen, HasRoom, with_room}
+use Rattle.kept_clips.specs.Seen.{Seen, HasRoom, scene_seen, with_room}
 use Rattle.candidate_index.specs.declared.index.Kept.{Kept}
 use Rattle.candidate_index.specs.Held.{AreFound}
 use Rattle.kept_findings.specs.Held.{no_findings}
+use Rattle.kept_findings.specs.Views.{seen_for}
 use Rattle.kept_findings.specs.Registered.{spots_of, IsSettled, AreRegistered}
+use Rattle.kept_findings.proofs.Viewing.{exact_unheld}
 
 module _ {A : Type 0} where
   both_ways : (b : Bool) (v : A) (o : Option A) → cond b None (cond b (Some v) o) ≡ cond b None o
@@ -57,12 +60,14 @@ module _ {A : Type 0} where
       ∙ put_there (q == k) v (get m q) (λ same. ap (contains_key m) (eqb-true q k same) ∙ there)
 
 -- nothing is kept where nothing stands
-pub none_registered : (watchers : IntersectionObservers) → ((serial : ℕ) → standing_of serial watchers ≡ None) → AreFound watchers empty → AreRegistered watchers no_findings
-none_registered watchers none found = record {
+pub none_registered : (watchers : IntersectionObservers) (margins : List Margins) → ((serial : ℕ) → standing_of serial watchers ≡ None) → AreFound watchers empty → AreRegistered watchers margins no_findings
+none_registered watchers margins none found = record {
   held = record {
     pairs = λ serial. ap (λ (o : Option Pair). option_map spots_in o) (get-empty nat_cmp serial) ∙ ap (λ (o : Option Place). option_map (spots_of watchers) o) (sym (none serial));
     added = λ serial. ap (λ (o : Option (Option Kept)). is_some o) (get-empty nat_cmp serial) ∙ ap (λ (o : Option Place). is_some o) (sym (none serial));
     found = found;
+    exact = λ serial.
+        exact_unheld (seen_for watchers margins serial (scene_seen no_findings.seen)) no_findings.clips serial (ap (λ (o : Option Pair). option_map spots_in o) (get-empty nat_cmp serial));
   };
   settled = λ serial. subst (IsSettled watchers serial) (sym (ap (λ (o : Option (Option Kept)). unwrap_or o None) (get-empty nat_cmp serial))) tt;
 }

@@ -9,11 +9,13 @@ use Rattle.std.specs.FinMap.{FinMap, get, insert, contains_key}
 use Rattle.std.proofs.lemmas.Bool.{eqb-true, eq-eqb, false≢true}
 use Rattle.std.proofs.lemmas.Bool.Decides.{Decides-eqb}
 use Rattle.std.proofs.lemmas.Option.{same_Some}
+use Rattle.script_model.specs.Margins.{Margins}
 use Rattle.page_model.specs.World.{Finding, Registration, IntersectionObserver, IntersectionObservers}
 use Rattle.page_model.specs.Documents.{is_number}
-use Rattle.page_model.specs.Lookups.{entry_or, change_at, no_intersection_observer, intersection_observer_at, change_intersection_observer}
+use Rattle.page_model.specs.Lookups.{entry_or, change_at, no_intersection_observer, intersection_observer_at, scroll_margins_at, change_intersection_observer}
 use Rattle.page_model.specs.IntersectionObserving.{without_queue}
 use Rattle.page_model.specs.Intersections.{Settled, settled, is_news, is_same_bool}
+use Rattle.clip_chain.specs.Scenes.{Scene, through}
 use Rattle.clip_chain.specs.Worlds.{element_spot, spot_of_root}
 use Rattle.intersection_observer.specs.Places.{Standing as Place, has_serial, target_in, standing_from, standing_of}
 use Rattle.intersection_observer.specs.Seen.{seen_finding}
@@ -25,9 +27,14 @@ use Rattle.candidate_index.specs.declared.index.Kept.{Kept}
 use Rattle.candidate_index.specs.Held.{kept_of, IsFound, AreFound}
 use Rattle.candidate_index.proofs.Found.{kept_inserted, found_inserted}
 use Rattle.kept_clips.specs.Held.{spots_at}
+use Rattle.kept_clips.specs.Chains.{IsExact}
+use Rattle.kept_clips.specs.Seen.{scene_seen}
+use Rattle.kept_clips.proofs.Seeing.{same_scene}
 use Rattle.kept_findings.specs.Held.{HeldFindings, with_expired, IsRoomier}
 use Rattle.kept_findings.proofs.Registering.{there_still}
+use Rattle.kept_findings.specs.Views.{seen_by, seen_for}
 use Rattle.kept_findings.specs.Registered.{spots_of, AreHeld, IsSettled, AreRegistered}
+use Rattle.kept_findings.proofs.Viewing.{exact_unheld, exact_roomier}
 
 -- lists in which one entry is changed
 
@@ -251,7 +258,8 @@ pub none_kept : (o : Option (Option Kept)) → is_some o ≡ false → unwrap_or
 none_kept None none = refl
 none_kept (Some kept) none = let wrong : true ≡ false = none in absurd (let no : ⊥ = cc in no)
 
-module _ (before after : IntersectionObservers) (carried : Carries before after) (it : HeldFindings) where
+module _ (before after : IntersectionObservers) (margins now : List Margins) (carried : Carries before after)
+    (same_margins : (serial : ℕ) (place : Place) → standing_of serial before ≡ Some place → scroll_margins_at now (place.watcher) ≡ scroll_margins_at margins (place.watcher)) (it : HeldFindings) where
   same_spots : (serial : ℕ) (place : Option Place) → standing_of serial before ≡ place → option_map (spots_of after) place ≡ option_map (spots_of before) place
   same_spots serial None e = refl
   same_spots serial (Some p) e = ap (λ root. Some (spot_of_root root, element_spot (p.target))) (carried.alike serial p e).root
@@ -261,7 +269,17 @@ module _ (before after : IntersectionObservers) (carried : Carries before after)
   found_by serial None e added found = subst (IsFound (intersection_observer_at after 0).thresholds) (sym (none_kept (get it.kept serial) added)) tt
   found_by serial (Some p) e added found = subst (λ thresholds. IsFound thresholds (kept_of it.kept serial)) (sym (carried.alike serial p e).thresholds) found
 
-  pub held_carried : AreHeld before it → AreHeld after it
+  abbrev view_at : IntersectionObservers → List Margins → Option Place → Scene
+  view_at watchers list place = seen_by watchers list (unwrap_or place (record { watcher = 0; target = 0 })).watcher (scene_seen it.seen)
+
+  exact_by : (serial : ℕ) (place : Option Place) → standing_of serial before ≡ place → spots_at it.clips serial ≡ option_map (spots_of before) place → IsExact (view_at before margins place) it.clips serial
+      → IsExact (view_at after now place) it.clips serial
+  exact_by serial None e spots exact = exact_unheld (view_at after now None) it.clips serial spots
+  exact_by serial (Some p) e spots exact =
+      subst (λ (view : Scene). IsExact view it.clips serial)
+      (λ i. through (spot_of_root (sym (carried.alike serial p e).root i)) (sym (same_margins serial p e) i) (scene_seen it.seen)) exact
+
+  pub held_carried : AreHeld before margins it → AreHeld after now it
   held_carried held = record {
     pairs = λ serial. held.pairs serial ∙ sym (ap (option_map (spots_of after)) (carried.standing serial) ∙ same_spots serial (standing_of serial before) refl);
     added = λ serial. held.added serial ∙ ap (λ (place : Option Place). is_some place) (sym (carried.standing serial));
@@ -270,6 +288,9 @@ module _ (before after : IntersectionObservers) (carried : Carries before after)
           subst (λ (place : Option Place). IsFound (intersection_observer_at after (unwrap_or place (record { watcher = 0; target = 0 })).watcher).thresholds (kept_of it.kept serial)) (sym (carried.standing serial))
           (found_by serial (standing_of serial before) refl (held.added serial) (held.found.found serial));
     };
+    exact = λ serial.
+        subst (λ (place : Option Place). IsExact (view_at after now place) it.clips serial) (sym (carried.standing serial))
+        (exact_by serial (standing_of serial before) refl (held.pairs serial) (held.exact serial));
   }
 
   module _ (news : (serial : ℕ) (place : Place) → standing_of serial before ≡ Some place → registrations_at after (place.watcher) ≡ registrations_at before (place.watcher)) where
@@ -283,24 +304,25 @@ module _ (before after : IntersectionObservers) (carried : Carries before after)
         ap (λ (place : Option Place). is_news_at place (seen_finding kept.finding) after) (carried.standing serial)
         ∙ settled_by serial (standing_of serial before) (seen_finding kept.finding) refl quiet
 
-    pub registered_carried : AreRegistered before it → AreRegistered after it
+    pub registered_carried : AreRegistered before margins it → AreRegistered after now it
     registered_carried registered = record {
       held = held_carried registered.held;
       settled = λ serial. settled_of serial (kept_of it.kept serial) (registered.settled serial);
     }
 
-pub held_settled : (watchers : IntersectionObservers) (it : HeldFindings) (serial time : ℕ) (now : Finding) → AreHeld watchers it → AreHeld (with_settled serial time now watchers) it
-held_settled watchers it serial time now held =
-    held_carried watchers (with_settled serial time now watchers)
-    (record { standing = standing_settled serial time now watchers; alike = λ other place e. alike_by (standing_of serial watchers) time (place.watcher) now watchers }) it held
+pub held_settled : (watchers : IntersectionObservers) (margins : List Margins) (it : HeldFindings) (serial time : ℕ) (now : Finding) → AreHeld watchers margins it → AreHeld (with_settled serial time now watchers) margins it
+held_settled watchers margins it serial time now held =
+    held_carried watchers (with_settled serial time now watchers) margins margins
+    (record { standing = standing_settled serial time now watchers; alike = λ other place e. alike_by (standing_of serial watchers) time (place.watcher) now watchers })
+    (λ other place e. refl) it held
 
 -- the others stay settled, and the one that was found is
-pub registered_settled : (watchers : IntersectionObservers) (it : HeldFindings) (serial time : ℕ) (now : Finding) → HasSerials watchers → AreHeld watchers it
+pub registered_settled : (watchers : IntersectionObservers) (margins : List Margins) (it : HeldFindings) (serial time : ℕ) (now : Finding) → HasSerials watchers → AreHeld watchers margins it
     → ((other : ℕ) → (¬ other ≡ serial) → IsSettled watchers other (kept_of it.kept other))
     → IfSome (kept_of it.kept serial) (λ (last : Kept). ((seen_finding last.finding).index ≡ now.index) × ((seen_finding last.finding).meets ≡ now.meets))
-    → AreRegistered (with_settled serial time now watchers) it
-registered_settled watchers it serial time now serials held others last = record {
-  held = held_settled watchers it serial time now held;
+    → AreRegistered (with_settled serial time now watchers) margins it
+registered_settled watchers margins it serial time now serials held others last = record {
+  held = held_settled watchers margins it serial time now held;
   settled = λ other. elim (numbers_apart other serial) [
     | inl same ↦ subst (λ n. IsSettled (with_settled serial time now watchers) n (kept_of it.kept n)) (sym same) (own_of (kept_of it.kept serial) last)
     | inr apart ↦ other_of other apart (kept_of it.kept other) (others other apart)
@@ -324,13 +346,14 @@ pub kept_other : (kept : FinMap nat_cmp (Option Kept)) (serial other : ℕ) (val
 kept_other kept serial other value apart = kept_inserted kept serial other value ∙ ap (λ b. cond b value (kept_of kept other)) (apart_test other serial apart)
 
 -- one that expired
-pub registered_expired : (watchers : IntersectionObservers) (it : HeldFindings) (serial : ℕ) → AreHeld watchers it → contains_key it.kept serial ≡ true
-    → ((other : ℕ) → (¬ other ≡ serial) → IsSettled watchers other (kept_of it.kept other)) → AreRegistered watchers (with_expired serial it)
-registered_expired watchers it serial held there others = record {
+pub registered_expired : (watchers : IntersectionObservers) (margins : List Margins) (it : HeldFindings) (serial : ℕ) → AreHeld watchers margins it → contains_key it.kept serial ≡ true
+    → ((other : ℕ) → (¬ other ≡ serial) → IsSettled watchers other (kept_of it.kept other)) → AreRegistered watchers margins (with_expired serial it)
+registered_expired watchers margins it serial held there others = record {
   held = record {
     pairs = held.pairs;
     added = λ other. there_still it.kept serial None there other ∙ held.added other;
     found = found_inserted watchers it.kept serial None tt held.found;
+    exact = held.exact;
   };
   settled = λ other. elim (numbers_apart other serial) [
     | inl same ↦ subst (IsSettled watchers other) (sym (ap (kept_of (insert (it.kept) serial None)) same ∙ kept_own it.kept serial None)) tt
@@ -339,19 +362,25 @@ registered_expired watchers it serial held there others = record {
 }
 
 -- where neither pairs nor what was found differ
-pub registered_alike : (watchers : IntersectionObservers) (before now : HeldFindings) → ((serial : ℕ) → spots_at now.clips serial ≡ spots_at before.clips serial) → now.kept ≡ before.kept → AreRegistered watchers before → AreRegistered watchers now
-registered_alike watchers before now spots kept registered = record {
+pub registered_alike : (watchers : IntersectionObservers) (margins : List Margins) (before now : HeldFindings) → ((serial : ℕ) → spots_at now.clips serial ≡ spots_at before.clips serial) → now.kept ≡ before.kept
+    → ((serial : ℕ) → IsExact (seen_for watchers margins serial (scene_seen before.seen)) before.clips serial → IsExact (seen_for watchers margins serial (scene_seen now.seen)) now.clips serial)
+    → AreRegistered watchers margins before → AreRegistered watchers margins now
+registered_alike watchers margins before now spots kept exact registered = record {
   held = record {
     pairs = λ serial. spots serial ∙ registered.held.pairs serial;
     added = λ serial. ap (λ kept. contains_key kept serial) kept ∙ registered.held.added serial;
     found = subst (AreFound watchers) (sym kept) registered.held.found;
+    exact = λ serial. exact serial (registered.held.exact serial);
   };
   settled = λ serial. subst (λ kept. IsSettled watchers serial (kept_of kept serial)) (sym kept) (registered.settled serial);
 }
 
-pub registered_roomier : (watchers : IntersectionObservers) (before now : HeldFindings) → IsRoomier before now → AreRegistered watchers before → AreRegistered watchers now
-registered_roomier watchers before now roomier =
-    registered_alike watchers before now (λ serial. ap (λ pairs. spots_at (record before.clips { pairs = pairs }) serial) roomier.pairs) roomier.kept
+pub registered_roomier : (watchers : IntersectionObservers) (margins : List Margins) (before now : HeldFindings) → IsRoomier before now → AreRegistered watchers margins before → AreRegistered watchers margins now
+registered_roomier watchers margins before now roomier =
+    registered_alike watchers margins before now (λ serial. ap (λ pairs. spots_at (record before.clips { pairs = pairs }) serial) roomier.pairs) roomier.kept
+    (λ serial exact.
+    subst (λ (scene : Scene). IsExact (seen_for watchers margins serial scene) now.clips serial) (sym (same_scene before.seen now.seen roomier.seen))
+    (exact_roomier (seen_for watchers margins serial (scene_seen before.seen)) before.clips now.clips serial roomier.pairs roomier.touches exact))
 
 -- what commands leave as it is ---------------------------------------------------------------------------------------------------------
 
@@ -361,11 +390,13 @@ entry_left default (x ∷ xs) ys zero there = refl
 entry_left default (x ∷ xs) ys (suc n) there = entry_left default xs ys n (omega arith)
 
 -- one more observer
-pub registered_made : (watchers : IntersectionObservers) (new : IntersectionObserver) (it : HeldFindings) → new.registrations ≡ [] → AreRegistered watchers it → AreRegistered (record watchers { made = watchers.made ++ new ∷ [] }) it
-registered_made watchers new it none registered =
+pub registered_made : (watchers : IntersectionObservers) (margins now : List Margins) (new : IntersectionObserver) (it : HeldFindings) → new.registrations ≡ []
+    → ((watcher : ℕ) → watcher < length watchers.made → scroll_margins_at now watcher ≡ scroll_margins_at margins watcher)
+    → AreRegistered watchers margins it → AreRegistered (record watchers { made = watchers.made ++ new ∷ [] }) now it
+registered_made watchers margins now new it none same_margins registered =
     let same : (serial : ℕ) (place : Place) → standing_of serial watchers ≡ Some place → intersection_observer_at (record watchers { made = watchers.made ++ new ∷ [] }) (place.watcher) ≡ intersection_observer_at watchers (place.watcher) =
     λ serial place e. entry_left no_intersection_observer (watchers.made) (new ∷ []) (place.watcher) (stands-there serial (watchers.made) place e) in
-    registered_carried watchers (record watchers { made = watchers.made ++ new ∷ [] })
+    registered_carried watchers (record watchers { made = watchers.made ++ new ∷ [] }) margins now
     (record {
       standing = λ serial. standing-made serial 0 (watchers.made) new none;
       alike = λ serial place e. record {
@@ -373,19 +404,21 @@ registered_made watchers new it none registered =
         thresholds = ap (λ (x : IntersectionObserver). x.thresholds) (same serial place e);
       };
     })
+    (λ serial place e. same_margins place.watcher (stands-there serial (watchers.made) place e))
     it
     (λ serial place e. ap (λ (x : IntersectionObserver). x.registrations) (same serial place e))
     registered
 
 -- a queue that is handed out
-pub registered_taken : (watchers : IntersectionObservers) (watcher : ℕ) (it : HeldFindings) → AreRegistered watchers it → AreRegistered (without_queue watcher watchers) it
-registered_taken watchers watcher it registered =
+pub registered_taken : (watchers : IntersectionObservers) (margins : List Margins) (watcher : ℕ) (it : HeldFindings) → AreRegistered watchers margins it → AreRegistered (without_queue watcher watchers) margins it
+registered_taken watchers margins watcher it registered =
     let change : IntersectionObserver → IntersectionObserver = λ each. record each { queue = [] } in
-    registered_carried watchers (without_queue watcher watchers)
+    registered_carried watchers (without_queue watcher watchers) margins margins
     (record {
       standing = λ serial. standing-changed change (λ observer. refl) serial 0 watcher (watchers.made);
       alike = λ serial place e. at_changed AreAlike (λ x. record { root = refl; thresholds = refl }) no_intersection_observer change (λ x. record { root = refl; thresholds = refl }) watcher (place.watcher) (watchers.made);
     })
+    (λ serial place e. refl)
     it
     (λ serial place e. at_changed (λ (a b : IntersectionObserver). b.registrations ≡ a.registrations) (λ x. refl) no_intersection_observer change (λ x. refl) watcher (place.watcher) (watchers.made))
     registered

@@ -1,9 +1,10 @@
 -- The chains of registrations: where they lead, and that what is seen along them is as it is.
 use Rattle.std.specs.Prelude.{◌≡◌, ℕ, List, [], ◌∷◌, ◌++◌}
 use Rattle.std.specs.List.{AllByRecursion}
+use Rattle.script_model.specs.Margins.{Margins}
 use Rattle.page_model.specs.World.{Root, Finding, IntersectionObserver, IntersectionObservers}
 use Rattle.clip_chain.specs.declared.spot.Spot.{Spot}
-use Rattle.clip_chain.specs.Scenes.{Scene}
+use Rattle.clip_chain.specs.Scenes.{Scene, through}
 use Rattle.clip_chain.specs.Chains.{Leads, IsAbove}
 use Rattle.clip_chain.specs.Worlds.{element_spot, spot_of_root}
 use Rattle.kept_clips.specs.Held.{HeldClips}
@@ -54,10 +55,10 @@ chain_between scene standings chained root target = between_by (standings root t
 abbrev pub spots_between : (scene : Scene) (standings : Root → ℕ → Standing) → AreChained scene standings → IntersectionObservers → ℕ → List Spot
 spots_between scene standings chained it serial = chain_between scene standings chained (observer_of it serial).root (target_of it serial)
 
--- what an observer finds of a target, as it is told
-abbrev pub found_in : (scene : Scene) (standings : Root → ℕ → Standing) → AreChained scene standings → (Root → ℕ → Finding → Finding) → IntersectionObserver → ℕ → Finding
-found_in scene standings chained telling observer target =
+-- what an observer with these scroll margins finds of a target, as it is told
+abbrev pub found_in : (scene : Scene) (standings : Root → ℕ → Standing) → AreChained scene standings → (Root → ℕ → Finding → Finding) → Margins → IntersectionObserver → ℕ → Finding
+found_in scene standings chained telling margins observer target =
     telling
     (observer.root)
     target
-    (finding_over scene (standings (observer.root) target) observer target (chain_between scene standings chained (observer.root) target))
+    (finding_over (through (spot_of_root observer.root) margins scene) (standings (observer.root) target) observer target (chain_between scene standings chained (observer.root) target))

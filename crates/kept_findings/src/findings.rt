@@ -3,15 +3,15 @@
 ghost use Rattle.std.specs.Prelude.{◌≡◌, ◌<◌, ◌+◌, ℕ, List, None, length, filter, Some, IsSome, IsTrue, IfOk, OnOk, OnErr};
 ghost use Rattle.std.specs.List.{All};
 ghost use Rattle.std.specs.FinMap.{insert, contains_key};
+ghost use Rattle.script_model.specs.Margins.{Margins as ScrollMargins};
 ghost use Rattle.page_model.specs.World.{IntersectionObservers};
+ghost use Rattle.page_model.specs.Lookups.{intersection_observer_at, scroll_margins_at};
 ghost use Rattle.clip_chain.specs.declared.spot.Spot.{Spot as SpotOf};
 ghost use Rattle.clip_chain.specs.Scenes.{Scene as SceneOf, root_bounds};
 ghost use Rattle.clip_chain.specs.Worlds.{element_spot, spot_of_root};
 ghost use Rattle.intersection_observer.specs.Places.{IsStanding, standing_of};
 ghost use Rattle.intersection_observer.specs.Seen.{seen_root, seen_finding, serial_numbers};
 ghost use Rattle.kept_clips.specs.Held.{pair_at};
-ghost use Rattle.kept_clips.specs.Chains.{IsExact};
-ghost use Rattle.kept_clips.specs.Seen.{scene_seen};
 ghost use Rattle.kept_clips.specs.Looked.{MayBeSeen};
 ghost use Rattle.kept_clips.specs.Numbers.{AreNumbered};
 ghost use Rattle.candidate_index.specs.Ranges.{IsPlaced};
@@ -21,12 +21,13 @@ ghost use Rattle.candidate_index.specs.Held.{is_stale_now};
 ghost use Rattle.kept_findings.specs.Held.{no_findings, with_findings, without_findings, with_expired, IsRoomier};
 ghost use Rattle.kept_findings.specs.Looks.{AreLooked, no_looks};
 ghost use Rattle.kept_findings.specs.Walks.{AreChained, IsWalked};
+ghost use Rattle.kept_findings.specs.Views.{seen_by, seen_for};
 ghost use Rattle.kept_findings.specs.Registered.{AreHeld, AreRegistered};
 
 use crate::Looks;
 use crate::seen_scene::SeenScene;
 use candidate_index::{Index, Scene};
-use clip_chain::Spot;
+use clip_chain::{Scrolls, Spot, Through};
 use element_tree::NodeId;
 use intersection_observer::{Finding, RegistrationId, Root, WatcherId, Watchers};
 use kept_clips::{Clips, Sightings};
@@ -34,11 +35,12 @@ use std::alloc::{AllocError, Global};
 use std::marker::Model;
 use std::sync::ledger::Ledger;
 use step_count::Steps;
+use thresholds::Margins;
 
 /// What was seen last of each spot, the clips that are kept, and what was found of registrations last and from what.
 ///
-/// A clip that is handed out as it is held is exact of what was seen last, at every moment: whatever was computed stays so until a spot
-/// on its chain is seen otherwise, and then it is touched.
+/// A clip that is handed out as it is held is exact of what was seen last, as its registration's observer sees it through its scroll
+/// margins, at every moment (`AreHeld`): whatever was computed stays so until a spot on its chain is seen otherwise, and then it is touched.
 #[derive(Drop)]
 pub struct KeptFindings {
     alloc: Global,
@@ -58,13 +60,7 @@ impl Model for KeptFindings {
 
     ghost coded = { Prim.hlevel (codes, pairs_code, index_code) };
 
-    ghost use Rattle.std.specs.Prelude.{ℕ};
-    ghost use Rattle.kept_clips.specs.Chains.{IsExact};
-    ghost use Rattle.kept_clips.specs.Seen.{scene_seen};
-
     ghost view = { λ f. record { seen = f.seen; clips = f.clips; kept = f.index } };
-
-    ghost invariant = { λ f. (number : ℕ) → IsExact (scene_seen f.seen) f.clips number };
 }
 
 // The implicit root is the viewport of the top document.
@@ -78,11 +74,27 @@ pub(crate) fn spot_of_root(root: Root) -> Spot
     }
 }
 
+// The spot of an observer's root.
+fn root_spot(watchers: &Watchers, watcher: WatcherId) -> Spot
+    requires { watcher.0 < length watchers.now.part.made }
+    ensures { result ≡ spot_of_root (intersection_observer_at watchers.now.part watcher.0).root }
+{
+    spot_of_root(watchers.root_of(watcher))
+}
+
+// An observer's scroll margins.
+fn margins_at(scroll_margins: &[Margins], watcher: WatcherId) -> Margins
+    requires { watcher.0 < length scroll_margins.now }
+    ensures { result ≡ scroll_margins_at scroll_margins.now watcher.0 }
+{
+    scroll_margins[watcher.0 as usize]
+}
+
 impl KeptFindings {
     /// Nothing is kept, which takes no memory yet.
     pub fn new(alloc: Global) -> KeptFindings
         ensures empty { result ≡ no_findings }
-        ensures registered { (watchers : IntersectionObservers) → ((serial : ℕ) → standing_of serial watchers ≡ None) → AreRegistered watchers result }
+        ensures registered { (watchers : IntersectionObservers) (margins : List ScrollMargins) → ((serial : ℕ) → standing_of serial watchers ≡ None) → AreRegistered watchers margins result }
     {
         KeptFindings {
             alloc,
@@ -92,10 +104,9 @@ impl KeptFindings {
         }
     }
 
-    /// The clips that are kept. One that is handed out as it is held is exact of what was seen last.
+    /// The clips that are kept.
     pub fn clips(&self) -> &Clips
         ensures value { result.now ≡ self.now.clips }
-        ensures exact { (number : ℕ) → IsExact (scene_seen self.now.seen) self.now.clips number }
         ensures numbered { AreNumbered self.now.clips }
     {
         // It tells that touches are numbered.
@@ -163,87 +174,102 @@ impl KeptFindings {
         self.index.forget(registration);
     }
 
-    /// The registrations of an observer that are stale, in order, once each spot of their chains was seen (`Index::stale_registrations`).
-    /// Clips that don't stand any more are computed.
+    /// The registrations of an observer that are stale, in order, once each spot of their chains was seen (`Index::stale_registrations`), as
+    /// the observer sees the scene through its scroll margins. Clips that don't stand any more are computed.
     ///
     /// # Errors
     /// Where there is no memory for the list.
-    pub fn stale_registrations<S: Scene, L: Ledger>(
+    pub fn stale_registrations<S: Scene + Scrolls, L: Ledger>(
         &mut self,
         scene: &S,
         looks: &Looks,
         watchers: &Watchers,
+        scroll_margins: &[Margins],
         watcher: WatcherId,
         steps: &mut Steps<L>,
     ) -> Result<Vec<RegistrationId>, AllocError>
         requires made { watcher.0 < length watchers.now.part.made }
         requires chained { AreChained (S.scene scene.now) (S.standings scene.now) }
-        requires held { AreHeld watchers.now.part self.old }
+        requires margins { length scroll_margins.now ≡ length watchers.now.part.made }
+        requires held { AreHeld watchers.now.part scroll_margins.now self.old }
         requires known { AreLooked (S.scene scene.now) (S.rank scene.now) self.old.seen looks.now }
         requires walked { All (IsWalked (S.scene scene.now) (S.standings scene.now) watchers.now.part self.old.seen) (serials_at watchers.now.part watcher.0) }
         ensures stale { (between : ℕ → List SpotOf) → All (IsBetween (S.scene scene.now) (S.standings scene.now) watchers.now.part between) (serials_at watchers.now.part watcher.0) →
             IfOk result (λ stale. serial_numbers stale.items
-            ≡ filter (is_stale_now (S.scene scene.now) (S.standings scene.now) watchers.now.part between self.old.kept) (serials_at watchers.now.part watcher.0)) }
+            ≡ filter (λ serial. is_stale_now (seen_for watchers.now.part scroll_margins.now serial (S.scene scene.now)) (S.standings scene.now) watchers.now.part between self.old.kept serial) (serials_at watchers.now.part watcher.0)) }
         ensures clips { (between : ℕ → List SpotOf) → All (IsBetween (S.scene scene.now) (S.standings scene.now) watchers.now.part between) (serials_at watchers.now.part watcher.0) →
-            OnOk result (self.new.clips ≡ all_asked (S.scene scene.now) (S.standings scene.now) watchers.now.part between (serials_at watchers.now.part watcher.0) self.old.clips) }
+            OnOk result (self.new.clips ≡ all_asked (seen_by watchers.now.part scroll_margins.now watcher.0 (S.scene scene.now)) (S.standings scene.now) watchers.now.part between (serials_at watchers.now.part watcher.0) self.old.clips) }
         ensures ticks { (between : ℕ → List SpotOf) → All (IsBetween (S.scene scene.now) (S.standings scene.now) watchers.now.part between) (serials_at watchers.now.part watcher.0) →
-            OnOk result (steps.new ≡ steps.old + all_steps (S.scene scene.now) (S.standings scene.now) watchers.now.part between (serials_at watchers.now.part watcher.0) self.old.clips) }
+            OnOk result (steps.new ≡ steps.old + all_steps (seen_by watchers.now.part scroll_margins.now watcher.0 (S.scene scene.now)) (S.standings scene.now) watchers.now.part between (serials_at watchers.now.part watcher.0) self.old.clips) }
         ensures seen { self.new.seen ≡ self.old.seen }
         ensures kept { self.new.kept ≡ self.old.kept }
         ensures touches { self.new.clips.touches ≡ self.old.clips.touches }
-        ensures held { AreHeld watchers.now.part self.new }
-        ensures registered { AreRegistered watchers.now.part self.old → AreRegistered watchers.now.part self.new }
+        ensures held { AreHeld watchers.now.part scroll_margins.now self.new }
+        ensures registered { AreRegistered watchers.now.part scroll_margins.now self.old → AreRegistered watchers.now.part scroll_margins.now self.new }
         ensures same_clips { OnErr result (self.new.clips ≡ self.old.clips) }
         ensures same_steps { OnErr result (steps.new ≡ steps.old) }
         ensures known { AreLooked (S.scene scene.now) (S.rank scene.now) self.new.seen looks.now }
     {
         // It tells that they stand.
         watchers.registrations(watcher);
-        let scene = SeenScene {
+        let seen = SeenScene {
             scene,
             seen: &self.seen,
             looks,
         };
+        let view = Through {
+            geometry: &seen,
+            root: root_spot(watchers, watcher),
+            margins: margins_at(scroll_margins, watcher),
+        };
         self.index
-            .stale_registrations(&scene, &mut self.clips, watchers, watcher, steps)
+            .stale_registrations(&view, &mut self.clips, watchers, watcher, steps)
     }
 
-    /// Finds what there is to find of a registration's target, once each spot of its chain was seen, and keeps it (`Index::recompute`).
-    /// It takes one step, and those of its clip where that doesn't stand. No memory.
-    pub fn recompute<S: Scene, L: Ledger>(
+    /// Finds what there is to find of a registration's target, once each spot of its chain was seen, and keeps it (`Index::recompute`), as its
+    /// observer sees the scene through its scroll margins. It takes one step, and those of its clip where that doesn't stand. No memory.
+    pub fn recompute<S: Scene + Scrolls, L: Ledger>(
         &mut self,
         scene: &S,
         looks: &Looks,
         watchers: &Watchers,
+        scroll_margins: &[Margins],
         registration: RegistrationId,
         steps: &mut Steps<L>,
     ) -> Finding
         requires standing { IsStanding registration.0 watchers.now.part }
         requires chained { AreChained (S.scene scene.now) (S.standings scene.now) }
-        requires held { AreHeld watchers.now.part self.old }
+        requires margins { length scroll_margins.now ≡ length watchers.now.part.made }
+        requires held { AreHeld watchers.now.part scroll_margins.now self.old }
         requires known { AreLooked (S.scene scene.now) (S.rank scene.now) self.old.seen looks.now }
         requires walked { IsWalked (S.scene scene.now) (S.standings scene.now) watchers.now.part self.old.seen registration.0 }
         ensures finding { (between : ℕ → List SpotOf) → IsBetween (S.scene scene.now) (S.standings scene.now) watchers.now.part between registration.0 →
-            seen_finding result ≡ finding_for (S.scene scene.now) (S.standings scene.now) watchers.now.part registration.0 (between registration.0) }
+            seen_finding result ≡ finding_for (seen_for watchers.now.part scroll_margins.now registration.0 (S.scene scene.now)) (S.standings scene.now) watchers.now.part registration.0 (between registration.0) }
         ensures placed { IsPlaced (root_bounds (S.scene scene.now) (spot_of_root (observer_of watchers.now.part registration.0).root)) (seen_finding result) }
         ensures clips { (between : ℕ → List SpotOf) → IsBetween (S.scene scene.now) (S.standings scene.now) watchers.now.part between registration.0 →
-            self.new.clips ≡ asked_for (S.scene scene.now) (S.standings scene.now) watchers.now.part between registration.0 self.old.clips }
+            self.new.clips ≡ asked_for (seen_for watchers.now.part scroll_margins.now registration.0 (S.scene scene.now)) (S.standings scene.now) watchers.now.part between registration.0 self.old.clips }
         ensures ticks { (between : ℕ → List SpotOf) → IsBetween (S.scene scene.now) (S.standings scene.now) watchers.now.part between registration.0 →
-            steps.new ≡ steps.old + steps_for (S.scene scene.now) (S.standings scene.now) watchers.now.part between registration.0 self.old.clips + 1 }
+            steps.new ≡ steps.old + steps_for (seen_for watchers.now.part scroll_margins.now registration.0 (S.scene scene.now)) (S.standings scene.now) watchers.now.part between registration.0 self.old.clips + 1 }
         ensures seen { self.new.seen ≡ self.old.seen }
         ensures touches { self.new.clips.touches ≡ self.old.clips.touches }
         ensures kept { (between : ℕ → List SpotOf) → IsBetween (S.scene scene.now) (S.standings scene.now) watchers.now.part between registration.0 →
-            self.new.kept ≡ insert self.old.kept registration.0 (Some (record { basis = basis_for (S.scene scene.now) (S.standings scene.now) watchers.now.part registration.0 (between registration.0); finding = result })) }
-        ensures held { AreHeld watchers.now.part self.new }
+            self.new.kept ≡ insert self.old.kept registration.0 (Some (record { basis = basis_for (seen_for watchers.now.part scroll_margins.now registration.0 (S.scene scene.now)) (S.standings scene.now) watchers.now.part registration.0 (between registration.0); finding = result })) }
+        ensures held { AreHeld watchers.now.part scroll_margins.now self.new }
         ensures known { AreLooked (S.scene scene.now) (S.rank scene.now) self.new.seen looks.now }
     {
-        let scene = SeenScene {
+        let watcher = watchers.watcher_of(registration);
+        let seen = SeenScene {
             scene,
             seen: &self.seen,
             looks,
         };
+        let view = Through {
+            geometry: &seen,
+            root: root_spot(watchers, watcher),
+            margins: margins_at(scroll_margins, watcher),
+        };
         self.index
-            .recompute(&scene, &mut self.clips, watchers, registration, steps)
+            .recompute(&view, &mut self.clips, watchers, registration, steps)
     }
 
     /// Lets a registration count as never computed. No memory.

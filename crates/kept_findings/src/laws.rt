@@ -5,7 +5,7 @@ ghost use Rattle.std.specs.Prelude.{◌≡◌, ◌<◌, ◌≤◌, ◌+◌, ℕ,
 ghost use Rattle.std.specs.List.{AllByRecursion};
 ghost use Rattle.script_model.specs.Margins.{Margins};
 ghost use Rattle.page_model.specs.World.{Root, Finding as ModelFinding, Registration, IntersectionObservers};
-ghost use Rattle.page_model.specs.Lookups.{intersection_observer_at};
+ghost use Rattle.page_model.specs.Lookups.{intersection_observer_at, scroll_margins_at};
 ghost use Rattle.page_model.specs.IntersectionObserving.{is_registered, with_intersection_observer, with_registration, without_registration, without_queue};
 ghost use Rattle.clip_chain.specs.declared.spot.Spot.{Spot as SpotOf};
 ghost use Rattle.clip_chain.specs.declared.spot.Spot.TheVariants.{View};
@@ -26,16 +26,17 @@ ghost use Rattle.kept_findings.specs.Registered.{AreRegistered};
 ghost use Rattle.kept_findings.specs.Stale.{chosen, IsQuiet};
 
 /// What is kept is kept of the registrations that stand, and settled, through what commands do to intersection observers: one more
-/// observer, a registration made or taken out whose pair is kept or let go with it, a queue that is handed out, room for more spots.
+/// observer with its scroll margins, a registration made or taken out whose pair is kept or let go with it, a queue that is handed out, room for more spots.
 pub fn registrations_stay_registered()
-    ensures made { (it : IntersectionObservers) (document : ℕ) (handler : Option ℕ) (root : Root) (margins : Margins) (thresholds : List ℕ) (kept : HeldFindings) →
-        AreRegistered it kept → AreRegistered (with_intersection_observer document handler root margins thresholds it) kept }
-    ensures observed { (it : IntersectionObservers) (watcher n : ℕ) (kept : HeldFindings) → HasSerials it → watcher < length it.made → is_registered n (registrations_at it watcher) ≡ false →
-        AreRegistered it kept → AreRegistered (with_registration watcher n it) (with_findings it.given (spot_of_root (intersection_observer_at it watcher).root) (element_spot n) kept) }
-    ensures unobserved { (it : IntersectionObservers) (watcher n serial : ℕ) (kept : HeldFindings) → HasSerials it → watcher < length it.made → serial_of n (registrations_at it watcher) ≡ Some serial →
-        AreRegistered it kept → AreRegistered (without_registration watcher n it) (without_findings serial kept) }
-    ensures roomier { (it : IntersectionObservers) (before now : HeldFindings) → IsRoomier before now → AreRegistered it before → AreRegistered it now }
-    ensures taken { (it : IntersectionObservers) (watcher : ℕ) (kept : HeldFindings) → AreRegistered it kept → AreRegistered (without_queue watcher it) kept }
+    ensures made { (it : IntersectionObservers) (document : ℕ) (handler : Option ℕ) (root : Root) (margins : Margins) (thresholds : List ℕ) (scroll_margins now : List Margins) (kept : HeldFindings) →
+        ((watcher : ℕ) → watcher < length it.made → scroll_margins_at now watcher ≡ scroll_margins_at scroll_margins watcher) →
+        AreRegistered it scroll_margins kept → AreRegistered (with_intersection_observer document handler root margins thresholds it) now kept }
+    ensures observed { (it : IntersectionObservers) (scroll_margins : List Margins) (watcher n : ℕ) (kept : HeldFindings) → HasSerials it → watcher < length it.made → is_registered n (registrations_at it watcher) ≡ false →
+        AreRegistered it scroll_margins kept → AreRegistered (with_registration watcher n it) scroll_margins (with_findings it.given (spot_of_root (intersection_observer_at it watcher).root) (element_spot n) kept) }
+    ensures unobserved { (it : IntersectionObservers) (scroll_margins : List Margins) (watcher n serial : ℕ) (kept : HeldFindings) → HasSerials it → watcher < length it.made → serial_of n (registrations_at it watcher) ≡ Some serial →
+        AreRegistered it scroll_margins kept → AreRegistered (without_registration watcher n it) scroll_margins (without_findings serial kept) }
+    ensures roomier { (it : IntersectionObservers) (scroll_margins : List Margins) (before now : HeldFindings) → IsRoomier before now → AreRegistered it scroll_margins before → AreRegistered it scroll_margins now }
+    ensures taken { (it : IntersectionObservers) (scroll_margins : List Margins) (watcher : ℕ) (kept : HeldFindings) → AreRegistered it scroll_margins kept → AreRegistered (without_queue watcher it) scroll_margins kept }
 {}
 
 /// Where what is found of the others is no news, an observer is settled by those alone that are chosen.

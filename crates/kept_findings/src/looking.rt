@@ -1,7 +1,8 @@
 //! Chains that are looked at, each spot once in an update.
 
-ghost use Rattle.std.specs.Prelude.{◌≡◌, ◌⊎◌, ◌<◌, None, Some, length, IfSome};
+ghost use Rattle.std.specs.Prelude.{◌≡◌, ◌⊎◌, ◌<◌, List, None, Some, length, IfSome};
 ghost use Rattle.std.specs.List.{All};
+ghost use Rattle.script_model.specs.Margins.{Margins as ScrollMargins};
 ghost use Rattle.clip_chain.specs.declared.spot.Spot.{Spot as SpotOf};
 ghost use Rattle.clip_chain.specs.Chains.{IsAbove};
 ghost use Rattle.intersection_observer.specs.Places.{IsStanding};
@@ -15,13 +16,13 @@ use crate::findings::spot_of_root;
 use crate::seen_scene::SeenScene;
 use crate::{KeptFindings, Looks};
 use candidate_index::{Scene, Standing};
-use clip_chain::Spot;
+use clip_chain::{Scrolls, Spot};
 use intersection_observer::{RegistrationId, WatcherId, Watchers};
 use kept_clips::container_below;
 
 impl KeptFindings {
     // Looks at a spot, unless it was looked at.
-    fn look_at<S: Scene>(&mut self, scene: &S, looks: &mut Looks, of: Spot)
+    fn look_at<S: Scene + Scrolls>(&mut self, scene: &S, looks: &mut Looks, of: Spot)
         requires room { MayBeSeen self.old.seen self.old.clips of }
         requires known { AreLooked (S.scene scene.now) (S.rank scene.now) self.old.seen looks.old }
         ensures looked { Looked (S.scene scene.now) self.old.seen self.new.seen self.old.clips self.new.clips }
@@ -59,7 +60,7 @@ impl KeptFindings {
     }
 
     // Looks at each spot of a chain, from a spot outwards to a root, these two included.
-    fn look_along<S: Scene>(&mut self, scene: &S, looks: &mut Looks, root: Spot, of: Spot)
+    fn look_along<S: Scene + Scrolls>(&mut self, scene: &S, looks: &mut Looks, root: Spot, of: Spot)
         requires above { IsAbove (S.scene scene.now) root of }
         requires room { EachAlong (MayBeSeen self.old.seen self.old.clips) (S.scene scene.now) of root }
         requires known { AreLooked (S.scene scene.now) (S.rank scene.now) self.old.seen looks.old }
@@ -80,7 +81,7 @@ impl KeptFindings {
     }
 
     // Looks along the chain of a registration, if it leads to the root.
-    fn look_for<S: Scene>(
+    fn look_for<S: Scene + Scrolls>(
         &mut self,
         scene: &S,
         looks: &mut Looks,
@@ -108,10 +109,11 @@ impl KeptFindings {
     }
 
     /// Looks at each spot on the chains of an observer's registrations that wasn't looked at yet, both ends included: it is touched where
-    /// its container, clip or box differs from what was seen last, or nothing was seen of it, and what is seen now is kept. No memory.
+    /// its container, clip or box differs from what was seen last, or whether it is a scroll container, or nothing was seen of it, and what is
+    /// seen now is kept. No memory.
     ///
     /// A chain is walked by what was seen of its spots, so that a container is asked for once for each spot.
-    pub fn look<S: Scene>(
+    pub fn look<S: Scene + Scrolls>(
         &mut self,
         scene: &S,
         looks: &mut Looks,
@@ -129,7 +131,7 @@ impl KeptFindings {
         ensures walked { All (IsWalked (S.scene scene.now) (S.standings scene.now) watchers.now.part self.new.seen) (serials_at watchers.now.part watcher.0) }
         ensures left { (spot : SpotOf) → All (AlongChain (IsNot spot) (S.scene scene.now) (S.standings scene.now) watchers.now.part) (serials_at watchers.now.part watcher.0) →
             IsLeft self.old.seen self.new.seen self.old.clips.touches self.new.clips.touches spot }
-        ensures registered { AreRegistered watchers.now.part self.old → AreRegistered watchers.now.part self.new }
+        ensures registered { (margins : List ScrollMargins) → AreRegistered watchers.now.part margins self.old → AreRegistered watchers.now.part margins self.new }
     {
         let registrations = watchers.registrations(watcher);
         for registration in registrations {

@@ -9,7 +9,7 @@ ghost use Rattle.kept_findings.specs.Looks.{IsNoted, IsSeenNow};
 
 use crate::Looks;
 use candidate_index::{Scene, Standing};
-use clip_chain::{Geometry, Spot};
+use clip_chain::{Geometry, Scrolls, Spot};
 use element_tree::NodeId;
 use intersection_observer::Root;
 use kept_clips::{Sighting, Sightings};
@@ -70,5 +70,14 @@ impl<S: Scene> Scene for SeenScene<'_, S> {
 
     fn standing(&self, root: Root, target: NodeId) -> Standing {
         self.scene.standing(root, target)
+    }
+}
+
+impl<S: Scene + Scrolls> Scrolls for SeenScene<'_, S> {
+    fn scrolls(&self, of: Spot) -> bool {
+        match self.sighting(of) {
+            Some(seen) => seen.scrolls,
+            None => self.scene.scrolls(of),
+        }
     }
 }

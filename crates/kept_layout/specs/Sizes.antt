@@ -1,12 +1,13 @@
--- The size of a box that is held.
+-- The size of a box that is held; of its content box where device pixels are counted from that.
 use Rattle.std.specs.Prelude.{ℕ, Option, Some, None}
 use Rattle.px_units.specs.declared.BoxKind.{BoxKind}
-use Rattle.px_units.specs.declared.BoxKind.TheVariants.{Content, Border}
+use Rattle.px_units.specs.declared.BoxKind.TheVariants.{Content, Border, Device}
 use Rattle.layout_model.specs.Boxes.{Box, content_size, border_size}
 
 abbrev pub size_by : BoxKind → Box → ℕ × ℕ
 size_by Content own = content_size own
 size_by Border own = border_size own
+size_by Device own = content_size own
 
 abbrev pub size_held : BoxKind → Option Box → ℕ × ℕ
 size_held kind None = (0, 0)

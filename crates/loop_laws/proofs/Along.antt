@@ -3,6 +3,7 @@ use Rattle.std.proofs.Common.{◌≡◌, refl, arith, tests}
 use Rattle.std.specs.Prelude.{ℕ, zero, suc, Bool, true, false, ◌&&◌, ◌<◌, nat_lt, List, [], ◌∷◌, ◌++◌, Option, Some, None}
 use Rattle.text_io.specs.declared.kinds.LimitKind.TheVariants as limits
 use Rattle.script_model.specs.Syntax.{Action, Command, Simple, Each, When, Block, NoMore, Then}
+use Rattle.text_io.specs.Limits.{limit_number}
 use Rattle.page_model.specs.World.{World}
 use Rattle.page_model.specs.Documents.{is_active}
 use Rattle.page_model.specs.Steps.{Step, Did, Threw, Met, ◌>>◌, met_unless}
@@ -79,18 +80,18 @@ moment_of world present command = record { world = counted world; present = pres
 -- `R` over the moments of commands: for each moment what it leaves, at least the world in which it was counted
 pub record IsAlong (script : Script) (R : World → List Moment → World → Type 0) : Type 0 where
   pub joined : IsJoined R
-  pub begun : (world : World) (present : Present) (command : Command) → world.begun < 1000000 → R world (moment_of world present command ∷ []) (counted world)
-  pub does : (line : ℕ) (action : Action) (present : Present) (world : World) → world.begun < 1000000 →
+  pub begun : (world : World) (present : Present) (command : Command) → world.begun < limit_number (world.version) limits.Commands → R world (moment_of world present command ∷ []) (counted world)
+  pub does : (line : ℕ) (action : Action) (present : Present) (world : World) → world.begun < limit_number (world.version) limits.Commands →
       OnDid (does (handler_names script) (counted world) present action) (λ effect. R world (moment_of world present (Simple line action) ∷ []) (effect.world))
 
 module _ (script : Script) (R : World → List Moment → World → Type 0) (along : IsAlong script R) where
   once-along : (line : ℕ) (world : World) (run : World → Said World) (list : World → List Moment) →
-      (world.begun < 1000000 → R world (list (counted world)) (run (counted world)).state) →
+      (world.begun < limit_number (world.version) limits.Commands → R world (list (counted world)) (run (counted world)).state) →
       R world (where_did (begun_in world) list) (once_begun line world run).state
   unfolding once_begun begun_in answered ◌>>◌
-  once-along line world run list each = by_room (nat_lt world.begun 1000000) refl
+  once-along line world run list each = by_room (nat_lt world.begun (limit_number (world.version) limits.Commands)) refl
     where
-      by_room : (has_room : Bool) → nat_lt world.begun 1000000 ≡ has_room →
+      by_room : (has_room : Bool) → nat_lt world.begun (limit_number (world.version) limits.Commands) ≡ has_room →
           R world (where_did (met_unless has_room limits.Commands >> Did (counted world)) list)
           (answered line world run (met_unless has_room limits.Commands >> Did (counted world))).state
       by_room true is = each (grind (arith, tests, is))
@@ -145,5 +146,5 @@ module _ (script : Script) (R : World → List Moment → World → Type 0) (alo
       R world (call_moments script document handler handed world) (call script document handler handed world).state
   unfolding call call_moments ◌followed_by◌ follow
   call-along document handler handed world =
-      only_if-along R (along.joined) (λ now. say (entry_lines (now.names) handed) now followed_by run_handler script handed handler)
+      only_if-along R (along.joined) (λ now. say (entry_lines (now.version) (now.names) handed) now followed_by run_handler script handed handler)
       (handler_moments script handed handler) world (is_active (world.tree) document) (λ is. handler-along handed handler world)

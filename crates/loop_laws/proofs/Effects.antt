@@ -3,7 +3,7 @@
 use Rattle.std.proofs.Common.{◌≡◌, ◌≢◌, refl, sym, subst, ◌∙◌, arith, ◌≤◌}
 use Rattle.std.specs.Prelude.{ℕ, zero, suc, List, [], ◌∷◌, ◌++◌, length, Option, Some, None, ℤ, ⊤}
 use Rattle.layout_model.specs.Items.{Kind, Item}
-use Rattle.script_model.specs.Syntax.{Dimension, Operand, Action, Viewport, MakeBlock, MakeImage, MakeFrame, Append, Before, Remove, SetStyle, Grow, Load, MakeResizeObserver, ObserveResize, UnobserveResize, DisconnectResize, MakeIntersectionObserver, ObserveIntersection, UnobserveIntersection, DisconnectIntersection, TakeIntersections, Listen, Unlisten, MakeQueryList, ScrollTo, ScrollBy, RequestFrame, CancelFrame, SetTimer, ClearTimer, Post, Say, Read}
+use Rattle.script_model.specs.Syntax.{Dimension, Operand, Action, Viewport, SetRatio, MakeBlock, MakeImage, MakeFrame, Append, Before, Remove, SetStyle, Grow, Load, MakeResizeObserver, ObserveResize, UnobserveResize, DisconnectResize, MakeIntersectionObserver, ObserveIntersection, UnobserveIntersection, DisconnectIntersection, TakeIntersections, Listen, Unlisten, MakeQueryList, ScrollTo, ScrollBy, RequestFrame, CancelFrame, SetTimer, ClearTimer, Post, Say, Read}
 use Rattle.page_model.specs.World.{Element, Observation, ResizeObservers, IntersectionObservers, Listener, Table, ScrollTarget, Task, Tree, Name, World}
 use Rattle.page_model.specs.Documents.{Container, InElement, InDocument, container_of, removed, linked, inserted, adopted, shown, inclusive_descendants}
 use Rattle.page_model.specs.Edits.{with_element, with_frame, change_item}
@@ -161,6 +161,7 @@ module _ (P : Observation → Type 0) (document : ℕ) (handlers : Handlers) (wo
       OnDid (does handlers world present action) (λ effect. IsDone P document (IsSpared (world.names) present (moved_operand action)) world (effect.world))
   unfolding does
   does-done (Viewport width height) = search (did, alike) depth 9
+  does-done (SetRatio hundredths) = search (did, alike) depth 9
   does-done (MakeBlock name made_in) = search (making-done) depth 9
   does-done (MakeImage name made_in width height) = search (making-done) depth 9
   does-done (MakeFrame name made_in inside) = search (both, bind, did, tree-done, frame-kept) depth 12
@@ -174,7 +175,7 @@ module _ (P : Observation → Type 0) (document : ℕ) (handlers : Handlers) (wo
   does-done (ObserveResize observer node observed) = search (both, bind, did, observers-done, target-due) depth 9
   does-done (UnobserveResize observer node) = search (bind, did, observers-done, no-target-due) depth 9
   does-done (DisconnectResize observer) = search (bind, did, observers-done, no-targets-due) depth 9
-  does-done (MakeIntersectionObserver made) = search (both, bind, did, alike) depth 12
+  does-done (MakeIntersectionObserver made) = search (both, bind, did, alike) depth 14
   does-done (ObserveIntersection observer node) = search (bind, intersections-step) depth 9
   does-done (UnobserveIntersection observer node) = search (bind, did, alike) depth 9
   does-done (DisconnectIntersection observer) = search (bind, did, alike) depth 9

@@ -65,6 +65,6 @@ unfolding gather
 gather-begun document depth world = refl
 
 -- one more command, or a greater depth
-pub less-left : (begun now depth least : ℕ) → begun ≤ now → now ≤ 1000000 → least ≤ 65537 → (now ≡ begun → depth < least) →
-    (1000000 - now) * 65538 + (65537 - least) < (1000000 - begun) * 65538 + (65537 - depth)
+pub less-left : (begun now depth least : ℕ) → begun ≤ now → now ≤ 2000000 → least ≤ 65537 → (now ≡ begun → depth < least) →
+    (2000000 - now) * 65538 + (65537 - least) < (2000000 - begun) * 65538 + (65537 - depth)
 less-left begun now depth least more most bounded deeper = grind (arith, more, most, bounded, deeper)

@@ -9,6 +9,7 @@ use Rattle.page_model.specs.Callbacks.{Script}
 use Rattle.page_model.specs.Loop.{gather, broadcast, round, report_skipped, resize_loop}
 use Rattle.page_laws.specs.Bounds.{IsWithinLimits}
 use Rattle.page_laws.proofs.Places.{repeat-not}
+use Rattle.page_laws.proofs.Limits.{most-commands}
 use Rattle.page_laws.proofs.Turns.{gather-within, broadcast-within, round-within}
 use Rattle.loop_laws.specs.Rounds.{goes_on, rounds_up_to, round_depth, IsDeeper, rounds_left}
 use Rattle.loop_laws.proofs.Standing.{broadcast-outside}
@@ -16,6 +17,10 @@ use Rattle.loop_laws.proofs.Waiting.{gather-deeper}
 use Rattle.loop_laws.proofs.Depths.{round_depth-bounded}
 use Rattle.loop_laws.proofs.Falling.{round-gathers, round-deeper, gather-begun, less-left}
 use Rattle.loop_laws.proofs.Bounded.{IsLess, same-bounds, unrolled, rests}
+
+-- commands begun are within the limit of any version
+pub few-begun : (world : World) → IsWithinLimits world → world.begun ≤ 2000000
+few-begun world within = omega (arith, within.commands, most-commands (world.version))
 
 and-first : (a b : Bool) → (a && b) ≡ true → a ≡ true
 and-first true b both = refl
@@ -32,12 +37,12 @@ module _ (script : Script) (document : ℕ) where
   round-falls depth start within deeper goes next active =
       let after = (broadcast script document start).state.world in
       let least = round_depth script document start in
-      let most : after.begun ≤ 1000000 = (broadcast-within script start within document).commands in
+      let most : after.begun ≤ 2000000 = few-begun after (broadcast-within script start within document) in
       let more : start.begun ≤ after.begun = (broadcast-outside script document start).begun in
       subst (λ (world : World). IsDeeper document least world × (rounds_left world least < rounds_left start depth))
       (sym (round-gathers script document start next active)) (
         gather-deeper document least after,
-        subst (λ (begun : ℕ). (1000000 - begun) * 65538 + (65537 - least) < rounds_left start depth) (sym (gather-begun document least after))
+        subst (λ (begun : ℕ). (2000000 - begun) * 65538 + (65537 - least) < rounds_left start depth) (sym (gather-begun document least after))
             (less-left (start.begun) (after.begun) depth least more most (round_depth-bounded script document start)
             (round-deeper script document depth start within deeper goes)),
       )
@@ -102,5 +107,5 @@ loop-same script document world within most fits =
       depth = 0;
       deeper = gather-deeper document 0 world;
       within = gather-within script world within document 0;
-      most = subst (λ (n : ℕ). (1000000 - n) * 65538 + 65537 ≤ rounds_left world 0) (sym begun) (omega arith);
+      most = subst (λ (n : ℕ). (2000000 - n) * 65538 + 65537 ≤ rounds_left world 0) (sym begun) (omega arith);
     }) (begins-below world) fits)

@@ -17,32 +17,34 @@ use Rattle.page_laws.proofs.Steps.{on_did-with}
 use Rattle.page_laws.proofs.Commands.{does-next}
 use Rattle.page_laws.proofs.Places.{repeat-not}
 use Rattle.page_laws.proofs.Keeping.{counted, IsCarried, called-keeps, then-keeps, only_if-keeps, for_each-keeps}
+use Rattle.page_laws.proofs.Limits.{most-commands}
 use Rattle.page_laws.proofs.Turns.{tasks-few}
 use Rattle.page_laws.proofs.Later.{all-so}
 use Rattle.loop_laws.specs.TaskRuns.{tasks_up_to, tasks_left}
 use Rattle.loop_laws.proofs.Bounded.{IsLess, same-bounds, unrolled, rests}
 use Rattle.loop_laws.proofs.Effects.{does-done}
+use Rattle.loop_laws.proofs.LoopsAtRest.{few-begun}
 
 -- callbacks ----------------------------------------------------------------------------------------------------------------
 
 -- no more tasks were added than commands were begun
 record HasFitted (before now : World) : Type 0 where
   begun : before.begun ≤ now.begun
-  commands : now.begun ≤ 1000000
+  commands : now.begun ≤ 2000000
   tasks : length now.tasks + before.begun ≤ length before.tasks + now.begun
 
 fits-carried : (script : Script) (before : World) → IsCarried script (HasFitted before) (λ (present : Present). ⊤)
 fits-carried script before = record {
   begun = λ world room here. record {
     begun = omega (arith, here.begun);
-    commands = omega (arith, room);
+    commands = omega (arith, room, most-commands (world.version));
     tasks = let so_far : length world.tasks + before.begun ≤ length before.tasks + world.begun = here.tasks in omega (arith, so_far);
   };
   does = λ world present action is room here.
       on_did-with (does (handler_names script) (counted world) present action) _ _ (λ effect. HasFitted before (effect.world))
       (λ effect next more. record {
         begun = omega (arith, here.begun, next.begun);
-        commands = omega (arith, room, next.begun);
+        commands = omega (arith, room, next.begun, most-commands (world.version));
         tasks =
             let so_far : length world.tasks + before.begun ≤ length before.tasks + world.begun = here.tasks in
             let added : length effect.world.tasks ≤ suc (length world.tasks) = more.tasks in
@@ -93,8 +95,8 @@ module _ (script : Script) (before : World) where
 
 -- runs of tasks ------------------------------------------------------------------------------------------------------------
 
-less-tasks : (begun now waiting left : ℕ) → begun ≤ now → now ≤ 1000000 → left + begun ≤ waiting + now →
-    (1000000 - now) + left < (1000000 - begun) + suc waiting
+less-tasks : (begun now waiting left : ℕ) → begun ≤ now → now ≤ 2000000 → left + begun ≤ waiting + now →
+    (2000000 - now) + left < (2000000 - begun) + suc waiting
 less-tasks begun now waiting left more most fits = omega (arith, more, most, fits)
 
 pub tasks-begin : (world : World) → IsWithinLimits world → tasks_left world < most_steps
@@ -102,10 +104,10 @@ tasks-begin world within = omega (arith, tasks-few world within)
 
 module _ (script : Script) where
   record IsTaskRun (world after : World) : Type 0 where
-    commands : after.begun ≤ 1000000
+    commands : after.begun ≤ 2000000
     less : tasks_left after < tasks_left world
 
-  first-run : (tasks : List Task) (world : World) → world.tasks ≡ tasks → has_tasks tasks ≡ true → world.begun ≤ 1000000 →
+  first-run : (tasks : List Task) (world : World) → world.tasks ≡ tasks → has_tasks tasks ≡ true → world.begun ≤ 2000000 →
       IsTaskRun world (run_first script tasks world).state
   first-run [] world are some most = absurd (let no : false ≡ true = some in cc)
   first-run (task ∷ others) world are some most =
@@ -114,7 +116,7 @@ module _ (script : Script) where
       let fitted : HasFitted taken after = task-fits script taken task taken (record { begun = omega arith; commands = most; tasks = omega arith }) in
       record {
         commands = fitted.commands;
-        less = subst (λ (tasks : List Task). tasks_left after < (1000000 - world.begun) + length tasks) (sym are)
+        less = subst (λ (tasks : List Task). tasks_left after < (2000000 - world.begun) + length tasks) (sym are)
             (less-tasks (world.begun) (after.begun) (length others) (length after.tasks) (fitted.begun) (fitted.commands) (fitted.tasks));
       }
 
@@ -125,7 +127,7 @@ module _ (script : Script) where
   step now = run_first script (now.tasks) now
 
   record AreTasksLeft (left : ℕ) (world : World) : Type 0 where
-    commands : world.begun ≤ 1000000
+    commands : world.begun ≤ 2000000
     most : tasks_left world ≤ left
 
   falls : (left : ℕ) (world : World) → AreTasksLeft left world → goes world ≡ true → (step world).flow ≡ Next → goes (step world).state ≡ true →
@@ -140,7 +142,7 @@ module _ (script : Script) where
 
   pub task-falls : (world : World) → IsWithinLimits world → has_tasks (world.tasks) ≡ true →
       tasks_left ((run_first script (world.tasks) world).state) < tasks_left world
-  task-falls world within some = (first-run (world.tasks) world refl some (within.commands)).less
+  task-falls world within some = (first-run (world.tasks) world refl some (few-begun world within)).less
 
   pub tasks-ended : (world : World) (most : ℕ) → has_tasks (world.tasks) ≡ false → tasks_up_to most script world ≡ silent world
   unfolding tasks_up_to
@@ -148,7 +150,7 @@ module _ (script : Script) where
 
   module _ (world : World) (within : IsWithinLimits world) where
     left-first : AreTasksLeft (tasks_left world) world
-    left-first = record { commands = within.commands; most = omega arith }
+    left-first = record { commands = few-begun world within; most = omega arith }
 
     pub tasks-same : (most more : ℕ) → tasks_left world < most → tasks_left world < more → tasks_up_to most script world ≡ tasks_up_to more script world
     unfolding tasks_up_to

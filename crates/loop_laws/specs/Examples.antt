@@ -27,7 +27,8 @@ rounds_seen script starts = record {
 
 unfoldable pub loop_read : Reading → SeenLoop
 unfolding run_items handlers_in round_starts round_depth broadcast_moments uprootings delivered_depths
-loop_read (Ok items) = rounds_seen (handlers_in items) (round_starts (handlers_in items) 0 (run_items items opening_world).state)
+loop_read (Ok script) =
+    rounds_seen (handlers_in (script.items)) (round_starts (handlers_in (script.items)) 0 (run_items (script.items) (opening_world (script.version))).state)
 loop_read (Err refusal) = record { depths = []; commands = []; uprootings = []; delivered = [] }
 
 unfoldable pub loop_seen : List ℕ → SeenLoop

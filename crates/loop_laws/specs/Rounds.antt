@@ -1,6 +1,7 @@
 -- The rounds of a resize loop, and how many of them there can still be (Resize Observer, 3.4).
 use Rattle.std.specs.Prelude.{ℕ, suc, ◌+◌, ◌-◌, ◌*◌, ◌<◌, Bool, ◌&&◌, unwrap_or}
 use Rattle.std.specs.List.{AllByRecursion}
+use Rattle.text_io.specs.declared.kinds.Version.TheVariants.{Second}
 use Rattle.text_io.specs.Limits.{limit_number}
 use Rattle.text_io.specs.declared.kinds.LimitKind.TheVariants as limits
 use Rattle.layout_model.specs.Nodes.{levels}
@@ -34,7 +35,11 @@ pub record IsDeeper (document depth : ℕ) (world : World) : Type 0 where
 abbrev pub deepest : ℕ
 deepest = suc levels
 
+-- the most commands that a run of any version begins
+abbrev pub most_commands : ℕ
+most_commands = limit_number Second limits.Commands
+
 -- at least as many rounds as a loop can still have in a world that was gathered in at a depth: in each round a command begins
 -- or the depth is greater than before
 abbrev pub rounds_left : World → ℕ → ℕ
-rounds_left world depth = (limit_number limits.Commands - world.begun) * suc deepest + (deepest - depth)
+rounds_left world depth = (most_commands - world.begun) * suc deepest + (deepest - depth)

@@ -1,13 +1,12 @@
 -- The run of the queued tasks, and how many tasks there can still be (HTML, 8.1.7).
 use Rattle.std.specs.Prelude.{ℕ, ◌+◌, ◌-◌, length}
-use Rattle.text_io.specs.Limits.{limit_number}
-use Rattle.text_io.specs.declared.kinds.LimitKind.TheVariants as limits
 use Rattle.page_model.specs.World.{World}
 use Rattle.page_model.specs.Tasks.{has_tasks}
 use Rattle.page_model.specs.Runs.{Said, ◌followed_by◌, repeat}
 use Rattle.page_model.specs.Callbacks.{Script, call}
 use Rattle.page_model.specs.Intersections.{notify}
 use Rattle.page_model.specs.Ticks.{run_first}
+use Rattle.loop_laws.specs.Rounds.{most_commands}
 
 -- the first task taken off and run, so many times at most and as long as there is one
 unfoldable pub tasks_up_to : ℕ → Script → World → Said World
@@ -16,4 +15,4 @@ tasks_up_to most script world = repeat (λ now. has_tasks (now.tasks)) (λ now. 
 
 -- at least as many tasks as can still be run: those that wait, and one for each command that can still begin
 abbrev pub tasks_left : World → ℕ
-tasks_left world = (limit_number limits.Commands - world.begun) + length world.tasks
+tasks_left world = (most_commands - world.begun) + length world.tasks

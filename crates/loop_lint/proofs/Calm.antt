@@ -4,7 +4,7 @@ use Rattle.std.specs.Prelude.{ℕ, ℤ, zero, suc, ◌<◌, ◌==◌, not, Bool,
 use Rattle.std.specs.List.{AllByRecursion}
 use Rattle.px_units.specs.declared.BoxKind.{BoxKind}
 use Rattle.layout_model.specs.Items.{Kind}
-use Rattle.script_model.specs.Syntax.{Action, Viewport, MakeBlock, MakeImage, MakeFrame, Append, Before, Remove, SetStyle, Grow, Load, MakeResizeObserver, ObserveResize, UnobserveResize, DisconnectResize, MakeIntersectionObserver, ObserveIntersection, UnobserveIntersection, DisconnectIntersection, TakeIntersections, Listen, Unlisten, MakeQueryList, ScrollTo, ScrollBy, RequestFrame, CancelFrame, SetTimer, ClearTimer, Post, Say, Read}
+use Rattle.script_model.specs.Syntax.{Action, Viewport, SetRatio, MakeBlock, MakeImage, MakeFrame, Append, Before, Remove, SetStyle, Grow, Load, MakeResizeObserver, ObserveResize, UnobserveResize, DisconnectResize, MakeIntersectionObserver, ObserveIntersection, UnobserveIntersection, DisconnectIntersection, TakeIntersections, Listen, Unlisten, MakeQueryList, ScrollTo, ScrollBy, RequestFrame, CancelFrame, SetTimer, ClearTimer, Post, Say, Read}
 use Rattle.page_model.specs.World.{Screen, Observation, ResizeObserver, ResizeObservers, IntersectionObservers, Listener, Table, ScrollTarget, Tree, World}
 use Rattle.page_model.specs.Lookups.{change_at, entry_or, no_resize_observer, resize_observer_at}
 use Rattle.page_model.specs.Documents.{is_active}
@@ -163,6 +163,7 @@ module _ (document : ℕ) (handlers : Handlers) (world : World) (within : IsInRa
   pub does-calm : (present : Present) (action : Action) → disturbs action ≡ false → OnDid (does handlers world present action) Done
   unfolding does
   does-calm present (Viewport width height) quiet = absurd (true≢false quiet)
+  does-calm present (SetRatio hundredths) quiet = absurd (true≢false quiet)
   does-calm present (Append parent node) quiet = absurd (true≢false quiet)
   does-calm present (Before parent node sibling) quiet = absurd (true≢false quiet)
   does-calm present (Remove node) quiet = absurd (true≢false quiet)
@@ -176,7 +177,7 @@ module _ (document : ℕ) (handlers : Handlers) (world : World) (within : IsInRa
   does-calm present (MakeResizeObserver name owner handler) quiet = search (both, bind, did, made-observer) depth 12
   does-calm present (UnobserveResize observer node) quiet = search (bind, did, no-target) depth 9
   does-calm present (DisconnectResize observer) quiet = search (bind, did, no-targets) depth 9
-  does-calm present (MakeIntersectionObserver made) quiet = search (both, bind, did, here) depth 12
+  does-calm present (MakeIntersectionObserver made) quiet = search (both, bind, did, here) depth 14
   does-calm present (ObserveIntersection observer node) quiet = search (bind, intersections-calm) depth 9
   does-calm present (UnobserveIntersection observer node) quiet = search (bind, did, here) depth 9
   does-calm present (DisconnectIntersection observer) quiet = search (bind, did, here) depth 9

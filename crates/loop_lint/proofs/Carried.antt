@@ -2,6 +2,8 @@
 use Rattle.std.specs.Prelude.{ℕ, ◌<◌, List, Option, Some, None, IfSome}
 use Rattle.std.specs.List.{AllByRecursion}
 use Rattle.script_model.specs.Syntax.{Action, Command, Simple, Each, When, Block, NoMore, Then}
+use Rattle.text_io.specs.Limits.{limit_number}
+use Rattle.text_io.specs.declared.kinds.LimitKind.TheVariants as limits
 use Rattle.page_model.specs.World.{World}
 use Rattle.page_model.specs.Documents.{is_active}
 use Rattle.page_model.specs.Operands.{Present, NoEntry}
@@ -15,7 +17,7 @@ use Rattle.loop_lint.proofs.Holding.{CommandHolds, BlockHolds}
 
 -- a command that `Fits` keeps `P`, once it was counted, at an entry that `In` holds of
 pub record IsCarried (script : Script) (Fits : Action → Type 0) (In : Present → Type 0) (P : World → Type 0) : Type 0 where
-  pub begun : (world : World) → world.begun < 1000000 → P world → P (counted world)
+  pub begun : (world : World) → world.begun < limit_number (world.version) limits.Commands → P world → P (counted world)
   pub does : (world : World) (present : Present) (action : Action) → Fits action → In present → P world →
       OnDid (does (handler_names script) world present action) (λ effect. P (effect.world))
   pub none : In NoEntry
@@ -60,7 +62,7 @@ module _ (script : Script) (Fits : Action → Type 0) (In : Present → Type 0) 
       IfSome handler (λ h. BlockHolds Fits (handler_block script h)) → P world → P (call script document handler handed world).state
   unfolding call
   call-carries document handler handed world are fit here =
-      only_if-keeps P (λ now. say (entry_lines (now.names) handed) now followed_by run_handler script handed handler) world
+      only_if-keeps P (λ now. say (entry_lines (now.version) (now.names) handed) now followed_by run_handler script handed handler) world
       (is_active (world.tree) document)
-      (λ now held. then-keeps P (say (entry_lines (now.names) handed) now) (run_handler script handed handler) held (handler-carries handed are handler fit))
+      (λ now held. then-keeps P (say (entry_lines (now.version) (now.names) handed) now) (run_handler script handed handler) held (handler-carries handed are handler fit))
       here

@@ -7,6 +7,9 @@ use Rattle.script_model.specs.Syntax.{Action, Command}
 use Rattle.script_model.specs.Scripts.{NamedBlock}
 use Rattle.text_io.specs.declared.kinds.EventKind.TheVariants as events
 use Rattle.script_model.specs.TraceLines.{TraceLine, FiredError}
+use Rattle.text_io.specs.declared.kinds.Version.{Version}
+use Rattle.text_io.specs.Limits.{limit_number}
+use Rattle.text_io.specs.declared.kinds.LimitKind.TheVariants as limits
 use Rattle.page_model.specs.World.{World, WindowTarget, Observation, ResizeObservers}
 use Rattle.page_model.specs.Documents.{is_active}
 use Rattle.page_model.specs.Lookups.{resize_observer_at}
@@ -77,7 +80,7 @@ module _ (test : Action → Bool) (unnamed : List ℕ → Bool) (script : Script
   next-held : (before now : World) → IsNext before now → AreTame test unnamed script now.resize_observers → IsHeld before → IsHeld now
   next-held before now next tame here = record {
     range = next.within (length script) (here.range);
-    limits = as-many before (here.limits) now next.observers next.queries next.successor.begun next.tasks;
+    limits = as-many before (here.limits) now next.observers next.queries next.successor.begun next.successor.version next.tasks;
     tame = tame;
   }
 
@@ -95,7 +98,7 @@ module _ (test : Action → Bool) (unnamed : List ℕ → Bool) (script : Script
   unfolding gather
   gathered-tame document depth world here = gathering-tame test unnamed script (sight_of world) document depth (world.resize_observers) here
 
-  pub counts-held : (world : World) → world.begun < 1000000 → IsHeld world → IsHeld (counted world)
+  pub counts-held : (world : World) → world.begun < limit_number (world.version) limits.Commands → IsHeld world → IsHeld (counted world)
   counts-held world room here = record {
     range = counted-range (length script) world (here.range);
     limits = counted-within world (here.limits) room;
@@ -108,15 +111,15 @@ module _ (test : Action → Bool) (unnamed : List ℕ → Bool) (script : Script
   pub timed-held : (time : ℕ) (world : World) → IsHeld world → IsHeld (record world { clock = time })
   timed-held time world here = record {
     range = timed-range (length script) world (here.range);
-    limits = as-many world (here.limits) _ refl refl refl (tasks-alike world _ refl refl refl);
+    limits = as-many world (here.limits) _ refl refl refl refl (tasks-alike world _ refl refl refl);
     tame = here.tame;
   }
     where
       timed-range : (handlers : ℕ) (world : World) → IsInRange handlers world → IsInRange handlers (record world { clock = time })
       timed-range handlers world within = search
 
-  pub opening-held : IsHeld opening_world
-  opening-held = record { range = opening-in (length script); limits = opening-within; tame = record { each = tt } }
+  pub opening-held : (version : Version) → IsHeld (opening_world version)
+  opening-held version = record { range = opening-in (length script) version; limits = opening-within version; tame = record { each = tt } }
 
   module _ (clean : AllByRecursion (IsClean test unnamed) script)
       (named : AllByRecursion (λ (handler : NamedBlock). BlockHolds (Names unnamed) (handler.block)) script) (Q : TraceLine → Type 0)

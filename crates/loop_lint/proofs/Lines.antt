@@ -3,10 +3,11 @@ use Rattle.std.proofs.Common.{◌≡◌, refl}
 use Rattle.std.specs.Prelude.{ℕ, false, List, [], ◌∷◌, map, Option, Some, None, ⊤}
 use Rattle.std.specs.List.{AllByRecursion}
 use Rattle.layout_model.specs.Items.{Kind}
-use Rattle.script_model.specs.Syntax.{Action, Viewport, MakeBlock, MakeImage, MakeFrame, Append, Before, Remove, SetStyle, Grow, Load, MakeResizeObserver, ObserveResize, UnobserveResize, DisconnectResize, MakeIntersectionObserver, ObserveIntersection, UnobserveIntersection, DisconnectIntersection, TakeIntersections, Listen, Unlisten, MakeQueryList, ScrollTo, ScrollBy, RequestFrame, CancelFrame, SetTimer, ClearTimer, Post, Say, Read, Command, Simple, Each, When, Block, NoMore, Then}
+use Rattle.script_model.specs.Syntax.{Action, Viewport, SetRatio, MakeBlock, MakeImage, MakeFrame, Append, Before, Remove, SetStyle, Grow, Load, MakeResizeObserver, ObserveResize, UnobserveResize, DisconnectResize, MakeIntersectionObserver, ObserveIntersection, UnobserveIntersection, DisconnectIntersection, TakeIntersections, Listen, Unlisten, MakeQueryList, ScrollTo, ScrollBy, RequestFrame, CancelFrame, SetTimer, ClearTimer, Post, Say, Read, Command, Simple, Each, When, Block, NoMore, Then}
 use Rattle.script_model.specs.TraceLines.{TraceLine, ThrowLine, LimitLine}
 use Rattle.text_io.specs.declared.kinds.ThrowKind.{ThrowKind}
 use Rattle.text_io.specs.declared.kinds.LimitKind.{LimitKind}
+use Rattle.text_io.specs.declared.kinds.Version.{Version}
 use Rattle.page_model.specs.World.{Entry, Screen, Scrolls, IntersectionObservers, Listener, Table, Name, Tree, World}
 use Rattle.page_model.specs.Documents.{Container, InElement, InDocument, is_active}
 use Rattle.page_model.specs.EntryLines.{intersection_line, intersection_lines}
@@ -32,14 +33,14 @@ unfolding intersection_lines intersection_line
 intersections-plain names observer [] = tt
 intersections-plain names observer (entry ∷ entries) = (refl, intersections-plain names observer entries)
 
-resizes-plain : (names : List Name) (observer : ℕ) (entries : List SizeEntry) → AllByRecursion IsPlain (map (resize_line names observer) entries)
-resizes-plain names observer [] = tt
-resizes-plain names observer (entry ∷ entries) = (refl, resizes-plain names observer entries)
+resizes-plain : (version : Version) (names : List Name) (observer : ℕ) (entries : List SizeEntry) → AllByRecursion IsPlain (map (resize_line version names observer) entries)
+resizes-plain version names observer [] = tt
+resizes-plain version names observer (entry ∷ entries) = (refl, resizes-plain version names observer entries)
 
-entries-plain : (names : List Name) (handed : Entries) → AllByRecursion IsPlain (entry_lines names handed)
-entries-plain names NoEntries = tt
-entries-plain names (SizeEntries observer entries) = resizes-plain names observer entries
-entries-plain names (CutEntries observer entries) = intersections-plain names observer entries
+entries-plain : (version : Version) (names : List Name) (handed : Entries) → AllByRecursion IsPlain (entry_lines version names handed)
+entries-plain version names NoEntries = tt
+entries-plain version names (SizeEntries observer entries) = resizes-plain version names observer entries
+entries-plain version names (CutEntries observer entries) = intersections-plain names observer entries
 
 reading-plain : (names : List Name) (tree : Tree) (screen : Screen) (scrolls : Scrolls) (container : Container) → IsPlain (reading_of names tree screen scrolls container)
 reading-plain names tree screen scrolls (InElement n) = refl
@@ -82,6 +83,7 @@ module _ (handlers : Handlers) (world : World) where
   does-plain : (present : Present) (action : Action) → OnDid (does handlers world present action) Plainly
   unfolding does
   does-plain present (Viewport width height) = did _ Plainly tt
+  does-plain present (SetRatio hundredths) = did _ Plainly tt
   does-plain present (MakeBlock name made_in) = making-plain name made_in _
   does-plain present (MakeImage name made_in width height) = making-plain name made_in _
   does-plain present (MakeFrame name made_in inside) = search (both, bind, did, nothing-said) depth 12
@@ -95,7 +97,7 @@ module _ (handlers : Handlers) (world : World) where
   does-plain present (ObserveResize observer node observed) = search (both, bind, did, nothing-said) depth 9
   does-plain present (UnobserveResize observer node) = search (bind, did, nothing-said) depth 9
   does-plain present (DisconnectResize observer) = search (bind, did, nothing-said) depth 9
-  does-plain present (MakeIntersectionObserver made) = search (both, bind, did, nothing-said) depth 12
+  does-plain present (MakeIntersectionObserver made) = search (both, bind, did, nothing-said) depth 14
   does-plain present (ObserveIntersection observer node) = search (bind, intersections-step) depth 9
   does-plain present (UnobserveIntersection observer node) = search (bind, did, nothing-said) depth 9
   does-plain present (DisconnectIntersection observer) = search (bind, did, nothing-said) depth 9
@@ -164,8 +166,8 @@ handler-plain script handed (Some handler) world =
 pub call-plain : (script : Script) (document : ℕ) (handler : Option ℕ) (handed : Entries) (world : World) → SaysPlain (call script document handler handed world)
 unfolding call
 call-plain script document handler handed world =
-    if-good IsPlain Any (λ now. say (entry_lines (now.names) handed) now followed_by run_handler script handed handler) world
+    if-good IsPlain Any (λ now. say (entry_lines (now.version) (now.names) handed) now followed_by run_handler script handed handler) world
     (is_active (world.tree) document)
-    (λ now here. then-good IsPlain Any (say (entry_lines (now.names) handed) now) (run_handler script handed handler)
-    (record { state = tt; lines = entries-plain (now.names) handed }) (λ each there. handler-plain script handed handler each))
+    (λ now here. then-good IsPlain Any (say (entry_lines (now.version) (now.names) handed) now) (run_handler script handed handler)
+    (record { state = tt; lines = entries-plain (now.version) (now.names) handed }) (λ each there. handler-plain script handed handler each))
     tt

@@ -8,6 +8,7 @@ use Rattle.std.specs.List.{AllByRecursion}
 use Rattle.script_model.specs.Syntax.{Action, Command, Simple, Each, When, Block, NoMore, Then, Item, Outside, Tick, Handler}
 use Rattle.script_model.specs.Scripts.{NamedBlock, handlers_in}
 use Rattle.script_model.specs.TraceLines.{TraceLine, TickLine}
+use Rattle.text_io.specs.declared.kinds.Version.{Version}
 use Rattle.page_model.specs.World.{World}
 use Rattle.page_model.specs.Documents.{is_active, active_documents}
 use Rattle.page_model.specs.Steps.{Step, Did, Threw, Met}
@@ -251,8 +252,8 @@ module _ (items : List Item) where
       (items-list others (all.1) (run_item script item world).state
       (item-good script Held Says walked loops (counts-held nothing (is_unnamed items) script) (timed-held nothing (is_unnamed items) script) item (all.0) world held).state)
 
-  pub loops-listed : Lists script (run_items items opening_world).lines (loops_of_run items)
+  pub loops-listed : (version : Version) → Lists script (run_items items (opening_world version)).lines (loops_of_run version items)
   unfolding run_items loops_of_run
-  loops-listed =
+  loops-listed version =
       items-list items (all-map (ItemHolds (Names (is_unnamed items))) (IsOutsideGood script Held Says walked loops) outside items (all-named items))
-      opening_world (opening-held nothing (is_unnamed items) script)
+      (opening_world version) (opening-held nothing (is_unnamed items) script version)

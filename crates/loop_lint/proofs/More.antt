@@ -211,7 +211,7 @@ module _ (counts : Counts) (tree after : Tree) (elements : counts.elements ≡ l
     pub size-same : (n : ℕ) → IsThere n → (kind : BoxKind) → size_of after screen n kind ≡ size_of tree screen n kind
     unfolding size_of box_of
     size-same n is kind =
-        ap (λ (box : Option Box). extent_of (unwrap_or (option_map (size_by kind) box) (0, 0)))
+        ap (λ (box : Option Box). extent_of (unwrap_or (option_map (size_by (screen.ratio) kind) box) (0, 0)))
         (mapped-same _ _ (λ inputs. whole-same inputs n is) _
         ∙ ap (λ (found : Option Inputs). option_map (λ inputs. box_in (nodes_of tree) inputs n) found) (inputs-of n is))
 

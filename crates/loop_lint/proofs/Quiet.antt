@@ -6,6 +6,8 @@ use Rattle.script_model.specs.Syntax.{Item, Outside, Tick, Handler}
 use Rattle.script_model.specs.Scripts.{NamedBlock, handlers_in}
 use Rattle.script_model.specs.Reading.{Reading, reading}
 use Rattle.script_model.specs.TraceLines.{TraceLine, EventLine, FiredError}
+use Rattle.text_io.specs.declared.kinds.Version.{Version}
+use Rattle.script_model.specs.Syntax.{Script as WholeScript}
 use Rattle.page_model.specs.World.{World, Observation}
 use Rattle.page_model.specs.Documents.{is_active}
 use Rattle.page_model.specs.Lookups.{resize_observer_at}
@@ -319,16 +321,17 @@ module _ (items : List Item) (quiet : is_quiet items ≡ true) where
     outside (Tick line time) holds = tt
     outside (Handler line name block end_line) holds = tt
 
-    pub quiet-lines : AllByRecursion IsPlain (run_items items opening_world).lines
+    pub quiet-lines : (version : Version) → AllByRecursion IsPlain (run_items items (opening_world version)).lines
     unfolding run_items
-    quiet-lines =
+    quiet-lines version =
         (items-good script Held IsPlain walked loop-quiet (counts-held disturbs (is_unnamed items) script) (timed-held disturbs (is_unnamed items) script) items
         (all-map (ItemHolds (Names (is_unnamed items))) (IsOutsideGood script Held IsPlain walked loop-quiet) outside items (all-named items))
-        opening_world (opening-held disturbs (is_unnamed items) script)).lines
+        (opening_world version) (opening-held disturbs (is_unnamed items) script version)).lines
 
 -- of the text of a script
-pub quiet-outcome : (text : List ℕ) (items : List Item) → reading text ≡ Ok items → AllByRecursion IsPlain (run_items items opening_world).lines →
+pub quiet-outcome : (text : List ℕ) (whole : WholeScript) → reading text ≡ Ok whole →
+    AllByRecursion IsPlain (run_items (whole.items) (opening_world (whole.version))).lines →
     AllByRecursion IsPlain (outcome text).lines
 unfolding outcome outcome_read
-quiet-outcome text items is plain =
+quiet-outcome text whole is plain =
     subst (λ (read : Reading). AllByRecursion (λ (line : TraceLine). is_error_line line ≡ false) (outcome_read read).lines) (sym is) plain

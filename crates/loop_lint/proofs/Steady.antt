@@ -3,9 +3,10 @@ use Rattle.std.proofs.Common.{◌≡◌, refl, subst, ap, arith, ◌≤◌, true
 use Rattle.std.specs.Prelude.{ℕ, zero, suc, ◌+◌, ◌*◌, ◌&&◌, nat_lt, Bool, true, false, cond, List, [], ◌∷◌, ◌++◌, map, flat_map, length, sum_by, count_by, None, ⊤}
 use Rattle.std.specs.List.{AllByRecursion}
 use Rattle.std.proofs.lemmas.List.Sums.{sum_by-cons}
-use Rattle.script_model.specs.Syntax.{Action, Viewport, MakeBlock, MakeImage, MakeFrame, Append, Before, Remove, SetStyle, Grow, Load, MakeResizeObserver, ObserveResize, UnobserveResize, DisconnectResize, MakeIntersectionObserver, ObserveIntersection, UnobserveIntersection, DisconnectIntersection, TakeIntersections, Listen, Unlisten, MakeQueryList, ScrollTo, ScrollBy, RequestFrame, CancelFrame, SetTimer, ClearTimer, Post, Say, Read, Command, Simple, Each, When, Item, Outside, Tick, Handler}
+use Rattle.script_model.specs.Syntax.{Action, Viewport, SetRatio, MakeBlock, MakeImage, MakeFrame, Append, Before, Remove, SetStyle, Grow, Load, MakeResizeObserver, ObserveResize, UnobserveResize, DisconnectResize, MakeIntersectionObserver, ObserveIntersection, UnobserveIntersection, DisconnectIntersection, TakeIntersections, Listen, Unlisten, MakeQueryList, ScrollTo, ScrollBy, RequestFrame, CancelFrame, SetTimer, ClearTimer, Post, Say, Read, Command, Simple, Each, When, Item, Outside, Tick, Handler}
 use Rattle.script_model.specs.Scripts.{NamedBlock, handlers_in}
 use Rattle.script_model.specs.TraceLines.{TraceLine}
+use Rattle.text_io.specs.declared.kinds.Version.{Version}
 use Rattle.page_model.specs.World.{World, Observation}
 use Rattle.page_model.specs.Documents.{is_active}
 use Rattle.page_model.specs.Lookups.{resize_observer_at}
@@ -89,6 +90,7 @@ module _ (script : Script) (targets : List ℕ) (now : Moment) where
   gentle-action (Before parent node sibling) still = absurd (true≢false still)
   gentle-action (Remove node) still = absurd (true≢false still)
   gentle-action (Viewport width height) still = refl
+  gentle-action (SetRatio hundredths) still = refl
   gentle-action (MakeBlock name document) still = refl
   gentle-action (MakeImage name document width height) still = refl
   gentle-action (MakeFrame name document inside) still = refl
@@ -228,10 +230,10 @@ module _ (items : List Item) (steady : is_steady items ≡ true)
   outside (Tick line time) holds = tt
   outside (Handler line name block end_line) holds = tt
 
-  pub steady-loops : AllByRecursion (IsSteadyLoop script) (loops_of_run items)
+  pub steady-loops : (version : Version) → AllByRecursion (IsSteadyLoop script) (loops_of_run version items)
   unfolding loops_of_run
-  steady-loops =
+  steady-loops version =
       items-loops script Held Says walked loop-keeps (counts-held moves (is_unnamed items) script) (timed-held moves (is_unnamed items) script)
       (IsSteadyLoop script) steady-loop items
       (all-map (ItemHolds (Names (is_unnamed items))) (IsOutsideGood script Held Says walked loop-keeps) outside items (all-named items))
-      opening_world (opening-held moves (is_unnamed items) script)
+      (opening_world version) (opening-held moves (is_unnamed items) script version)

@@ -5,7 +5,7 @@ use Rattle.std.specs.Prelude.{ℕ, ℤ, zero, suc, ◌+◌, Bool, true, false, n
 use Rattle.std.specs.List.{AllByRecursion, position_or_len}
 use Rattle.text_io.specs.declared.kinds.ThrowKind.TheVariants.{ReferenceError}
 use Rattle.layout_model.specs.Items.{Kind}
-use Rattle.script_model.specs.Syntax.{Action, Viewport, MakeBlock, MakeImage, MakeFrame, Append, Before, Remove, SetStyle, Grow, Load, MakeResizeObserver, ObserveResize, UnobserveResize, DisconnectResize, MakeIntersectionObserver, ObserveIntersection, UnobserveIntersection, DisconnectIntersection, TakeIntersections, Listen, Unlisten, MakeQueryList, ScrollTo, ScrollBy, RequestFrame, CancelFrame, SetTimer, ClearTimer, Post, Say, Read, Block}
+use Rattle.script_model.specs.Syntax.{Action, Viewport, SetRatio, MakeBlock, MakeImage, MakeFrame, Append, Before, Remove, SetStyle, Grow, Load, MakeResizeObserver, ObserveResize, UnobserveResize, DisconnectResize, MakeIntersectionObserver, ObserveIntersection, UnobserveIntersection, DisconnectIntersection, TakeIntersections, Listen, Unlisten, MakeQueryList, ScrollTo, ScrollBy, RequestFrame, CancelFrame, SetTimer, ClearTimer, Post, Say, Read, Block}
 use Rattle.script_model.specs.Scripts.{NamedBlock, number_in}
 use Rattle.page_model.specs.World.{ResizeObserver, ResizeObservers, IntersectionObservers, Listener, Table, ScrollTarget, Tree, World}
 use Rattle.page_model.specs.Lookups.{change_at, resize_observer_at, no_resize_observer}
@@ -159,6 +159,7 @@ module _ (test : Action → Bool) (unnamed : List ℕ → Bool) where
         pub does-tame : (present : Present) (action : Action) → Names unnamed action → OnDid (does (handler_names script) world present action) Done
         unfolding does
         does-tame present (Viewport width height) named = did _ Done here
+        does-tame present (SetRatio hundredths) named = did _ Done here
         does-tame present (MakeBlock name made_in) named = making-tame name made_in _
         does-tame present (MakeImage name made_in width height) named = making-tame name made_in _
         does-tame present (MakeFrame name made_in inside) named = search (both, bind, did, here) depth 12
@@ -174,7 +175,7 @@ module _ (test : Action → Bool) (unnamed : List ℕ → Bool) where
         does-tame present (ObserveResize observer node observed) named = search (both, bind, did, target-tame) depth 9
         does-tame present (UnobserveResize observer node) named = search (bind, did, target-tame) depth 9
         does-tame present (DisconnectResize observer) named = search (bind, did, target-tame) depth 9
-        does-tame present (MakeIntersectionObserver made) named = search (both, bind, did, here) depth 12
+        does-tame present (MakeIntersectionObserver made) named = search (both, bind, did, here) depth 14
         does-tame present (ObserveIntersection observer node) named = search (bind, intersections-tame) depth 9
         does-tame present (UnobserveIntersection observer node) named = search (bind, did, here) depth 9
         does-tame present (DisconnectIntersection observer) named = search (bind, did, here) depth 9

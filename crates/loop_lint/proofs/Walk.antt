@@ -9,6 +9,7 @@ use Rattle.text_io.specs.declared.kinds.LimitKind.{LimitKind}
 use Rattle.text_io.specs.declared.kinds.ThrowKind.{ThrowKind}
 use Rattle.script_model.specs.Syntax.{Item, Outside, Tick, Handler}
 use Rattle.script_model.specs.TraceLines.{TraceLine, FiredEvent, FiredResize, FiredScroll, FiredChange, EventLine, TimerLine, FrameLine, TaskLine, TickLine, RoundLine, ThrowLine, LimitLine}
+use Rattle.text_io.specs.Limits.{limit_number}
 use Rattle.page_model.specs.World.{World, Tree, Entry, EventTarget, ElementTarget, DocumentTarget, WindowTarget, QueryTarget, IntersectionObservers, Observation, Task, Notify, Posted, Timer, FrameCallback}
 use Rattle.page_model.specs.Lookups.{resize_observer_at, intersection_observer_at, query_list_at}
 use Rattle.page_model.specs.Documents.{is_active, active_documents}
@@ -22,15 +23,13 @@ use Rattle.page_model.specs.FrameCallbacks.{frame_callbacks_of, frame_callback_s
 use Rattle.page_model.specs.Timers.{due_timers, timer_stands, timer_taken}
 use Rattle.page_model.specs.Tasks.{has_tasks, is_notifying, without_notifying}
 use Rattle.page_model.specs.IntersectionObserving.{without_queue}
-use Rattle.page_model.specs.Shown.{shown_of}
-use Rattle.page_model.specs.Findings.{finding}
 use Rattle.page_model.specs.Steps.{Step, Did, Threw, Met}
 use Rattle.page_model.specs.Operands.{NoEntry}
 use Rattle.page_model.specs.Commands.{begun_in, matches_now}
 use Rattle.page_model.specs.Ranges.{IsPresentIn}
 use Rattle.page_model.specs.Runs.{Flow, Next, Thrown, Limited, Said, Turn, silent, say, follow, ◌followed_by◌, caught, only_if, lifted, for_each, repeat, by_place, at_place, most_steps}
 use Rattle.page_model.specs.Callbacks.{Script, handler_text, Entries, SizeEntries, CutEntries, NoEntries, answered, once_begun, run_command, while_active, call, notify_listener, invoke, bubble, fire, presents, document_of_target}
-use Rattle.page_model.specs.Intersections.{is_same_bool, settling, watchers, with_notify_task, has_queued, update_intersections, take_queue, notify_watcher, notify_watchers, notify}
+use Rattle.page_model.specs.Intersections.{is_same_bool, settling, found_now, watchers, with_notify_task, has_queued, update_intersections, take_queue, notify_watcher, notify_watchers, notify}
 use Rattle.page_model.specs.Gathering.{sight_of, size_entry, with_reported, due_at}
 use Rattle.page_model.specs.Loop.{Broadcast, gather, emptied, deliver_some, broadcast, round, round_ended, resize_loop}
 use Rattle.page_model.specs.Ticks.{line_while_active, scrolled_text, event_target_of, intersection_steps, run_timers, run_timer, resize_steps, scroll_steps, evaluated, evaluate, media_steps, frame_steps, run_frame_callback, update_rendering, run_task, run_first, run_tasks, time_set, tick}
@@ -147,9 +146,9 @@ notified-same false document world = refl
 update-same : (document : ℕ) (world : World) → (update_intersections document world).resize_observers ≡ world.resize_observers
 unfolding update_intersections
 update-same document world =
-    by_test (settling (world.clock) (finding (shown_of world)) (watchers (world.tree) document (world.intersection_observers)) (world.intersection_observers))
+    by_test (settling (world.clock) (found_now world) (watchers (world.tree) document (world.intersection_observers)) (world.intersection_observers))
     (list_any (has_queued (world.intersection_observers)
-    (settling (world.clock) (finding (shown_of world)) (watchers (world.tree) document (world.intersection_observers)) (world.intersection_observers)))
+    (settling (world.clock) (found_now world) (watchers (world.tree) document (world.intersection_observers)) (world.intersection_observers)))
     (watchers (world.tree) document (world.intersection_observers)))
   where
     by_test : (it : IntersectionObservers) (test : Bool) →
@@ -501,14 +500,14 @@ module _ (script : Script) (P : World → Type 0) (Q : TraceLine → Type 0) (wa
   IsOutsideGood (Tick line time) = ⊤
   IsOutsideGood (Handler line name block end_line) = ⊤
 
-  module _ (counts : (world : World) → world.begun < 1000000 → P world → P (counted world))
+  module _ (counts : (world : World) → world.begun < limit_number (world.version) limits.Commands → P world → P (counted world))
       (timed : (time : ℕ) (world : World) → P world → P (record world { clock = time })) where
     pub time-held : (time : ℕ) (world : World) → P world → OnDid (time_set time world) P
     time-held time world here = time-kept P world time (λ later. timed time world here)
 
     pub begun-held : (world : World) → P world → OnDid (begun_in world) P
     unfolding begun_in
-    begun-held world here = room-then limits.Commands (world.begun) 1000000 _ _ (λ room. did (counted world) P (counts world room here))
+    begun-held world here = room-then limits.Commands (world.begun) (limit_number (world.version) limits.Commands) _ _ (λ room. did (counted world) P (counts world room here))
 
     plain-throw : (line : ℕ) (exception : ThrowKind) → Q (ThrowLine line exception)
     plain-throw line exception = walked.plain (ThrowLine line exception) refl

@@ -18,11 +18,11 @@ pub record Seen : Type 0 where
 
 unfoldable pub seen_read : Reading → Seen
 unfolding run_items handlers_in loops_of_run round_starts round_depth loop_handler_lines
-seen_read (Ok items) = record {
-  moving = loop_handler_lines moves items;
-  disturbing = loop_handler_lines disturbs items;
-  depths = map (depths_of (handlers_in items)) (loops_of_run items);
-  errors = count_by is_error_line (run_items items opening_world).lines;
+seen_read (Ok script) = record {
+  moving = loop_handler_lines moves (script.items);
+  disturbing = loop_handler_lines disturbs (script.items);
+  depths = map (depths_of (handlers_in (script.items))) (loops_of_run (script.version) (script.items));
+  errors = count_by is_error_line (run_items (script.items) (opening_world (script.version))).lines;
 }
 seen_read (Err refusal) = record { moving = []; disturbing = []; depths = []; errors = 0 }
 

@@ -1,5 +1,6 @@
 -- The resize loops of a script's run, read off the run as page_model has it: each with its document and the page in which it begins.
 use Rattle.std.specs.Prelude.{◌≤◌, ◌<◌, ℕ, Bool, true, false, List, [], ◌∷◌, map, flat_map, filter, length, ⊤}
+use Rattle.text_io.specs.declared.kinds.Version.{Version}
 use Rattle.script_model.specs.Syntax.{Item, Outside, Tick, Handler}
 use Rattle.script_model.specs.Scripts.{handlers_in}
 use Rattle.script_model.specs.TraceLines.{TraceLine, TickLine, RoundLine, EventLine, FiredError}
@@ -51,9 +52,9 @@ item_loops script (Outside command) world = []
 item_loops script (Tick line time) world = where_did (begun_in world) λ begun. where_did (time_set time begun) (tick_loops script)
 item_loops script (Handler line name block end_line) world = []
 
-unfoldable pub loops_of_run : List Item → List Loop
+unfoldable pub loops_of_run : Version → List Item → List Loop
 unfolding along_each tick_loops run_item handlers_in begun_in
-loops_of_run items = along_each (item_loops (handlers_in items)) (run_item (handlers_in items)) items opening_world
+loops_of_run version items = along_each (item_loops (handlers_in items)) (run_item (handlers_in items)) items (opening_world version)
 
 -- the depths of the rounds of a loop, as they stand on its round lines, and the depths of all that it delivers
 abbrev pub depths_of : Script → Loop → List ℕ

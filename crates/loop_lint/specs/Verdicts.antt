@@ -1,6 +1,6 @@
 -- The two certificates of a script (this project's own).
 use Rattle.std.specs.Prelude.{Bool, true, false, List}
-use Rattle.script_model.specs.Syntax.{Action, Viewport, Append, Before, Remove, SetStyle, Grow, Load, ObserveResize, Item}
+use Rattle.script_model.specs.Syntax.{Action, Viewport, SetRatio, Append, Before, Remove, SetStyle, Grow, Load, ObserveResize, Item}
 use Rattle.loop_lint.specs.LoopHandlers.{is_empty, loop_handler_lines}
 
 -- `append`, `before` and `remove`: the commands that can move an element, and so change depths
@@ -13,6 +13,7 @@ moves action = false
 -- these, those that can change a size, and the one that makes an observation
 abbrev pub disturbs : Action → Bool
 disturbs (Viewport width height) = true
+disturbs (SetRatio hundredths) = true
 disturbs (SetStyle node declaration) = true
 disturbs (Grow node dimension by) = true
 disturbs (Load node width height) = true

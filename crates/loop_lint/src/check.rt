@@ -48,8 +48,8 @@ fn blame_at(items: &[Item], item: &Item, law: Law) -> Option<u32>
 /// The line, from 1, of the first command in the text that stands in a loop handler, at any nesting, and that a law forbids. A loop
 /// handler is one that an `ro` command anywhere in the script names. None exactly where the script keeps the law. No memory is taken.
 pub fn blame(script: &Script, law: Law) -> Option<u32>
-    ensures line { result ≡ slice_get (loop_handler_lines (forbidden_by law) script.now) 0 }
-    ensures none { IsNone result ↔ IsTrue (is_empty (loop_handler_lines (forbidden_by law) script.now)) }
+    ensures line { result ≡ slice_get (loop_handler_lines (forbidden_by law) script.now.items) 0 }
+    ensures none { IsNone result ↔ IsTrue (is_empty (loop_handler_lines (forbidden_by law) script.now.items)) }
 {
     let items = script.items();
     for item in items {
@@ -63,7 +63,7 @@ pub fn blame(script: &Script, law: Law) -> Option<u32>
 
 /// Which laws a script keeps, by what its loop handlers hold. No memory is taken.
 pub fn lint(script: &Script) -> Verdict
-    ensures { result ≡ record { steady = is_steady script.now; quiet = is_quiet script.now } }
+    ensures { result ≡ record { steady = is_steady script.now.items; quiet = is_quiet script.now.items } }
 {
     Verdict {
         steady: blame(script, Law::Steady).is_none(),

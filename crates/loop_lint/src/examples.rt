@@ -7,6 +7,8 @@ ghost use Rattle.loop_lint.specs.Examples.{seen};
 pub fn each_forbidden_command_can_cause_an_error()
     ensures viewport { seen (codes "script 1\nhandler h\nviewport 700px 600px\nend\nblock r top\nappend top r\nro o top h\nro-observe o r content\ntick 0\n")
         ≡ record { moving = []; disturbing = 3 ∷ []; depths = (1 ∷ []) ∷ []; errors = 1 } }
+    ensures ratio { seen (codes "script 2\nhandler h\nratio 200%\nend\nblock r top\nappend top r\nro o top h\nro-observe o r device\ntick 0\n")
+        ≡ record { moving = []; disturbing = 3 ∷ []; depths = (1 ∷ []) ∷ []; errors = 1 } }
     ensures set { seen (codes "script 1\nhandler h\nset r height 20px\nend\nblock r top\nappend top r\nro o top h\nro-observe o r content\ntick 0\n")
         ≡ record { moving = []; disturbing = 3 ∷ []; depths = (1 ∷ []) ∷ []; errors = 1 } }
     ensures grow { seen (codes "script 1\nhandler h\ngrow r height 1px\nend\nblock r top\nappend top r\nset r height 10px\nro o top h\nro-observe o r content\ntick 0\n")

@@ -2,7 +2,8 @@
 
 ghost use Rattle.std.specs.Prelude.{◌≡◌, IsTrue, false, List, ℕ, Ok, Bool, flat_map};
 ghost use Rattle.std.specs.List.{AllByRecursion};
-ghost use Rattle.script_model.specs.Syntax.{Action, Item};
+ghost use Rattle.text_io.specs.declared.kinds.Version.{Version};
+ghost use Rattle.script_model.specs.Syntax.{Action, Item, Script};
 ghost use Rattle.script_model.specs.Scripts.{handlers_in};
 ghost use Rattle.script_model.specs.Reading.{reading};
 ghost use Rattle.page_model.specs.Outcome.{opening_world, run_items, outcome};
@@ -18,7 +19,8 @@ use loop_laws::{
 /// round greater than 0; so a loop has at most as many rounds, one that is broken off counted, as the greatest depth of a target that it
 /// delivers.
 pub fn steady_scripts_have_steady_loops()
-    ensures { (items : List Item) → IsTrue (is_steady items) → AllByRecursion (IsSteadyLoop (handlers_in items)) (loops_of_run items) }
+    ensures { (version : Version) (items : List Item) → IsTrue (is_steady items) →
+        AllByRecursion (IsSteadyLoop (handlers_in items)) (loops_of_run version items) }
 {
     loops_go_deeper();
     loops_have_few_rounds();
@@ -26,7 +28,7 @@ pub fn steady_scripts_have_steady_loops()
 
 /// The trace of a quiet script has no line of a loop error.
 pub fn quiet_scripts_report_no_errors()
-    ensures { (text : List ℕ) (items : List Item) → reading text ≡ Ok items → IsTrue (is_quiet items) →
+    ensures { (text : List ℕ) (script : Script) → reading text ≡ Ok script → IsTrue (is_quiet script.items) →
         AllByRecursion (λ line. is_error_line line ≡ false) (outcome text).lines }
 {
     resize_loops_come_to_rest();
@@ -36,8 +38,8 @@ pub fn quiet_scripts_report_no_errors()
 /// The loops that are listed of a run are all that there are: the lines of rounds and of loop errors in its trace are those that these loops
 /// write, in their order.
 pub fn all_loops_are_listed()
-    ensures { (items : List Item) →
-        loop_lines (run_items items opening_world).lines ≡ flat_map (lines_of_loop (handlers_in items)) (loops_of_run items) }
+    ensures { (version : Version) (items : List Item) →
+        loop_lines (run_items items (opening_world version)).lines ≡ flat_map (lines_of_loop (handlers_in items)) (loops_of_run version items) }
 {}
 
 /// What a script holds outside handlers doesn't matter, but for its `ro` commands: with the same handlers, of which the same ones are loop

@@ -37,6 +37,7 @@ fn is_forbidden(what: &What, law: Law) -> bool
     match what {
         What::Append(..) | What::Before(..) | What::Remove(..) => true,
         What::Viewport(..)
+        | What::Ratio(..)
         | What::Set(..)
         | What::Grow(..)
         | What::Load(..)

@@ -146,3 +146,18 @@ pub fn a_root_that_clips_is_its_padding_box()
         ++ codes "intersect i t 16 no 0/32358400 root 0 0 800 110 box 5 205 790 10 cut 0 0 0 0\n"
         ) }
 {}
+
+/// An observer's scroll margins move the clip of a scroll container outward, and no other observer's.
+pub fn scroll_margins_move_a_clip()
+    ensures { trace (
+        codes "script 2\nblock r top\nappend top r\nblock s top\nset s height 100px\n"
+        ++ codes "set s overflow hidden\nappend r s\nblock u top\nset u height 130px\nappend s u\n"
+        ++ codes "block t top\nset t height 10px\nappend s t\n"
+        ++ codes "io i top - root - margin scroll 60px threshold 0\nio j top - root - margin threshold 0\n"
+        ++ codes "io-observe i t\nio-observe j t\ntick 0\n"
+        ) ≡ (
+        codes "tick 0\n"
+        ++ codes "intersect i t 0 yes 32768000/32768000 root 0 0 800 600 box 0 130 800 10 cut 0 130 800 10\n"
+        ++ codes "intersect j t 0 no 0/32768000 root 0 0 800 600 box 0 130 800 10 cut 0 0 0 0\n"
+        ) }
+{}

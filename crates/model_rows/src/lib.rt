@@ -22,14 +22,14 @@ pub use intersecting::{
     a_nested_viewport_clips, a_ratio_is_not_rounded, a_root_that_clips_is_its_padding_box,
     a_root_that_was_removed_is_not_notified, a_scroll_container_clips,
     a_target_that_is_apart_has_the_index_0, a_target_without_a_box_has_the_index_of_nothing_seen,
-    an_edge_in_common_intersects, margins_and_thresholds_of_observers,
+    an_edge_in_common_intersects, margins_and_thresholds_of_observers, scroll_margins_move_a_clip,
     taking_a_queue_before_it_is_notified,
 };
 pub use resizing::{
     a_box_that_comes_and_goes, a_document_that_dies_ends_the_loop, a_first_size_is_delivered,
-    a_round_may_go_no_deeper, an_observer_may_disconnect_itself,
-    an_unchanged_size_is_not_delivered_again, disconnecting_drops_what_is_active,
-    each_round_goes_deeper, observing_a_second_box_is_skipped,
+    a_ratio_in_the_first_version, a_round_may_go_no_deeper, an_observer_may_disconnect_itself,
+    an_unchanged_size_is_not_delivered_again, device_pixels_are_rounded,
+    disconnecting_drops_what_is_active, each_round_goes_deeper, observing_a_second_box_is_skipped,
     observing_anew_makes_another_observation, sizes_are_those_at_the_delivery,
     unobserving_leaves_what_is_active,
 };

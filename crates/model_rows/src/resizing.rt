@@ -165,3 +165,22 @@ pub fn a_document_that_dies_ends_the_loop()
         codes "tick 0\nresize a k rect 0 0 300 0 border 300 0\n"
         ) }
 {}
+
+/// A box of device pixels is told in these, rounded to the nearest one, and is another size once their ratio changes.
+pub fn device_pixels_are_rounded()
+    ensures { trace (
+        codes "script 2\nblock r top\nappend top r\nset r width 10.5px\nset r height 3px\n"
+        ++ codes "ratio 150%\nro o top -\nro-observe o r device\ntick 0\nratio 200%\ntick 16\n"
+        ) ≡ (
+        codes "tick 0\nresize o r rect 0 0 10.5 3 border 10.5 3 device 16 5\nround top 1\n"
+        ++ codes "tick 16\nresize o r rect 0 0 10.5 3 border 10.5 3 device 21 6\nround top 1\n"
+        ) }
+{}
+
+/// Scripts of the first version have no ratio.
+pub fn a_ratio_in_the_first_version()
+    ensures { trace (
+        codes "script 1\nblock r top\nappend top r\nset r width 10.5px\nset r height 3px\n"
+        ++ codes "ratio 150%\nro o top -\nro-observe o r device\ntick 0\nratio 200%\ntick 16\n"
+        ) ≡ codes "syntax 6 1\n" }
+{}

@@ -1,5 +1,5 @@
 -- A page to try chains on, told spot by spot. Its elements from 9 on have no box.
-use Rattle.std.specs.Prelude.{ℕ, cond, ◌==◌, pos, Option, Some, None}
+use Rattle.std.specs.Prelude.{ℕ, Bool, true, false, cond, ◌==◌, pos, Option, Some, None}
 use Rattle.px_units.specs.declared.Rect.{Rect}
 use Rattle.page_model.specs.Chains.{zero_rect}
 use Rattle.clip_chain.specs.declared.spot.Spot.{Spot}
@@ -70,8 +70,18 @@ sample_bounds (Node node) =
     (sides 130 180 600 340)
     (cond (node.0 == 7) (sides 410 50 500 100) (cond (node.0 == 8) (sides 411 50 500 100) zero_rect))))))))
 
+abbrev pub sample_scrolls : Spot → Bool
+sample_scrolls (View document) = false
+sample_scrolls (Node node) = cond (node.0 == 1) true (cond (node.0 == 4) true (cond (node.0 == 6) true false))
+
 abbrev pub sample : Scene
-sample = record { container = sample_container; clip = sample_clip; bounds = sample_bounds }
+sample = record {
+  container = sample_container;
+  clip = sample_clip;
+  bounds = sample_bounds;
+  scrolls = sample_scrolls;
+  moved = λ of. false;
+}
 
 -- how far each stands within the top document
 abbrev pub sample_rank : Spot → ℕ

@@ -1,6 +1,6 @@
 -- A page to try clips and registrations on. It has the top document alone: its first element stands in the viewport, each other
 -- one in that of half its number.
-use Rattle.std.specs.Prelude.{ℕ, suc, ◌+◌, ◌/◌, cond, ◌==◌, pos, List, Option, Some, None, option_map}
+use Rattle.std.specs.Prelude.{ℕ, false, suc, ◌+◌, ◌/◌, cond, ◌==◌, pos, List, Option, Some, None, option_map}
 use Rattle.std.specs.List.{slice_index_or}
 use Rattle.px_units.specs.declared.Rect.{Rect}
 use Rattle.clip_chain.specs.declared.spot.Spot.{Spot}
@@ -42,7 +42,13 @@ sample_box boxes view (Node node) = rect_of (slice_index_or boxes node.0 (0, 0, 
 
 -- by what the elements clip to, their boxes and the viewport
 abbrev pub sample : List (Option Sides) → List Sides → Sides → Scene
-sample clips boxes view = record { container = sample_container; clip = sample_clip clips view; bounds = sample_box boxes view }
+sample clips boxes view = record {
+  container = sample_container;
+  clip = sample_clip clips view;
+  bounds = sample_box boxes view;
+  scrolls = λ of. false;
+  moved = λ of. false;
+}
 
 -- a target stands to each root in the same way
 abbrev pub sample_standing : List Standing → ℕ → Standing

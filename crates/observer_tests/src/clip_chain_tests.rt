@@ -3,9 +3,10 @@
 ghost use Rattle.std.specs.Prelude.{◌≡◌, pos, Some};
 ghost use Rattle.observer_tests.specs.ChainSample.{sides, element};
 
-use clip_chain::{Geometry, Spot, reaches, root_rect, visible_rect};
+use clip_chain::{Geometry, Scrolls, Spot, Through, reaches, root_rect, visible_rect};
 use element_tree::NodeId;
 use px_units::Rect;
+use thresholds::{Margins, ThresholdFault};
 
 // A page whose root element, 0, holds a scroller, 1. In it stand a frame, 2, and two boxes at its right edge: 7, which touches
 // it, and 8, which lies one unit beyond. The root element of the frame's document, 3, holds a scroller, 4, and in it an open
@@ -72,6 +73,18 @@ impl Geometry for Sample {
     }
 }
 
+impl Scrolls for Sample {
+    fn scrolls(&self, of: Spot) -> bool {
+        match of {
+            Spot::View(_) => false,
+            Spot::Node(NodeId(number)) => match number {
+                1 | 4 | 6 => true,
+                _ => false,
+            },
+        }
+    }
+}
+
 fn rect(left: u32, top: u32, right: u32, bottom: u32) -> Rect
     ensures { result ≡ sides left top right bottom }
 {
@@ -96,6 +109,59 @@ fn seen(target: Spot, root: Spot, limits: Rect) -> Option<Option<Rect>> {
     } else {
         None
     }
+}
+
+// The same as an observer with scroll margins sees it.
+fn seen_through(target: Spot, root: Spot, margins: Margins, limits: Rect) -> Option<Option<Rect>> {
+    let view = Through {
+        geometry: &Sample,
+        root,
+        margins,
+    };
+    if reaches(&view, target, root) {
+        Some(visible_rect(&view, target, root, limits))
+    } else {
+        None
+    }
+}
+
+#[test]
+fn scroll_margins_move_the_clips_of_scrollers(rt: HostRuntime) -> Result<(), ThresholdFault> {
+    let wide = rect(0, 0, 1000, 1000);
+    // 40 units at the outer scroller and 26 at the inner one, by their widths. The viewport of the frame's document stays.
+    let rows = [
+        (node(6), Spot::View(0), Some(rect(130, 200, 400, 340))),
+        (node(6), node(1), Some(rect(130, 200, 400, 340))),
+        (node(6), Spot::View(1), Some(rect(130, 180, 406, 340))),
+        (node(6), node(4), Some(rect(130, 180, 600, 340))),
+        (node(7), Spot::View(0), Some(rect(410, 50, 450, 100))),
+        (node(8), Spot::View(0), Some(rect(411, 50, 450, 100))),
+    ];
+    for (target, root, want) in rows {
+        assert_eq!(rt;
+            seen_through(target, root, Margins::parse(b"10%")?, wide),
+            Some(want),
+            "{target:?} in {root:?}"
+        );
+    }
+    Ok(())
+}
+
+#[test]
+fn scroll_margins_leave_the_root_alone(rt: HostRuntime) -> Result<(), ThresholdFault> {
+    for root in [Spot::View(0), Spot::View(1), node(1), node(4), node(5)] {
+        let view = Through {
+            geometry: &Sample,
+            root,
+            margins: Margins::parse(b"10%")?,
+        };
+        assert_eq!(rt;
+            root_rect(&view, root),
+            root_rect(&Sample, root),
+            "{root:?}"
+        );
+    }
+    Ok(())
 }
 
 #[test]

@@ -213,6 +213,7 @@ fn entry(depth: u32) -> ResizeEntry {
         corner: wide.corner_now(NodeId(depth)),
         content: wide.size_now(NodeId(depth), BoxKind::Content),
         border: wide.size_now(NodeId(depth), BoxKind::Border),
+        device: wide.size_now(NodeId(depth), BoxKind::Device),
         depth,
     }
 }

@@ -74,6 +74,7 @@ fn listed(alloc: Global, observations: &[Observation]) -> Result<String, Fail> {
         let kind = match each.observed {
             BoxKind::Content => "",
             BoxKind::Border => "b",
+            BoxKind::Device => "d",
         };
         let shown = format!(in alloc;
             " {}:{}{}={}x{}",

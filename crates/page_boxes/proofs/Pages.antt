@@ -69,7 +69,7 @@ module _ (tree : Tree) (screen : Screen) (n : ℕ) where
       held_fresh (nodes_of tree) kept n found.0 (fresh.boxes n found.0 found.1) ∙ sym (box_here found.0 found.1)
 
 pub no_screen : Screen
-no_screen = record { size = no_extent }
+no_screen = record { size = no_extent; ratio = 0 }
 
 pub made_if_boxed : (tree : Tree) (screen : Screen) (n : ℕ) → has_box tree screen n ≡ true → n < length tree.elements
 made_if_boxed tree screen n boxed = by_test (nat_lt n (length tree.elements)) refl
@@ -106,5 +106,5 @@ as_pair point pair is across down one two =
     pair_is across down pair (one ∙ ap (λ (p : Point). unsigned_abs p.left) is) (two ∙ ap (λ (p : Point). unsigned_abs p.top) is)
 
 -- a page whose tree holds these nodes
-pub count_here : (page : PageElements) (forest : Forest Described) → seen_with forest page.tree.documents ≡ page → length forest.nodes ≡ length page.tree.elements
+pub count_here : (page : PageElements) (forest : Forest Described) → seen_with page.version forest page.tree.documents ≡ page → length forest.nodes ≡ length page.tree.elements
 count_here page forest same = sym (length-map forest.nodes (element_of carried_in)) ∙ ap (λ (p : PageElements). length p.tree.elements) same

@@ -2,11 +2,9 @@
 use Rattle.std.proofs.Common.{◌≡◌, ℕ, zero, suc, ℤ, Bool, true, false, Some, None, option_map, unwrap_or, refl, ap, sym, ◌∙◌, arith, min}
 use Rattle.std.proofs.lemmas.Int.{ints}
 use Rattle.std.specs.Prelude.{pos, negsuc, ◌≤ℤ◌, unsigned_abs, ⊤}
-use Rattle.px_units.specs.declared.Size.{Size}
 use Rattle.px_units.specs.declared.BoxKind.{BoxKind}
-use Rattle.px_units.specs.declared.BoxKind.TheVariants.{Content, Border}
 use Rattle.layout_model.specs.Nodes.{Node, path_of, ancestors_of}
-use Rattle.layout_model.specs.Boxes.{Box, content_size, border_size, content_corner}
+use Rattle.layout_model.specs.Boxes.{Box, content_corner}
 use Rattle.layout_model.specs.Clips.{is_scroll_container}
 use Rattle.layout_model.specs.Points.{plus, moved, moved_back, sum_points}
 use Rattle.layout_model.specs.Reach.{View, inputs_in_view, in_force, force_if, range_of, range_of_view, reach_of, reach_of_view, offset_in_force, view_in_force}
@@ -19,20 +17,14 @@ use Rattle.page_model.specs.Readings.{point_at}
 use Rattle.block_layout.specs.Seen.{as_size, as_point}
 use Rattle.kept_layout.proofs.Climbed.{pair_is}
 
--- sizes of a box
-module _ (own : Box) (found : Size) where
-  pub size_by_kind : (kind : BoxKind) → (kind ≡ Content → found ≡ as_size (content_size own)) → (kind ≡ Border → found ≡ as_size (border_size own)) → found ≡ as_size (size_by kind own)
-  size_by_kind Content content border = content refl
-  size_by_kind Border content border = border refl
-
 module _ (tree : Tree) (screen : Screen) (n : ℕ) where
-  pub size_found : (kind : BoxKind) (own : Box) → Some own ≡ box_of tree screen n → as_size (size_by kind own) ≡ as_size (pair_of (size_of tree screen n kind))
+  pub size_found : (kind : BoxKind) (own : Box) → Some own ≡ box_of tree screen n → as_size (size_by (screen.ratio) kind own) ≡ as_size (pair_of (size_of tree screen n kind))
   unfolding size_of
-  size_found kind own found = ap (λ o. as_size (unwrap_or (option_map (size_by kind) o) (0, 0))) found
+  size_found kind own found = ap (λ o. as_size (unwrap_or (option_map (size_by (screen.ratio) kind) o) (0, 0))) found
 
   pub size_none : (kind : BoxKind) → None ≡ box_of tree screen n → as_size (0, 0) ≡ as_size (pair_of (size_of tree screen n kind))
   unfolding size_of
-  size_none kind found = ap (λ o. as_size (unwrap_or (option_map (size_by kind) o) (0, 0))) found
+  size_none kind found = ap (λ o. as_size (unwrap_or (option_map (size_by (screen.ratio) kind) o) (0, 0))) found
 
   pub corner_found : (own : Box) → Some own ≡ box_of tree screen n → as_point (content_corner own) ≡ point_at (corner_of tree screen n)
   unfolding corner_of

@@ -8,7 +8,7 @@ ghost use Rattle.page_model.specs.PageBoxes.{pair_of, view_up, view_of, view_at,
 ghost use Rattle.block_layout.specs.Seen.{as_size};
 ghost use Rattle.page_tree.specs.Items.{IsNatural};
 ghost use Rattle.page_boxes.specs.Fresh.{IsFreshIn, IsFreshAbove};
-ghost use Rattle.page_boxes.specs.Pages.{seen_screen, seen_pair};
+ghost use Rattle.page_boxes.specs.Pages.{seen_screen, seen_pair, IsScreen};
 
 use crate::climb::is_boxed;
 use crate::screens::Screen;
@@ -131,7 +131,7 @@ pub struct ShownRoot {
 /// another document the content box of its frame, 0 by 0 where that has no box. It is so where the boxes of the document around it
 /// are held as they are now with this screen. No memory.
 pub fn viewport_of(page: &PageTree, boxes: &Kept, screen: Screen, document: u32) -> Size
-    requires { IsNatural screen.size }
+    requires { IsScreen screen }
     ensures value { IsFreshAbove page.now.tree (seen_screen screen) boxes.now document →
         result ≡ as_size (pair_of (viewport_of page.now.tree (seen_screen screen) document)) }
     ensures range { IsNatural result }

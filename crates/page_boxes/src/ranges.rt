@@ -39,8 +39,9 @@ fn is_scrollable(style: &Style) -> bool
     }
 }
 
-// Whether the node's box is a scroll container. What `overflow` says at a root element is the viewport's (CSS Overflow 3, 3.3).
-pub(crate) fn is_scroll_container<P: Styled>(tree: &Tree<P>, node: NodeId) -> bool
+/// Whether the node's box is a scroll container, where it has one (CSS Overflow 3, 3.1). What `overflow` says at a root element is the
+/// viewport's (CSS Overflow 3, 3.3).
+pub fn is_scroll_container<P: Styled>(tree: &Tree<P>, node: NodeId) -> bool
     requires { node.0 < length tree.now.nodes }
     ensures { result ≡ is_scroll_container (layout_tree P.style P.kind tree.now.nodes node.0) }
 {

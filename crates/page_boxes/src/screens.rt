@@ -1,10 +1,64 @@
-//! What the top document is shown on.
+//! What the top document is shown on, and sizes in its device pixels.
 
-use px_units::Size;
+ghost use Rattle.std.specs.Prelude.{◌≡◌, pos, unsigned_abs};
+ghost use Rattle.style_values.specs.Ranges.{IsHundredths};
+ghost use Rattle.page_model.specs.PageBoxes.{device_pixels, size_by};
+ghost use Rattle.block_layout.specs.Seen.{as_size};
+ghost use Rattle.page_tree.specs.Items.{IsLength, IsNatural};
+ghost use Rattle.page_boxes.specs.Pages.{IsScreen};
+ghost use Rattle.page_boxes.specs.Ranges.{IsSpan};
 
-/// The screen of the top document: the size of its viewport, in units of 1/64 CSS pixel (CSSOM View, 4).
+use block_layout::BoxOf;
+use px_units::{BoxKind, Percent, Size};
+
+/// So many hundredths of a percent of a device pixel are one, at 1/64 CSS pixel a unit.
+const UNITS: u64 = 640_000;
+
+/// The screen of the top document (CSSOM View, 4).
 #[derive(Clone, Copy, Debug, PartialEq, Eq)]
 pub struct Screen {
-    /// The size of the viewport.
+    /// The size of the viewport, in units of 1/64 CSS pixel.
     pub size: Size,
+    /// How many device pixels a CSS pixel is, from 0 to 10,000 percent (`devicePixelRatio`).
+    pub ratio: Percent,
+}
+
+// The nearest whole number of device pixels along a length in units, a half upwards.
+fn device_pixels(ratio: Percent, units: i64) -> i64
+    requires ratio { IsHundredths ratio.0 }
+    requires units { IsLength units }
+    ensures value { result ≡ pos (device_pixels (unsigned_abs ratio.0) (unsigned_abs units)) }
+    ensures range { IsSpan result }
+{
+    let parts = units.unsigned_abs() * u64::from(ratio.0.unsigned_abs());
+    ((parts + UNITS / 2) / UNITS) as i64
+}
+
+// A size in device pixels.
+fn in_device_pixels(ratio: Percent, size: Size) -> Size
+    requires ratio { IsHundredths ratio.0 }
+    requires size { IsNatural size }
+    ensures value { result ≡ as_size (device_pixels (unsigned_abs ratio.0) (unsigned_abs size.width), device_pixels (unsigned_abs ratio.0) (unsigned_abs size.height)) }
+    ensures width { IsSpan result.width }
+    ensures height { IsSpan result.height }
+{
+    Size {
+        width: device_pixels(ratio, size.width),
+        height: device_pixels(ratio, size.height),
+    }
+}
+
+/// The size of a box on this screen: of the content box or the border box in units of 1/64 CSS pixel (CSS 2.2, 8.1), or of the content
+/// box in device pixels, to the nearest one, a half upwards (Resize Observer, 3.4: calculate box size).
+pub fn size_on(screen: Screen, own: &BoxOf, kind: BoxKind) -> Size
+    requires { IsScreen screen }
+    ensures value { result ≡ as_size (size_by (unsigned_abs screen.ratio.0) kind own.now) }
+    ensures width { IsSpan result.width }
+    ensures height { IsSpan result.height }
+{
+    match kind {
+        BoxKind::Content => own.size(BoxKind::Content),
+        BoxKind::Border => own.size(BoxKind::Border),
+        BoxKind::Device => in_device_pixels(screen.ratio, own.size(BoxKind::Content)),
+    }
 }

@@ -3,6 +3,7 @@ use Rattle.std.proofs.Common.{◌≡◌, ◌<◌, ◌≤◌, ℕ, zero, suc, tru
 use Rattle.std.proofs.lemmas.Bool.{false≢true}
 use Rattle.layout_model.specs.Styles.{first_style}
 use Rattle.layout_model.specs.Items.{Item, Kind, FrameKind}
+use Rattle.text_io.specs.declared.kinds.Version.{Version}
 use Rattle.page_model.specs.World.{Element, Document, Tree}
 use Rattle.page_model.specs.Lookups.{element_at, document_at, no_element, no_document, new_element, is_listed}
 use Rattle.page_model.specs.Documents.{first_of_list, frame_levels, is_active, is_active_state, tree_document, stands_in_active}
@@ -206,32 +207,32 @@ module _ (tree : Tree) (document : ℕ) (framed : AreFramed tree) (fewer : lengt
 
 -- `top` alone ----------------------------------------------------------------------------------------------------------------
 
-opening_frame : (d : ℕ) → (document_at (opening_world.tree) d).frame ≡ None
-opening_frame zero = refl
-opening_frame (suc d) = refl
+opening_frame : (version : Version) (d : ℕ) → (document_at (opening_world version).tree d).frame ≡ None
+opening_frame version zero = refl
+opening_frame version (suc d) = refl
 
-opening_root : (d : ℕ) → (document_at (opening_world.tree) d).root ≡ None
-opening_root zero = refl
-opening_root (suc d) = refl
+opening_root : (version : Version) (d : ℕ) → (document_at (opening_world version).tree d).root ≡ None
+opening_root version zero = refl
+opening_root version (suc d) = refl
 
-opening_top : (d : ℕ) → is_active (opening_world.tree) d ≡ true → d ≡ 0
-opening_top zero active = refl
-opening_top (suc d) active = absurd (false≢true active)
+opening_top : (version : Version) (d : ℕ) → is_active (opening_world version).tree d ≡ true → d ≡ 0
+opening_top version zero active = refl
+opening_top version (suc d) active = absurd (false≢true active)
 
-pub opening_framed : AreFramed (opening_world.tree)
-opening_framed =
-    let tree : Tree = opening_world.tree in
+pub opening_framed : (version : Version) → AreFramed (opening_world version).tree
+opening_framed version =
+    let tree : Tree = (opening_world version).tree in
     record {
       trees = record { children = λ p m. refl; shallow = λ m. let one = depth_top tree m refl in omega arith };
       owners = record {
         framed = λ m d is. absurd (not_some d is);
-        frames = λ d m is. absurd (not_some m (sym (opening_frame d) ∙ is));
-        roots = λ d r is. absurd (not_some r (sym (opening_root d) ∙ is));
+        frames = λ d m is. absurd (not_some m (sym (opening_frame version d) ∙ is));
+        roots = λ d r is. absurd (not_some r (sym (opening_root version d) ∙ is));
         owned = λ m p up. absurd (not_some p up);
       };
       top = record { active = refl; unframed = refl };
       few = omega arith;
-      shown = λ d m active is. absurd (not_some m (sym (opening_frame d) ∙ is));
+      shown = λ d m active is. absurd (not_some m (sym (opening_frame version d) ∙ is));
       leads = λ d active.
-          ap first_of_list (sym (path_whole tree d) ∙ way_none tree 0 d (unframed_held tree d (opening_frame d))) ∙ ap Some (opening_top d active);
+          ap first_of_list (sym (path_whole tree d) ∙ way_none tree 0 d (unframed_held tree d (opening_frame version d))) ∙ ap Some (opening_top version d active);
     }

@@ -2,6 +2,7 @@
 
 ghost use Rattle.std.specs.Prelude.{◌≡◌, ℕ, ◌<◌, Option, None, length};
 ghost use Rattle.layout_model.specs.Styles.{Declaration};
+ghost use Rattle.text_io.specs.declared.kinds.Version.{Version};
 ghost use Rattle.layout_model.specs.Items.{Kind};
 ghost use Rattle.page_model.specs.World.{Tree};
 ghost use Rattle.page_model.specs.Documents.{Container, frame_levels, removed};
@@ -14,7 +15,7 @@ ghost use Rattle.page_documents.specs.Places.{IsThere};
 
 /// A script opens with documents and frames that belong together: there is `top` alone.
 pub fn the_opening_tree_is_framed()
-    ensures { AreFramed opening_world.tree }
+    ensures { (version : Version) → AreFramed (opening_world version).tree }
 {}
 
 /// Taking an element out of where it stands keeps documents and frames together.

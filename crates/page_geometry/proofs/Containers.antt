@@ -1,10 +1,10 @@
 -- The scene of a page, by what is read of it.
-use Rattle.std.proofs.Common.{◌≡◌, ◌≤◌, ◌<◌, ℕ, Bool, true, false, cond, length, Option, Some, None, option_map, refl, ap, sym, ◌∙◌}
+use Rattle.std.proofs.Common.{◌≡◌, ◌≤◌, ◌<◌, ℕ, Bool, true, false, cond, nat_lt, length, Option, Some, None, option_map, refl, ap, sym, ◌∙◌}
 use Rattle.std.specs.Prelude.{IfSome, ◌&&◌, not, is_some}
 use Rattle.px_units.specs.declared.Rect.{Rect}
-use Rattle.layout_model.specs.Clips.{is_block, is_visible, clips}
+use Rattle.layout_model.specs.Clips.{is_block, is_visible, is_clip, clips, is_scroll_container}
 use Rattle.layout_model.specs.Nodes.{Node as LayoutNode}
-use Rattle.page_model.specs.World.{Screen, Tree, Scrolls}
+use Rattle.page_model.specs.World.{Screen, Element, Tree, Scrolls}
 use Rattle.page_model.specs.Lookups.{document_at}
 use Rattle.page_model.specs.Documents.{InElement, container_of, nodes_of, element_depth}
 use Rattle.page_model.specs.PageBoxes.{has_box}
@@ -15,8 +15,15 @@ use Rattle.clip_chain.specs.declared.spot.Spot.{Spot}
 use Rattle.clip_chain.specs.declared.spot.Spot.TheVariants.{View}
 use Rattle.clip_chain.specs.Scenes.{Scene}
 use Rattle.clip_chain.specs.Worlds.{element_spot, spot_of, scene_of}
+use Rattle.page_boxes.proofs.Pages.{missing_element}
 use Rattle.page_geometry.specs.Ranks.{rank_of}
 use Rattle.page_geometry.proofs.Ends.{falls}
+
+-- an element that wasn't made is no scroll container
+pub missing_scrolls : (tree : Tree) (n : ℕ) → nat_lt n (length tree.elements) ≡ false → is_scroll_container (nodes_of tree n) ≡ false
+missing_scrolls tree n past =
+    ap (λ (it : Element).
+    is_block it.item.kind && not (is_visible it.item.style.overflow) && is_some it.parent && not (is_clip it.item.style.overflow)) (missing_element tree n past)
 
 -- a block that cuts its content
 pub clips_by : (node : LayoutNode) (result : Bool) → is_block node.item.kind ≡ true → not (is_visible node.item.style.overflow) ≡ true → result ≡ is_some node.parent

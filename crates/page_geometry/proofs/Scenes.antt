@@ -2,6 +2,7 @@
 -- and told is the definitions' finding.
 use Rattle.std.proofs.Common.{◌≡◌, ◌∙◌, ◌≤◌, ◌<◌, ℕ, Bool, true, false, cond, List, [], ◌∷◌, length, Option, Some, None, unwrap_or, refl, ap, sym, subst, nat_lt, arith, tests}
 use Rattle.std.specs.Prelude.{option_map}
+use Rattle.script_model.specs.Margins.{Margins}
 use Rattle.page_model.specs.World.{Element, Document, Tree, Root, IntersectionObserver}
 use Rattle.page_model.specs.Lookups.{element_at, document_at, no_element, no_document, is_listed}
 use Rattle.page_model.specs.Documents.{InElement, container_by, container_of, is_root_element}
@@ -115,8 +116,8 @@ module _ (shown : Shown) (page : IsPageTree (shown.tree)) where
   chain_by standings.NoBox root target leads = tt
   chain_by standings.Chained root target leads = (leads.1, short_of (element_spot target) (spot_of_root root) leads.0 leads.1)
 
-  pub finding_is : (chained : AreChained scene (standings_of shown)) (observer : IntersectionObserver) (target : ℕ)
-      → finding shown observer target ≡ found_in scene (standings_of shown) chained (telling_of shown) observer target
-  finding_is chained observer target =
-      world_finding shown observer target (chain_between scene (standings_of shown) chained observer.root target)
+  pub finding_is : (chained : AreChained scene (standings_of shown)) (margins : Margins) (observer : IntersectionObserver) (target : ℕ)
+      → finding shown margins observer target ≡ found_in scene (standings_of shown) chained (telling_of shown) margins observer target
+  finding_is chained margins observer target =
+      world_finding shown margins observer target (chain_between scene (standings_of shown) chained observer.root target)
       (chain_by (standings_of shown observer.root target) observer.root target (chained observer.root target))

@@ -1,7 +1,7 @@
 -- How far outwards a chain can lead from a spot: a document stands higher than the one that holds its frame, and an element
 -- higher than its parent.
 use Rattle.std.specs.Prelude.{ℕ, zero, suc, ◌+◌, ◌*◌, cond, Option, Some, None}
-use Rattle.text_io.specs.Limits.{limit_number}
+use Rattle.text_io.specs.Limits.{common_limit}
 use Rattle.text_io.specs.declared.kinds.LimitKind.TheVariants as limits
 use Rattle.page_model.specs.World.{Screen, Tree}
 use Rattle.page_model.specs.Lookups.{element_at, document_at}
@@ -20,7 +20,7 @@ level_up zero tree document = 0
 level_up (suc high) tree document = level_by (level_up high tree) tree (document_at tree document).frame
 
 abbrev pub level_of : Tree → ℕ → ℕ
-level_of tree document = level_up (limit_number limits.Documents) tree document
+level_of tree document = level_up (common_limit limits.Documents) tree document
 
 -- a level of documents has room for all depths of elements
 abbrev pub rank_of : Tree → Screen → Spot → ℕ

@@ -1,7 +1,7 @@
 //! A page as chains of containers see it.
 
 ghost use Rattle.std.specs.Prelude.{◌≡◌, not};
-ghost use Rattle.layout_model.specs.Clips.{clips, is_visible};
+ghost use Rattle.layout_model.specs.Clips.{clips, is_visible, is_scroll_container};
 ghost use Rattle.style_values.specs.Seen.{seen_style};
 ghost use Rattle.page_model.specs.Documents.{nodes_of};
 ghost use Rattle.page_tree.specs.Steps.{seen_container};
@@ -10,7 +10,7 @@ ghost use Rattle.clip_chain.specs.Worlds.{spot_of};
 use crate::rects::{NO_RECT, border_rect, padding_rect, viewport_rect};
 use crate::shown::Shown;
 use block_layout::ItemKind;
-use clip_chain::{Geometry, Spot};
+use clip_chain::{Geometry, Scrolls, Spot};
 use element_tree::NodeId;
 use page_tree::{Container, PageTree};
 use px_units::Rect;
@@ -36,6 +36,13 @@ pub(crate) fn clips(page: &PageTree, node: NodeId) -> bool
         ItemKind::Block => is_cut(page.style(node)) && page.tree().parent(node).is_some(),
         ItemKind::Image(_) | ItemKind::Frame => false,
     }
+}
+
+// Whether an element's box is a scroll container, where it has one (CSS Overflow 3, 3.1 and 3.3).
+fn is_scroll_container(page: &PageTree, node: NodeId) -> bool
+    ensures { result ≡ is_scroll_container (nodes_of (page.now.tree) node.0) }
+{
+    page.holds(node) && page_boxes::is_scroll_container(page.tree(), node)
 }
 
 fn spot_of(container: Container) -> Spot
@@ -98,6 +105,15 @@ impl Geometry for Shown<'_> {
                 }
             }
             Spot::View(document) => viewport_rect(self, document),
+        }
+    }
+}
+
+impl Scrolls for Shown<'_> {
+    fn scrolls(&self, of: Spot) -> bool {
+        match of {
+            Spot::Node(node) => is_scroll_container(self.page(), node),
+            Spot::View(_) => false,
         }
     }
 }

@@ -1,6 +1,7 @@
 //! What is so of the chains and findings of every page: each law is the clause of a function that does nothing.
 
 ghost use Rattle.std.specs.Prelude.{◌≡◌, ◌≤◌, ℕ, List, length};
+ghost use Rattle.script_model.specs.Margins.{Margins};
 ghost use Rattle.page_model.specs.World.{IntersectionObserver};
 ghost use Rattle.page_model.specs.Shown.{Shown as ModelShown};
 ghost use Rattle.page_model.specs.Chains.{most_containers};
@@ -19,8 +20,8 @@ pub fn chains_lead_to_roots()
     ensures there { (shown : ModelShown) → IsPageTree shown.tree → (from root : SpotOf) → EachAlong (IsThere shown.tree) (scene_of shown) from root }
 {}
 
-/// What is found over the scene of a page, as it is told, is the definitions' finding.
+/// What is found over the scene of a page, as an observer with scroll margins sees it, and told, is the definitions' finding.
 pub fn what_is_told_is_found()
-    ensures { (shown : ModelShown) → IsPageTree shown.tree → (chained : AreChained (scene_of shown) (standings_of shown)) (observer : IntersectionObserver) (target : ℕ) →
-        finding shown observer target ≡ found_in (scene_of shown) (standings_of shown) chained (telling_of shown) observer target }
+    ensures { (shown : ModelShown) → IsPageTree shown.tree → (chained : AreChained (scene_of shown) (standings_of shown)) (margins : Margins) (observer : IntersectionObserver) (target : ℕ) →
+        finding shown margins observer target ≡ found_in (scene_of shown) (standings_of shown) chained (telling_of shown) margins observer target }
 {}

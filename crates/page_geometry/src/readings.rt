@@ -19,7 +19,7 @@ use crate::origins::NOWHERE;
 use crate::rects::NO_RECT;
 use crate::shown::Shown;
 use element_tree::NodeId;
-use page_boxes::place_in;
+use page_boxes::{place_in, size_on};
 use page_tree::Container;
 use px_units::{BoxKind, Point, Rect, Size};
 use scrolling::ScrollTarget;
@@ -89,7 +89,7 @@ impl Shown<'_> {
         ensures range { IsNatural result }
     {
         let Some(frame) = self.frame_of(document) else {
-            return self.screen_size();
+            return self.screen().size;
         };
         match self.box_of(frame) {
             Some(own) => own.size(BoxKind::Content),
@@ -97,14 +97,15 @@ impl Shown<'_> {
         }
     }
 
-    /// The size of an element's content box or border box (CSS 2.2, 8.1), 0 by 0 without a box.
+    /// The size of an element's content box or border box in units of 1/64 CSS pixel (CSS 2.2, 8.1), or of its content box in device
+    /// pixels of the screen of `top`, to the nearest one, a half upwards; 0 by 0 without a box.
     pub fn size_of(&self, node: NodeId, kind: BoxKind) -> Size
         ensures value { result ≡ as_size (pair_of (size_of self.now node.0 kind)) }
         ensures width { IsSpan result.width }
         ensures height { IsSpan result.height }
     {
         match self.box_of(node) {
-            Some(own) => own.size(kind),
+            Some(own) => size_on(self.screen(), &own, kind),
             None => NO_SIZE,
         }
     }

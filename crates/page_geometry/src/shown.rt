@@ -3,14 +3,14 @@
 ghost use Rattle.std.specs.Prelude.{◌≡◌, ◌<◌, ◌≤◌, length, option_map, IfSome};
 ghost use Rattle.page_model.specs.Lookups.{element_at, document_at};
 ghost use Rattle.page_model.specs.Documents.{container_of, nodes_of};
-ghost use Rattle.page_model.specs.PageBoxes.{pair_of, view_of};
+ghost use Rattle.page_model.specs.PageBoxes.{view_of};
 ghost use Rattle.page_model.specs.Shown.{has_box, box_of};
 ghost use Rattle.element_tree.specs.Links.{number};
 ghost use Rattle.block_layout.specs.Trees.{layout_tree};
-ghost use Rattle.page_tree.specs.Items.{IsNatural, style_in, kind_in};
+ghost use Rattle.page_tree.specs.Items.{style_in, kind_in};
 ghost use Rattle.page_tree.specs.Steps.{seen_container};
 ghost use Rattle.page_boxes.specs.Fresh.{IsFresh};
-ghost use Rattle.page_boxes.specs.Pages.{seen_screen, seen_pair};
+ghost use Rattle.page_boxes.specs.Pages.{seen_screen, IsScreen};
 ghost use Rattle.page_geometry.specs.Found.{IsFound};
 ghost use Rattle.page_geometry.specs.Scenes.{IsPageTree};
 
@@ -21,7 +21,6 @@ use element_tree::{NodeId, Tree};
 use kept_layout::Kept;
 use page_boxes::{Screen, box_below, has_box_below};
 use page_tree::{Container, Element, PageTree};
-use px_units::Size;
 use scrolling::Scrolls;
 use std::marker::Model;
 
@@ -42,14 +41,13 @@ impl<'a> Model for Shown<'a> {
     ghost Value = { ModelShown };
 
     ghost use Rattle.page_model.specs.Shown.{shown_with};
-    ghost use Rattle.page_tree.specs.Items.{IsNatural};
     ghost use Rattle.page_boxes.specs.Fresh.{IsFresh};
-    ghost use Rattle.page_boxes.specs.Pages.{seen_screen};
+    ghost use Rattle.page_boxes.specs.Pages.{seen_screen, IsScreen};
     ghost use Rattle.page_geometry.specs.Found.{AreFound};
 
     ghost view = { λ s. shown_with s.page.now.tree (seen_screen s.screen) s.scrolls.now };
 
-    ghost invariant = { λ s. IsNatural s.screen.size × IsFresh s.page.now.tree (seen_screen s.screen) s.boxes.now × AreFound (shown_with s.page.now.tree (seen_screen s.screen) s.scrolls.now) s.found };
+    ghost invariant = { λ s. IsScreen s.screen × IsFresh s.page.now.tree (seen_screen s.screen) s.boxes.now × AreFound (shown_with s.page.now.tree (seen_screen s.screen) s.scrolls.now) s.found };
 }
 
 impl<'a> Shown<'a> {
@@ -60,7 +58,7 @@ impl<'a> Shown<'a> {
         scrolls: &'a Scrolls,
         screen: Screen,
     ) -> Shown<'a>
-        requires natural { IsNatural screen.size }
+        requires screen { IsScreen screen }
         requires fresh { IsFresh page.now.tree (seen_screen screen) boxes.now }
         ensures { result ≡ record { tree = page.now.tree; screen = seen_screen screen; scrolls = scrolls.now } }
     {
@@ -137,12 +135,12 @@ impl<'a> Shown<'a> {
         self.scrolls
     }
 
-    // The size of the viewport of `top`.
-    pub(crate) fn screen_size(&self) -> Size
-        ensures value { seen_pair result ≡ pair_of self.now.screen.size }
-        ensures range { IsNatural result }
+    // What `top` is shown on.
+    pub(crate) fn screen(&self) -> Screen
+        ensures value { seen_screen result ≡ self.now.screen }
+        ensures range { IsScreen result }
     {
-        self.screen.size
+        self.screen
     }
 
     /// How many documents there are. What is so of the elements and documents of every page is told here for what rests on it.

@@ -4,7 +4,7 @@ use Rattle.std.proofs.Common.{◌≡◌, refl, sym, ◌∙◌, subst, arith, ◌
 use Rattle.std.specs.Prelude.{ℕ, zero, suc, ◌<◌, ◌==◌, Bool, true, false, cond, not, map, filter, filter_map, List, [], ◌∷◌, ◌++◌, length, Option, Some, None, slice_get, unwrap_or, IfSome, ⊤}
 use Rattle.std.specs.List.{AllByRecursion, list_any, cons_option}
 use Rattle.page_model.specs.World.{Extent, Document, ScrollTarget, Observation, ResizeObserver, ResizeObservers, Finding, Entry, Registration, IntersectionObserver, IntersectionObservers, QueryList, Task, Notify, Tree, World}
-use Rattle.page_model.specs.Lookups.{no_document}
+use Rattle.page_model.specs.Lookups.{no_document, change_at}
 use Rattle.page_model.specs.Documents.{is_active, is_active_state}
 use Rattle.page_model.specs.Viewports.{with_noted}
 use Rattle.page_model.specs.Scrolls.{without_pending}
@@ -13,15 +13,13 @@ use Rattle.page_model.specs.FrameCallbacks.{frame_callback_taken}
 use Rattle.page_model.specs.Timers.{timer_taken}
 use Rattle.page_model.specs.Tasks.{is_notifying, with_notifying, without_notifying}
 use Rattle.page_model.specs.IntersectionObserving.{without_queue}
-use Rattle.page_model.specs.Findings.{finding}
-use Rattle.page_model.specs.Shown.{shown_of}
 use Rattle.page_model.specs.Gathering.{Sight, has_changed, is_deeper, is_of, gathered_if, observed_size, reported, with_reported, without_active}
-use Rattle.page_model.specs.Intersections.{Settled, is_news, settled, settled_observer, settling, has_queued, watchers, with_notify_task, update_intersections}
+use Rattle.page_model.specs.Intersections.{Settled, is_news, settled, settled_observer, settling, has_queued, watchers, with_notify_task, found_now, update_intersections}
 use Rattle.page_model.specs.Loop.{gather, emptied}
 use Rattle.page_model.specs.Ranges.{Counts, counts_of, IsScrollIn, IsResizeObserverIn, IsIntersectionObserverIn, AreObserved, IsTaskIn, IsInRange}
 use Rattle.page_laws.specs.Successors.{IsSuccessor}
 use Rattle.page_laws.specs.Bounds.{AreTasksWithin}
-use Rattle.page_laws.proofs.Lists.{IsKept, all-add, all-append, all-filter, all-mapped, put-within, changed, changed-each, mapped}
+use Rattle.page_laws.proofs.Lists.{IsKept, all-add, all-append, all-filter, all-mapped, still-kept, then-kept, put-within, changed, mapped}
 use Rattle.page_laws.proofs.Ranges.{with-scrolls, resize-in, intersection-in, queries-in}
 use Rattle.page_laws.proofs.Parts.{resize-changed, no-queue-kept}
 use Rattle.page_laws.proofs.InRange.{frame-callbacks-in, timers-in, tasks-in, viewports-in}
@@ -54,6 +52,7 @@ then-next {first = first} {third = third} one two = record {
       names = λ text thing is. b.names text thing (a.names text thing is);
       clock = b.clock ∙ a.clock;
       begun = b.begun ∙ a.begun;
+      version = b.version ∙ a.version;
     }
 
 -- only documents that are there are Active
@@ -70,7 +69,7 @@ module _ (world : World) where
   pub timer-next : (serial : ℕ) → IsNext world (record world { timers = timer_taken serial (world.timers) })
   timer-next serial = record {
     tasks = tasks-alike world _ refl refl refl;
-    successor = alike world _ refl refl refl refl;
+    successor = alike world _ refl refl refl refl refl;
     observers = refl;
     queries = refl;
     within = λ handlers within. timers-in handlers world within _ (all-filter _ _ (world.timers.held) within.timers);
@@ -79,7 +78,7 @@ module _ (world : World) where
   pub frame-next : (serial : ℕ) → IsNext world (record world { frame_callbacks = frame_callback_taken serial (world.frame_callbacks) })
   frame-next serial = record {
     tasks = tasks-alike world _ refl refl refl;
-    successor = alike world _ refl refl refl refl;
+    successor = alike world _ refl refl refl refl refl;
     observers = refl;
     queries = refl;
     within = λ handlers within. frame-callbacks-in handlers world within _ (all-filter _ _ (world.frame_callbacks.held) within.frame_callbacks);
@@ -89,7 +88,7 @@ module _ (world : World) where
       IsNext world (record world { viewports = with_noted document size (world.viewports) })
   noted-next document size is = record {
     tasks = tasks-alike world _ refl refl refl;
-    successor = alike world _ refl refl refl refl;
+    successor = alike world _ refl refl refl refl refl;
     observers = refl;
     queries = refl;
     within = λ handlers within. viewports-in handlers world within _
@@ -99,7 +98,7 @@ module _ (world : World) where
   pub pending-next : (document : ℕ) → IsNext world (record world { scrolls = without_pending document (world.scrolls) })
   pending-next document = record {
     tasks = tasks-alike world _ refl refl refl;
-    successor = alike world _ refl refl refl refl;
+    successor = alike world _ refl refl refl refl refl;
     observers = refl;
     queries = refl;
     within = λ handlers within.
@@ -117,7 +116,7 @@ module _ (world : World) where
   pub matched-next : (matched : Bool) (query : ℕ) → IsNext world (record world { queries = with_state matched query (world.queries) })
   matched-next matched query = record {
     tasks = tasks-alike world _ refl refl refl;
-    successor = alike world _ refl refl refl refl;
+    successor = alike world _ refl refl refl refl refl;
     observers = refl;
     queries = (changed (λ (list : QueryList). ⊤) (λ it. record it { matched = matched }) (λ it is. is) query (world.queries)).same;
     within = λ handlers within.
@@ -128,7 +127,7 @@ module _ (world : World) where
   pub tasks-next : (task : Task) (others : List Task) → world.tasks ≡ task ∷ others → IsNext world (record world { tasks = others })
   tasks-next task others are = record {
     tasks = taken-within world task others are;
-    successor = alike world _ refl refl refl refl;
+    successor = alike world _ refl refl refl refl refl;
     observers = refl;
     queries = refl;
     within = λ handlers within.
@@ -140,7 +139,7 @@ module _ (world : World) where
       IsNext world (record world { tasks = others; notifying = without_notifying document (world.notifying) })
   unnotified-next document others are = record {
     tasks = unmarked-within world document others are;
-    successor = alike world _ refl refl refl refl;
+    successor = alike world _ refl refl refl refl refl;
     observers = refl;
     queries = refl;
     within = λ handlers within.
@@ -160,7 +159,7 @@ module _ (world : World) where
   notified-next document true marked is = same-next world
   notified-next document false free is = record {
     tasks = marked-within world document is free;
-    successor = alike world _ refl refl refl refl;
+    successor = alike world _ refl refl refl refl refl;
     observers = refl;
     queries = refl;
     within = λ handlers within. both-in handlers within
@@ -179,7 +178,7 @@ module _ (world : World) where
       IsNext world (record world { resize_observers = after })
   resize-next after kept = record {
     tasks = tasks-alike world _ refl refl refl;
-    successor = alike world _ refl refl refl refl;
+    successor = alike world _ refl refl refl refl refl;
     observers = (kept (counts_of 0 world)).same;
     queries = refl;
     within = λ handlers within. resize-in handlers world after (kept (counts_of handlers world)) within;
@@ -190,7 +189,7 @@ module _ (world : World) where
       IsNext world (record world { intersection_observers = after })
   intersection-next after kept = record {
     tasks = tasks-alike world _ refl refl refl;
-    successor = alike world _ refl refl refl refl;
+    successor = alike world _ refl refl refl refl refl;
     observers = refl;
     queries = refl;
     within = λ handlers within. intersection-in handlers world after (kept (counts_of handlers world)) within;
@@ -292,15 +291,23 @@ settled-in counts time find it is = record {
   queue = all-append _ (it.queue) _ is.queue (entries-settled counts time (find it) (it.registrations) is.registrations);
 }
 
+-- observers settled one after the other
+settling-kept : (counts : Counts) (time : ℕ) (find : ℕ → IntersectionObserver → ℕ → Finding) (observers : List ℕ) (it : IntersectionObservers) →
+    IsKept (IsIntersectionObserverIn counts) (it.made) (settling time find observers it).made
+settling-kept counts time find [] it = still-kept (IsIntersectionObserverIn counts) (it.made)
+settling-kept counts time find (observer ∷ others) it =
+    let change : IntersectionObserver → IntersectionObserver = settled_observer time (find observer) in
+    then-kept (changed (IsIntersectionObserverIn counts) change (settled-in counts time (find observer)) observer (it.made))
+    (settling-kept counts time find others (record it { made = change_at change observer (it.made) }))
+
 pub update-next : (document : ℕ) (world : World) → document < length world.tree.documents → IsNext world (update_intersections document world)
 unfolding update_intersections
 update-next document world is =
     let observers = watchers (world.tree) document (world.intersection_observers) in
-    let settled_ones = settling (world.clock) (finding (shown_of world)) observers (world.intersection_observers) in
+    let settled_ones = settling (world.clock) (found_now world) observers (world.intersection_observers) in
     let now = record world { intersection_observers = settled_ones } in
     let first : IsNext world now =
-    intersection-next world settled_ones (λ counts. changed-each (IsIntersectionObserverIn counts) (settled_observer (world.clock) (finding (shown_of world)))
-    (settled-in counts (world.clock) (finding (shown_of world))) observers (world.intersection_observers.made)) in
+    intersection-next world settled_ones (λ counts. settling-kept counts (world.clock) (found_now world) observers (world.intersection_observers)) in
     by_test settled_ones first (list_any (has_queued (world.intersection_observers) settled_ones) observers)
   where
     by_test : (it : IntersectionObservers) → IsNext world (record world { intersection_observers = it }) → (test : Bool) →

@@ -2,7 +2,8 @@
 use Rattle.std.proofs.Common.{refl}
 use Rattle.std.specs.Prelude.{ℕ, ℤ, List, Option, Some, None, length}
 use Rattle.layout_model.specs.Items.{Kind}
-use Rattle.script_model.specs.Syntax.{Dimension, Action, Viewport, MakeBlock, MakeImage, MakeFrame, Append, Before, Remove, SetStyle, Grow, Load, MakeResizeObserver, ObserveResize, UnobserveResize, DisconnectResize, MakeIntersectionObserver, ObserveIntersection, UnobserveIntersection, DisconnectIntersection, TakeIntersections, Listen, Unlisten, MakeQueryList, ScrollTo, ScrollBy, RequestFrame, CancelFrame, SetTimer, ClearTimer, Post, Say, Read}
+use Rattle.script_model.specs.Syntax.{Dimension, Action, Viewport, SetRatio, MakeBlock, MakeImage, MakeFrame, Append, Before, Remove, SetStyle, Grow, Load, MakeResizeObserver, ObserveResize, UnobserveResize, DisconnectResize, MakeIntersectionObserver, ObserveIntersection, UnobserveIntersection, DisconnectIntersection, TakeIntersections, Listen, Unlisten, MakeQueryList, ScrollTo, ScrollBy, RequestFrame, CancelFrame, SetTimer, ClearTimer, Post, Say, Read}
+use Rattle.script_model.specs.Margins.{Margins}
 use Rattle.page_model.specs.World.{Thing, ElementThing, DocumentThing, ScrollTarget, ResizeObservers, IntersectionObservers, QueryList, Listener, Table, Tree, World}
 use Rattle.page_model.specs.Documents.{Container}
 use Rattle.page_model.specs.Names.{with_name}
@@ -58,6 +59,7 @@ made-next name kind document world = record {
   names = λ text thing is. named-still name text (ElementThing (length world.tree.elements)) thing (world.names) is;
   clock = refl;
   begun = refl;
+  version = refl;
 }
 
 framed-next : (name inside : List ℕ) (document : ℕ) (world : World) →
@@ -74,6 +76,7 @@ framed-next name inside document world = record {
       (named-still name text (ElementThing (length world.tree.elements)) thing (world.names) is);
   clock = refl;
   begun = refl;
+  version = refl;
 }
 
 making-next : (world : World) (name document : List ℕ) (kind : Kind) → OnDid (making world name document kind) (Next world)
@@ -90,17 +93,19 @@ module _ (name : List ℕ) (thing : Thing) (world : World) where
         names = λ text that is. named-still name text thing that (world.names) is;
         clock = refl;
         begun = refl;
+        version = refl;
       }
 
-  pub intersection-made : (it : IntersectionObservers) →
-      IsSuccessor world (record world { names = with_name name thing (world.names); intersection_observers = it })
-  intersection-made it =
+  pub intersection-made : (it : IntersectionObservers) (margins : List Margins) →
+      IsSuccessor world (record world { names = with_name name thing (world.names); intersection_observers = it; scroll_margins = margins })
+  intersection-made it margins =
       record {
         elements = (still world).elements;
         states = λ wanted document come. come;
         names = λ text that is. named-still name text thing that (world.names) is;
         clock = refl;
         begun = refl;
+        version = refl;
       }
 
   pub query-made : (it : List QueryList) → IsSuccessor world (record world { names = with_name name thing (world.names); queries = it })
@@ -111,22 +116,24 @@ module _ (name : List ℕ) (thing : Thing) (world : World) where
         names = λ text that is. named-still name text thing that (world.names) is;
         clock = refl;
         begun = refl;
+        version = refl;
       }
 
 -- scrolling
 
 scrolled-next : (left top : ℤ) (target : Option ScrollTarget) (world : World) → IsSuccessor world (scrolled_to left top target world)
 scrolled-next left top None world = still world
-scrolled-next left top (Some target) world = alike world _ refl refl refl refl
+scrolled-next left top (Some target) world = alike world _ refl refl refl refl refl
 
 scrolled-by-next : (left top : ℤ) (target : Option ScrollTarget) (world : World) → IsSuccessor world (scrolled_by left top target world)
 scrolled-by-next left top None world = still world
-scrolled-by-next left top (Some target) world = alike world _ refl refl refl refl
+scrolled-by-next left top (Some target) world = alike world _ refl refl refl refl refl
 
 pub does-next : (handlers : Handlers) (world : World) (present : Present) (action : Action) →
     OnDid (does handlers world present action) (λ effect. IsSuccessor world (effect.world))
 unfolding does OnDid
 does-next handlers world present (Viewport width height) = search alike
+does-next handlers world present (SetRatio hundredths) = search alike
 does-next handlers world present (MakeBlock name document) = making-next world name document _
 does-next handlers world present (MakeImage name document width height) = making-next world name document _
 does-next handlers world present (MakeFrame name document inside) = search (both, bind, framed-next) depth 12
@@ -140,7 +147,7 @@ does-next handlers world present (MakeResizeObserver name document handler) = se
 does-next handlers world present (ObserveResize observer node observed) = search (both, bind, alike) depth 9
 does-next handlers world present (UnobserveResize observer node) = search (bind, alike) depth 9
 does-next handlers world present (DisconnectResize observer) = search (bind, alike) depth 9
-does-next handlers world present (MakeIntersectionObserver made) = search (both, bind, intersection-made) depth 12
+does-next handlers world present (MakeIntersectionObserver made) = search (both, bind, intersection-made) depth 14
 does-next handlers world present (ObserveIntersection observer node) = search (bind, intersections-step) depth 9
 does-next handlers world present (UnobserveIntersection observer node) = search (bind, alike) depth 9
 does-next handlers world present (DisconnectIntersection observer) = search (bind, alike) depth 9

@@ -1,12 +1,12 @@
 -- What operands come to is in range, and so each command leaves the numbers of a world in range.
 use Rattle.std.proofs.Common.{◌≡◌, refl, arith, tests, ◌≤◌}
-use Rattle.std.specs.Prelude.{ℕ, ◌<◌, nat_lt, Bool, true, false, cond, List, [], ◌∷◌, length, find, position, bytes_eq, option_map, Option, Some, None, IfSome}
+use Rattle.std.specs.Prelude.{ℕ, ◌<◌, nat_lt, Bool, true, false, cond, List, [], ◌∷◌, length, find, position, bytes_eq, option_map, unwrap_or, Option, Some, None, IfSome}
 use Rattle.std.specs.List.{AllByRecursion, position_or_len}
 use Rattle.text_io.specs.declared.kinds.EventKind.{EventKind}
 use Rattle.text_io.specs.declared.kinds.ThrowKind.TheVariants.{RangeError, ReferenceError, SyntaxError, TypeError}
 use Rattle.text_io.specs.declared.kinds.LimitKind.TheVariants as limits
 use Rattle.script_model.specs.MarginText.{margins_of, thresholds_of}
-use Rattle.script_model.specs.Syntax.{Operand, Named, Target, Aim, PlainAim, WindowAim, Action, Viewport, MakeBlock, MakeImage, MakeFrame, Append, Before, Remove, SetStyle, Grow, Load, MakeResizeObserver, ObserveResize, UnobserveResize, DisconnectResize, MakeIntersectionObserver, ObserveIntersection, UnobserveIntersection, DisconnectIntersection, TakeIntersections, Listen, Unlisten, MakeQueryList, ScrollTo, ScrollBy, RequestFrame, CancelFrame, SetTimer, ClearTimer, Post, Say, Read}
+use Rattle.script_model.specs.Syntax.{Operand, Named, Target, Aim, PlainAim, WindowAim, Action, Viewport, SetRatio, MakeBlock, MakeImage, MakeFrame, Append, Before, Remove, SetStyle, Grow, Load, MakeResizeObserver, ObserveResize, UnobserveResize, DisconnectResize, MakeIntersectionObserver, ObserveIntersection, UnobserveIntersection, DisconnectIntersection, TakeIntersections, Listen, Unlisten, MakeQueryList, ScrollTo, ScrollBy, RequestFrame, CancelFrame, SetTimer, ClearTimer, Post, Say, Read}
 use Rattle.layout_model.specs.Items.{Kind}
 use Rattle.page_model.specs.World.{Thing, DocumentThing, ElementThing, ResizeObserverThing, IntersectionObserverThing, QueryListThing, Name, EventTarget, Posted, Task, Listener, FrameCallback, Timer, Table, Tree, Viewports, World}
 use Rattle.page_model.specs.Lookups.{resize_observer_at, intersection_observer_at}
@@ -166,23 +166,23 @@ module _ (handlers : Handlers) (world : World) (within : IsInRange (length handl
   tree-step step kept = bind-in step _ _ Holds kept (λ after is. did _ Holds (tree-in (length handlers) world after is within))
 
   observed : (observer n : ℕ) (already : Bool) → n < length world.tree.elements →
-      OnDid (with_intersections world (observing observer n already (world.intersection_observers))) Holds
+      OnDid (with_intersections world (observing (world.version) observer n already (world.intersection_observers))) Holds
   unfolding with_intersections observing
   observed observer n true is-n = did _ Holds within
   observed observer n false is-n =
       bind-in _ _ (λ it. IsInRange (length handlers) (record world { intersection_observers = it })) Holds
-      (both (room limits.IntersectionObservations (intersection_observations (world.intersection_observers))) _ _
+      (both (room (world.version) limits.IntersectionObservations (intersection_observations (world.intersection_observers))) _ _
       (did _ _ (intersection-in (length handlers) world _
       (registration-kept (counts_of (length handlers) world) (world.intersection_observers) observer n is-n) within)))
       (λ it is. did _ Holds is)
 
   listened : (target : EventTarget) (event : EventKind) (handler : ℕ) (already : Bool) → IsEventTargetIn (counts_of (length handlers) world) target →
-      handler < length handlers → OnDid (with_listeners world (listening target event handler already (world.listeners))) Holds
+      handler < length handlers → OnDid (with_listeners world (listening (world.version) target event handler already (world.listeners))) Holds
   unfolding with_listeners listening
   listened target event handler true is-target is-handler = did _ Holds within
   listened target event handler false is-target is-handler =
       bind-in _ _ (λ it. IsInRange (length handlers) (record world { listeners = it })) Holds
-      (both (room limits.Listeners (length world.listeners.held)) _ _
+      (both (room (world.version) limits.Listeners (length world.listeners.held)) _ _
       (did _ _ (listeners-in (length handlers) world within _ (all-add _ (world.listeners.held) _ within.listeners (is-target, is-handler)))))
       (λ it is. did _ Holds is)
 
@@ -190,18 +190,19 @@ module _ (handlers : Handlers) (world : World) (within : IsInRange (length handl
   unfolding making
   made name document kind =
       both (new_name (world.names) name) _ _ (bind-in _ _ _ _ (document-named handlers world within document) (λ d is-d.
-      both (room limits.Nodes (length world.tree.elements)) _ _ (did _ Holds (made-in (length handlers) world within name kind d is-d))))
+      both (room (world.version) limits.Nodes (length world.tree.elements)) _ _ (did _ Holds (made-in (length handlers) world within name kind d is-d))))
 
   pub does-in : (present : Present) (action : Action) → IsPresentIn world present →
       OnDid (does handlers world present action) (λ effect. IsInRange (length handlers) (effect.world))
   unfolding does
   does-in present (Viewport width height) here = did _ Holds (viewports-in (length handlers) world within _ within.noted)
+  does-in present (SetRatio hundredths) here = did _ Holds (viewports-in (length handlers) world within _ within.noted)
   does-in present (MakeBlock name document) here = made name document _
   does-in present (MakeImage name document width height) here = made name document _
   does-in present (MakeFrame name document inside) here =
       both (new_name (world.names) name) _ _ (bind-in _ _ _ _ (document-named handlers world within document) (λ d is-d.
       both (other_new_name (world.names) name inside) _ _
-      (both (room limits.Nodes (length world.tree.elements)) _ _ (both (room limits.Documents (length world.tree.documents)) _ _
+      (both (room (world.version) limits.Nodes (length world.tree.elements)) _ _ (both (room (world.version) limits.Documents (length world.tree.documents)) _ _
       (did _ Holds (frame-in (length handlers) world within name inside d is-d))))))
   does-in present (Append parent node) here =
       bind-in _ _ _ _ (container-meant handlers world within present parent here) (λ container is-in.
@@ -227,12 +228,12 @@ module _ (handlers : Handlers) (world : World) (within : IsInRange (length handl
   does-in present (MakeResizeObserver name document handler) here =
       both (new_name (world.names) name) _ _ (bind-in _ _ _ _ (document-named handlers world within document) (λ d is-d.
       bind-in _ _ _ _ (handler-given handlers handler) (λ called is-called.
-      both (room limits.ResizeObservers (length world.resize_observers.made)) _ _
+      both (room (world.version) limits.ResizeObservers (length world.resize_observers.made)) _ _
       (did _ Holds (resize-made-in (length handlers) world within name d called is-d is-called)))))
   does-in present (ObserveResize observer node observed) here =
       bind (resize_observer_named (world.names) observer) _ _ (λ o.
       bind-in _ _ _ _ (element-meant handlers world within present node here) (λ n is-n.
-      both (room_unless (is_observed n (resize_observer_at (world.resize_observers) o).targets) limits.ResizeObservations
+      both (room_unless (world.version) (is_observed n (resize_observer_at (world.resize_observers) o).targets) limits.ResizeObservations
       (resize_observations (world.resize_observers))) _ _
       (did _ Holds (resize-in (length handlers) world _ (target-kept (counts_of (length handlers) world) (world.resize_observers) o n observed is-n) within))))
   does-in present (UnobserveResize observer node) here =
@@ -247,9 +248,10 @@ module _ (handlers : Handlers) (world : World) (within : IsInRange (length handl
       bind-in _ _ _ _ (handler-given handlers making.handler) (λ called is-called.
       bind-in _ _ _ _ (root-meant handlers world within present making.root here) (λ root is-root.
       bind (required SyntaxError (margins_of making.margin)) _ _ (λ margins.
+      bind (required SyntaxError (margins_of (unwrap_or making.scroll []))) _ _ (λ scroll_margins.
       bind (required RangeError (thresholds_of making.thresholds)) _ _ (λ thresholds.
-      both (room limits.IntersectionObservers (length world.intersection_observers.made)) _ _
-      (did _ Holds (intersection-made-in (length handlers) world within (making.name) d called root margins thresholds is-d is-called is-root))))))))
+      both (room (world.version) limits.IntersectionObservers (length world.intersection_observers.made)) _ _
+      (did _ Holds (intersection-made-in (length handlers) world within (making.name) d called root margins scroll_margins thresholds is-d is-called is-root)))))))))
   does-in present (ObserveIntersection observer node) here =
       bind (intersection_observer_named (world.names) observer) _ _ (λ o.
       bind-in _ _ _ _ (element-meant handlers world within present node here)
@@ -277,7 +279,7 @@ module _ (handlers : Handlers) (world : World) (within : IsInRange (length handl
       (λ called. did _ Holds (listeners-in (length handlers) world within _ (all-filter _ _ (world.listeners.held) within.listeners))))
   does-in present (MakeQueryList name document query) here =
       both (new_name (world.names) name) _ _ (bind-in _ _ _ _ (document-named handlers world within document) (λ d is-d.
-      both (room limits.Queries (length world.queries)) _ _
+      both (room (world.version) limits.Queries (length world.queries)) _ _
       (did _ Holds (query-made-in (length handlers) world within name d query (matches_now world d query) is-d))))
   does-in present (ScrollTo scrolled left top) here =
       bind-in _ _ _ _ (container-meant handlers world within present scrolled here)
@@ -289,7 +291,7 @@ module _ (handlers : Handlers) (world : World) (within : IsInRange (length handl
       bind-in _ _ _ _ (document-named handlers world within document) (λ d is-d.
       bind-in _ _ _ _ (handler-named handlers handler) (λ called is-called.
       both (throw_if (is_frame_requested d key (world.frame_callbacks)) TypeError) _ _
-      (both (room limits.FrameCallbacks (length world.frame_callbacks.held)) _ _
+      (both (room (world.version) limits.FrameCallbacks (length world.frame_callbacks.held)) _ _
       (did _ Holds (frame-callbacks-in (length handlers) world within _ (all-add _ (world.frame_callbacks.held) _ within.frame_callbacks (is-d, is-called)))))))
   does-in present (CancelFrame document key) here =
       bind (document_named (world.names) document) _ _
@@ -297,7 +299,7 @@ module _ (handlers : Handlers) (world : World) (within : IsInRange (length handl
   does-in present (SetTimer document key delay handler) here =
       bind-in _ _ _ _ (document-named handlers world within document) (λ d is-d.
       bind-in _ _ _ _ (handler-named handlers handler) (λ called is-called.
-      both (throw_if (is_timer_set d key (world.timers)) TypeError) _ _ (both (room limits.Timers (length world.timers.held)) _ _
+      both (throw_if (is_timer_set d key (world.timers)) TypeError) _ _ (both (room (world.version) limits.Timers (length world.timers.held)) _ _
       (did _ Holds (timers-in (length handlers) world within _ (all-add _ (world.timers.held) _ within.timers (is-d, is-called)))))))
   does-in present (ClearTimer document key) here =
       bind (document_named (world.names) document) _ _
@@ -305,7 +307,7 @@ module _ (handlers : Handlers) (world : World) (within : IsInRange (length handl
   does-in present (Post document handler) here =
       bind-in _ _ _ _ (document-named handlers world within document) (λ d is-d.
       bind-in _ _ _ _ (handler-named handlers handler) (λ called is-called.
-      both (room limits.Tasks (posted_tasks (world.tasks))) _ _
+      both (room (world.version) limits.Tasks (posted_tasks (world.tasks))) _ _
       (did _ Holds (tasks-in (length handlers) world within _ (all-add _ (world.tasks) (Posted d called) within.tasks (is-d, is-called))))))
   does-in present (Say word) here = did _ Holds within
   does-in present (Read shown) here =

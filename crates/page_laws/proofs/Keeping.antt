@@ -7,6 +7,7 @@ use Rattle.text_io.specs.declared.kinds.EventKind.TheVariants as events
 use Rattle.text_io.specs.declared.kinds.LimitKind.TheVariants as limits
 use Rattle.script_model.specs.Syntax.{Action, Command, Simple, Each, When, Block, NoMore, Then}
 use Rattle.script_model.specs.TraceLines.{FiredEvent, FiredResize, FiredScroll, FiredChange, FiredError, EventLine, TimerLine, FrameLine, TaskLine, TickLine}
+use Rattle.text_io.specs.Limits.{limit_number}
 use Rattle.page_model.specs.World.{World, Entry, EventTarget, ElementTarget, DocumentTarget, WindowTarget, QueryTarget, Observation, Task, Notify, Posted, Timer, FrameCallback}
 use Rattle.page_model.specs.Lookups.{resize_observer_at, intersection_observer_at, query_list_at}
 use Rattle.page_model.specs.Documents.{is_active, active_documents}
@@ -95,14 +96,14 @@ counted world = record world { begun = suc world.begun }
 
 -- `P` of a world in a callback, `In` of each of the entries that it was handed: a command keeps `P`, once it was counted
 pub record IsCarried (script : Script) (P : World → Type 0) (In : Present → Type 0) : Type 0 where
-  pub begun : (world : World) → world.begun < 1000000 → P world → P (counted world)
-  pub does : (world : World) (present : Present) (action : Action) → In present → world.begun < 1000000 → P world →
+  pub begun : (world : World) → world.begun < limit_number (world.version) limits.Commands → P world → P (counted world)
+  pub does : (world : World) (present : Present) (action : Action) → In present → world.begun < limit_number (world.version) limits.Commands → P world →
       OnDid (does (handler_names script) (counted world) present action) (λ effect. P (effect.world))
   pub none : In NoEntry
 
 -- the same where counting a command doesn't matter to `P`
 pub carried-by : (script : Script) (P : World → Type 0) (In : Present → Type 0) →
-    ((world : World) → world.begun < 1000000 → P world → P (counted world)) →
+    ((world : World) → world.begun < limit_number (world.version) limits.Commands → P world → P (counted world)) →
     ((world : World) (present : Present) (action : Action) → In present → P world →
     OnDid (does (handler_names script) world present action) (λ effect. P (effect.world))) → In NoEntry → IsCarried script P In
 carried-by script P In begun each none = record {
@@ -137,11 +138,11 @@ unfolding caught
 caught-keeps P said here = here
 
 pub once_begun-keeps : (P : World → Type 0) (line : ℕ) (world : World) (run : World → Said World) → P world →
-    (world.begun < 1000000 → P (run (counted world)).state) → P (once_begun line world run).state
+    (world.begun < limit_number (world.version) limits.Commands → P (run (counted world)).state) → P (once_begun line world run).state
 unfolding once_begun begun_in
 once_begun-keeps P line world run here each =
     answered-keeps P line world run (begun_in world) here
-    (room-then limits.Commands (world.begun) 1000000 _ _ (λ room. did (counted world) _ (each room)))
+    (room-then limits.Commands (world.begun) (limit_number (world.version) limits.Commands) _ _ (λ room. did (counted world) _ (each room)))
 
 module _ (script : Script) (P : World → Type 0) (In : Present → Type 0) (carried : IsCarried script P In) where
   module _ (entries : List Present) (are : AllByRecursion In entries) where
@@ -182,9 +183,9 @@ module _ (script : Script) (P : World → Type 0) (In : Present → Type 0) (car
       P (call script document handler handed world).state
   unfolding call
   called-keeps document handler handed world are here =
-      only_if-keeps P (λ now. say (entry_lines (now.names) handed) now followed_by run_handler script handed handler) world
+      only_if-keeps P (λ now. say (entry_lines (now.version) (now.names) handed) now followed_by run_handler script handed handler) world
       (is_active (world.tree) document)
-      (λ now held. then-keeps P (say (entry_lines (now.names) handed) now) (run_handler script handed handler) held (handler-keeps handed are handler))
+      (λ now held. then-keeps P (say (entry_lines (now.version) (now.names) handed) now) (run_handler script handed handler) held (handler-keeps handed are handler))
       here
 
 -- around callbacks

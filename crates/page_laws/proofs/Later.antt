@@ -7,6 +7,7 @@ use Rattle.text_io.specs.declared.kinds.LimitKind.TheVariants as limits
 use Rattle.script_model.specs.Syntax.{Item, Command}
 use Rattle.script_model.specs.Scripts.{handlers_in}
 use Rattle.script_model.specs.TraceLines.{ThrowLine}
+use Rattle.text_io.specs.Limits.{limit_number}
 use Rattle.page_model.specs.World.{World}
 use Rattle.page_model.specs.Steps.{Did, Threw, ◌>>◌, met_unless}
 use Rattle.page_model.specs.Operands.{Present}
@@ -46,7 +47,7 @@ successor-kept script P goes_over begun = record {
 }
 
 pub self : (world : World) → IsLater world world
-self world = record { elements = omega arith; states = λ wanted document come. come; names = λ text thing is. is; clock = omega arith; begun = omega arith }
+self world = record { elements = omega arith; states = λ wanted document come. come; names = λ text thing is. is; clock = omega arith; begun = omega arith; version = refl }
 
 -- what is later than a first world stays so
 later-kept : (script : Script) (first : World) → IsKept script (λ (k : ℕ). IsLater first) (λ (k : ℕ) (present : Present). ⊤)
@@ -58,6 +59,7 @@ later-kept script first =
       names = λ text thing is. next.names text thing (later.names text thing is);
       clock = subst (λ n. first.clock ≤ n) (sym (next.clock)) (later.clock);
       begun = subst (λ n. first.begun ≤ n) (sym (next.begun)) (later.begun);
+      version = next.version ∙ later.version;
     })
     (λ world later. record {
       elements = later.elements;
@@ -65,6 +67,7 @@ later-kept script first =
       names = later.names;
       clock = later.clock;
       begun = let so_far : first.begun ≤ world.begun = later.begun in omega (arith, so_far);
+      version = later.version;
     })
 
 later-timed : (first : World) (time : ℕ) (world : World) → IsLater first world → nat_lt time world.clock ≡ false → IsLater first (record world { clock = time })
@@ -74,6 +77,7 @@ later-timed first time world later is = record {
   names = later.names;
   clock = let so_far : first.clock ≤ world.clock = later.clock in grind (arith, so_far, is);
   begun = later.begun;
+  version = later.version;
 }
 
 pub command-later : (script : Script) (entries : List Present) (command : Command) (present : Present) (world : World) →
@@ -100,22 +104,24 @@ clock-stands script world =
     (successor-kept script (λ now. now.clock ≡ world.clock) (λ before now next stands. next.clock ∙ stands) (λ now stands. stands))
     0 world refl
 
-begins-by : (has_room : Bool) (begun : ℕ) (now : World) → nat_lt begun 1000000 ≡ has_room → begun < 1000000 →
+begins-by : (has_room : Bool) (begun most : ℕ) (now : World) → nat_lt begun most ≡ has_room → begun < most →
     (met_unless has_room limits.Commands >> Did now) ≡ Did now
 unfolding ◌>>◌
-begins-by true begun now is room = refl
-begins-by false begun now is room = absurd (grind (arith, room, is))
+begins-by true begun most now is room = refl
+begins-by false begun most now is room = absurd (grind (arith, room, is))
 
-begins : (world : World) → world.begun < 1000000 → begun_in world ≡ Did (record world { begun = suc world.begun })
+begins : (world : World) → world.begun < limit_number (world.version) limits.Commands → begun_in world ≡ Did (record world { begun = suc world.begun })
 unfolding begun_in
-begins world room = begins-by (nat_lt world.begun 1000000) (world.begun) (record world { begun = suc world.begun }) refl room
+begins world room =
+    let most : ℕ = limit_number (world.version) limits.Commands in
+    begins-by (nat_lt world.begun most) (world.begun) most (record world { begun = suc world.begun }) refl room
 
 refused-by : (is_before : Bool) (time : ℕ) (world : World) → nat_lt time world.clock ≡ is_before → time < world.clock →
     cond is_before (Threw RangeError) (Did (record world { clock = time })) ≡ Threw RangeError
 refused-by true time world is before = refl
 refused-by false time world is before = absurd (grind (arith, before, is))
 
-pub tick-refused : (script : Script) (line time : ℕ) (world : World) → world.begun < 1000000 → time < world.clock →
+pub tick-refused : (script : Script) (line time : ℕ) (world : World) → world.begun < limit_number (world.version) limits.Commands → time < world.clock →
     run_tick script line time world ≡ record { lines = ThrowLine line RangeError ∷ []; flow = Thrown; state = record world { begun = suc world.begun } }
 unfolding once_begun answered
 tick-refused script line time world room before =

@@ -20,3 +20,4 @@ pub mod Quiet
 pub mod Places
 pub mod Limits
 pub mod Turns
+pub mod Ratios

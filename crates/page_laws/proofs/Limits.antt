@@ -1,10 +1,12 @@
 -- The limits on what a tick goes over by place are kept.
-use Rattle.std.proofs.Common.{◌≡◌, refl, ap, arith, ◌≤◌}
+use Rattle.std.proofs.Common.{◌≡◌, refl, sym, ap, subst, arith, ◌≤◌}
 use Rattle.std.specs.Prelude.{ℕ, suc, ◌<◌, List, [], ◌∷◌, ◌++◌, length, Option, Some, None, ℤ, ⊤}
 use Rattle.text_io.specs.Limits.{limit_number}
 use Rattle.text_io.specs.declared.kinds.LimitKind.TheVariants as limits
+use Rattle.text_io.specs.declared.kinds.Version.{Version}
+use Rattle.text_io.specs.declared.kinds.Version.TheVariants.{First, Second}
 use Rattle.layout_model.specs.Items.{Kind}
-use Rattle.script_model.specs.Syntax.{Action, Viewport, MakeBlock, MakeImage, MakeFrame, Append, Before, Remove, SetStyle, Grow, Load, MakeResizeObserver, ObserveResize, UnobserveResize, DisconnectResize, MakeIntersectionObserver, ObserveIntersection, UnobserveIntersection, DisconnectIntersection, TakeIntersections, Listen, Unlisten, MakeQueryList, ScrollTo, ScrollBy, RequestFrame, CancelFrame, SetTimer, ClearTimer, Post, Say, Read}
+use Rattle.script_model.specs.Syntax.{Action, Viewport, SetRatio, MakeBlock, MakeImage, MakeFrame, Append, Before, Remove, SetStyle, Grow, Load, MakeResizeObserver, ObserveResize, UnobserveResize, DisconnectResize, MakeIntersectionObserver, ObserveIntersection, UnobserveIntersection, DisconnectIntersection, TakeIntersections, Listen, Unlisten, MakeQueryList, ScrollTo, ScrollBy, RequestFrame, CancelFrame, SetTimer, ClearTimer, Post, Say, Read}
 use Rattle.page_model.specs.World.{Posted, ResizeObserver, IntersectionObservers, QueryList, Listener, Table, ScrollTarget, Tree, Name, World}
 use Rattle.page_model.specs.Lookups.{change_at}
 use Rattle.page_model.specs.Edits.{with_frame}
@@ -21,6 +23,11 @@ use Rattle.page_laws.proofs.Successors.{IsTreeNext, removed-next}
 use Rattle.page_laws.proofs.Commands.{placing-next, growing-next, loading-next}
 use Rattle.page_laws.proofs.Waiting.{tasks-alike, posted-within}
 
+-- no version lets more commands begin
+pub most-commands : (version : Version) → limit_number version limits.Commands ≤ 2000000
+most-commands First = omega arith
+most-commands Second = omega arith
+
 length-more : {A : Type 0} (xs : List A) (y : A) → length (xs ++ y ∷ []) ≡ suc (length xs)
 length-more [] y = refl
 length-more (x ∷ xs) y = ap suc (length-more xs y)
@@ -33,15 +40,15 @@ module _ (world : World) (within : IsWithinLimits world) where
   Within effect = IsWithinLimits (effect.world)
 
   pub as-many : (after : World) → length after.resize_observers.made ≡ length world.resize_observers.made → length after.queries ≡ length world.queries →
-      after.begun ≡ world.begun → (AreTasksWithin world → AreTasksWithin after) → IsWithinLimits after
-  as-many after observers queries begun tasks = record {
+      after.begun ≡ world.begun → after.version ≡ world.version → (AreTasksWithin world → AreTasksWithin after) → IsWithinLimits after
+  as-many after observers queries begun version tasks = record {
     tasks = tasks (within.tasks);
     resize_observers = omega (arith, within.resize_observers);
     queries = omega (arith, within.queries);
-    commands = omega (arith, within.commands);
+    commands = subst (λ (it : Version). after.begun ≤ limit_number it limits.Commands) (sym version) (omega (arith, within.commands, begun));
   }
 
-  pub counted-within : world.begun < 1000000 → IsWithinLimits (record world { begun = suc world.begun })
+  pub counted-within : world.begun < limit_number (world.version) limits.Commands → IsWithinLimits (record world { begun = suc world.begun })
   counted-within room = record {
     resize_observers = within.resize_observers;
     queries = within.queries;
@@ -52,11 +59,11 @@ module _ (world : World) (within : IsWithinLimits world) where
   resize-changed : (given : ℕ) (change : ResizeObserver → ResizeObserver) (observer : ℕ) →
       IsWithinLimits (record world { resize_observers = record { given = given; made = change_at change observer (world.resize_observers.made) } })
   resize-changed given change observer =
-      as-many _ (changed (λ (it : ResizeObserver). ⊤) change (λ it is. is) observer (world.resize_observers.made)).same refl refl
+      as-many _ (changed (λ (it : ResizeObserver). ⊤) change (λ it is. is) observer (world.resize_observers.made)).same refl refl refl
       (tasks-alike world _ refl refl refl)
 
   changed-within : (tree : Tree) → IsTreeNext world.tree tree → IsWithinLimits (record world { tree = tree })
-  changed-within tree next = as-many _ refl refl refl (tasks-alike world _ (next.documents) refl refl)
+  changed-within tree next = as-many _ refl refl refl refl (tasks-alike world _ (next.documents) refl refl)
 
   tree-within : (step : Step Tree) → OnDid step (IsTreeNext world.tree) → OnDid (with_tree world step) Within
   unfolding with_tree
@@ -64,11 +71,11 @@ module _ (world : World) (within : IsWithinLimits world) where
 
   intersections-within : (step : Step IntersectionObservers) → OnDid (with_intersections world step) Within
   unfolding with_intersections
-  intersections-within step = bind step _ Within (λ it. did _ Within (as-many _ refl refl refl (tasks-alike world _ refl refl refl)))
+  intersections-within step = bind step _ Within (λ it. did _ Within (as-many _ refl refl refl refl (tasks-alike world _ refl refl refl)))
 
   listeners-within : (step : Step (Table Listener)) → OnDid (with_listeners world step) Within
   unfolding with_listeners
-  listeners-within step = bind step _ Within (λ it. did _ Within (as-many _ refl refl refl (tasks-alike world _ refl refl refl)))
+  listeners-within step = bind step _ Within (λ it. did _ Within (as-many _ refl refl refl refl (tasks-alike world _ refl refl refl)))
 
   making-within : (name document : List ℕ) (kind : Kind) → OnDid (making world name document kind) Within
   unfolding making
@@ -76,13 +83,13 @@ module _ (world : World) (within : IsWithinLimits world) where
 
   scrolled-within : (left top : ℤ) (target : Option ScrollTarget) → IsWithinLimits (scrolled_to left top target world)
   scrolled-within left top None = within
-  scrolled-within left top (Some target) = as-many _ refl refl refl (tasks-alike world _ refl refl refl)
+  scrolled-within left top (Some target) = as-many _ refl refl refl refl (tasks-alike world _ refl refl refl)
 
   scrolled-by-within : (left top : ℤ) (target : Option ScrollTarget) → IsWithinLimits (scrolled_by left top target world)
   scrolled-by-within left top None = within
-  scrolled-by-within left top (Some target) = as-many _ refl refl refl (tasks-alike world _ refl refl refl)
+  scrolled-by-within left top (Some target) = as-many _ refl refl refl refl (tasks-alike world _ refl refl refl)
 
-  observer-made : (names : List Name) (it : ResizeObserver) → length world.resize_observers.made < limit_number limits.ResizeObservers →
+  observer-made : (names : List Name) (it : ResizeObserver) → length world.resize_observers.made < limit_number (world.version) limits.ResizeObservers →
       IsWithinLimits (record world {
         names = names;
         resize_observers = record {
@@ -98,7 +105,7 @@ module _ (world : World) (within : IsWithinLimits world) where
         tasks = tasks-alike world _ refl refl refl (within.tasks);
       }
 
-  query-made : (names : List Name) (it : QueryList) → length world.queries < limit_number limits.Queries →
+  query-made : (names : List Name) (it : QueryList) → length world.queries < limit_number (world.version) limits.Queries →
       IsWithinLimits (record world { names = names; queries = world.queries ++ it ∷ [] })
   query-made names it less =
       record {
@@ -108,7 +115,7 @@ module _ (world : World) (within : IsWithinLimits world) where
         tasks = tasks-alike world _ refl refl refl (within.tasks);
       }
 
-  frame-made : (names : List Name) (document : ℕ) → length world.tree.documents < limit_number limits.Documents →
+  frame-made : (names : List Name) (document : ℕ) → length world.tree.documents < limit_number (world.version) limits.Documents →
       IsWithinLimits (record world { names = names; tree = with_frame document (world.tree) })
   frame-made names document less = record {
     resize_observers = within.resize_observers;
@@ -122,7 +129,7 @@ module _ (world : World) (within : IsWithinLimits world) where
     };
   }
 
-  task-made : (document handler : ℕ) → posted_tasks world.tasks < limit_number limits.Tasks →
+  task-made : (document handler : ℕ) → posted_tasks world.tasks < limit_number (world.version) limits.Tasks →
       IsWithinLimits (record world { tasks = world.tasks ++ Posted document handler ∷ [] })
   task-made document handler less = record {
     resize_observers = within.resize_observers;
@@ -135,6 +142,7 @@ module _ (world : World) (within : IsWithinLimits world) where
       OnDid (does handlers world present action) (λ effect. IsWithinLimits (effect.world))
   unfolding does
   does-within handlers present (Viewport width height) = search (did, as-many, tasks-alike) depth 9
+  does-within handlers present (SetRatio hundredths) = search (did, as-many, tasks-alike) depth 9
   does-within handlers present (MakeBlock name document) = making-within name document _
   does-within handlers present (MakeImage name document width height) = making-within name document _
   does-within handlers present (MakeFrame name document inside) = search (both, bind, room-then, did, frame-made) depth 12
@@ -147,12 +155,12 @@ module _ (world : World) (within : IsWithinLimits world) where
   does-within handlers present (MakeResizeObserver name document handler) =
       both (new_name (world.names) name) _ Within (bind (document_named (world.names) document) _ Within
       (λ owner. bind (handler_given handlers handler) _ Within (λ called.
-      room-then limits.ResizeObservers (length world.resize_observers.made) (limit_number limits.ResizeObservers) _ Within
+      room-then limits.ResizeObservers (length world.resize_observers.made) (limit_number (world.version) limits.ResizeObservers) _ Within
       (λ less. did _ Within (observer-made _ _ less)))))
   does-within handlers present (ObserveResize observer node observed) = search (both, bind, did, resize-changed) depth 9
   does-within handlers present (UnobserveResize observer node) = search (bind, did, resize-changed) depth 9
   does-within handlers present (DisconnectResize observer) = search (bind, did, resize-changed) depth 9
-  does-within handlers present (MakeIntersectionObserver made) = search (both, bind, did, as-many, tasks-alike) depth 12
+  does-within handlers present (MakeIntersectionObserver made) = search (both, bind, did, as-many, tasks-alike) depth 14
   does-within handlers present (ObserveIntersection observer node) = search (bind, intersections-within) depth 9
   does-within handlers present (UnobserveIntersection observer node) = search (bind, did, as-many, tasks-alike) depth 9
   does-within handlers present (DisconnectIntersection observer) = search (bind, did, as-many, tasks-alike) depth 9
@@ -161,7 +169,7 @@ module _ (world : World) (within : IsWithinLimits world) where
   does-within handlers present (Unlisten aim event handler) = search (bind, did, as-many, tasks-alike) depth 9
   does-within handlers present (MakeQueryList name document query) =
       both (new_name (world.names) name) _ Within (bind (document_named (world.names) document) _ Within (λ owner.
-      room-then limits.Queries (length world.queries) (limit_number limits.Queries) _ Within (λ less. did _ Within (query-made _ _ less))))
+      room-then limits.Queries (length world.queries) (limit_number (world.version) limits.Queries) _ Within (λ less. did _ Within (query-made _ _ less))))
   does-within handlers present (ScrollTo scrolled left top) = search (bind, did, scrolled-within) depth 9
   does-within handlers present (ScrollBy scrolled left top) = search (bind, did, scrolled-by-within) depth 9
   does-within handlers present (RequestFrame document key handler) = search (both, bind, did, as-many, tasks-alike) depth 9

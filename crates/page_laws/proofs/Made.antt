@@ -5,14 +5,15 @@ use Rattle.layout_model.specs.Items.{Kind}
 use Rattle.script_model.specs.Queries.{MediaQuery}
 use Rattle.script_model.specs.Margins.{Margins}
 use Rattle.page_model.specs.World.{Root, Thing, ElementThing, DocumentThing, ResizeObserverThing, IntersectionObserverThing, QueryListThing, QueryList, World}
+use Rattle.page_model.specs.Lookups.{no_margins, put_at}
 use Rattle.page_model.specs.Names.{with_name}
 use Rattle.page_model.specs.Edits.{with_element, with_frame, new_document}
 use Rattle.page_model.specs.ResizeObserving.{with_resize_observer}
 use Rattle.page_model.specs.IntersectionObserving.{with_intersection_observer}
 use Rattle.page_model.specs.QueryLists.{with_query_list}
 use Rattle.page_model.specs.Ranges.{Counts, counts_of, IsElementIn, IsDocumentIn, IsResizeObserverIn, IsRootIn, IsIntersectionObserverIn, IsThingIn, IsWithin, IsInRange}
-use Rattle.page_laws.proofs.Lists.{all-add, one-more, less-more}
-use Rattle.page_laws.proofs.Ranges.{IsMore, within-more, root-more, with-tree, with-names, with-resize, with-intersection, with-queries}
+use Rattle.page_laws.proofs.Lists.{all-add, one-more, less-more, put-within}
+use Rattle.page_laws.proofs.Ranges.{IsMore, within-more, root-more, with-tree, with-names, with-resize, with-intersection, with-margins, with-queries}
 
 -- a name more
 named : (counts : Counts) (name : List ℕ) (thing : Thing) (world : World) → IsWithin counts world → IsThingIn counts thing →
@@ -79,19 +80,25 @@ module _ (handlers : ℕ) (world : World) (within : IsInRange handlers world) wh
       (record { document = is-document; handler = is-handler; targets = tt; active = tt; skipped = tt })))
       (one-more (world.resize_observers.made) _)
 
-  pub intersection-made-in : (name : List ℕ) (document : ℕ) (handler : Option ℕ) (root : Root) (margins : Margins) (thresholds : List ℕ) →
+  pub intersection-made-in : (name : List ℕ) (document : ℕ) (handler : Option ℕ) (root : Root) (margins scroll_margins : Margins) (thresholds : List ℕ) →
       document < length world.tree.documents → IfSome handler (λ called. called < handlers) → IsRootIn (counts_of handlers world) root →
       IsInRange handlers (record world {
         names = with_name name (IntersectionObserverThing (length world.intersection_observers.made)) (world.names);
         intersection_observers = with_intersection_observer document handler root margins thresholds (world.intersection_observers);
+        scroll_margins = put_at no_margins (length world.intersection_observers.made) scroll_margins (world.scroll_margins);
       })
-  intersection-made-in name document handler root margins thresholds is-document is-handler is-root =
+  intersection-made-in name document handler root margins scroll_margins thresholds is-document is-handler is-root =
       let it = with_intersection_observer document handler root margins thresholds (world.intersection_observers) in
       let counts : Counts = counts_of handlers (record world { intersection_observers = it }) in
       let longer : length world.intersection_observers.made ≤ length it.made = less-more (world.intersection_observers.made) _ in
       let grows : IsMore (counts_of handlers world) counts = grind arith in
       let more : IsWithin counts world = within-more (counts_of handlers world) counts grows world within in
-      named counts name (IntersectionObserverThing (length world.intersection_observers.made)) (record world { intersection_observers = it })
+      let put : List Margins = put_at no_margins (length world.intersection_observers.made) scroll_margins (world.scroll_margins) in
+      let fits : length put ≤ counts.intersection_observers =
+      put-within (counts.intersection_observers) no_margins (length world.intersection_observers.made) scroll_margins (world.scroll_margins)
+      (one-more (world.intersection_observers.made) _) more.scroll_margins in
+      named counts name (IntersectionObserverThing (length world.intersection_observers.made)) (record world { intersection_observers = it; scroll_margins = put })
+      (with-margins counts (record world { intersection_observers = it }) put
       (with-intersection counts world it more (all-add (IsIntersectionObserverIn counts) (world.intersection_observers.made) _ more.intersection_observers
       (record {
         document = is-document;
@@ -99,7 +106,7 @@ module _ (handlers : ℕ) (world : World) (within : IsInRange handlers world) wh
         root = root-more (counts_of handlers world) counts grows root is-root;
         registrations = tt;
         queue = tt;
-      })))
+      }))) fits)
       (one-more (world.intersection_observers.made) _)
 
   pub query-made-in : (name : List ℕ) (document : ℕ) (query : List MediaQuery) (matched : Bool) → document < length world.tree.documents →

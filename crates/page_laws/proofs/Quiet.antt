@@ -4,8 +4,8 @@ use Rattle.std.specs.Prelude.{ℕ, zero, suc, ◌&&◌, ◌==◌, Bool, true, fa
 use Rattle.std.specs.List.{list_any}
 use Rattle.text_io.specs.declared.kinds.EventKind.TheVariants as events
 use Rattle.script_model.specs.TraceLines.{TraceLine, TickLine, FiredResize, FiredScroll, FiredError}
-use Rattle.page_model.specs.World.{World, Document, Extent, ScrollTarget, Timer, FrameCallback, ResizeObserver, IntersectionObserver, WindowTarget}
-use Rattle.page_model.specs.Lookups.{change_at, change_each, put_at, entry_or, document_at, no_document, same_extent}
+use Rattle.page_model.specs.World.{World, Document, Extent, ScrollTarget, Timer, FrameCallback, ResizeObserver, Finding, IntersectionObserver, IntersectionObservers, WindowTarget}
+use Rattle.page_model.specs.Lookups.{change_at, put_at, entry_or, document_at, no_document, same_extent}
 use Rattle.page_model.specs.Documents.{is_active, is_active_state, active_documents}
 use Rattle.page_model.specs.Names.{document_text}
 use Rattle.page_model.specs.PageBoxes.{viewport_of, view_of, framed_size, extent_of}
@@ -14,12 +14,10 @@ use Rattle.page_model.specs.Scrolls.{pending_of, without_pending}
 use Rattle.page_model.specs.FrameCallbacks.{frame_callbacks_of, frame_callback_stands}
 use Rattle.page_model.specs.Timers.{by_due_time, due_timers, timer_stands}
 use Rattle.page_model.specs.Tasks.{has_tasks, is_notifying}
-use Rattle.page_model.specs.Findings.{finding}
-use Rattle.page_model.specs.Shown.{shown_of}
 use Rattle.page_model.specs.Gathering.{sight_of, is_of, gathered_if, is_filled, has_active, has_skipped}
 use Rattle.page_model.specs.Runs.{Flow, Next, Thrown, Limited, Said, Turn, silent, say, follow, ◌followed_by◌, only_if, lifted, for_each, repeat, by_place, at_place, most_steps}
 use Rattle.page_model.specs.Callbacks.{Script, while_active, fire}
-use Rattle.page_model.specs.Intersections.{places_from, is_rooted_in, settled_observer, settling, watchers, has_queued, update_intersections, with_notify_task}
+use Rattle.page_model.specs.Intersections.{places_from, is_rooted_in, settled_observer, settling, watchers, has_queued, found_now, update_intersections, with_notify_task}
 use Rattle.page_model.specs.Loop.{gather, round, report_skipped, resize_loop}
 use Rattle.page_model.specs.Ticks.{run_timer, run_timers, resize_steps, event_target_of, scrolled_text, scroll_steps, evaluate, media_steps, run_frame_callback, frame_steps, intersection_steps, update_rendering, run_first, run_tasks, tick}
 use Rattle.page_laws.specs.Quiet.{IsQuiet}
@@ -235,13 +233,21 @@ loop-hushed script world quiet =
     (none-active (gather 0 0 world) (gathered-quiet world quiet)))))
     (stays (gather 0 0 world) (gathered-quiet world quiet)))
 
+-- where there are no observers none is settled
+settled-none : (time : ℕ) (find : ℕ → IntersectionObserver → ℕ → Finding) (observers : List ℕ) (it : IntersectionObservers) → it.made ≡ [] →
+    (settling time find observers it).made ≡ []
+settled-none time find [] it none = none
+settled-none time find (observer ∷ others) it none =
+    settled-none time find others (record it { made = change_at (settled_observer time (find observer)) observer (it.made) })
+    (ap (change_at (settled_observer time (find observer)) observer) none)
+
 updated-quiet : (world : World) → IsQuiet world → IsQuiet (update_intersections 0 world)
 unfolding update_intersections
 updated-quiet world quiet =
     let watching = places_from 0 (λ (observer : IntersectionObserver). is_rooted_in (world.tree) 0 (observer.root)) in
     let now =
     record world {
-      intersection_observers = settling (world.clock) (finding (shown_of world)) (watchers (world.tree) 0 (world.intersection_observers))
+      intersection_observers = settling (world.clock) (found_now world) (watchers (world.tree) 0 (world.intersection_observers))
           (world.intersection_observers);
     } in
     let still : IsQuiet now = record {
@@ -251,7 +257,7 @@ updated-quiet world quiet =
       pending = quiet.pending;
       noted = quiet.noted;
       resize_observers = quiet.resize_observers;
-      intersection_observers = ap (λ these. change_each (settled_observer (world.clock) (finding (shown_of world))) (watching these) these) (quiet.intersection_observers);
+      intersection_observers = settled-none (world.clock) (found_now world) (watchers (world.tree) 0 (world.intersection_observers)) (world.intersection_observers) (quiet.intersection_observers);
       queries = quiet.queries;
       frame_callbacks = quiet.frame_callbacks;
       timers = quiet.timers;

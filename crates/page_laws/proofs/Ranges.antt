@@ -2,6 +2,7 @@
 use Rattle.std.proofs.Common.{◌≡◌, arith, ◌≤◌}
 use Rattle.std.specs.Prelude.{ℕ, ◌<◌, List, length, Option, IfSome}
 use Rattle.std.specs.List.{AllByRecursion}
+use Rattle.script_model.specs.Margins.{Margins}
 use Rattle.page_model.specs.World.{Element, Document, Tree, Scrolls, ScrollTarget, ScrolledElement, ScrolledDocument, Thing, DocumentThing, ElementThing, ResizeObserverThing, IntersectionObserverThing, QueryListThing, Name, Observation, ResizeObserver, ResizeObservers, Root, ImplicitRoot, DocumentRoot, ElementRoot, Registration, Entry, IntersectionObserver, IntersectionObservers, QueryList, EventTarget, ElementTarget, DocumentTarget, WindowTarget, QueryTarget, Task, Notify, Posted, World}
 use Rattle.page_model.specs.Ranges.{Counts, counts_of, IsElementIn, IsScrollIn, IsDocumentIn, IsTreeIn, AreScrollsIn, IsThingIn, AreObserved, IsResizeObserverIn, IsRootIn, IsIntersectionObserverIn, IsEventTargetIn, IsListenerIn, IsFrameCallbackIn, IsTimerIn, IsTaskIn, IsWithin, IsInRange}
 use Rattle.page_laws.proofs.Lists.{all-map, some-map, IsKept}
@@ -106,6 +107,7 @@ module _ (counts more : Counts) (grows : IsMore counts more) where
           all-map (AllByRecursion (IsScrollIn counts)) (AllByRecursion (IsScrollIn more)) (all-map (IsScrollIn counts) (IsScrollIn more) scroll-more)
           (world.scrolls.pending) is.scrolls.pending;
     };
+    scroll_margins = at-most grows.intersection_observers is.scroll_margins;
     notifying = at-most grows.documents is.notifying;
     names = all-map (λ (named : Name). IsThingIn counts named.thing) (λ named. IsThingIn more named.thing) (λ named. thing-more (named.thing))
         (world.names) is.names;
@@ -147,6 +149,10 @@ with-resize counts world it within all = search
 pub with-intersection : (counts : Counts) (world : World) (it : IntersectionObservers) → IsWithin counts world →
     AllByRecursion (IsIntersectionObserverIn counts) it.made → IsWithin counts (record world { intersection_observers = it })
 with-intersection counts world it within all = search
+
+pub with-margins : (counts : Counts) (world : World) (margins : List Margins) → IsWithin counts world → length margins ≤ counts.intersection_observers →
+    IsWithin counts (record world { scroll_margins = margins })
+with-margins counts world margins within fits = search
 
 pub with-queries : (counts : Counts) (world : World) (queries : List QueryList) → IsWithin counts world →
     AllByRecursion (λ (list : QueryList). list.document < counts.documents) queries → IsWithin counts (record world { queries = queries })

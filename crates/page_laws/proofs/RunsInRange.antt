@@ -4,6 +4,7 @@ use Rattle.std.specs.Prelude.{ℕ, zero, suc, ◌<◌, Bool, true, false, cond, 
 use Rattle.std.specs.List.{AllByRecursion}
 use Rattle.script_model.specs.Syntax.{Command, Item}
 use Rattle.script_model.specs.Scripts.{handlers_in}
+use Rattle.text_io.specs.declared.kinds.Version.{Version}
 use Rattle.page_model.specs.World.{Observation, ResizeObserver, Entry, IntersectionObserver, World}
 use Rattle.page_model.specs.Lookups.{no_resize_observer, no_intersection_observer, resize_observer_at}
 use Rattle.page_model.specs.Operands.{Present, NoEntry, ResizeEntry, IntersectionEntry}
@@ -133,8 +134,8 @@ item-in script item world within =
     (item-keeps script _ IsEntryIn (running-kept script) (length world.tree.elements) (running-timed script (length world.tree.elements)) item world
     (begins script world within))
 
-pub opening-in : (handlers : ℕ) → IsInRange handlers opening_world
-opening-in handlers = record {
+pub opening-in : (handlers : ℕ) (version : Version) → IsInRange handlers (opening_world version)
+opening-in handlers version = record {
   top = omega arith;
   tree = record { elements = tt; documents = (record { frame = tt; root = tt }, tt) };
   names = (omega arith, tt);
@@ -142,6 +143,7 @@ opening-in handlers = record {
   scrolls = record { elements = omega arith; documents = omega arith; listed = omega arith; pending = tt };
   resize_observers = tt;
   intersection_observers = tt;
+  scroll_margins = omega arith;
   notifying = omega arith;
   queries = tt;
   listeners = tt;
@@ -150,8 +152,8 @@ opening-in handlers = record {
   tasks = tt;
 }
 
-pub items-in : (items : List Item) → IsInRange (length (handlers_in items)) (run_items items opening_world).state
-items-in items =
+pub items-in : (items : List Item) (version : Version) → IsInRange (length (handlers_in items)) (run_items items (opening_world version)).state
+items-in items version =
     ends (handlers_in items) 0 _
-    (items-keep items _ IsEntryIn (running-kept (handlers_in items)) 0 (running-timed (handlers_in items) 0) opening_world
-    (begins (handlers_in items) opening_world (opening-in (length (handlers_in items)))))
+    (items-keep items _ IsEntryIn (running-kept (handlers_in items)) 0 (running-timed (handlers_in items) 0) (opening_world version)
+    (begins (handlers_in items) (opening_world version) (opening-in (length (handlers_in items)) version)))

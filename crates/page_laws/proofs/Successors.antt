@@ -252,18 +252,19 @@ named-still text other thing that names is = name-found (λ named. bytes_eq name
 -- successors
 
 pub still : (world : World) → IsSuccessor world world
-still world = record { elements = omega arith; states = λ wanted document come. come; names = λ text thing is. is; clock = refl; begun = refl }
+still world = record { elements = omega arith; states = λ wanted document come. come; names = λ text thing is. is; clock = refl; begun = refl; version = refl }
 
--- a world of the same tree, names, clock and count
+-- a world of the same tree, names, clock, count and version
 pub alike : (world after : World) → after.tree ≡ world.tree → after.names ≡ world.names → after.clock ≡ world.clock → after.begun ≡ world.begun →
-    IsSuccessor world after
-alike world after tree names clock begun = record {
+    after.version ≡ world.version → IsSuccessor world after
+alike world after tree names clock begun version = record {
   elements = subst (λ (it : Tree). length world.tree.elements ≤ length it.elements) (sym tree) (still world).elements;
   states = λ wanted document come. subst (λ (it : Tree). IsTrue (came_to wanted it document)) (sym tree) come;
   names = λ text thing is. subst (λ (these : List Name). named_thing these text ≡ Some thing) (sym names) is;
   clock = clock;
   begun = begun;
+  version = version;
 }
 
 pub tree-next : (world : World) (tree : Tree) → IsTreeNext (world.tree) tree → IsSuccessor world (record world { tree = tree })
-tree-next world tree next = record { elements = next.elements; states = next.states; names = λ text thing is. is; clock = refl; begun = refl }
+tree-next world tree next = record { elements = next.elements; states = next.states; names = λ text thing is. is; clock = refl; begun = refl; version = refl }

@@ -1,7 +1,7 @@
 -- Commands read of the present entry its target alone.
 use Rattle.std.proofs.Common.{◌≡◌, refl, ap, ◌∙◌}
 use Rattle.std.specs.Prelude.{ℕ, List, Option, Some, None}
-use Rattle.script_model.specs.Syntax.{Operand, Named, Target, Aim, PlainAim, WindowAim, Action, Viewport, MakeBlock, MakeImage, MakeFrame, Append, Before, Remove, SetStyle, Grow, Load, MakeResizeObserver, ObserveResize, UnobserveResize, DisconnectResize, MakeIntersectionObserver, ObserveIntersection, UnobserveIntersection, DisconnectIntersection, TakeIntersections, Listen, Unlisten, MakeQueryList, ScrollTo, ScrollBy, RequestFrame, CancelFrame, SetTimer, ClearTimer, Post, Say, Read}
+use Rattle.script_model.specs.Syntax.{Operand, Named, Target, Aim, PlainAim, WindowAim, Action, Viewport, SetRatio, MakeBlock, MakeImage, MakeFrame, Append, Before, Remove, SetStyle, Grow, Load, MakeResizeObserver, ObserveResize, UnobserveResize, DisconnectResize, MakeIntersectionObserver, ObserveIntersection, UnobserveIntersection, DisconnectIntersection, TakeIntersections, Listen, Unlisten, MakeQueryList, ScrollTo, ScrollBy, RequestFrame, CancelFrame, SetTimer, ClearTimer, Post, Say, Read}
 use Rattle.page_model.specs.World.{ElementThing, Name, World}
 use Rattle.page_model.specs.Steps.{Step, Did, Threw, Met, ◌>>=◌, ◌>>◌}
 use Rattle.page_model.specs.Operands.{Present, Handlers, present_target, operand_thing, as_element, as_container, as_event_target, element_meant, container_meant, event_target_meant, root_at, root_meant, new_name, document_named, handler_given}
@@ -42,6 +42,7 @@ module _ (present other : Present) (same : present_target present ≡ present_ta
   pub same-does : (handlers : Handlers) (world : World) (action : Action) → does handlers world present action ≡ does handlers world other action
   unfolding does
   same-does handlers world (Viewport width height) = refl
+  same-does handlers world (SetRatio hundredths) = refl
   same-does handlers world (MakeBlock name document) = refl
   same-does handlers world (MakeImage name document width height) = refl
   same-does handlers world (MakeFrame name document inside) = refl

@@ -4,7 +4,7 @@ use Rattle.std.specs.List.{AllByRecursion}
 use Rattle.layout_model.specs.Items.{Item}
 use Rattle.text_io.specs.declared.kinds.ThrowKind.TheVariants.{HierarchyRequestError, NotFoundError, TypeError}
 use Rattle.text_io.specs.declared.kinds.LimitKind.TheVariants as limits
-use Rattle.text_io.specs.Limits.{limit_number}
+use Rattle.text_io.specs.Limits.{common_limit}
 use Rattle.script_model.specs.Syntax.{Dimension}
 use Rattle.page_model.specs.World.{Element, DocumentState, Active, Dead, Document, Tree}
 use Rattle.page_model.specs.Lookups.{no_element, without, element_at, change_element, change_document}
@@ -146,7 +146,7 @@ placing-kept counts tree container n sibling top within is-n is-container =
     both (throw_if (would_hold_itself tree container n) HierarchyRequestError) _ Holds
     (both (throw_if (is_no_child tree container sibling) NotFoundError) _ Holds
     (both (throw_if (is_full tree container) HierarchyRequestError) _ Holds
-    (both (met_unless (nat_le (container_depth tree container + levels_of tree n) (limit_number limits.Depth)) limits.Depth) _ Holds
+    (both (met_unless (nat_le (container_depth tree container + levels_of tree n) (common_limit limits.Depth)) limits.Depth) _ Holds
     (did _ Holds (inserted-kept counts tree container n sibling top within is-n is-container)))))
 
 pub growing-kept : (counts : Counts) (dimension : Dimension) (n : ℕ) (by : ℤ) (tree : Tree) → OnDid (growing dimension n by tree) (IsTreeKept counts tree)

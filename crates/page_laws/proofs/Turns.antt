@@ -3,6 +3,7 @@ use Rattle.std.proofs.Common.{◌≡◌, refl, arith, ◌≤◌}
 use Rattle.std.specs.Prelude.{ℕ, Option, None, List, length, nat_lt, false, ⊤}
 use Rattle.script_model.specs.Syntax.{Item, Command}
 use Rattle.script_model.specs.Scripts.{handlers_in}
+use Rattle.text_io.specs.declared.kinds.Version.{Version}
 use Rattle.page_model.specs.World.{World}
 use Rattle.page_model.specs.Documents.{is_active}
 use Rattle.page_model.specs.Operands.{Present}
@@ -33,7 +34,7 @@ limits-carried script =
 
 limits-kept : (script : Script) → IsKept script Within Any
 limits-kept script = record {
-  next = λ k before now next here. as-many before here now next.observers next.queries next.successor.begun next.tasks;
+  next = λ k before now next here. as-many before here now next.observers next.queries next.successor.begun next.successor.version next.tasks;
   carried = λ k. limits-carried script;
   entered = λ k world here. here;
   left = λ k before now here there. there;
@@ -42,10 +43,10 @@ limits-kept script = record {
 }
 
 timed : (time : ℕ) (world : World) → IsWithinLimits world → nat_lt time world.clock ≡ false → IsWithinLimits (record world { clock = time })
-timed time world here is = as-many world here _ refl refl refl (tasks-alike world _ refl refl refl)
+timed time world here is = as-many world here _ refl refl refl refl (tasks-alike world _ refl refl refl)
 
-pub opening-within : IsWithinLimits opening_world
-opening-within = record {
+pub opening-within : (version : Version) → IsWithinLimits (opening_world version)
+opening-within version = record {
   resize_observers = omega arith;
   queries = omega arith;
   commands = omega arith;
@@ -103,8 +104,8 @@ module _ (script : Script) (world : World) (within : IsWithinLimits world) where
       (λ observer so_far here. due-keeps script Within Any (limits-kept script) 0 document observer so_far here)
       most (record { world = world; shallowest = None }) within fits (omega arith)
 
-pub items-within : (items : List Item) → IsWithinLimits (run_items items opening_world).state
-items-within items = items-keep items Within Any (limits-kept (handlers_in items)) 0 timed opening_world opening-within
+pub items-within : (items : List Item) (version : Version) → IsWithinLimits (run_items items (opening_world version)).state
+items-within items version = items-keep items Within Any (limits-kept (handlers_in items)) 0 timed (opening_world version) (opening-within version)
 
 pub tasks-few : (world : World) → IsWithinLimits world → length world.tasks ≤ 4160
 tasks-few world within = few-tasks world (within.tasks)

@@ -12,16 +12,16 @@ notify_tasks tasks = count_by (λ task. not (is_posted task)) tasks
 
 -- the posted tasks that wait are as many as the limit allows, and a notify task waits for no document that isn't marked
 pub record AreTasksWithin (world : World) : Type 0 where
-  pub documents : length world.tree.documents ≤ limit_number limits.Documents
-  pub marks : length world.notifying ≤ limit_number limits.Documents
-  pub posted : posted_tasks world.tasks ≤ limit_number limits.Tasks
+  pub documents : length world.tree.documents ≤ limit_number (world.version) limits.Documents
+  pub marks : length world.notifying ≤ limit_number (world.version) limits.Documents
+  pub posted : posted_tasks world.tasks ≤ limit_number (world.version) limits.Tasks
   pub notifying : notify_tasks world.tasks ≤ count_by (λ marked. marked) world.notifying
 
 -- as many of the things that a tick goes over by place as the limits allow, as many commands begun and as many tasks
 pub record IsWithinLimits (world : World) : Type 0 where
-  pub resize_observers : length world.resize_observers.made ≤ limit_number limits.ResizeObservers
-  pub queries : length world.queries ≤ limit_number limits.Queries
-  pub commands : world.begun ≤ limit_number limits.Commands
+  pub resize_observers : length world.resize_observers.made ≤ limit_number (world.version) limits.ResizeObservers
+  pub queries : length world.queries ≤ limit_number (world.version) limits.Queries
+  pub commands : world.begun ≤ limit_number (world.version) limits.Commands
   pub tasks : AreTasksWithin world
 
 -- `by_place` with another bound on its turns

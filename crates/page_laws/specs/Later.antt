@@ -5,10 +5,11 @@ use Rattle.page_model.specs.Names.{named_thing}
 use Rattle.page_laws.specs.Successors.{came_to}
 
 -- a world later in a run: no element is taken out, documents don't go back, so a Dead one stays Dead, names go on to name the
--- same things, and neither the clock nor the count of commands falls
+-- same things, neither the clock nor the count of commands falls, and the version stays
 pub record IsLater (before now : World) : Type 0 where
   pub elements : length before.tree.elements ≤ length now.tree.elements
   pub states : (wanted : DocumentState) (document : ℕ) → IsTrue (came_to wanted before.tree document) → IsTrue (came_to wanted now.tree document)
   pub names : (text : List ℕ) (thing : Thing) → named_thing before.names text ≡ Some thing → named_thing now.names text ≡ Some thing
   pub clock : before.clock ≤ now.clock
   pub begun : before.begun ≤ now.begun
+  pub version : now.version ≡ before.version

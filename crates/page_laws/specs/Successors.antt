@@ -23,13 +23,14 @@ abbrev pub came_to : DocumentState → Tree → ℕ → Bool
 came_to wanted tree document = is_come_to wanted (slice_get tree.documents document)
 
 -- a world after another one of the same command: no element is taken out, documents don't go back, so a Dead one stays Dead,
--- names go on to name the same things, and neither the clock nor the count of commands moves
+-- names go on to name the same things, and neither the clock nor the count of commands moves, nor does the version
 pub record IsSuccessor (before after : World) : Type 0 where
   pub elements : length before.tree.elements ≤ length after.tree.elements
   pub states : (wanted : DocumentState) (document : ℕ) → IsTrue (came_to wanted before.tree document) → IsTrue (came_to wanted after.tree document)
   pub names : (text : List ℕ) (thing : Thing) → named_thing before.names text ≡ Some thing → named_thing after.names text ≡ Some thing
   pub clock : after.clock ≡ before.clock
   pub begun : after.begun ≡ before.begun
+  pub version : after.version ≡ before.version
 
 -- a fact of what a step comes to, where it neither throws nor meets a limit
 unfoldable pub OnDid : {A : Type 0} → Step A → (A → Type 0) → Type 0

@@ -3,18 +3,20 @@
 ghost use Rattle.std.specs.Prelude.{◌≡◌, ℕ, suc, ◌+◌, ◌<◌, IsTrue, length, Option, false};
 ghost use Rattle.std.specs.List.{AllByRecursion};
 ghost use Rattle.px_units.specs.declared.BoxKind.{BoxKind};
+ghost use Rattle.text_io.specs.declared.kinds.LimitKind.TheVariants as limits;
+ghost use Rattle.text_io.specs.Limits.{limit_number};
 ghost use Rattle.script_model.specs.Syntax.{Action, Operand, Read};
 ghost use Rattle.page_model.specs.World.{Screen, Tree, World};
 ghost use Rattle.page_model.specs.Lookups.{no_extent};
 ghost use Rattle.page_model.specs.Documents.{InElement, active_documents, element_depth, is_active};
-ghost use Rattle.page_model.specs.PageBoxes.{has_box, size_of};
+ghost use Rattle.page_model.specs.PageBoxes.{inputs_of, has_box, size_of, view_of, viewport_of};
 ghost use Rattle.page_model.specs.Operands.{Handlers, Present, present_target};
 ghost use Rattle.page_model.specs.Commands.{begun_in, does, placing};
 ghost use Rattle.page_model.specs.Ranges.{IsInRange, IsPresentIn};
 ghost use Rattle.page_laws.specs.Successors.{IsSuccessor, OnDid};
 
 /// No command takes an element out, or takes back what an earlier one did to the states of documents or to names: a Dead
-/// document stays Dead, and a name goes on to name the same thing. Nor does it move the clock or the count of commands. (A command that throws or
+/// document stays Dead, and a name goes on to name the same thing. Nor does it move the clock, the count of commands or the version. (A command that throws or
 /// meets a limit comes to no world at all, so the world is then as it was.)
 pub fn commands_take_nothing_back()
     ensures { (handlers : Handlers) (world : World) (present : Present) (action : Action) →
@@ -35,11 +37,11 @@ pub fn readings_change_nothing()
         OnDid (does handlers world present (Read operand)) (λ effect. effect.world ≡ world) }
 {}
 
-/// A command that begins raises the count by one and changes nothing else, and it begins only where fewer than 1,000,000
-/// were begun.
+/// A command that begins raises the count by one and changes nothing else, and it begins only where fewer were begun than
+/// its version allows.
 pub fn commands_are_counted()
     ensures { (world : World) →
-        OnDid (begun_in world) (λ after. (after ≡ record world { begun = suc world.begun }) × (world.begun < 1000000)) }
+        OnDid (begun_in world) (λ after. (after ≡ record world { begun = suc world.begun }) × (world.begun < limit_number (world.version) limits.Commands)) }
 {}
 
 /// Only Active documents are listed as Active.
@@ -50,6 +52,16 @@ pub fn listed_documents_are_active()
 /// An element without a box has the size 0 by 0.
 pub fn no_box_has_no_size()
     ensures { (tree : Tree) (screen : Screen) (n : ℕ) (kind : BoxKind) → has_box tree screen n ≡ false → size_of tree screen n kind ≡ no_extent }
+{}
+
+/// What boxes are laid out from, and viewports, are those of a screen's size: a ratio of device pixels changes none of them.
+pub fn boxes_do_not_read_the_ratio()
+    ensures views { (tree : Tree) (screen : Screen) (hundredths document : ℕ) →
+        view_of tree (record screen { ratio = hundredths }) document ≡ view_of tree screen document }
+    ensures inputs { (tree : Tree) (screen : Screen) (hundredths n : ℕ) →
+        inputs_of tree (record screen { ratio = hundredths }) n ≡ inputs_of tree screen n }
+    ensures viewports { (tree : Tree) (screen : Screen) (hundredths document : ℕ) →
+        viewport_of tree (record screen { ratio = hundredths }) document ≡ viewport_of tree screen document }
 {}
 
 /// An element that is put into another one, last or before a sibling, stands one level deeper than that one.

@@ -3,6 +3,9 @@
 ghost use Rattle.std.specs.Prelude.{◌≡◌, ℕ, suc, ◌<◌, ◌≤◌, List, [], ◌∷◌, Option, None, length};
 ghost use Rattle.std.specs.List.{AllByRecursion};
 ghost use Rattle.text_io.specs.declared.kinds.ThrowKind.TheVariants.{RangeError};
+ghost use Rattle.text_io.specs.declared.kinds.LimitKind.TheVariants as limits;
+ghost use Rattle.text_io.specs.declared.kinds.Version.{Version};
+ghost use Rattle.text_io.specs.Limits.{limit_number};
 ghost use Rattle.script_model.specs.Syntax.{Command, Item};
 ghost use Rattle.script_model.specs.Scripts.{handlers_in};
 ghost use Rattle.script_model.specs.TraceLines.{ThrowLine, TickLine};
@@ -21,7 +24,7 @@ ghost use Rattle.page_model.specs.Ticks.{evaluate, media_steps, run_first, tick}
 ghost use Rattle.page_model.specs.Outcome.{opening_world, run_item, run_items, run_tick};
 
 /// A command with its block, a callback, a tick and the items of a script leave a later world than the one before (`IsLater`): what was
-/// made, how far documents came, names, the clock and the count of commands. A throw and a limit do so too.
+/// made, how far documents came, names, the clock, the count of commands and the version. A throw and a limit do so too.
 pub fn runs_take_nothing_back()
     ensures commands { (script : Script) (entries : List Present) (command : Command) (present : Present) (world : World) →
         IsLater world (run_command script entries command present world).state }
@@ -34,7 +37,7 @@ pub fn runs_take_nothing_back()
 /// The clock stands at a tick's time until the tick has ended, and a time before it is refused.
 pub fn the_clock_stands_in_a_tick()
     ensures stands { (script : Script) (world : World) → (tick script world).state.clock ≡ world.clock }
-    ensures refused { (script : Script) (line time : ℕ) (world : World) → world.begun < 1000000 → time < world.clock →
+    ensures refused { (script : Script) (line time : ℕ) (world : World) → world.begun < limit_number (world.version) limits.Commands → time < world.clock →
         run_tick script line time world ≡ record { lines = ThrowLine line RangeError ∷ []; flow = Thrown; state = record world { begun = suc world.begun } } }
 {}
 
@@ -42,7 +45,7 @@ pub fn the_clock_stands_in_a_tick()
 /// world in range. From any world in range a command with its block, a callback, a tick and an item leave one, where the
 /// entries that are handed in are of elements that there are and the handlers are those of the script.
 pub fn runs_stay_in_range()
-    ensures opening { (handlers : ℕ) → IsInRange handlers opening_world }
+    ensures opening { (handlers : ℕ) (version : Version) → IsInRange handlers (opening_world version) }
     ensures commands { (script : Script) (world : World) → IsInRange (length script) world →
         (entries : List Present) (command : Command) (present : Present) → AllByRecursion (IsPresentIn world) entries → IsPresentIn world present →
         IsInRange (length script) (run_command script entries command present world).state }
@@ -51,7 +54,8 @@ pub fn runs_stay_in_range()
     ensures ticks { (script : Script) (world : World) → IsInRange (length script) world → IsInRange (length script) (tick script world).state }
     ensures items { (script : Script) (item : Item) (world : World) → IsInRange (length script) world →
         IsInRange (length script) (run_item script item world).state }
-    ensures scripts { (items : List Item) → IsInRange (length (handlers_in items)) (run_items items opening_world).state }
+    ensures scripts { (items : List Item) (version : Version) →
+        IsInRange (length (handlers_in items)) (run_items items (opening_world version)).state }
 {}
 
 /// In a quiet page a tick writes its own line and nothing else, and leaves the page quiet.
@@ -64,7 +68,7 @@ pub fn ticks_of_a_quiet_page_say_nothing_more()
 /// gatherings, broadcasts and rounds of a resize loop, by each task, and by ticks and items. A notify task waits for marked documents alone, so
 /// at most 4,160 tasks wait.
 pub fn limits_are_kept()
-    ensures opening { IsWithinLimits opening_world }
+    ensures opening { (version : Version) → IsWithinLimits (opening_world version) }
     ensures commands { (script : Script) (world : World) → IsWithinLimits world → (entries : List Present) (command : Command) (present : Present) →
         IsWithinLimits (run_command script entries command present world).state }
     ensures callbacks { (script : Script) (world : World) → IsWithinLimits world → (document : ℕ) (handler : Option ℕ) (handed : Entries) →
@@ -77,7 +81,7 @@ pub fn limits_are_kept()
     ensures tasks { (script : Script) (world : World) → IsWithinLimits world → IsWithinLimits (run_first script (world.tasks) world).state }
     ensures ticks { (script : Script) (world : World) → IsWithinLimits world → IsWithinLimits (tick script world).state }
     ensures items { (script : Script) (world : World) → IsWithinLimits world → (item : Item) → IsWithinLimits (run_item script item world).state }
-    ensures scripts { (items : List Item) → IsWithinLimits (run_items items opening_world).state }
+    ensures scripts { (items : List Item) (version : Version) → IsWithinLimits (run_items items (opening_world version)).state }
     ensures waiting { (world : World) → IsWithinLimits world → length world.tasks ≤ 4160 }
 {}
 

@@ -62,7 +62,7 @@ module _ (old new : PageElements) (kept : List Slot) (was : AreKept old.tree kep
   }
 
   pub kept_made : {A E : Type 0} (made : Tree) (names : List (List ℕ)) → length old.tree.elements < length kept → (nodes_of made (length old.tree.elements)).children ≡ []
-      → (result : Result A E) → OnOk result (new ≡ record { tree = made; names = names; ready = new.ready })
+      → (result : Result A E) → OnOk result (new ≡ record old { tree = made; names = names; ready = new.ready })
       → OnOk result (length new.tree.elements ≡ length old.tree.elements + 1) → OnOk result (ChangesAtNext old.tree new.tree)
       → OnErr result (new ≡ record old { ready = new.ready }) → AreKept new.tree kept
   kept_made made names room alone (Ok a) is longer changes same =
@@ -82,9 +82,9 @@ room_is page kept ready = let low = both (page.ready) (nat_lt (length page.tree.
 module _ (page : PageElements) (other : Bool) (tells : other ≡ not (has_document_room page)) (is : other ≡ false) where
   frame_fault : (fault : MakeFault) → IsMakeFault page fault → IsFrameFault page fault
   unfolding ◌>>◌
-  frame_fault (Limit kind) met = ap (λ step. step >> room limits.Documents (length page.tree.documents)) met
+  frame_fault (Limit kind) met = ap (λ step. step >> room (page.version) limits.Documents (length page.tree.documents)) met
   frame_fault Memory unready =
-      (ap (λ step. step >> room limits.Documents (length page.tree.documents)) (unready.0) ∙ roomy (has_document_room page) (sym tells ∙ is), unready.1)
+      (ap (λ step. step >> room (page.version) limits.Documents (length page.tree.documents)) (unready.0) ∙ roomy (has_document_room page) (sym tells ∙ is), unready.1)
     where
       roomy : (room : Bool) → not room ≡ false → met_unless room limits.Documents ≡ Did tt
       roomy true e = refl

@@ -32,7 +32,7 @@ use std::marker::Model;
 use std::sync::ledger::Ledger;
 use step_count::Steps;
 use style_values::Declaration;
-use text_io::{LimitKind, Name, ThrowKind};
+use text_io::{LimitKind, Name, ThrowKind, Version};
 
 /// The elements and documents of a page with their boxes, which are kept. A contract sees them as a page's elements, and as what
 /// is kept for each (`specs/Views.antt`).
@@ -57,17 +57,18 @@ impl Model for LaidTree {
 }
 
 impl LaidTree {
-    /// No element, and `top` alone, which is Active. The room for all documents is made here.
+    /// No element, and `top` alone, which is Active, of a page for scripts of this version. The room for all documents is made here.
     ///
     /// # Errors
     ///
     /// Where there is no memory.
-    pub fn new(alloc: Global) -> Result<LaidTree, AllocError>
-        ensures tree { IfOk result (λ laid. laid.elements.tree ≡ opening_world.tree) }
+    pub fn new(alloc: Global, version: Version) -> Result<LaidTree, AllocError>
+        ensures version { IfOk result (λ laid. laid.elements.version ≡ version) }
+        ensures tree { IfOk result (λ laid. laid.elements.tree ≡ (opening_world version).tree) }
         ensures names { IfOk result (λ laid. laid.elements.names ≡ []) }
         ensures kept { IfOk result (λ laid. laid.kept ≡ []) }
     {
-        let page = PageTree::new(alloc)?;
+        let page = PageTree::new(alloc, version)?;
         Ok(LaidTree {
             page,
             boxes: Kept::new(alloc),
@@ -98,8 +99,7 @@ impl LaidTree {
 
     /// Makes room for one element and its box, and tells the number that the next `make` or `make_frame` gives it.
     ///
-    /// That call doesn't answer `Memory`. `Limit` comes exactly where 20,000 elements were made; else `Memory` where there is
-    /// none. Besides the room nothing changes.
+    /// That call doesn't answer `Memory`. `Limit` comes exactly where the page is full; else `Memory` where there is none. Besides the room nothing changes.
     pub fn reserve(&mut self) -> Result<NodeId, MakeFault>
         ensures node { IfOk result (λ node. node.0 ≡ length self.old.elements.tree.elements) }
         ensures roomy { OnOk result (element_room self.old.elements ≡ Did tt) }
@@ -118,7 +118,7 @@ impl LaidTree {
 
     /// Makes an element with this name and kind, in a document and standing nowhere, and gives its number. It has no style set.
     ///
-    /// `Limit` comes exactly where 20,000 elements were made; else `Memory` where there is none, which isn't after
+    /// `Limit` comes exactly where the page is full; else `Memory` where there is none, which isn't after
     /// `reserve`. Nothing is changed then but that room may have been made.
     pub fn make(&mut self, document: u32, name: Name, kind: ItemKind) -> Result<NodeId, MakeFault>
         requires { IsKind kind }
@@ -143,7 +143,7 @@ impl LaidTree {
     /// Makes a frame with this name, in a document and standing nowhere, and the Fresh document in it, which has no root element
     /// (HTML, 4.8.5 and 7.3), and gives both numbers. The frame has no style set.
     ///
-    /// `Limit(Nodes)` comes exactly where 20,000 elements were made, then `Limit(Documents)` where 64 documents were; else
+    /// `Limit(Nodes)` comes exactly where the page is full, then `Limit(Documents)` where 64 documents were made; else
     /// `Memory` where there is none, which isn't after `reserve`. Nothing is changed then but that room may have been made.
     pub fn make_frame(&mut self, document: u32, name: Name) -> Result<(NodeId, u32), MakeFault>
         ensures node { IfOk result (λ made. made.0.0 ≡ length self.old.elements.tree.elements) }

@@ -1,14 +1,16 @@
 -- Callbacks and events: how a handler's commands are run (WebIDL, invoking callbacks; DOM, 2.9 and 2.10). What a
 -- handler is, and that a callback isn't invoked where its document isn't Active, is this project's own.
-use Rattle.std.specs.Prelude.{ℕ, ◌+◌, Bool, ◌==◌, ◌&&◌, List, [], ◌∷◌, map, filter, slice_get, Option, Some, None, option_map, unwrap_or, pos}
-use Rattle.std.specs.List.{list_any}
+use Rattle.std.specs.Prelude.{ℕ, ◌+◌, List, [], ◌∷◌, map, slice_get, Option, Some, None, option_map, unwrap_or, pos}
 use Rattle.text_io.specs.declared.kinds.EventKind.{EventKind}
 use Rattle.text_io.specs.declared.kinds.EventKind.TheVariants as events
+use Rattle.text_io.specs.declared.kinds.Version.{Version}
+use Rattle.text_io.specs.declared.kinds.Version.TheVariants.{First, Second}
+use Rattle.px_units.specs.declared.Size.{Size}
 use Rattle.script_model.specs.Syntax.{Command, Simple, Each, When, Block, NoMore, Then}
 use Rattle.text_io.specs.Limits.{limit_number}
 use Rattle.script_model.specs.Scripts.{NamedBlock}
 use Rattle.script_model.specs.TraceLines.{TraceLine, FiredEvent, EventLine, ResizeLine, ThrowLine, LimitLine}
-use Rattle.page_model.specs.World.{World, Name, Entry, EventTarget, ElementTarget, DocumentTarget, WindowTarget, QueryTarget, Listener}
+use Rattle.page_model.specs.World.{World, Extent, Name, Entry, EventTarget, ElementTarget, DocumentTarget, WindowTarget, QueryTarget, Listener}
 use Rattle.page_model.specs.Lookups.{element_at, query_list_at}
 use Rattle.page_model.specs.Documents.{is_active}
 use Rattle.page_model.specs.Names.{element_text, resize_observer_text}
@@ -39,9 +41,14 @@ pub data Entries : Type 0 where
   SizeEntries : (observer : ℕ) (entries : List SizeEntry) → Entries
   CutEntries : (observer : ℕ) (entries : List Entry) → Entries
 
--- the entry's content rectangle and border box
-abbrev pub resize_line : List Name → ℕ → SizeEntry → TraceLine
-resize_line names observer entry =
+-- a size in device pixels is told in the second version alone
+abbrev pub device_told : Version → Extent → Option Size
+device_told First size = None
+device_told Second size = Some (record { width = pos (size.across); height = pos (size.down) })
+
+-- the entry's content rectangle, border box and device pixels
+abbrev pub resize_line : Version → List Name → ℕ → SizeEntry → TraceLine
+resize_line version names observer entry =
     ResizeLine
     (resize_observer_text names observer)
     (element_text names (entry.target))
@@ -52,11 +59,12 @@ resize_line names observer entry =
       bottom = pos (entry.corner.down + entry.content.down);
     })
     (record { width = pos (entry.border.across); height = pos (entry.border.down) })
+    (device_told version (entry.device))
 
-abbrev pub entry_lines : List Name → Entries → List TraceLine
-entry_lines names NoEntries = []
-entry_lines names (SizeEntries observer entries) = map (resize_line names observer) entries
-entry_lines names (CutEntries observer entries) = intersection_lines names observer entries
+abbrev pub entry_lines : Version → List Name → Entries → List TraceLine
+entry_lines version names NoEntries = []
+entry_lines version names (SizeEntries observer entries) = map (resize_line version names observer) entries
+entry_lines version names (CutEntries observer entries) = intersection_lines names observer entries
 
 -- what `each` goes over
 abbrev pub presents : Entries → List Present
@@ -68,7 +76,7 @@ presents (CutEntries observer entries) = map (λ (entry : Entry). IntersectionEn
 unfoldable pub answered : {A : Type 0} → ℕ → World → (A → Said World) → Step A → Said World
 answered line world next (Did value) = next value
 answered line world next (Threw exception) = record { lines = ThrowLine line exception ∷ []; flow = Thrown; state = world }
-answered line world next (Met limit) = record { lines = LimitLine limit line (limit_number limit) ∷ []; flow = Limited; state = world }
+answered line world next (Met limit) = record { lines = LimitLine limit line (limit_number (world.version) limit) ∷ []; flow = Limited; state = world }
 
 abbrev pub said_by : Effect → Said World
 said_by effect = say (effect.lines) (effect.world)
@@ -109,7 +117,7 @@ while_active document run world = only_if run world (is_active (world.tree) docu
 unfoldable pub call : Script → ℕ → Option ℕ → Entries → World → Said World
 unfolding run_command ◌followed_by◌ caught intersection_lines
 call script document handler handed world =
-    while_active document (λ now. say (entry_lines (now.names) handed) now followed_by run_handler script handed handler) world
+    while_active document (λ now. say (entry_lines (now.version) (now.names) handed) now followed_by run_handler script handed handler) world
 
 -- events and what they are fired at ----------------------------------------------------------------------------------------
 

@@ -6,7 +6,7 @@ use Rattle.px_units.specs.declared.Rect.{Rect}
 use Rattle.px_units.specs.declared.Point.{Point}
 use Rattle.px_units.specs.Rects.{has_points, overlap, shifted}
 use Rattle.layout_model.specs.Boxes.{Box, padding_size, padding_corner, inner_corner}
-use Rattle.layout_model.specs.Clips.{clips}
+use Rattle.layout_model.specs.Clips.{clips, is_scroll_container}
 use Rattle.layout_model.specs.Nodes.{holder}
 use Rattle.script_model.specs.Margins.{MarginPart, MarginPixels, MarginPercentage, Margins}
 use Rattle.page_model.specs.World.{Tree, Root, ImplicitRoot, DocumentRoot, ElementRoot}
@@ -116,6 +116,10 @@ is_root (DocumentRoot root) (InDocument document) = document == root
 is_root (ElementRoot root) (InElement element) = element == root
 is_root root container = false
 
+-- what stands strictly between a target and a root
+abbrev pub containers_between : Tree → Root → ℕ → List Container
+containers_between tree root target = take_while (λ c. not (is_root root c)) (containers_of tree target)
+
 -- the padding box of an element that clips, and the viewport of a document
 abbrev pub clip_of : Shown → Container → Option Rect
 clip_of shown (InElement element) = cond (clips_in shown element) (Some (padding_rect shown element)) None
@@ -124,7 +128,7 @@ clip_of shown (InDocument document) = Some (viewport_rect shown document)
 -- the clips strictly between a target and a root
 unfoldable pub clips_between : Shown → Root → ℕ → List Rect
 unfolding containers_from viewport_rect padding_rect
-clips_between shown root target = filter_map (clip_of shown) (take_while (λ c. not (is_root root c)) (containers_of (shown.tree) target))
+clips_between shown root target = filter_map (clip_of shown) (containers_between (shown.tree) root target)
 
 -- the common part of a rectangle and others, none where no point is common to all
 unfoldable pub common_part : Rect → List Rect → Option Rect
@@ -132,12 +136,13 @@ common_part first others =
     let common = fold overlap first others in
     cond (has_points common) (Some common) None
 
--- a root margin in units: a percentage is of the root rectangle's width before it is moved, on all four sides, cut toward
--- zero. (That this holds for top and bottom too, and the cut, is this project's own reading.)
+-- a margin in units: a percentage is of the rectangle's width before it is moved, on all four sides, cut toward zero. (That
+-- this holds for top and bottom too, and the cut, is this project's own reading.)
 abbrev pub margin_units : ℤ → MarginPart → ℤ
 margin_units width (MarginPixels units) = units
 margin_units width (MarginPercentage hundredths) = int_div (width *ℤ hundredths) (pos 10000)
 
+-- a rectangle moved outward by margins
 abbrev pub moved_out : Margins → Rect → Rect
 moved_out margins r =
     let width = r.right -ℤ r.left in
@@ -147,6 +152,22 @@ moved_out margins r =
       right = r.right +ℤ margin_units width (margins.right);
       bottom = r.bottom +ℤ margin_units width (margins.bottom);
     }
+
+-- an observer's scroll margins move the clips of scroll containers outward (Intersection Observer, 2.2: scrollMargin). That
+-- they leave the viewports of documents alone is this project's own
+abbrev pub has_scroll_margins : Tree → Container → Bool
+has_scroll_margins tree (InElement element) = is_scroll_container (nodes_of tree element)
+has_scroll_margins tree (InDocument document) = false
+
+-- the clip of a container for an observer with these scroll margins
+abbrev pub clip_for : Shown → Margins → Container → Option Rect
+clip_for shown scroll_margins container =
+    cond (has_scroll_margins (shown.tree) container) (option_map (moved_out scroll_margins) (clip_of shown container)) (clip_of shown container)
+
+-- the clips strictly between a target and a root for such an observer
+unfoldable pub clips_for : Shown → Margins → Root → ℕ → List Rect
+unfolding containers_from viewport_rect padding_rect
+clips_for shown scroll_margins root target = filter_map (clip_for shown scroll_margins) (containers_between (shown.tree) root target)
 
 -- the padding box of a root element that clips, and the border box of another; zero without a box
 abbrev pub element_root_bounds : Shown → ℕ → Bool → Rect

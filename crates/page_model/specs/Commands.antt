@@ -1,20 +1,21 @@
 -- What each command does (this project's own commands, over the steps of DOM, CSSOM, CSSOM View, HTML, Resize Observer and
 -- Intersection Observer). The operands are looked up from left to right, then come the exceptions of the command, then its
 -- limits. A command that throws or meets a limit changes nothing.
-use Rattle.std.specs.Prelude.{ℕ, ℤ, suc, Bool, true, false, not, nat_lt, nat_le, ◌+◌, Option, Some, None, List, [], ◌∷◌, length, is_some}
+use Rattle.std.specs.Prelude.{ℕ, ℤ, suc, unwrap_or, Bool, true, false, not, nat_lt, nat_le, ◌+◌, Option, Some, None, List, [], ◌∷◌, length, is_some}
 use Rattle.px_units.specs.declared.BoxKind.TheVariants.{Border}
 use Rattle.layout_model.specs.Items.{Kind, BlockKind, ImageKind}
 use Rattle.text_io.specs.declared.kinds.EventKind.{EventKind}
+use Rattle.text_io.specs.declared.kinds.Version.{Version}
 use Rattle.text_io.specs.declared.kinds.ThrowKind.TheVariants.{HierarchyRequestError, NotFoundError, RangeError, ReferenceError, SyntaxError, TypeError}
 use Rattle.text_io.specs.declared.kinds.LimitKind.TheVariants as limits
-use Rattle.script_model.specs.Syntax.{Dimension, Action, Viewport, MakeBlock, MakeImage, MakeFrame, Append, Before, Remove, SetStyle, Grow, Load, MakeResizeObserver, ObserveResize, UnobserveResize, DisconnectResize, MakeIntersectionObserver, ObserveIntersection, UnobserveIntersection, DisconnectIntersection, TakeIntersections, Listen, Unlisten, MakeQueryList, ScrollTo, ScrollBy, RequestFrame, CancelFrame, SetTimer, ClearTimer, Post, Say, Read, Test, Wider, Taller, Matches, Attached, Seen, Condition}
+use Rattle.script_model.specs.Syntax.{Dimension, Action, Viewport, SetRatio, MakeBlock, MakeImage, MakeFrame, Append, Before, Remove, SetStyle, Grow, Load, MakeResizeObserver, ObserveResize, UnobserveResize, DisconnectResize, MakeIntersectionObserver, ObserveIntersection, UnobserveIntersection, DisconnectIntersection, TakeIntersections, Listen, Unlisten, MakeQueryList, ScrollTo, ScrollBy, RequestFrame, CancelFrame, SetTimer, ClearTimer, Post, Say, Read, Test, Wider, Taller, Matches, Attached, Seen, Condition}
 use Rattle.script_model.specs.TraceLines.{TakeLine, SayLine}
 use Rattle.script_model.specs.Queries.{MediaQuery}
-use Rattle.page_model.specs.World.{Extent, Entry, EventTarget, Posted, ElementThing, DocumentThing, ResizeObserverThing, IntersectionObserverThing, QueryListThing, QueryList, Listener, IntersectionObservers, Table, Tree, World}
-use Rattle.page_model.specs.Lookups.{element_at, document_at, resize_observer_at, intersection_observer_at, query_list_at}
+use Rattle.page_model.specs.World.{Extent, Entry, EventTarget, Posted, ElementThing, DocumentThing, ResizeObserverThing, IntersectionObserverThing, QueryListThing, Listener, IntersectionObservers, Table, Tree, World}
+use Rattle.page_model.specs.Lookups.{no_margins, put_at, element_at, document_at, resize_observer_at, intersection_observer_at, query_list_at}
 use Rattle.page_model.specs.Names.{with_name, intersection_observer_text}
 use Rattle.page_model.specs.Documents.{Container, InElement, InDocument, is_same_container, container_of, is_inclusive_ancestor, element_depth, levels_of, removed, inserted}
-use Rattle.text_io.specs.Limits.{limit_number}
+use Rattle.text_io.specs.Limits.{common_limit}
 use Rattle.script_model.specs.Media.{matches}
 use Rattle.script_model.specs.MarginText.{margins_of, thresholds_of}
 use Rattle.page_model.specs.Steps.{Step, Did, Threw, ◌>>=◌, ◌>>◌, Effect, becomes, writes, required, throw_if, met_unless, room, room_unless}
@@ -22,7 +23,7 @@ use Rattle.page_model.specs.Operands.{Present, NoEntry, ResizeEntry, Intersectio
 use Rattle.page_model.specs.PageBoxes.{viewport_of, size_of, place_of, is_scroller, scroll_range, scroll_offset}
 use Rattle.page_model.specs.EntryLines.{intersection_lines}
 use Rattle.page_model.specs.Edits.{with_element, with_frame, with_declaration, pixels_of, dimension_of, set_dimension, grown, is_image, with_natural_size}
-use Rattle.page_model.specs.Viewports.{with_size}
+use Rattle.page_model.specs.Viewports.{with_size, with_ratio}
 use Rattle.page_model.specs.ResizeObserving.{with_resize_observer, is_observed, resize_observations, with_resize_target, without_resize_target, without_resize_targets}
 use Rattle.page_model.specs.IntersectionObserving.{with_intersection_observer, is_registered, intersection_observations, with_registration, without_registration, without_registrations, without_queue}
 use Rattle.page_model.specs.QueryLists.{with_query_list}
@@ -63,15 +64,15 @@ placing container n sibling tree = do
   throw_if (would_hold_itself tree container n) HierarchyRequestError
   throw_if (is_no_child tree container sibling) NotFoundError
   throw_if (is_full tree container) HierarchyRequestError
-  met_unless (nat_le (container_depth tree container + levels_of tree n) (limit_number limits.Depth)) limits.Depth
+  met_unless (nat_le (container_depth tree container + levels_of tree n) (common_limit limits.Depth)) limits.Depth
   Did (inserted tree container n sibling)
 
 -- a target that is there already is left as it is
-unfoldable pub observing : ℕ → ℕ → Bool → IntersectionObservers → Step IntersectionObservers
+unfoldable pub observing : Version → ℕ → ℕ → Bool → IntersectionObservers → Step IntersectionObservers
 unfolding ◌>>=◌ ◌>>◌
-observing observer n true it = Did it
-observing observer n false it = do
-  room limits.IntersectionObservations (intersection_observations it)
+observing version observer n true it = Did it
+observing version observer n false it = do
+  room version limits.IntersectionObservations (intersection_observations it)
   Did (with_registration observer n it)
 
 -- the queue is copied and cleared
@@ -82,11 +83,11 @@ taking world observer queue =
     (record world { intersection_observers = without_queue observer (world.intersection_observers) })
 
 -- a second listener of one kind and handler on a target is ignored (DOM, 2.7)
-unfoldable pub listening : EventTarget → EventKind → ℕ → Bool → Table Listener → Step (Table Listener)
+unfoldable pub listening : Version → EventTarget → EventKind → ℕ → Bool → Table Listener → Step (Table Listener)
 unfolding ◌>>=◌ ◌>>◌
-listening target event handler true listeners = Did listeners
-listening target event handler false listeners = do
-  room limits.Listeners (length listeners.held)
+listening version target event handler true listeners = Did listeners
+listening version target event handler false listeners = do
+  room version limits.Listeners (length listeners.held)
   Did (with_listener target event handler listeners)
 
 -- whether a media query list matches a viewport
@@ -117,7 +118,7 @@ unfolding ◌>>=◌ ◌>>◌
 making world name document kind = do
   new_name (world.names) name
   made_in ← document_named (world.names) document
-  room limits.Nodes (length world.tree.elements)
+  room (world.version) limits.Nodes (length world.tree.elements)
   becomes (record world {
     names = with_name name (ElementThing (length world.tree.elements)) (world.names);
     tree = with_element kind made_in None (world.tree);
@@ -141,14 +142,15 @@ loading n width height tree = do
 unfoldable pub does : Handlers → World → Present → Action → Step Effect
 unfolding ◌>>=◌ ◌>>◌ with_tree with_intersections with_listeners making growing loading placing observing listening margins_of thresholds_of removed matches_now intersection_lines is_scroller scroll_range scroll_offset viewport_of size_of place_of
 does handlers world present (Viewport width height) = becomes (record world { viewports = with_size width height (world.viewports) })
+does handlers world present (SetRatio hundredths) = becomes (record world { viewports = with_ratio hundredths (world.viewports) })
 does handlers world present (MakeBlock name document) = making world name document BlockKind
 does handlers world present (MakeImage name document width height) = making world name document (ImageKind width height)
 does handlers world present (MakeFrame name document inside) = do
   new_name (world.names) name
   made_in ← document_named (world.names) document
   other_new_name (world.names) name inside
-  room limits.Nodes (length world.tree.elements)
-  room limits.Documents (length world.tree.documents)
+  room (world.version) limits.Nodes (length world.tree.elements)
+  room (world.version) limits.Documents (length world.tree.documents)
   becomes (record world {
     names = with_name inside (DocumentThing (length world.tree.documents)) (with_name name (ElementThing (length world.tree.elements)) (world.names));
     tree = with_frame made_in (world.tree);
@@ -178,7 +180,7 @@ does handlers world present (MakeResizeObserver name document handler) = do
   new_name (world.names) name
   owner ← document_named (world.names) document
   called ← handler_given handlers handler
-  room limits.ResizeObservers (length world.resize_observers.made)
+  room (world.version) limits.ResizeObservers (length world.resize_observers.made)
   becomes (record world {
     names = with_name name (ResizeObserverThing (length world.resize_observers.made)) (world.names);
     resize_observers = with_resize_observer owner called (world.resize_observers);
@@ -186,7 +188,7 @@ does handlers world present (MakeResizeObserver name document handler) = do
 does handlers world present (ObserveResize observer node observed) = do
   o ← resize_observer_named (world.names) observer
   n ← element_meant (world.names) present node
-  room_unless (is_observed n (resize_observer_at (world.resize_observers) o).targets) limits.ResizeObservations (resize_observations (world.resize_observers))
+  room_unless (world.version) (is_observed n (resize_observer_at (world.resize_observers) o).targets) limits.ResizeObservations (resize_observations (world.resize_observers))
   becomes (record world { resize_observers = with_resize_target o n observed (world.resize_observers) })
 does handlers world present (UnobserveResize observer node) = do
   o ← resize_observer_named (world.names) observer
@@ -201,17 +203,19 @@ does handlers world present (MakeIntersectionObserver making) = do
   called ← handler_given handlers making.handler
   root ← root_meant (world.names) present making.root
   margins ← required SyntaxError (margins_of making.margin)
+  scroll_margins ← required SyntaxError (margins_of (unwrap_or making.scroll []))
   thresholds ← required RangeError (thresholds_of making.thresholds)
-  room limits.IntersectionObservers (length world.intersection_observers.made)
+  room (world.version) limits.IntersectionObservers (length world.intersection_observers.made)
   becomes (record world {
     names = with_name (making.name) (IntersectionObserverThing (length world.intersection_observers.made)) (world.names);
     intersection_observers = with_intersection_observer owner called root margins thresholds (world.intersection_observers);
+    scroll_margins = put_at no_margins (length world.intersection_observers.made) scroll_margins (world.scroll_margins);
   })
 does handlers world present (ObserveIntersection observer node) = do
   o ← intersection_observer_named (world.names) observer
   n ← element_meant (world.names) present node
   with_intersections world
-      (observing o n (is_registered n (intersection_observer_at (world.intersection_observers) o).registrations) (world.intersection_observers))
+      (observing (world.version) o n (is_registered n (intersection_observer_at (world.intersection_observers) o).registrations) (world.intersection_observers))
 does handlers world present (UnobserveIntersection observer node) = do
   o ← intersection_observer_named (world.names) observer
   n ← element_meant (world.names) present node
@@ -225,7 +229,7 @@ does handlers world present (TakeIntersections observer) = do
 does handlers world present (Listen aim event handler) = do
   target ← event_target_meant (world.names) present aim
   called ← handler_named handlers handler
-  with_listeners world (listening target event called (is_listening target event called (world.listeners)) (world.listeners))
+  with_listeners world (listening (world.version) target event called (is_listening target event called (world.listeners)) (world.listeners))
 does handlers world present (Unlisten aim event handler) = do
   target ← event_target_meant (world.names) present aim
   called ← handler_named handlers handler
@@ -233,7 +237,7 @@ does handlers world present (Unlisten aim event handler) = do
 does handlers world present (MakeQueryList name document query) = do
   new_name (world.names) name
   owner ← document_named (world.names) document
-  room limits.Queries (length world.queries)
+  room (world.version) limits.Queries (length world.queries)
   becomes (record world {
     names = with_name name (QueryListThing (length world.queries)) (world.names);
     queries = with_query_list owner query (matches_now world owner query) (world.queries);
@@ -248,7 +252,7 @@ does handlers world present (RequestFrame document key handler) = do
   owner ← document_named (world.names) document
   called ← handler_named handlers handler
   throw_if (is_frame_requested owner key (world.frame_callbacks)) TypeError
-  room limits.FrameCallbacks (length world.frame_callbacks.held)
+  room (world.version) limits.FrameCallbacks (length world.frame_callbacks.held)
   becomes (record world { frame_callbacks = with_frame_callback owner key called (world.frame_callbacks) })
 does handlers world present (CancelFrame document key) = do
   owner ← document_named (world.names) document
@@ -257,7 +261,7 @@ does handlers world present (SetTimer document key delay handler) = do
   owner ← document_named (world.names) document
   called ← handler_named handlers handler
   throw_if (is_timer_set owner key (world.timers)) TypeError
-  room limits.Timers (length world.timers.held)
+  room (world.version) limits.Timers (length world.timers.held)
   becomes (record world { timers = with_timer owner key (world.clock + delay) called (world.timers) })
 does handlers world present (ClearTimer document key) = do
   owner ← document_named (world.names) document
@@ -265,7 +269,7 @@ does handlers world present (ClearTimer document key) = do
 does handlers world present (Post document handler) = do
   owner ← document_named (world.names) document
   called ← handler_named handlers handler
-  room limits.Tasks (posted_tasks (world.tasks))
+  room (world.version) limits.Tasks (posted_tasks (world.tasks))
   becomes (record world { tasks = with_task (Posted owner called) (world.tasks) })
 does handlers world present (Say word) = writes (SayLine word ∷ []) world
 does handlers world present (Read target) = do
@@ -310,5 +314,5 @@ holds world present condition = do
 unfoldable pub begun_in : World → Step World
 unfolding ◌>>=◌ ◌>>◌
 begun_in world = do
-  room limits.Commands world.begun
+  room (world.version) limits.Commands world.begun
   Did (record world { begun = suc world.begun })

@@ -1,5 +1,5 @@
 -- What single commands make of elements and documents: making them, styles and natural sizes (DOM, 4.5; HTML, 4.8.5; CSSOM, 6.6).
-use Rattle.std.specs.Prelude.{ℕ, ℤ, pos, negsuc, ◌+ℤ◌, min, Bool, true, false, Option, Some, None, List, [], ◌∷◌, ◌++◌, length}
+use Rattle.std.specs.Prelude.{ℕ, ℤ, pos, negsuc, ◌+ℤ◌, min, Bool, true, false, Option, Some, None, [], ◌∷◌, ◌++◌, length}
 use Rattle.px_units.specs.Lengths.{LengthValue, Automatic, Pixels, Percentage}
 use Rattle.layout_model.specs.Styles.{Style, Declaration, SetWidth, SetHeight, first_style, declared}
 use Rattle.layout_model.specs.Items.{Kind, BlockKind, ImageKind, FrameKind, Item}

@@ -5,12 +5,13 @@ use Rattle.px_units.specs.declared.Rect.{Rect}
 use Rattle.px_units.specs.declared.Point.{Point}
 use Rattle.px_units.specs.Rects.{area}
 use Rattle.layout_model.specs.Nodes.{held, is_in_path}
+use Rattle.script_model.specs.Margins.{Margins}
 use Rattle.page_model.specs.World.{Tree, Root, ImplicitRoot, DocumentRoot, ElementRoot, Finding, IntersectionObserver}
 use Rattle.page_model.specs.Lookups.{element_at}
 use Rattle.page_model.specs.Documents.{nodes_of}
 use Rattle.page_model.specs.PageBoxes as boxes
 use Rattle.page_model.specs.Shown.{Shown, has_box}
-use Rattle.page_model.specs.Chains.{zero_point, zero_rect, moved_back, origin, origin_of_element, border_rect, clips_between, common_part, root_rect}
+use Rattle.page_model.specs.Chains.{zero_point, zero_rect, moved_back, origin, origin_of_element, border_rect, clips_for, common_part, root_rect}
 
 -- how a target lies to a root: apart from it, without a box, or in a chain of containers that leads to it
 pub data Relation : Type 0 where
@@ -83,25 +84,26 @@ root_origin shown ImplicitRoot = zero_point
 root_origin shown (DocumentRoot document) = origin shown document
 root_origin shown (ElementRoot element) = cond (has_box shown element) (origin_of_element shown element) zero_point
 
-abbrev pub found : Shown → IntersectionObserver → ℕ → Rect → Relation → Finding
-found shown observer target root Apart = unseen 0 root
-found shown observer target root Boxless = unseen (index_of (observer.thresholds) 0 1) root
-found shown observer target root Chained =
+abbrev pub found : Shown → Margins → IntersectionObserver → ℕ → Rect → Relation → Finding
+found shown scroll_margins observer target root Apart = unseen 0 root
+found shown scroll_margins observer target root Boxless = unseen (index_of (observer.thresholds) 0 1) root
+found shown scroll_margins observer target root Chained =
     let bounds = border_rect shown target in
     seen_at
     (observer.thresholds)
     (origin_of_element shown target)
     bounds
-    (common_part bounds (root_rect shown (observer.root) (observer.margins) ∷ clips_between shown (observer.root) target))
+    (common_part bounds (root_rect shown (observer.root) (observer.margins) ∷ clips_for shown scroll_margins (observer.root) target))
     root
 
--- the finding of a target by an observer; its rectangles are in the coordinates of the target's document, the root
--- rectangle in those of the root's
-unfoldable pub finding : Shown → IntersectionObserver → ℕ → Finding
-unfolding root_rect clips_between common_part ratio_of origin border_rect boxes.has_box is_in_path
-finding shown observer target =
+-- the finding of a target by an observer with these scroll margins; its rectangles are in the coordinates of the target's document, the
+-- root rectangle in those of the root's
+unfoldable pub finding : Shown → Margins → IntersectionObserver → ℕ → Finding
+unfolding root_rect clips_for common_part ratio_of origin border_rect boxes.has_box is_in_path
+finding shown scroll_margins observer target =
     found
     shown
+    scroll_margins
     observer
     target
     (moved_back (root_origin shown (observer.root)) (root_rect shown (observer.root) (observer.margins)))

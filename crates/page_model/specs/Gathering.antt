@@ -3,7 +3,7 @@
 use Rattle.std.specs.Prelude.{ℕ, Bool, true, false, cond, not, ◌&&◌, ◌==◌, nat_lt, List, [], ◌∷◌, map, filter}
 use Rattle.std.specs.List.{list_any}
 use Rattle.px_units.specs.declared.BoxKind.{BoxKind}
-use Rattle.px_units.specs.declared.BoxKind.TheVariants.{Content, Border}
+use Rattle.px_units.specs.declared.BoxKind.TheVariants.{Content, Border, Device}
 use Rattle.page_model.specs.World.{Extent, Screen, Tree, Observation, ResizeObserver, ResizeObservers, World}
 use Rattle.page_model.specs.Lookups.{same_extent, resize_observer_at, change_resize_observer}
 use Rattle.page_model.specs.Documents.{element_depth}
@@ -68,12 +68,14 @@ has_active document it = has_filled (λ observer. observer.active) document it
 abbrev pub has_skipped : ℕ → ResizeObservers → Bool
 has_skipped document it = has_filled (λ observer. observer.skipped) document it
 
--- an entry: the content box's corner in the padding box, its size, the border box's size, and the target's depth
+-- an entry: the content box's corner in the padding box, its size, the border box's size, the content box's size in device pixels, and
+-- the target's depth
 pub record SizeEntry : Type 0 where
   pub target : ℕ
   pub corner : Extent
   pub content : Extent
   pub border : Extent
+  pub device : Extent
   pub depth : ℕ
 
 -- the entry of an active observation, of the boxes as they are now (create and populate a ResizeObserverEntry)
@@ -83,6 +85,7 @@ size_entry sight observation = record {
   corner = sight.corner (observation.target);
   content = sight.size (observation.target) Content;
   border = sight.size (observation.target) Border;
+  device = sight.size (observation.target) Device;
   depth = sight.depth (observation.target);
 }
 

@@ -2,7 +2,7 @@
 use Rattle.std.specs.Prelude.{ℕ, suc, Bool, true, false, cond, not, ◌==◌, ◌&&◌, nat_lt, List, [], ◌∷◌, ◌++◌, map, filter_map, length, Option, Some, None}
 use Rattle.std.specs.List.{list_any}
 use Rattle.page_model.specs.World.{World, Tree, Root, ImplicitRoot, DocumentRoot, ElementRoot, Finding, Entry, Registration, IntersectionObserver, IntersectionObservers, Notify}
-use Rattle.page_model.specs.Lookups.{intersection_observer_at, change_each}
+use Rattle.page_model.specs.Lookups.{intersection_observer_at, scroll_margins_at, change_intersection_observer}
 use Rattle.page_model.specs.Documents.{is_active, is_number, tree_document}
 use Rattle.page_model.specs.IntersectionObserving.{without_queue}
 use Rattle.page_model.specs.Tasks.{with_task, is_notifying, with_notifying, without_notifying}
@@ -57,9 +57,11 @@ settled_observer time find observer =
       queue = observer.queue ++ filter_map (λ (it : Settled). it.entry) each;
     }
 
--- these observers settled
-abbrev pub settling : ℕ → (IntersectionObserver → ℕ → Finding) → List ℕ → IntersectionObservers → IntersectionObservers
-settling time find observers it = record it { made = change_each (settled_observer time find) observers (it.made) }
+-- these observers settled, each by what is found for it
+abbrev pub settling : ℕ → (ℕ → IntersectionObserver → ℕ → Finding) → List ℕ → IntersectionObservers → IntersectionObservers
+settling time find [] it = it
+settling time find (observer ∷ others) it =
+    settling time find others (change_intersection_observer (settled_observer time (find observer)) observer it)
 
 -- a notify task for a document, unless one is queued already (queue an intersection observer task)
 abbrev pub with_notify_task : ℕ → Bool → World → World
@@ -71,12 +73,16 @@ abbrev pub has_queued : IntersectionObservers → IntersectionObservers → ℕ 
 has_queued before now observer =
     nat_lt (length (intersection_observer_at before observer).queue) (length (intersection_observer_at now observer).queue)
 
+-- what an observer of this number finds of a target now
+abbrev pub found_now : World → ℕ → IntersectionObserver → ℕ → Finding
+found_now world number observer target = finding (shown_of world) (scroll_margins_at (world.scroll_margins) number) observer target
+
 -- update intersection observations of a document: all findings are of the world as the update begins
 unfoldable pub update_intersections : ℕ → World → World
 unfolding finding tree_document
 update_intersections document world =
     let observers = watchers (world.tree) document (world.intersection_observers) in
-    let settled = settling (world.clock) (finding (shown_of world)) observers (world.intersection_observers) in
+    let settled = settling (world.clock) (found_now world) observers (world.intersection_observers) in
     let now = record world { intersection_observers = settled } in
     cond (list_any (has_queued (world.intersection_observers) settled) observers)
     (with_notify_task document (is_notifying document (world.notifying)) now)

@@ -5,7 +5,7 @@ use Rattle.std.specs.Prelude.{ℕ, zero, suc, pos, Bool, true, false, cond, not,
 use Rattle.std.specs.List.{list_any}
 use Rattle.layout_model.specs.Styles.{all_four, first_style}
 use Rattle.layout_model.specs.Items.{BlockKind, Item}
-use Rattle.script_model.specs.Margins.{MarginPixels}
+use Rattle.script_model.specs.Margins.{MarginPixels, Margins}
 use Rattle.page_model.specs.World.{Extent, Element, Document, Dead, Tree, ResizeObserver, ResizeObservers, ImplicitRoot, IntersectionObserver, IntersectionObservers, QueryList, Table}
 
 abbrev pub no_extent : Extent
@@ -49,12 +49,15 @@ no_document = record { state = Dead; frame = None; root = None }
 abbrev pub no_resize_observer : ResizeObserver
 no_resize_observer = record { document = 0; handler = None; targets = []; active = []; skipped = [] }
 
+abbrev pub no_margins : Margins
+no_margins = all_four (MarginPixels (pos 0))
+
 abbrev pub no_intersection_observer : IntersectionObserver
 no_intersection_observer = record {
   document = 0;
   handler = None;
   root = ImplicitRoot;
-  margins = all_four (MarginPixels (pos 0));
+  margins = no_margins;
   thresholds = [];
   registrations = [];
   queue = [];
@@ -74,6 +77,10 @@ resize_observer_at it n = entry_or no_resize_observer it.made n
 
 abbrev pub intersection_observer_at : IntersectionObservers → ℕ → IntersectionObserver
 intersection_observer_at it n = entry_or no_intersection_observer it.made n
+
+-- the scroll margins of an intersection observer
+abbrev pub scroll_margins_at : List Margins → ℕ → Margins
+scroll_margins_at margins n = entry_or no_margins margins n
 
 abbrev pub query_list_at : List QueryList → ℕ → QueryList
 query_list_at queries n = entry_or no_query_list queries n

@@ -1,5 +1,5 @@
 -- The resize loop of a document (Resize Observer, 3.4; HTML, update the rendering).
-use Rattle.std.specs.Prelude.{ℕ, min, Bool, cond, ◌&&◌, List, [], ◌∷◌, map, fold, length, Option, Some, None, unwrap_or}
+use Rattle.std.specs.Prelude.{ℕ, min, cond, ◌&&◌, List, [], ◌∷◌, map, fold, length, Option, Some, None, unwrap_or}
 use Rattle.text_io.specs.declared.kinds.EventKind.TheVariants as events
 use Rattle.script_model.specs.TraceLines.{RoundLine, FiredError}
 use Rattle.page_model.specs.World.{World, Observation, WindowTarget}

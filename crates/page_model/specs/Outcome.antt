@@ -1,7 +1,9 @@
 -- The outcome of a script: its trace, how it ends and the world then; and the texts that are written of it. All of this is
 -- this project's own choice.
-use Rattle.std.specs.Prelude.{ℕ, false, List, [], ◌∷◌, ◌++◌, flat_map, None, Ok, Err, codes}
+use Rattle.std.specs.Prelude.{ℕ, List, [], ◌∷◌, ◌++◌, flat_map, None, Ok, Err, codes}
 use Rattle.word_model.specs.Numbers.{decimal}
+use Rattle.text_io.specs.declared.kinds.Version.{Version}
+use Rattle.text_io.specs.declared.kinds.Version.TheVariants.{First}
 use Rattle.script_model.specs.Syntax.{Item, Outside, Tick, Handler}
 use Rattle.script_model.specs.Scripts.{NamedBlock, handlers_in, command_count}
 use Rattle.script_model.specs.Reading.{Reading, reading, Refusal, SyntaxAt, LimitAt, refusal_line}
@@ -14,21 +16,23 @@ use Rattle.page_model.specs.Runs.{Flow, Next, Thrown, Limited, Said, silent, for
 use Rattle.page_model.specs.Callbacks.{run_command, once_begun, answered}
 use Rattle.page_model.specs.Ticks.{time_set, tick}
 
--- the top document, Active and empty, with a viewport of 800 by 600 pixels
-abbrev pub opening_world : World
-opening_world = record {
+-- the top document, Active and empty, with a viewport of 800 by 600 pixels, each of which is a device pixel
+abbrev pub opening_world : Version → World
+opening_world version = record {
   tree = record { elements = []; documents = record { state = Active; frame = None; root = None } ∷ [] };
   names = record { text = codes "top"; thing = DocumentThing 0 } ∷ [];
-  viewports = record { screen = record { size = record { across = 51200; down = 38400 } }; noted = [] };
+  viewports = record { screen = record { size = record { across = 51200; down = 38400 }; ratio = 10000 }; noted = [] };
   scrolls = record { elements = []; documents = []; pending = [] };
   resize_observers = record { given = 0; made = [] };
   intersection_observers = record { given = 0; made = [] };
+  scroll_margins = [];
   notifying = [];
   queries = [];
   listeners = record { given = 0; held = [] };
   frame_callbacks = record { given = 0; held = [] };
   timers = record { given = 0; held = [] };
   tasks = [];
+  version = version;
   clock = 0;
   begun = 0;
 }
@@ -73,12 +77,12 @@ refused_ending (LimitAt limit line) = LimitMet
 abbrev pub outcome_said : Said World → Outcome
 outcome_said said = record { lines = said.lines; ending = ending_of (said.flow); world = said.state }
 
--- a text that is refused is not run, so that the world is the one that a run opens in
+-- a text that is refused is not run, so that the world is one that a run opens in
 unfoldable pub outcome_read : Reading → Outcome
 unfolding run_items ending_of
-outcome_read (Ok items) = outcome_said (run_items items opening_world)
+outcome_read (Ok script) = outcome_said (run_items (script.items) (opening_world (script.version)))
 outcome_read (Err refusal) =
-    record { lines = refusal_line refusal ∷ []; ending = refused_ending refusal; world = opening_world }
+    record { lines = refusal_line refusal ∷ []; ending = refused_ending refusal; world = opening_world First }
 
 unfoldable pub outcome : List ℕ → Outcome
 unfolding reading outcome_read
@@ -97,7 +101,7 @@ trace text = bytes_of (outcome text).lines
 -- the number of a script's commands, those of handlers and blocks included
 unfoldable pub check_read : Reading → List ℕ
 unfolding command_count decimal line_text
-check_read (Ok items) = codes "ok " ++ decimal (command_count items) ++ codes "\n"
+check_read (Ok script) = codes "ok " ++ decimal (command_count (script.items)) ++ codes "\n"
 check_read (Err refusal) = line_text (refusal_line refusal)
 
 unfoldable pub check_text : List ℕ → List ℕ
@@ -107,7 +111,7 @@ check_text text = check_read (reading text)
 -- how many lines of each kind the trace has; of a text that is refused, its one line
 unfoldable pub summary_read : Reading → List ℕ
 unfolding run_items line_text summary_text
-summary_read (Ok items) = summary_text (run_items items opening_world).lines
+summary_read (Ok script) = summary_text (run_items (script.items) (opening_world (script.version))).lines
 summary_read (Err refusal) = line_text (refusal_line refusal)
 
 unfoldable pub summary_of : List ℕ → List ℕ

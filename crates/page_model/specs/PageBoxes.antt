@@ -1,13 +1,13 @@
 -- Boxes, places and scroll offsets of a page, read from its whole tree as it is at the reading (CSS 2.2, 8 to 11,
 -- with the content box of a frame as the viewport of its document; CSSOM View, 4 to 6). A box comes from the tree and the screen
 -- that the top document is shown on, and a place from the scroll positions besides. All numbers are units of 1/64 pixel.
-use Rattle.std.specs.Prelude.{ℕ, zero, suc, ℤ, pos, Bool, true, false, ◌&&◌, Option, Some, None, option_map, unwrap_or, is_some}
+use Rattle.std.specs.Prelude.{ℕ, zero, suc, ℤ, pos, Bool, true, false, ◌&&◌, ◌+◌, ◌*◌, ◌/◌, Option, Some, None, option_map, unwrap_or, is_some}
 use Rattle.px_units.specs.declared.BoxKind.{BoxKind}
-use Rattle.px_units.specs.declared.BoxKind.TheVariants.{Content, Border}
+use Rattle.px_units.specs.declared.BoxKind.TheVariants.{Content, Border, Device}
 use Rattle.px_units.specs.declared.Point.{Point}
 use Rattle.layout_model.specs.Boxes.{Inputs, Box, box_in, content_size, content_corner, border_size}
 use Rattle.layout_model.specs.Clips.{is_scroll_container}
-use Rattle.layout_model.specs.Reach.{View, inputs_in_view, range_of, range_of_view, offset_in_force, view_in_force}
+use Rattle.layout_model.specs.Reach.{View, inputs_in_view, range_of, range_of_view}
 use Rattle.layout_model.specs.Places.{place_in}
 use Rattle.page_model.specs.World.{Extent, Screen, DocumentState, Fresh, Active, Dead, ScrollTarget, ScrolledElement, ScrolledDocument, Scrolls, Tree}
 use Rattle.page_model.specs.Lookups.{element_at, document_at}
@@ -78,14 +78,21 @@ unfoldable pub box_of : Tree → Screen → ℕ → Option Box
 unfolding inputs_of box_in
 box_of tree screen n = option_map (λ inputs. box_in (nodes_of tree) inputs n) (inputs_of tree screen n)
 
-abbrev pub size_by : BoxKind → Box → ℕ × ℕ
-size_by Content box = content_size box
-size_by Border box = border_size box
+-- the nearest whole number of device pixels along an axis, a half upwards, at a ratio in hundredths of a percent. A pixel has 64 units.
+-- (How it is rounded is this project's own.)
+abbrev pub device_pixels : ℕ → ℕ → ℕ
+device_pixels ratio units = (units * ratio + 320000) / 640000
+
+-- the size of one of the boxes, in units or for the device pixels of the content box in those (Resize Observer, 3.4: calculate box size)
+abbrev pub size_by : ℕ → BoxKind → Box → ℕ × ℕ
+size_by ratio Content box = content_size box
+size_by ratio Border box = border_size box
+size_by ratio Device box = (device_pixels ratio (box.width), device_pixels ratio (box.height))
 
 -- the size of one of an element's boxes, 0 by 0 without a box
 unfoldable pub size_of : Tree → Screen → ℕ → BoxKind → Extent
 unfolding box_of
-size_of tree screen n kind = extent_of (unwrap_or (option_map (size_by kind) (box_of tree screen n)) (0, 0))
+size_of tree screen n kind = extent_of (unwrap_or (option_map (size_by (screen.ratio) kind) (box_of tree screen n)) (0, 0))
 
 -- the content's corner in the padding box, which is the left and top paddings
 unfoldable pub corner_of : Tree → Screen → ℕ → Extent

@@ -105,6 +105,7 @@ pub record IsWithin (counts : Counts) (world : World) : Type 0 where
   pub scrolls : AreScrollsIn counts world.scrolls
   pub resize_observers : AllByRecursion (IsResizeObserverIn counts) world.resize_observers.made
   pub intersection_observers : AllByRecursion (IsIntersectionObserverIn counts) world.intersection_observers.made
+  pub scroll_margins : length world.scroll_margins ≤ counts.intersection_observers
   pub notifying : length world.notifying ≤ counts.documents
   pub queries : AllByRecursion (λ list. list.document < counts.documents) world.queries
   pub listeners : AllByRecursion (IsListenerIn counts) world.listeners.held

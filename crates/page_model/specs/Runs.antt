@@ -68,12 +68,12 @@ repeat goes_on step zero state = silent state
 repeat goes_on step (suc most) state =
     only_if (λ now. step now followed_by repeat goes_on step most) state (goes_on state)
 
--- More steps than any loop of a tick has, so that none is cut off. A run begins at most 1,000,000 commands. Each posted
+-- More steps than any loop of a tick has, so that none is cut off. A run begins at most 2,000,000 commands. Each posted
 -- task, observer and query list is made by one, and at most 64 notify tasks wait at a time. Between two commands of a
 -- resize loop the depth of each round is greater than that of the round before, and a depth is at most 65,537, the bound of
--- its own recursion: 65,538 times 1,000,001 is less than this number.
+-- its own recursion: 65,538 times 2,000,001 is less than this number.
 abbrev pub most_steps : ℕ
-most_steps = 100000000000
+most_steps = 1000000000000
 
 -- a place in a list that may grow while it is gone over
 pub record Turn (S : Type 0) : Type 0 where

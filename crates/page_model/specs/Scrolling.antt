@@ -1,7 +1,7 @@
 -- Scrolling by commands (CSSOM View, 4 to 6: the methods of windows and elements that scroll; that a document
 -- scrolls whatever its root element's overflow is this project's own).
 use Rattle.std.specs.Prelude.{ℕ, ℤ, pos, ◌+ℤ◌, Bool, true, false, Option, Some, None}
-use Rattle.page_model.specs.World.{Extent, Screen, ScrollTarget, ScrolledElement, ScrolledDocument, Tree, World}
+use Rattle.page_model.specs.World.{Screen, ScrollTarget, ScrolledElement, ScrolledDocument, Tree, World}
 use Rattle.page_model.specs.Lookups.{element_at}
 use Rattle.page_model.specs.Documents.{Container, InElement, InDocument, is_root_element}
 use Rattle.page_model.specs.PageBoxes.{is_scroller, scroll_range, scroll_offset}

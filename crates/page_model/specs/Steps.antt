@@ -3,6 +3,7 @@
 use Rattle.std.specs.Prelude.{ℕ, Bool, true, false, ◌||◌, nat_lt, Option, Some, None, List, []}
 use Rattle.text_io.specs.declared.kinds.ThrowKind.{ThrowKind}
 use Rattle.text_io.specs.declared.kinds.LimitKind.{LimitKind}
+use Rattle.text_io.specs.declared.kinds.Version.{Version}
 use Rattle.script_model.specs.TraceLines.{TraceLine}
 use Rattle.page_model.specs.World.{World}
 use Rattle.text_io.specs.Limits.{limit_number}
@@ -49,13 +50,13 @@ abbrev pub met_unless : Bool → LimitKind → Step (Unit {0})
 met_unless true limit = Did tt
 met_unless false limit = Met limit
 
--- room for one more where so many are there
-abbrev pub room : LimitKind → ℕ → Step (Unit {0})
-room limit count = met_unless (nat_lt count (limit_number limit)) limit
+-- room for one more where so many are there, in a world of this version
+abbrev pub room : Version → LimitKind → ℕ → Step (Unit {0})
+room version limit count = met_unless (nat_lt count (limit_number version limit)) limit
 
 -- the same, but where what is asked for is there already no room is needed
-abbrev pub room_unless : Bool → LimitKind → ℕ → Step (Unit {0})
-room_unless already limit count = met_unless (already || nat_lt count (limit_number limit)) limit
+abbrev pub room_unless : Version → Bool → LimitKind → ℕ → Step (Unit {0})
+room_unless version already limit count = met_unless (already || nat_lt count (limit_number version limit)) limit
 
 -- whether a step neither throws nor meets a limit
 abbrev pub is_did : {A : Type 0} → Step A → Bool

@@ -1,6 +1,6 @@
 -- A tick: the timers due, one update of the rendering, and the queued tasks (HTML, event loops: update the rendering). The
 -- order of the three, and that no update is skipped, is this project's own.
-use Rattle.std.specs.Prelude.{ℕ, Bool, true, false, cond, not, ◌==◌, ◌&&◌, nat_lt, List, [], ◌∷◌, length, Option, Some, None}
+use Rattle.std.specs.Prelude.{ℕ, Bool, cond, not, ◌==◌, ◌&&◌, nat_lt, List, [], ◌∷◌, length, Some}
 use Rattle.text_io.specs.declared.kinds.EventKind.TheVariants as events
 use Rattle.text_io.specs.declared.kinds.ThrowKind.TheVariants.{RangeError}
 use Rattle.script_model.specs.TraceLines.{TraceLine, TickLine, TimerLine, FrameLine, TaskLine, FiredResize, FiredScroll, FiredChange}

@@ -6,6 +6,9 @@ use Rattle.page_model.specs.Lookups.{same_extent, entry_or, put_at}
 abbrev pub with_size : ℕ → ℕ → Viewports → Viewports
 with_size width height it = record it { screen = record (it.screen) { size = record { across = width; down = height } } }
 
+abbrev pub with_ratio : ℕ → Viewports → Viewports
+with_ratio hundredths it = record it { screen = record (it.screen) { ratio = hundredths } }
+
 -- the size that was noted for a document, if any was
 abbrev pub noted_size : ℕ → Viewports → Option Extent
 noted_size document it = entry_or None it.noted document

@@ -10,6 +10,7 @@ use Rattle.px_units.specs.declared.BoxKind.{BoxKind}
 use Rattle.px_units.specs.declared.Rect.{Rect}
 use Rattle.layout_model.specs.Items.{Item}
 use Rattle.text_io.specs.declared.kinds.EventKind.{EventKind}
+use Rattle.text_io.specs.declared.kinds.Version.{Version}
 use Rattle.script_model.specs.Margins.{Margins}
 use Rattle.script_model.specs.Queries.{MediaQuery}
 
@@ -48,9 +49,11 @@ pub record Tree : Type 0 where
 
 -- viewports and scrolling ------------------------------------------------------------------------------------------------------
 
--- what the top document is shown on: the size of its viewport
+-- what the top document is shown on: the size of its viewport, and how many device pixels a pixel is, in hundredths of a percent (CSSOM
+-- View, 4: devicePixelRatio)
 pub record Screen : Type 0 where
   pub size : Extent
+  pub ratio : ℕ
 
 -- the screen, and for each document the size of its viewport that was noted at its last resize steps, if any
 pub record Viewports : Type 0 where
@@ -188,7 +191,9 @@ pub record Table (A : Type 0) : Type 0 where
 
 -- the whole --------------------------------------------------------------------------------------------------------------------
 
--- `notifying` tells for each document whether a notify task is queued; `begun` is the number of commands begun
+-- `scroll_margins` are those of each intersection observer (Intersection Observer, 2.2: scrollMargin); `notifying` tells for each
+-- document whether a notify task is queued; `version` is that of the script, which decides on limits and lines; `begun` is the number
+-- of commands begun
 pub record World : Type 0 where
   pub tree : Tree
   pub names : List Name
@@ -196,11 +201,13 @@ pub record World : Type 0 where
   pub scrolls : Scrolls
   pub resize_observers : ResizeObservers
   pub intersection_observers : IntersectionObservers
+  pub scroll_margins : List Margins
   pub notifying : List Bool
   pub queries : List QueryList
   pub listeners : Table Listener
   pub frame_callbacks : Table FrameCallback
   pub timers : Table Timer
   pub tasks : List Task
+  pub version : Version
   pub clock : ℕ
   pub begun : ℕ

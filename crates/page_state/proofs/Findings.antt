@@ -7,6 +7,7 @@ use Rattle.std.specs.Cmp.{nat_cmp_total, unsigned_tied}
 use Rattle.std.specs.FinMap.{FinMap, get, insert, remove, contains_key, get-insert, get-remove}
 use Rattle.std.proofs.lemmas.Bool.{false≢true}
 use Rattle.std.proofs.lemmas.List.Elements.{All-head, All-tail}
+use Rattle.script_model.specs.Margins.{Margins}
 use Rattle.page_model.specs.World.{Root, Registration, IntersectionObserver, IntersectionObservers}
 use Rattle.page_model.specs.Lookups.{entry_or, change_at, no_intersection_observer, intersection_observer_at}
 use Rattle.page_model.specs.IntersectionObserving.{is_registered, with_registration, without_registration}
@@ -24,10 +25,10 @@ use Rattle.kept_clips.specs.Touches.{last_touch}
 use Rattle.kept_clips.specs.Held.{new_pair, pair_at, spots_of as spots_in}
 use Rattle.kept_clips.specs.Seen.{sighting_of}
 use Rattle.candidate_index.specs.declared.index.Kept.{Kept}
-use Rattle.candidate_index.specs.Held.{kept_of, AreFound}
+use Rattle.candidate_index.specs.Held.{kept_of}
 use Rattle.candidate_index.proofs.Found.{kept_removed}
 use Rattle.kept_findings.specs.Held.{HeldFindings, with_findings, without_findings, IsRoomier}
-use Rattle.kept_findings.specs.Registered.{spots_of, IsSettled, AreRegistered}
+use Rattle.kept_findings.specs.Registered.{spots_of, AreRegistered}
 use Rattle.kept_findings.proofs.Observed.{registered_observed, registered_unobserved}
 use Rattle.kept_findings.proofs.Registering.{undone, put_own}
 use Rattle.kept_findings.proofs.Settled.{apart_test, kept_other}
@@ -65,16 +66,6 @@ roomier_then one two = record {
   count = two.count ∙ one.count;
   touches = λ spot. two.touches spot ∙ one.touches spot;
   room = λ spot may. two.room spot (one.room spot may);
-}
-
-pub registered_roomier : (watchers : IntersectionObservers) {old new : HeldFindings} → IsRoomier old new → AreRegistered watchers old → AreRegistered watchers new
-registered_roomier watchers roomier registered = record {
-  held = record {
-    pairs = λ serial. ap (λ (pairs : FinMap nat_cmp Pair). option_map spots_in (get pairs serial)) roomier.pairs ∙ registered.held.pairs serial;
-    added = λ serial. ap (λ (kept : FinMap nat_cmp (Option Kept)). contains_key kept serial) roomier.kept ∙ registered.held.added serial;
-    found = subst (AreFound watchers) (sym roomier.kept) registered.held.found;
-  };
-  settled = λ serial. subst (λ (kept : FinMap nat_cmp (Option Kept)). IsSettled watchers serial (kept_of kept serial)) (sym roomier.kept) (registered.settled serial);
 }
 
 -- by serial numbers that stand
@@ -134,7 +125,7 @@ some_mapped : {A B : Type 0} (f : A → B) (o : Option A) (y : B) → option_map
 some_mapped f None y some = ap (λ (o : Option _). is_some o) some
 some_mapped f (Some x) y some = refl
 
-module _ (watchers : IntersectionObservers) (it : HeldFindings) (serial : ℕ) (registered : AreRegistered watchers it) (none : standing_of serial watchers ≡ None) where
+module _ (watchers : IntersectionObservers) (margins : List Margins) (it : HeldFindings) (serial : ℕ) (registered : AreRegistered watchers margins it) (none : standing_of serial watchers ≡ None) where
   pub no_pair : pair_at it.clips serial ≡ None
   no_pair = none_mapped spots_in (pair_at it.clips serial) (registered.held.pairs serial ∙ ap (λ (place : Option Place). option_map (spots_of watchers) place) none)
 
@@ -149,7 +140,7 @@ module _ (watchers : IntersectionObservers) (it : HeldFindings) (serial : ℕ) (
 pub pair_put : (serial : ℕ) (root target : Spot) (it now : HeldFindings) → now ≡ with_findings serial root target it → IsSome (pair_at now.clips serial)
 pair_put serial root target it now is = subst (λ (h : HeldFindings). IsSome (pair_at h.clips serial)) (sym is) (put_own it.clips.pairs serial (new_pair root target))
 
-module _ (watchers : HeldWatchers) (w n serial : ℕ) (root : Root) (it now : HeldFindings) (serials : HasSerials watchers.part) (registered : AreRegistered watchers.part it)
+module _ (watchers : HeldWatchers) (margins : List Margins) (w n serial : ℕ) (root : Root) (it now : HeldFindings) (serials : HasSerials watchers.part) (registered : AreRegistered watchers.part margins it)
     (number : serial ≡ watchers.part.given) (is : now ≡ with_findings serial (spot_of_root root) (element_spot n) it) where
   none_yet : standing_of serial watchers.part ≡ None
   none_yet = serials.fresh serial (omega (arith, number))
@@ -158,15 +149,15 @@ module _ (watchers : HeldWatchers) (w n serial : ℕ) (root : Root) (it now : He
   registered_keeps after = subst (KeepsFindings watchers.part after it) (sym is) (with_keeps watchers.part after serial (spot_of_root root) (element_spot n) it none_yet)
 
   pub registered_back : (back : HeldFindings) → back ≡ without_findings serial now → back ≡ it
-  registered_back back forgotten = forgotten ∙ ap (without_findings serial) is ∙ taken_back watchers.part it serial registered none_yet (spot_of_root root) (element_spot n)
+  registered_back back forgotten = forgotten ∙ ap (without_findings serial) is ∙ taken_back watchers.part margins it serial registered none_yet (spot_of_root root) (element_spot n)
 
   pub registered_one : (after : HeldWatchers) → w < length watchers.part.made → is_registered n (registrations_at watchers.part w) ≡ false → root ≡ (intersection_observer_at watchers.part w).root
-      → after ≡ record watchers { part = once_observed w n (watchers.part) } → AreRegistered after.part now
+      → after ≡ record watchers { part = once_observed w n (watchers.part) } → AreRegistered after.part margins now
   registered_one after there free of observed =
-      subst (λ (h : HeldWatchers). AreRegistered h.part now) (sym observed)
-      (subst (λ b. AreRegistered (cond b (watchers.part) (with_registration w n (watchers.part))) now) (sym free)
-      (subst (AreRegistered (with_registration w n (watchers.part))) (sym (is ∙ (λ i. with_findings (number i) (spot_of_root (of i)) (element_spot n) it)))
-      (registered_observed watchers.part w n it serials there free registered)))
+      subst (λ (h : HeldWatchers). AreRegistered h.part margins now) (sym observed)
+      (subst (λ b. AreRegistered (cond b (watchers.part) (with_registration w n (watchers.part))) margins now) (sym free)
+      (subst (AreRegistered (with_registration w n (watchers.part)) margins) (sym (is ∙ (λ i. with_findings (number i) (spot_of_root (of i)) (element_spot n) it)))
+      (registered_observed watchers.part margins w n it serials there free registered)))
 
 -- a registration that is taken out
 
@@ -194,7 +185,7 @@ stands_by it w n number (x ∷ xs) all found =
     some_same : (a b : ℕ) → Some a ≡ Some b → a ≡ b
     some_same a b same = cc
 
-module _ (before : IntersectionObservers) (w n : ℕ) (it : HeldFindings) (serials : HasSerials before) (there : w < length before.made) (registered : AreRegistered before it) where
+module _ (before : IntersectionObservers) (margins : List Margins) (w n : ℕ) (it : HeldFindings) (serials : HasSerials before) (there : w < length before.made) (registered : AreRegistered before margins it) where
   abbrev after : IntersectionObservers
   after = without_registration w n before
 
@@ -206,8 +197,8 @@ module _ (before : IntersectionObservers) (w n : ℕ) (it : HeldFindings) (seria
         some_there None some same = absurd (false≢true some)
         some_there (Some place) some same = some_mapped spots_in (pair_at it.clips number) (spots_of before place) same
 
-    pub forgotten : AreRegistered after (without_findings number it)
-    forgotten = registered_unobserved before w n number it serials there found registered
+    pub forgotten : AreRegistered after margins (without_findings number it)
+    forgotten = registered_unobserved before margins w n number it serials there found registered
 
     own_out : contains_key (remove it.kept number) number ≡ false
     own_out =

@@ -1,9 +1,12 @@
 -- What a page keeps true once a part of it was changed.
-use Rattle.std.proofs.Common.{◌≡◌, ℕ, suc, ◌<◌, ◌≤◌, ◌+◌, List, [], ◌∷◌, ◌++◌, Option, Result, Ok, Err, IfOk, length, sym, subst, ap, refl, ◌∙◌, arith}
+use Rattle.std.proofs.Common.{◌≡◌, ℕ, zero, suc, ◌<◌, ◌≤◌, ◌+◌, List, [], ◌∷◌, ◌++◌, Option, Result, Ok, Err, IfOk, length, sym, subst, ap, refl, ◌∙◌, arith}
+use Rattle.std.specs.Global.{Vec}
 use Rattle.std.specs.Prelude.{slice_get}
 use Rattle.std.specs.List.{AllByRecursion}
 use Rattle.text_io.specs.declared.kinds.ThrowKind.{ThrowKind}
+use Rattle.text_io.specs.declared.kinds.Version.{Version}
 use Rattle.page_model.specs.World.{DocumentThing, ElementThing, ResizeObserverThing, IntersectionObserverThing, QueryListThing, Name}
+use Rattle.page_model.specs.Lookups.{scroll_margins_at}
 use Rattle.page_model.specs.Ranges.{Counts}
 use Rattle.page_model.specs.IntersectionObserving.{with_intersection_observer}
 use Rattle.script_model.specs.Margins.{Margins}
@@ -23,7 +26,7 @@ use Rattle.kept_clips.specs.Looked.{MayBeSeen}
 use Rattle.kept_findings.specs.Held.{HeldFindings, IsRoomier}
 use Rattle.kept_findings.specs.Rooms.{HaveRoom}
 use Rattle.kept_findings.proofs.Rooms.{room_roomier, room_element, room_document}
-use Rattle.kept_findings.proofs.Settled.{registered_made}
+use Rattle.kept_findings.proofs.Settled.{registered_made, registered_roomier}
 use Rattle.page_state.specs.Known.{KnownNames}
 use Rattle.page_state.specs.Things.{IsContainerBelow}
 use Rattle.page_state.specs.Labels.{IsIn}
@@ -31,7 +34,6 @@ use Rattle.page_state.specs.Whole.{AreKnown, AreElementNames, AreAsked, IsPage}
 use Rattle.page_state.specs.Worlds.{world_of, counts_in}
 use Rattle.page_state.specs.declared.page.Page.TheInside.{Inside}
 use Rattle.page_state.specs.declared.queries.QueryList.{QueryList}
-use Rattle.page_state.proofs.Findings.{registered_roomier}
 use Rattle.page_state.proofs.Parts.{known_more, names_made, names_more, next_document, next_element, next_observer, next_watcher, next_query}
 
 pub container_in : (inside : Inside) (found : Result Container ThrowKind) → IfOk found (IsContainerBelow (counts_in inside)) → IfOk found (λ container. IsIn (world_of inside) container)
@@ -40,10 +42,11 @@ container_in inside (Ok (Document document)) below = below
 container_in inside (Err kind) below = tt
 
 -- the elements and documents are others, with the same names and as many as before
-pub edited : (page : Inside) (after : LaidElements) → IsPage page → after.elements.names ≡ page.laid.elements.names
+pub edited : (page : Inside) (after : LaidElements) → IsPage page → after.elements.version ≡ page.laid.elements.version → after.elements.names ≡ page.laid.elements.names
     → length after.elements.tree.elements ≡ length page.laid.elements.tree.elements → length after.elements.tree.documents ≡ length page.laid.elements.tree.documents
     → IsPage (record page { laid = after })
-edited page after is kept count framed = record {
+edited page after is version kept count framed = record {
+  version = version ∙ is.version;
   known = subst (λ (n : ℕ). AreKnown page.names.list (record (counts_in page) { elements = n; documents = length after.elements.tree.documents })) (sym count)
       (subst (λ (n : ℕ). AreKnown page.names.list (record (counts_in page) { documents = n })) (sym framed) is.known);
   elements = record {
@@ -57,10 +60,11 @@ edited page after is kept count framed = record {
   frame_callbacks = is.frame_callbacks;
   timers = is.timers;
   watched = subst (λ (n : ℕ). AreWatchers n page.watchers.part.made) (sym count) is.watched;
+  margins = is.margins;
   registered = is.registered;
   room = subst (λ (n : ℕ). HaveRoom n (length after.elements.tree.documents) page.findings) (sym count)
       (subst (λ (n : ℕ). HaveRoom (length page.laid.elements.tree.elements) n page.findings) (sym framed) is.room);
-  asked = subst (λ (n : ℕ). AreAsked page.queries.items n) (sym framed) is.asked;
+  asked = subst (λ (n : ℕ). AreAsked page.version page.queries.items n) (sym framed) is.asked;
   sized = is.sized;
   noted = is.noted;
   time = is.time;
@@ -72,8 +76,9 @@ pub prepared : (page : Inside) (after : LaidElements) (names : KnownNames) (find
 prepared page after names findings is same listed roomier =
     let elements : length after.elements.tree.elements ≡ length page.laid.elements.tree.elements = ap (λ (it : PageElements). length it.tree.elements) same in
     let documents : length after.elements.tree.documents ≡ length page.laid.elements.tree.documents = ap (λ (it : PageElements). length it.tree.documents) same in
-    let is' : IsPage (record page { laid = after }) = edited page after is (ap (λ (it : PageElements). it.names) same) elements documents in
+    let is' : IsPage (record page { laid = after }) = edited page after is (ap (λ (it : PageElements). it.version) same) (ap (λ (it : PageElements). it.names) same) elements documents in
     record {
+      version = is'.version;
       known = subst (λ (list : List Name). AreKnown list (counts_in (record page { laid = after }))) (sym listed) is'.known;
       elements = subst (λ (list : List Name). AreElementNames list after.elements) (sym listed) is'.elements;
       limited = is.limited;
@@ -83,7 +88,8 @@ prepared page after names findings is same listed roomier =
       frame_callbacks = is.frame_callbacks;
       timers = is.timers;
       watched = is'.watched;
-      registered = registered_roomier page.watchers.part roomier is.registered;
+      margins = is.margins;
+      registered = registered_roomier page.watchers.part page.scroll_margins.items page.findings findings roomier is.registered;
       room = room_roomier (length after.elements.tree.elements) (length after.elements.tree.documents) page.findings findings roomier is'.room;
       asked = is'.asked;
       sized = is.sized;
@@ -91,8 +97,8 @@ prepared page after names findings is same listed roomier =
       time = is.time;
     }
 
-asked_grown : (queries : List QueryList) (documents more : ℕ) → documents ≤ more → AreAsked queries documents → AreAsked queries more
-asked_grown queries documents more grown asked = record { documents = all queries asked.documents; few = asked.few }
+asked_grown : (version : Version) (queries : List QueryList) (documents more : ℕ) → documents ≤ more → AreAsked version queries documents → AreAsked version queries more
+asked_grown version queries documents more grown asked = record { documents = all queries asked.documents; few = asked.few }
   where
     all : (queries : List QueryList) → AllByRecursion (λ (it : QueryList). it.document < documents) queries → AllByRecursion (λ (it : QueryList). it.document < more) queries
     all [] are = tt
@@ -100,7 +106,7 @@ asked_grown queries documents more grown asked = record { documents = all querie
 
 -- an element is made, last, with its name, and a document with its own where it is a frame
 module _ (page : Inside) (is : IsPage page) (after : LaidElements) (names : KnownNames) (findings : HeldFindings) (roomier : IsRoomier page.findings findings) (text : List ℕ)
-    (last : after.elements.names ≡ page.laid.elements.names ++ text ∷ []) (count : length after.elements.tree.elements ≡ length page.laid.elements.tree.elements + 1) where
+    (version : after.elements.version ≡ page.laid.elements.version) (last : after.elements.names ≡ page.laid.elements.names ++ text ∷ []) (count : length after.elements.tree.elements ≡ length page.laid.elements.tree.elements + 1) where
   abbrev elements : ℕ
   elements = length page.laid.elements.tree.elements
 
@@ -125,6 +131,7 @@ module _ (page : Inside) (is : IsPage page) (after : LaidElements) (names : Know
       → AreKnown list (record (counts_in page) { elements = elements + 1; documents = framed }) → AreElementNames list after.elements → HaveRoom (elements + 1) framed findings
       → IsPage (record page { names = names; laid = after; findings = findings })
   grown list framed more listed are known named room = record {
+    version = version ∙ is.version;
     known = subst (λ (it : List Name). AreKnown it (record (counts_in page) { elements = length after.elements.tree.elements; documents = length after.elements.tree.documents })) (sym listed)
         (subst (λ (n : ℕ). AreKnown list (record (counts_in page) { elements = n; documents = length after.elements.tree.documents })) (sym count)
         (subst (λ (n : ℕ). AreKnown list (record (counts_in page) { elements = elements + 1; documents = n })) (sym are) known));
@@ -136,9 +143,10 @@ module _ (page : Inside) (is : IsPage page) (after : LaidElements) (names : Know
     frame_callbacks = is.frame_callbacks;
     timers = is.timers;
     watched = subst (λ (n : ℕ). AreWatchers n page.watchers.part.made) (sym count) (kept_grown elements (elements + 1) (omega arith) page.watchers.part.made is.watched);
-    registered = registered_roomier page.watchers.part roomier is.registered;
+    margins = is.margins;
+    registered = registered_roomier page.watchers.part page.scroll_margins.items page.findings findings roomier is.registered;
     room = subst (λ (n : ℕ). HaveRoom n (length after.elements.tree.documents) findings) (sym count) (subst (λ (n : ℕ). HaveRoom (elements + 1) n findings) (sym are) room);
-    asked = subst (λ (n : ℕ). AreAsked page.queries.items n) (sym are) (asked_grown page.queries.items documents framed more is.asked);
+    asked = subst (λ (n : ℕ). AreAsked page.version page.queries.items n) (sym are) (asked_grown page.version page.queries.items documents framed more is.asked);
     sized = is.sized;
     noted = is.noted;
     time = is.time;
@@ -180,6 +188,7 @@ watched_page page names after text document n handler is given number made =
     let count : length new.part.made ≡ observers + 1 = one_longer page.observers.part.made _ in
     subst (λ (it : HeldObservers). IsPage (record page { names = names; observers = it })) (sym made)
     (record {
+      version = is.version;
       known = subst (λ (it : List Name). AreKnown it (record (counts_in page) { resize_observers = length new.part.made })) (sym listed)
           (subst (λ (m : ℕ). AreKnown list (record (counts_in page) { resize_observers = m })) (sym count)
           (known_more page.names.list text thing (counts_in page) (record (counts_in page) { resize_observers = observers + 1 }) (next_observer (counts_in page)) is.known));
@@ -200,6 +209,7 @@ watched_page page names after text document n handler is given number made =
       frame_callbacks = is.frame_callbacks;
       timers = is.timers;
       watched = is.watched;
+      margins = is.margins;
       registered = is.registered;
       room = is.room;
       asked = is.asked;
@@ -208,18 +218,25 @@ watched_page page names after text document n handler is given number made =
       time = is.time;
     })
 
--- an intersection observer is made, last, with its name
-pub seeing_page : (page : Inside) (names : KnownNames) (after : HeldWatchers) (text : List ℕ) (document n : ℕ) (handler : Option ℕ) (root : Root) (margins : Margins) (thresholds : List ℕ) → IsPage page
+margins_before : (margins : List Margins) (last : Margins) (n : ℕ) → n < length margins → scroll_margins_at (margins ++ last ∷ []) n ≡ scroll_margins_at margins n
+margins_before [] last n below = absurd (omega (arith, below))
+margins_before (first ∷ others) last zero below = refl
+margins_before (first ∷ others) last (suc n) below = margins_before others last n (omega (arith, below))
+
+-- an intersection observer is made, last, with its name and its scroll margins
+pub seeing_page : (page : Inside) (names : KnownNames) (after : HeldWatchers) (scroll : Vec Margins) (text : List ℕ) (document n : ℕ) (handler : Option ℕ) (root : Root) (margins moves : Margins) (thresholds : List ℕ) → IsPage page
     → names.list ≡ page.names.list ++ record { text = text; thing = IntersectionObserverThing n } ∷ [] → n ≡ length page.watchers.part.made
-    → after ≡ record (page.watchers) { part = with_intersection_observer document handler root margins thresholds (page.watchers.part) } → IsPage (record page { names = names; watchers = after })
-seeing_page page names after text document n handler root margins thresholds is given number made =
+    → after ≡ record (page.watchers) { part = with_intersection_observer document handler root margins thresholds (page.watchers.part) }
+    → scroll.items ≡ page.scroll_margins.items ++ moves ∷ [] → IsPage (record page { names = names; watchers = after; scroll_margins = scroll })
+seeing_page page names after scroll text document n handler root margins moves thresholds is given number made put =
     let watchers : ℕ = length page.watchers.part.made in
     let list : List Name = page.names.list ++ record { text = text; thing = IntersectionObserverThing watchers } ∷ [] in
     let listed : names.list ≡ list = given ∙ ap (λ (m : ℕ). page.names.list ++ record { text = text; thing = IntersectionObserverThing m } ∷ []) number in
     let new : HeldWatchers = record (page.watchers) { part = with_intersection_observer document handler root margins thresholds (page.watchers.part) } in
     let count : length new.part.made ≡ watchers + 1 = one_longer page.watchers.part.made _ in
-    subst (λ (it : HeldWatchers). IsPage (record page { names = names; watchers = it })) (sym made)
+    subst (λ (it : HeldWatchers). IsPage (record page { names = names; watchers = it; scroll_margins = scroll })) (sym made)
     (record {
+      version = is.version;
       known = subst (λ (it : List Name). AreKnown it (record (counts_in page) { intersection_observers = length new.part.made })) (sym listed)
           (subst (λ (m : ℕ). AreKnown list (record (counts_in page) { intersection_observers = m })) (sym count)
           (known_more page.names.list text (IntersectionObserverThing watchers) (counts_in page) (record (counts_in page) { intersection_observers = watchers + 1 }) (next_watcher (counts_in page)) is.known));
@@ -240,7 +257,9 @@ seeing_page page names after text document n handler root margins thresholds is 
       frame_callbacks = is.frame_callbacks;
       timers = is.timers;
       watched = kept_made (length page.laid.elements.tree.elements) document handler root margins thresholds page.watchers.part is.watched;
-      registered = registered_made page.watchers.part _ page.findings refl is.registered;
+      margins = ap (λ (it : List Margins). length it) put ∙ one_longer page.scroll_margins.items moves ∙ ap (λ (m : ℕ). m + 1) is.margins ∙ sym count;
+      registered = registered_made page.watchers.part page.scroll_margins.items scroll.items _ page.findings refl
+          (λ watcher there. ap (λ (it : List Margins). scroll_margins_at it watcher) put ∙ margins_before page.scroll_margins.items moves watcher (subst (λ (m : ℕ). watcher < m) (sym is.margins) there)) is.registered;
       room = is.room;
       asked = is.asked;
       sized = is.sized;
@@ -275,7 +294,7 @@ module _ (page : Inside) (names : KnownNames) (queries : List QueryList) (text :
   pub query_elements : AreElementNames names.list page.laid.elements
   query_elements = subst (λ (it : List Name). AreElementNames it page.laid.elements) (sym listed) (names_more page.names.list page.laid.elements (counts_in page) _ refl is.known is.elements)
 
-  pub query_asked : last.document < length page.laid.elements.tree.documents → length page.queries.items < 4096 → AreAsked queries (length page.laid.elements.tree.documents)
+  pub query_asked : last.document < length page.laid.elements.tree.documents → length page.queries.items < 4096 → AreAsked page.version queries (length page.laid.elements.tree.documents)
   query_asked of few = record {
     documents = subst (λ (it : List QueryList). AllByRecursion (λ (each : QueryList). each.document < length page.laid.elements.tree.documents) it) (sym made)
         (all_asked (length page.laid.elements.tree.documents) page.queries.items last is.asked.documents of);

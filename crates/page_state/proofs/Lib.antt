@@ -7,6 +7,8 @@ mod Findings
 mod Exact
 mod Disconnecting
 mod Inside
+mod Limits
+mod Making
 mod Laid
 mod Marked
 mod Doing

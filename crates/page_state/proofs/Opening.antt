@@ -1,5 +1,6 @@
 -- A page in which there is nothing but the document `top`.
 use Rattle.std.proofs.Common.{◌≡◌, ℕ, ◌==◌, List, [], ◌∷◌, Option, Some, None, length, cond, is_some, find, sym, ap, ◌∙◌, subst, arith, tests, true}
+use Rattle.text_io.specs.declared.kinds.Version.{Version}
 use Rattle.page_model.specs.World.{Thing, DocumentThing, ElementThing, ResizeObserverThing, IntersectionObserverThing, QueryListThing, Name}
 use Rattle.page_model.specs.Names.{is_same_thing}
 use Rattle.page_model.specs.Ranges.{Counts, IsThingIn}
@@ -50,5 +51,5 @@ pub room_first : (elements documents : ℕ) (it : HeldFindings) → elements ≡
 room_first elements documents it none one may =
     subst (λ (n : ℕ). HaveRoom n documents it) (sym none) (subst (λ (d : ℕ). HaveRoom 0 d it) (sym one) (room_document 0 0 it may (room_none it)))
 
-pub none_asked : (queries : List QueryList) (documents : ℕ) → queries ≡ [] → AreAsked queries documents
-none_asked queries documents none = subst (λ (it : List QueryList). AreAsked it documents) (sym none) (record { documents = tt; few = omega arith })
+pub none_asked : (version : Version) (queries : List QueryList) (documents : ℕ) → queries ≡ [] → AreAsked version queries documents
+none_asked version queries documents none = subst (λ (it : List QueryList). AreAsked version it documents) (sym none) (record { documents = tt; few = omega arith })

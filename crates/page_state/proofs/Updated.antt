@@ -1,15 +1,15 @@
 -- A page once intersections were updated.
 use Rattle.std.proofs.Common.{◌≡◌, ℕ, Bool, true, false, cond, List, length, Result, Ok, Err, OnErr, refl, sym, ap, subst, ◌∙◌}
 use Rattle.std.proofs.Math.Seq.{take-length}
+use Rattle.script_model.specs.Margins.{Margins}
 use Rattle.page_model.specs.World.{World, Notify}
 use Rattle.page_model.specs.World.{IntersectionObserver, IntersectionObservers, Tree}
 use Rattle.page_model.specs.Shown.{Shown, shown_of, shown_with}
-use Rattle.page_model.specs.Findings.{finding}
 use Rattle.page_model.specs.Intersections.{update_intersections, with_notify_task, watchers, settling}
 use Rattle.page_model.specs.Tasks.{is_notifying, with_notifying, with_task}
 use Rattle.event_tables.specs.Tasks.{WaitingTasks}
 use Rattle.intersection_observer.specs.Watchers.{HeldWatchers}
-use Rattle.intersection_update.specs.Updating.{updated, has_news, IsStopped}
+use Rattle.intersection_update.specs.Updating.{found_through, updated, has_news, IsStopped}
 use Rattle.page_boxes.specs.Pages.{seen_screen}
 use Rattle.page_layout.specs.Views.{LaidElements}
 use Rattle.page_state.specs.Views.{PageView}
@@ -17,10 +17,10 @@ use Rattle.page_state.specs.Worlds.{world_of, view_of}
 use Rattle.page_state.specs.declared.page.Page.TheInside.{Inside}
 
 module _ (page : Inside) (document : ℕ) (after : HeldWatchers) (queued : Bool)
-    (is : after ≡ record (page.watchers) { part = updated (shown_of (world_of page)) (page.laid.elements.tree) document (page.clock) (page.watchers.part) })
-    (news : queued ≡ has_news page.laid.elements.tree document page.watchers.part (updated (shown_of (world_of page)) (page.laid.elements.tree) document (page.clock) (page.watchers.part))) where
+    (is : after ≡ record (page.watchers) { part = updated (shown_of (world_of page)) (page.scroll_margins.items) (page.laid.elements.tree) document (page.clock) (page.watchers.part) })
+    (news : queued ≡ has_news page.laid.elements.tree document page.watchers.part (updated (shown_of (world_of page)) (page.scroll_margins.items) (page.laid.elements.tree) document (page.clock) (page.watchers.part))) where
   abbrev settled : HeldWatchers
-  settled = record (page.watchers) { part = updated (shown_of (world_of page)) (page.laid.elements.tree) document (page.clock) (page.watchers.part) }
+  settled = record (page.watchers) { part = updated (shown_of (world_of page)) (page.scroll_margins.items) (page.laid.elements.tree) document (page.clock) (page.watchers.part) }
 
   abbrev quiet : World
   quiet = world_of (record page { watchers = settled })
@@ -54,23 +54,25 @@ module _ (page : Inside) (document : ℕ) (after : HeldWatchers) (queued : Bool)
       ∙ sym (comes_to ∙ ap (λ (b : Bool). cond b (with_notify_task document (is_notifying document page.notifying) quiet) quiet) some
       ∙ ap (λ (flag : Bool). with_notify_task document flag quiet) free)
 
--- what an update says of what is shown is so of the page's world
+-- what an update says of what is shown and of scroll margins is so of the page's world
 module _ (page : Inside) (after : LaidElements) (same : after.elements ≡ page.laid.elements) (now : PageView) (view_is : view_of page ≡ now) {shown : Shown}
-    (is : shown ≡ shown_with (after.elements.tree) (seen_screen page.screen) (page.scrolls)) where
-  pub at_world : (P : Shown → PageView → Type 0) → P shown (view_of page) → P (shown_of now.world) now
+    (is : shown ≡ shown_with (after.elements.tree) (seen_screen page.screen) (page.scrolls)) {margins : List Margins} (listed : margins ≡ page.scroll_margins.items) where
+  pub at_world : (P : Shown → List Margins → PageView → Type 0) → P shown margins (view_of page) → P (shown_of now.world) now.world.scroll_margins now
   at_world P holds =
-      subst (λ (v : PageView). P (shown_of v.world) v) view_is
-      (subst (λ (s : Shown). P s (view_of page)) (is ∙ (λ i. shown_with ((same i).tree) (seen_screen page.screen) (page.scrolls))) holds)
+      subst (λ (v : PageView). P (shown_of v.world) v.world.scroll_margins v) view_is
+      (subst (λ (m : List Margins). P (shown_of (world_of page)) m (view_of page)) listed
+      (subst (λ (s : Shown). P s margins (view_of page)) (is ∙ (λ i. shown_with ((same i).tree) (seen_screen page.screen) (page.scrolls))) holds))
 
 pub if_refused : {A E P : Type 0} (result : Result A E) → P → OnErr result P
 if_refused (Ok value) holds = tt
 if_refused (Err fault) holds = holds
 
 -- an update that is refused the notify task alone stopped behind the last registration
-pub stopped_last : (shown : Shown) (tree : Tree) (document time : ℕ) (before now : IntersectionObservers) → now ≡ updated shown tree document time before → IsStopped shown tree document time before now
-stopped_last shown tree document time before now is = record {
+pub stopped_last : (shown : Shown) (margins : List Margins) (tree : Tree) (document time : ℕ) (before now : IntersectionObservers) → now ≡ updated shown margins tree document time before
+    → IsStopped shown margins tree document time before now
+stopped_last shown margins tree document time before now is = record {
   number = length before.made;
   place = 0;
   settled = is
-      ∙ ap (λ (made : List IntersectionObserver). settling time (finding shown) (watchers tree document (record before { made = made })) before) (sym (take-length before.made));
+      ∙ ap (λ (made : List IntersectionObserver). settling time (found_through shown margins) (watchers tree document (record before { made = made })) before) (sym (take-length before.made));
 }

@@ -1,12 +1,12 @@
 -- What becomes of the boxes that a page keeps. That boxes are kept, and when they are computed, is this project's own.
 use Rattle.std.specs.Prelude.{◌≡◌, ◌≤◌, ℕ, ◌+◌, Bool, ◌||◌, List, Option, Some, None, Result, OnOk, OnErr}
-use Rattle.script_model.specs.Syntax.{Operand, Action, Viewport, MakeBlock, MakeImage, MakeFrame, Append, Before, Remove, SetStyle, Grow, Load, MakeResizeObserver, ObserveResize, UnobserveResize, DisconnectResize, MakeIntersectionObserver, ObserveIntersection, UnobserveIntersection, DisconnectIntersection, TakeIntersections, Listen, Unlisten, MakeQueryList, ScrollTo, ScrollBy, RequestFrame, CancelFrame, SetTimer, ClearTimer, Post, Say, Read}
+use Rattle.script_model.specs.Syntax.{Operand, Action, Viewport, SetRatio, MakeBlock, MakeImage, MakeFrame, Append, Before, Remove, SetStyle, Grow, Load, MakeResizeObserver, ObserveResize, UnobserveResize, DisconnectResize, MakeIntersectionObserver, ObserveIntersection, UnobserveIntersection, DisconnectIntersection, TakeIntersections, Listen, Unlisten, MakeQueryList, ScrollTo, ScrollBy, RequestFrame, CancelFrame, SetTimer, ClearTimer, Post, Say, Read}
 use Rattle.page_model.specs.World.{Tree, World}
 use Rattle.page_model.specs.Documents.{Container, nodes_of}
 use Rattle.page_model.specs.Operands.{Present, element_meant, container_meant}
 use Rattle.page_model.specs.Steps.{Step, Did, Threw, Met}
 use Rattle.kept_layout.specs.declared.slots.Slot.{Slot}
-use Rattle.page_boxes.specs.Kept.{FillsOnly, due_count as due_count_in}
+use Rattle.page_boxes.specs.Kept.{FillsOnly, is_due, due_count as due_count_in}
 use Rattle.page_layout.specs.Marks.{element_of, is_over, MarksOnly, MarksNone}
 use Rattle.page_state.specs.declared.answers.Effect.{Effect}
 use Rattle.page_state.specs.declared.answers.PageFault.{PageFault}
@@ -24,6 +24,11 @@ pub record Computes (world : World) (old new : List Slot) (from to : ℕ) : Type
 pub record Marks (marked : ℕ → Bool) (result : Result Effect PageFault) (old new : List Slot) : Type 0 where
   pub done : OnOk result (MarksOnly marked old new)
   pub refused : OnErr result (new ≡ old)
+
+-- by another ratio of device pixels the same boxes are due as before
+abbrev pub StaysDue : (hundredths : ℕ) → (world : World) → (old new : List Slot) → Type 0
+StaysDue hundredths world old new =
+    (n : ℕ) → is_due world.tree (record (world.viewports.screen) { ratio = hundredths }) new n ≡ is_due world.tree (world.viewports.screen) old n
 
 abbrev pub found : {A : Type 0} → Step A → Option A
 found (Did value) = Some value
@@ -52,6 +57,7 @@ Still old new from to = (new ≡ old) × (to ≡ from)
 -- what each command may do to the boxes, and with how many steps, in a world with this tree afterwards
 abbrev pub BoxesAfter : Present → Action → Result Effect PageFault → World → Tree → List Slot → List Slot → ℕ → ℕ → Type 0
 BoxesAfter _ (Viewport _ _) _ _ _ old new from to = Still old new from to
+BoxesAfter _ (SetRatio hundredths) _ world _ old new from to = Still old new from to × StaysDue hundredths world old new
 BoxesAfter _ (MakeBlock _ _) _ _ _ old new from to = MarksNone old new × (to ≡ from)
 BoxesAfter _ (MakeImage _ _ _ _) _ _ _ old new from to = MarksNone old new × (to ≡ from)
 BoxesAfter _ (MakeFrame _ _ _) _ _ _ old new from to = MarksNone old new × (to ≡ from)

@@ -1,7 +1,7 @@
 -- What becomes of what a page keeps of registrations. That it is kept, and when it is computed, is this project's own.
-use Rattle.std.specs.Prelude.{◌≡◌, ◌≤◌, ◌+◌, ◌⊎◌, ℕ, false, IsSome, IfSome}
+use Rattle.std.specs.Prelude.{◌≡◌, ◌≤◌, ◌+◌, ◌⊎◌, ℕ, false, List, IsSome, IfSome}
+use Rattle.script_model.specs.Margins.{Margins}
 use Rattle.page_model.specs.World.{IntersectionObservers}
-use Rattle.page_model.specs.Findings.{finding}
 use Rattle.page_model.specs.Intersections.{is_rooted_in}
 use Rattle.page_model.specs.Shown.{Shown, shown_of}
 use Rattle.clip_chain.specs.declared.spot.Spot.{Spot}
@@ -14,11 +14,12 @@ use Rattle.kept_clips.specs.Seen.{sighting_of}
 use Rattle.kept_clips.specs.Looked.{IsLeft, ChangesByLooks}
 use Rattle.candidate_index.specs.declared.index.Kept.{Kept}
 use Rattle.candidate_index.specs.Held.{kept_of}
-use Rattle.candidate_index.specs.Registrations.{observer_of, target_of}
+use Rattle.candidate_index.specs.Registrations.{place_of, observer_of, target_of}
 use Rattle.kept_findings.specs.Held.{HeldFindings}
 use Rattle.page_geometry.specs.Scenes.{telling_of}
 use Rattle.intersection_update.specs.Keeping.{HaveChains, IsLookedAt, IsSeen, IsOff, is_stale_in, KeepsComputed, IsRefused}
 use Rattle.intersection_update.specs.Steps.{most_steps}
+use Rattle.intersection_update.specs.Updating.{found_through}
 use Rattle.page_state.specs.Boxes.{due_count}
 use Rattle.page_state.specs.Views.{PageView}
 
@@ -30,32 +31,32 @@ pub record KeepsFindings (before after : IntersectionObservers) (old new : HeldF
   pub pairs : (serial : ℕ) → IsStanding serial before → IsStanding serial after → pair_at new.clips serial ≡ pair_at old.clips serial
   pub findings : (serial : ℕ) → IsStanding serial before → IsStanding serial after → kept_of new.kept serial ≡ kept_of old.kept serial
 
--- what is kept of a registration is what is found of it, as it is told
-pub record IsFound (shown : Shown) (it : IntersectionObservers) (found : HeldFindings) (serial : ℕ) : Type 0 where
+-- what is kept of a registration is what is found of it through its observer's scroll margins, as it is told
+pub record IsFound (shown : Shown) (margins : List Margins) (it : IntersectionObservers) (found : HeldFindings) (serial : ℕ) : Type 0 where
   pub some : IsSome (kept_of found.kept serial)
   pub told : IfSome (kept_of found.kept serial)
-      (λ (last : Kept). telling_of shown (observer_of it serial).root (target_of it serial) (seen_finding last.finding) ≡ finding shown (observer_of it serial) (target_of it serial))
+      (λ (last : Kept). telling_of shown (observer_of it serial).root (target_of it serial) (seen_finding last.finding) ≡ found_through shown margins (place_of it serial).watcher (observer_of it serial) (target_of it serial))
 
 -- what an update of a document does to what is kept: a spot is touched exactly where it is seen anew, and only on the chains of the registrations that are looked at;
 -- what was found of a registration stays where it isn't stale, and where its observer's root isn't the document's; and a registration of which a clip was computed still
 -- has one
-pub record Updates (shown : Shown) (document : ℕ) (it : IntersectionObservers) (old new : HeldFindings) : Type 0 where
+pub record Updates (shown : Shown) (margins : List Margins) (document : ℕ) (it : IntersectionObservers) (old new : HeldFindings) : Type 0 where
   pub touched : ChangesByLooks (scene_of shown) old.seen new.seen old.clips.touches new.clips.touches
   pub left : (spot : Spot) → ((serial : ℕ) → IsLookedAt shown.tree document it serial → IsOff shown it spot serial) →
       IsLeft old.seen new.seen old.clips.touches new.clips.touches spot
-  pub kept : (chained : HaveChains shown) (serial : ℕ) → is_stale_in shown chained it old.kept serial ≡ false → kept_of new.kept serial ≡ kept_of old.kept serial
+  pub kept : (chained : HaveChains shown) (serial : ℕ) → is_stale_in shown margins chained it old.kept serial ≡ false → kept_of new.kept serial ≡ kept_of old.kept serial
   pub others : (serial : ℕ) → is_rooted_in shown.tree document (observer_of it serial).root ≡ false → kept_of new.kept serial ≡ kept_of old.kept serial
   pub computed : KeepsComputed old.clips new.clips
 
 -- of the registrations that are looked at with a document each spot on the chain was seen last as it is shown, and none is stale
-pub record AreUpdated (shown : Shown) (document : ℕ) (it : IntersectionObservers) (found : HeldFindings) : Type 0 where
+pub record AreUpdated (shown : Shown) (margins : List Margins) (document : ℕ) (it : IntersectionObservers) (found : HeldFindings) : Type 0 where
   pub seen : (serial : ℕ) → IsLookedAt shown.tree document it serial → IsSeen shown it found.seen serial
-  pub fresh : (chained : HaveChains shown) (serial : ℕ) → IsLookedAt shown.tree document it serial → is_stale_in shown chained it found.kept serial ≡ false
+  pub fresh : (chained : HaveChains shown) (serial : ℕ) → IsLookedAt shown.tree document it serial → is_stale_in shown margins chained it found.kept serial ≡ false
 
 -- an update that was refused memory: at a registration, or for the notify task alone once all were settled
-abbrev pub IsUnfinished : (shown : Shown) → HaveChains shown → (document time : ℕ) → (before now : IntersectionObservers) → (old new : HeldFindings) → Type 0
-IsUnfinished shown chained document time before now old new =
-    IsRefused shown chained document time before now old.kept new.kept ⊎ AreUpdated shown document now new
+abbrev pub IsUnfinished : (shown : Shown) → List Margins → HaveChains shown → (document time : ℕ) → (before now : IntersectionObservers) → (old new : HeldFindings) → Type 0
+IsUnfinished shown margins chained document time before now old new =
+    IsRefused shown margins chained document time before now old.kept new.kept ⊎ AreUpdated shown margins document now new
 
 -- the steps of an update, with the boxes that are due afterwards: at most the boxes that were due, one for each stale registration of the document's observers, and for
 -- each registration of theirs whose chain leads to its root and whose clip was never computed or has a spot touched since on its chain, one for each spot strictly between
@@ -63,4 +64,4 @@ IsUnfinished shown chained document time before now old new =
 abbrev pub TakesAtMost : (document : ℕ) → (before after : PageView) → HaveChains (shown_of before.world) → (from to : ℕ) → Type 0
 TakesAtMost document before after chained from to =
     to + due_count before.world after.kept
-    ≤ from + due_count before.world before.kept + most_steps (shown_of before.world) chained document (before.world.intersection_observers) before.found after.found
+    ≤ from + due_count before.world before.kept + most_steps (shown_of before.world) (before.world.scroll_margins) chained document (before.world.intersection_observers) before.found after.found

@@ -2,6 +2,7 @@
 use Rattle.std.specs.Prelude.{◌≡◌, ℕ, ◌+◌, ◌≤◌, ◌<◌, Bool, true, cond, is_some, find, slice_get, List, length, Option, Some}
 use Rattle.std.specs.List.{AllByRecursion}
 use Rattle.std.specs.Option.{ForSome}
+use Rattle.text_io.specs.declared.kinds.Version.{Version}
 use Rattle.text_io.specs.declared.kinds.LimitKind.TheVariants as limits
 use Rattle.text_io.specs.Limits.{limit_number}
 use Rattle.page_model.specs.World.{Thing, Name, Listener, FrameCallback, Timer}
@@ -11,6 +12,7 @@ use Rattle.event_tables.specs.Tables.{Bounded}
 use Rattle.event_tables.specs.Tasks.{WaitingTasks}
 use Rattle.resize_observer.specs.Observers.{HeldObservers}
 use Rattle.intersection_observer.specs.Watchers.{HeldWatchers}
+use Rattle.page_boxes.specs.Pages.{IsScreen}
 use Rattle.page_tree.specs.Items.{IsNatural}
 use Rattle.px_units.specs.declared.Size.{Size}
 use Rattle.page_tree.specs.Views.{PageElements}
@@ -32,40 +34,42 @@ pub record AreElementNames (names : List Name) (tree : PageElements) : Type 0 wh
   pub count : length tree.names ≡ length tree.tree.elements
   pub each : (n : ℕ) → n < length tree.tree.elements → slice_get tree.names n ≡ Some (element_text names n)
 
--- the parts have the limits of a page
-pub record AreLimited (watching : HeldObservers) (seeing : HeldWatchers) (hearing : Bounded Listener) (requested : Bounded FrameCallback) (set : Bounded Timer) (waiting : WaitingTasks) : Type 0 where
-  pub observers : watching.most_observers ≡ limit_number limits.ResizeObservers
-  pub observations : watching.most_observations ≡ limit_number limits.ResizeObservations
-  pub watchers : seeing.most_watchers ≡ limit_number limits.IntersectionObservers
-  pub registrations : seeing.most_registrations ≡ limit_number limits.IntersectionObservations
-  pub listeners : hearing.most ≡ limit_number limits.Listeners
-  pub frame_callbacks : requested.most ≡ limit_number limits.FrameCallbacks
-  pub timers : set.most ≡ limit_number limits.Timers
-  pub tasks : waiting.most ≡ limit_number limits.Tasks
+-- the parts have the limits of a page for a script of a version
+pub record AreLimited (version : Version) (watching : HeldObservers) (seeing : HeldWatchers) (hearing : Bounded Listener) (requested : Bounded FrameCallback) (set : Bounded Timer) (waiting : WaitingTasks) : Type 0 where
+  pub observers : watching.most_observers ≡ limit_number version limits.ResizeObservers
+  pub observations : watching.most_observations ≡ limit_number version limits.ResizeObservations
+  pub watchers : seeing.most_watchers ≡ limit_number version limits.IntersectionObservers
+  pub registrations : seeing.most_registrations ≡ limit_number version limits.IntersectionObservations
+  pub listeners : hearing.most ≡ limit_number version limits.Listeners
+  pub frame_callbacks : requested.most ≡ limit_number version limits.FrameCallbacks
+  pub timers : set.most ≡ limit_number version limits.Timers
+  pub tasks : waiting.most ≡ limit_number version limits.Tasks
 
 -- a serial number of a table is given by a command, and a command that was begun may give one yet
-pub record IsCounted (serials begun : ℕ) (flag : Bool) : Type 0 where
+pub record IsCounted (version : Version) (serials begun : ℕ) (flag : Bool) : Type 0 where
   pub given : serials + cond flag 1 0 ≤ begun
-  pub limited : begun ≤ limit_number limits.Commands
+  pub limited : begun ≤ limit_number version limits.Commands
 
 -- query lists and documents: each list is of a document that there is, and there are no more than a page may have
-pub record AreAsked (queries : List QueryList) (count : ℕ) : Type 0 where
+pub record AreAsked (version : Version) (queries : List QueryList) (count : ℕ) : Type 0 where
   pub documents : AllByRecursion (λ (it : QueryList). it.document < count) queries
-  pub few : length queries ≤ limit_number limits.Queries
+  pub few : length queries ≤ limit_number version limits.Queries
 
 pub record IsPage (page : Inside) : Type 0 where
+  pub version : page.laid.elements.version ≡ page.version
   pub known : AreKnown page.names.list (counts_in page)
   pub elements : AreElementNames page.names.list page.laid.elements
-  pub limited : AreLimited page.observers page.watchers page.listeners page.frame_callbacks page.timers page.tasks
-  pub observations : IsCounted page.observers.part.given page.count page.begun
-  pub registrations : IsCounted page.watchers.part.given page.count page.begun
-  pub listeners : IsCounted page.listeners.part.given page.count page.begun
-  pub frame_callbacks : IsCounted page.frame_callbacks.part.given page.count page.begun
-  pub timers : IsCounted page.timers.part.given page.count page.begun
+  pub limited : AreLimited page.version page.observers page.watchers page.listeners page.frame_callbacks page.timers page.tasks
+  pub observations : IsCounted page.version page.observers.part.given page.count page.begun
+  pub registrations : IsCounted page.version page.watchers.part.given page.count page.begun
+  pub listeners : IsCounted page.version page.listeners.part.given page.count page.begun
+  pub frame_callbacks : IsCounted page.version page.frame_callbacks.part.given page.count page.begun
+  pub timers : IsCounted page.version page.timers.part.given page.count page.begun
   pub watched : AreWatchers (length page.laid.elements.tree.elements) page.watchers.part.made
-  pub registered : AreRegistered page.watchers.part page.findings
+  pub margins : length page.scroll_margins.items ≡ length page.watchers.part.made
+  pub registered : AreRegistered page.watchers.part page.scroll_margins.items page.findings
   pub room : HaveRoom (length page.laid.elements.tree.elements) (length page.laid.elements.tree.documents) page.findings
-  pub asked : AreAsked page.queries.items (length page.laid.elements.tree.documents)
-  pub sized : IsNatural page.screen.size
+  pub asked : AreAsked page.version page.queries.items (length page.laid.elements.tree.documents)
+  pub sized : IsScreen page.screen
   pub noted : AllByRecursion (λ (it : Option Size). ForSome it IsNatural) page.noted
   pub time : page.clock ≤ 1000000000000

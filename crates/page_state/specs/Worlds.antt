@@ -15,12 +15,14 @@ world_of p = record {
   scrolls = p.scrolls;
   resize_observers = p.observers.part;
   intersection_observers = p.watchers.part;
+  scroll_margins = p.scroll_margins.items;
   notifying = p.notifying;
   queries = map seen_query_list p.queries.items;
   listeners = p.listeners.part;
   frame_callbacks = p.frame_callbacks.part;
   timers = p.timers.part;
   tasks = p.tasks.part;
+  version = p.version;
   clock = p.clock;
   begun = p.count;
 }

@@ -1,22 +1,22 @@
 //! Commands that change the viewport, the tree and styles.
 
-ghost use Rattle.std.specs.Prelude.{◌≡◌, ◌<◌, Some, length, option_map, unsigned_abs};
+ghost use Rattle.std.specs.Prelude.{◌≡◌, ◌<◌, ℕ, Some, length, option_map, unsigned_abs};
 ghost use Rattle.std.specs.Option.{ForSome};
 ghost use Rattle.style_values.specs.Ranges.{IsAllowed};
 ghost use Rattle.style_values.specs.Seen.{seen_declaration};
-ghost use Rattle.script_model.specs.Syntax.{Viewport, MakeBlock, MakeImage, MakeFrame, Append, Before, Remove, SetStyle, Grow, Load};
+ghost use Rattle.script_model.specs.Syntax.{Viewport, SetRatio, MakeBlock, MakeImage, MakeFrame, Append, Before, Remove, SetStyle, Grow, Load};
 ghost use Rattle.block_layout.specs.Seen.{seen_kind};
 ghost use Rattle.page_model.specs.Commands.{does, making, placing, with_tree};
 ghost use Rattle.page_model.specs.Documents.{removed};
 ghost use Rattle.page_model.specs.Operands.{Present, container_meant};
 ghost use Rattle.page_tree.specs.Steps.{seen_axis, seen_container};
-ghost use Rattle.script_syntax.specs.Allowed.{IsSize};
+ghost use Rattle.script_syntax.specs.Allowed.{IsSize, IsPercent};
 ghost use Rattle.script_syntax.specs.Seen.{operand_of, dimension_of};
 ghost use Rattle.element_tree.specs.Links.{number};
 ghost use Rattle.page_layout.specs.Marks.{element_of, is_over, MarksOnly, MarksNone};
 ghost use Rattle.kept_findings.specs.Held.{IsRoomier};
 ghost use Rattle.page_state.specs.Answers.{Keeps};
-ghost use Rattle.page_state.specs.Boxes.{Marks, found, inside, is_moved, meant, parent};
+ghost use Rattle.page_state.specs.Boxes.{Marks, StaysDue, found, inside, is_moved, meant, parent};
 ghost use Rattle.page_state.specs.Faults.{misplaced};
 ghost use Rattle.page_state.specs.Labels.{IsIn};
 ghost use Rattle.page_state.specs.Things.{present_of, IsMade, IsSubject};
@@ -27,8 +27,9 @@ use crate::page::Page;
 use block_layout::ItemKind;
 use clip_chain::Spot;
 use element_tree::NodeId;
+use page_laws::boxes_do_not_read_the_ratio;
 use page_tree::{Container, PlaceFault};
-use px_units::{Px, Size};
+use px_units::{Percent, Px, Size};
 use script_syntax::{Axis, Operand};
 use style_values::Declaration;
 use text_io::{LimitKind, Name};
@@ -42,6 +43,20 @@ impl Page {
         ensures findings { self.new.found ≡ self.old.found }
     {
         self.screen.size = size;
+        Ok(Effect::Nothing)
+    }
+
+    // Boxes are laid out in the size of the screen alone, so that none becomes due.
+    pub(crate) fn set_ratio(&mut self, ratio: Percent) -> Result<Effect, PageFault>
+        requires { IsPercent ratio.0 }
+        ensures done { (present : Present) → Keeps self.old self.new result (λ handlers. does handlers self.old.world present (SetRatio (unsigned_abs ratio.0))) }
+        ensures boxes { self.new.kept ≡ self.old.kept }
+        ensures due { StaysDue (unsigned_abs ratio.0) self.old.world self.old.kept self.new.kept }
+        ensures findings { self.new.found ≡ self.old.found }
+    {
+        // It tells that layout doesn't look at the ratio.
+        boxes_do_not_read_the_ratio();
+        self.screen.ratio = ratio;
         Ok(Effect::Nothing)
     }
 

@@ -91,7 +91,13 @@ impl Page {
         ensures boxes { Computes self.old.world self.old.kept self.new.kept steps.old steps.new }
     {
         self.laid.refresh(self.screen, steps);
-        size_of(self.laid.page(), self.laid.boxes(), node, BoxKind::Border)
+        size_of(
+            self.laid.page(),
+            self.laid.boxes(),
+            self.screen,
+            node,
+            BoxKind::Border,
+        )
     }
 }
 

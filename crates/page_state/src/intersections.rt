@@ -1,6 +1,6 @@
 //! Commands on the intersection observers of a page (Intersection Observer, 2.2).
 
-ghost use Rattle.std.specs.Prelude.{◌≡◌, ◌<◌, ℕ, false, length, IfOk};
+ghost use Rattle.std.specs.Prelude.{◌≡◌, ◌<◌, ℕ, false, length, unwrap_or, [], IfOk};
 ghost use Rattle.script_model.specs.Scripts.{handlers_in};
 ghost use Rattle.script_model.specs.MarginText.{margins_of};
 ghost use Rattle.script_model.specs.Syntax.{MakeIntersectionObserver, ObserveIntersection, UnobserveIntersection, DisconnectIntersection, TakeIntersections};
@@ -37,7 +37,7 @@ impl Page {
         subject: Option<NodeId>,
     ) -> Result<Effect, PageFault>
         requires { IsSubject (length self.old.world.tree.elements) subject }
-        ensures done { Kept self.old self.new result (does (handler_names (handlers_in script.now)) self.old.world (present_of subject) (MakeIntersectionObserver (making_of making.now))) }
+        ensures done { Kept self.old self.new result (does (handler_names (handlers_in script.now.items)) self.old.world (present_of subject) (MakeIntersectionObserver (making_of making.now))) }
         ensures boxes { self.new.kept ≡ self.old.kept }
         ensures findings { self.new.found ≡ self.old.found }
     {
@@ -45,9 +45,11 @@ impl Page {
         let document = self.document(making.document)?;
         let handler = handler_given(script, making.handler)?;
         let root = self.root(making.root, subject)?;
-        let margins = margins_given(&making.margin)?;
+        let margins = margins_given(making.margin.as_slice())?;
+        let scroll_margins = scroll_margins_given(&making.scroll)?;
         let thresholds = self.thresholds_given(making.thresholds.as_slice())?;
         self.names.reserve(1)?;
+        self.scroll_margins.reserve(1)?;
         let Ok(watcher) = self
             .watchers
             .make(document, handler, root, margins, thresholds)
@@ -56,12 +58,13 @@ impl Page {
         };
         self.names
             .insert(making.name, Thing::IntersectionObserver(watcher))?;
+        self.scroll_margins.push_reserved(scroll_margins);
         Ok(Effect::Nothing)
     }
 
     // The thresholds of values, where there is room for one more observer. Want of memory comes last.
     fn thresholds_given(&self, values: &[i64]) -> Result<Thresholds, PageFault>
-        ensures { Gives result (new_thresholds values.now self.now.world.intersection_observers) }
+        ensures { Gives result (new_thresholds self.now.world.version values.now self.now.world.intersection_observers) }
     {
         match Thresholds::new(*self.queries.allocator(), values) {
             Err(ThresholdFault::ThresholdRange | ThresholdFault::MarginSyntax) => {
@@ -174,11 +177,21 @@ fn refused(fault: WatchFault) -> PageFault
 }
 
 // The margins that a text is.
-fn margins_given(text: &MarginText) -> Result<Margins, ThrowKind>
+fn margins_given(text: &[u8]) -> Result<Margins, ThrowKind>
     ensures { Finds (λ margins. margins) result (required SyntaxError (margins_of text.now)) }
 {
-    match Margins::parse(text.as_slice()) {
+    match Margins::parse(text) {
         Ok(margins) => Ok(margins),
         Err(_) => Err(ThrowKind::SyntaxError),
+    }
+}
+
+// The scroll margins that a text is, 0px on each side where none is given.
+fn scroll_margins_given(text: &Option<MarginText>) -> Result<Margins, ThrowKind>
+    ensures { Finds (λ margins. margins) result (required SyntaxError (margins_of (unwrap_or text.now []))) }
+{
+    match text {
+        Some(text) => margins_given(text.as_slice()),
+        None => margins_given(b""),
     }
 }

@@ -111,7 +111,7 @@ impl Page {
 
 // The handler of a name.
 pub(crate) fn handler_named(script: &Script, name: Name) -> Result<HandlerId, ThrowKind>
-    ensures { Finds (λ (handler : HandlerId). handler.0) result (handler_named (handler_names (handlers_in script.now)) name) }
+    ensures { Finds (λ (handler : HandlerId). handler.0) result (handler_named (handler_names (handlers_in script.now.items)) name) }
 {
     match script.handler_named(name) {
         Some(number) => Ok(HandlerId(number)),
@@ -121,7 +121,7 @@ pub(crate) fn handler_named(script: &Script, name: Name) -> Result<HandlerId, Th
 
 // An observer's handler, where one is named.
 pub(crate) fn handler_given(script: &Script, name: Option<Name>) -> Result<Option<u32>, ThrowKind>
-    ensures { Finds (λ handler. handler) result (handler_given (handler_names (handlers_in script.now)) name) }
+    ensures { Finds (λ handler. handler) result (handler_given (handler_names (handlers_in script.now.items)) name) }
 {
     let Some(name) = name else {
         return Ok(None);

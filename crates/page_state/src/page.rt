@@ -1,6 +1,7 @@
 //! A page, and how a command is begun and applied.
 
-ghost use Rattle.std.specs.Prelude.{◌≡◌, ◌<◌, ◌≤◌, ◌+◌, ℕ, [], true, false, length, IfOk, OnOk, OnErr};
+ghost use Rattle.std.specs.Prelude.{◌≡◌, ◌<◌, ◌≤◌, ◌+◌, ℕ, [], true, false, length, unsigned_abs, IfOk, OnOk, OnErr};
+ghost use Rattle.text_io.specs.Limits.{limit_number};
 ghost use Rattle.script_model.specs.Scripts.{handlers_in};
 ghost use Rattle.page_model.specs.Names.{document_text, resize_observer_text, intersection_observer_text, query_list_text};
 ghost use Rattle.page_model.specs.Callbacks.{handler_names};
@@ -10,7 +11,7 @@ ghost use Rattle.page_model.specs.PageBoxes.{viewport_of};
 ghost use Rattle.page_model.specs.Shown.{shown_of, shown_with};
 ghost use Rattle.page_model.specs.Ticks.{time_set};
 ghost use Rattle.page_boxes.specs.Kept.{AreKept, FillsOnly, IsExact, is_due, due_count};
-ghost use Rattle.page_boxes.specs.Pages.{seen_size, seen_screen};
+ghost use Rattle.page_boxes.specs.Pages.{seen_size, seen_screen, IsScreen};
 ghost use Rattle.page_tree.specs.Items.{IsNatural};
 ghost use Rattle.script_syntax.specs.Allowed.{ActionAllowed, IsTime};
 ghost use Rattle.script_syntax.specs.Seen.{action_of};
@@ -36,7 +37,7 @@ use page_boxes::{Screen, viewport_of};
 use page_geometry::Shown;
 use page_layout::LaidTree;
 use page_tree::Container;
-use px_units::Size;
+use px_units::{Percent, Size};
 use resize_observer::{ObserverId, Observers};
 use script_syntax::{Command, Script, What};
 use scrolling::Scrolls;
@@ -44,33 +45,17 @@ use std::alloc::{AllocError, Global};
 use std::marker::Model;
 use std::sync::ledger::Ledger;
 use step_count::Steps;
-use text_io::{LimitKind, Name, ThrowKind};
+use text_io::{LimitKind, Name, ThrowKind, Version};
+use thresholds::Margins;
 use trace_text::TraceLine;
 
-/// As many commands as may be begun.
-const MOST_COMMANDS: u32 = 1_000_000;
-
-/// As many resize observers as a page may have.
-const MOST_OBSERVERS: u32 = 4096;
-
-/// As many resize observations as these may hold, in all.
-const MOST_OBSERVATIONS: u32 = 50_000;
-
-/// As many intersection observers as a page may have.
-const MOST_WATCHERS: u32 = 4096;
-
-/// As many registrations of targets as these may hold, in all.
-const MOST_REGISTRATIONS: u32 = 50_000;
-
-/// As many listeners, frame callbacks and timers as may be held, and posted tasks as may wait.
-const MOST_CALLBACKS: u32 = 4096;
-
-/// The screen at first: a viewport of 800 by 600 pixels.
+/// The screen at first: a viewport of 800 by 600 pixels, each of which is a device pixel.
 const FIRST_SCREEN: Screen = Screen {
     size: Size {
         width: 51200,
         height: 38400,
     },
+    ratio: Percent(10_000),
 };
 
 /// A page with the document `top`. A contract sees it as a world of the definitions, and as whether a command was begun
@@ -85,6 +70,8 @@ pub struct Page {
     pub(crate) laid: LaidTree,
     pub(crate) observers: Observers,
     pub(crate) watchers: Watchers,
+    // The scroll margins of each, in order of making.
+    pub(crate) scroll_margins: Vec<Margins>,
     // What was found of their registrations last, and what was seen for it.
     pub(crate) findings: KeptFindings,
     // Whether a notify task of a document is queued.
@@ -98,6 +85,8 @@ pub struct Page {
     pub(crate) screen: Screen,
     // The size of a document's viewport at its last resize steps.
     pub(crate) noted: ByDocument<Option<Size>>,
+    // The version of the script that the page is for, which decides on its limits.
+    pub(crate) version: Version,
     pub(crate) clock: u64,
     pub(crate) count: u32,
     pub(crate) begun: bool,
@@ -123,16 +112,17 @@ impl Model for Page {
 }
 
 impl Page {
-    /// A page with the document `top` alone, which has no element, and with a viewport of 800 by 600 pixels.
-    pub fn new(alloc: Global) -> Result<Page, AllocError>
-        ensures opened { IfOk result (λ page. page ≡ record { world = opening_world; begun = false; kept = []; found = page.found }) }
+    /// A page for a script of a version, with the document `top` alone, which has no element, and with a viewport of 800 by 600 pixels at
+    /// a ratio of 100%.
+    pub fn new(alloc: Global, version: Version) -> Result<Page, AllocError>
+        ensures opened { IfOk result (λ page. page ≡ record { world = opening_world version; begun = false; kept = []; found = page.found }) }
         ensures findings { IfOk result (λ page. IsRoomier no_findings page.found) }
     {
         let Some(top) = Name::read(b"top") else {
             return Err(AllocError);
         };
         // What may be refused comes first, where little is made that would have to be dropped.
-        let laid = LaidTree::new(alloc)?;
+        let laid = LaidTree::new(alloc, version)?;
         let notifying = ByDocument::new(alloc)?;
         let noted = ByDocument::new(alloc)?;
         let mut findings = KeptFindings::new(alloc);
@@ -144,18 +134,28 @@ impl Page {
         Ok(Page {
             names,
             laid,
-            observers: Observers::new(alloc, MOST_OBSERVERS, MOST_OBSERVATIONS),
-            watchers: Watchers::new(alloc, MOST_WATCHERS, MOST_REGISTRATIONS),
+            observers: Observers::new(
+                alloc,
+                most(LimitKind::ResizeObservers, version),
+                most(LimitKind::ResizeObservations, version),
+            ),
+            watchers: Watchers::new(
+                alloc,
+                most(LimitKind::IntersectionObservers, version),
+                most(LimitKind::IntersectionObservations, version),
+            ),
+            scroll_margins: Vec::new(alloc),
             findings,
             notifying,
             scrolls: Scrolls::new(alloc),
             queries: Vec::new(alloc),
-            listeners: Listeners::new(alloc, MOST_CALLBACKS),
-            frame_callbacks: FrameCallbacks::new(alloc, MOST_CALLBACKS),
-            timers: Timers::new(alloc, MOST_CALLBACKS),
-            tasks: Tasks::new(alloc, MOST_CALLBACKS),
+            listeners: Listeners::new(alloc, most(LimitKind::Listeners, version)),
+            frame_callbacks: FrameCallbacks::new(alloc, most(LimitKind::FrameCallbacks, version)),
+            timers: Timers::new(alloc, most(LimitKind::Timers, version)),
+            tasks: Tasks::new(alloc, most(LimitKind::Tasks, version)),
             screen: FIRST_SCREEN,
             noted,
+            version,
             clock: 0,
             count: 0,
             begun: false,
@@ -165,7 +165,7 @@ impl Page {
     /// Counts a command, which may then be applied.
     ///
     /// # Errors
-    /// `Limit(Commands)` exactly where 1,000,000 were begun. Nothing is changed then. No memory.
+    /// `Limit(Commands)` exactly where as many were begun as the page's version allows. Nothing is changed then. No memory.
     #[tactic(auto, unfolding(page_model::specs::Commands::begun_in))]
     pub fn begin_command(&mut self) -> Result<(), PageFault>
         ensures counted { Moved result self.old.world self.new.world (begun_in self.old.world) }
@@ -174,7 +174,7 @@ impl Page {
         ensures begun { OnOk result (self.new.begun ≡ true) }
         ensures same { OnErr result (self.new ≡ self.old) }
     {
-        if self.count >= MOST_COMMANDS {
+        if self.count >= most(LimitKind::Commands, self.version) {
             return Err(PageFault::Limit(LimitKind::Commands));
         }
         self.count += 1;
@@ -217,7 +217,7 @@ impl Page {
         requires allowed { ActionAllowed command.now.what }
         requires subject { IsSubject (length self.old.world.tree.elements) subject }
         ensures applied { Applied result self.old.world self.new.world
-            (does (handler_names (handlers_in script.now)) self.old.world (present_of subject) (action_of command.now.what)) }
+            (does (handler_names (handlers_in script.now.items)) self.old.world (present_of subject) (action_of command.now.what)) }
         ensures begun { self.new.begun ≡ false }
         ensures handed { IfOk result (IsHanded self.new.world) }
         ensures boxes { BoxesAfter (present_of subject) (action_of command.now.what) result self.old.world self.new.world.tree self.old.kept self.new.kept steps.old steps.new }
@@ -244,12 +244,13 @@ impl Page {
         requires timers { self.old.world.timers.given < self.old.world.begun }
         requires allowed { ActionAllowed what.now }
         requires subject { IsSubject (length self.old.world.tree.elements) subject }
-        ensures done { Kept self.old self.new result (does (handler_names (handlers_in script.now)) self.old.world (present_of subject) (action_of what.now)) }
+        ensures done { Kept self.old self.new result (does (handler_names (handlers_in script.now.items)) self.old.world (present_of subject) (action_of what.now)) }
         ensures boxes { BoxesAfter (present_of subject) (action_of what.now) result self.old.world self.new.world.tree self.old.kept self.new.kept steps.old steps.new }
         ensures findings { KeepsFindings self.old.world.intersection_observers self.new.world.intersection_observers self.old.found self.new.found }
     {
         match what {
             What::Viewport(size) => self.set_viewport(*size),
+            What::Ratio(ratio) => self.set_ratio(*ratio),
             What::Block(name, document) => self.make_block(*name, *document),
             What::Image(name, document, size) => self.make_image(*name, *document, *size),
             What::Append(parent, node) => self.append(*parent, *node, subject),
@@ -298,6 +299,20 @@ impl Page {
         }
     }
 
+    /// The version of the script that the page is for. No memory.
+    pub fn version(&self) -> Version
+        ensures { result ≡ self.now.world.version }
+    {
+        self.version
+    }
+
+    /// How many device pixels a CSS pixel of the screen is, in hundredths of a percent (CSSOM View, 4: `devicePixelRatio`). No memory.
+    pub fn ratio(&self) -> Percent
+        ensures { unsigned_abs result.0 ≡ self.now.world.viewports.screen.ratio }
+    {
+        self.screen.ratio
+    }
+
     /// Computes the boxes that are due: each box of the page is then held as it is now, and none is due. It takes at most one step
     /// for each box that was due. The world and what was begun are as before. No memory.
     pub fn refresh_boxes<L: Ledger>(&mut self, steps: &mut Steps<L>)
@@ -319,13 +334,14 @@ impl Page {
     }
 
     /// What is kept of registrations: of exactly those that stand. Of one that isn't stale it is what is found of it now, in the coordinates of
-    /// `top` (`telling_of` tells it as an entry does). Its clips are exact of what was seen last of the spots (`KeptFindings::clips`).
+    /// `top` (`telling_of` tells it as an entry does). Its clips are exact of what was seen last of the spots, as its observer sees them through
+    /// its scroll margins (`AreHeld` of `kept_findings`).
     pub fn findings(&self) -> &KeptFindings
         ensures value { result.now ≡ self.now.found }
-        ensures registered { AreRegistered self.now.world.intersection_observers self.now.found }
+        ensures registered { AreRegistered self.now.world.intersection_observers self.now.world.scroll_margins self.now.found }
         ensures chains { HaveChains (shown_of self.now.world) }
-        ensures exact { (chained : HaveChains (shown_of self.now.world)) (serial : ℕ) → is_stale_in (shown_of self.now.world) chained self.now.world.intersection_observers self.now.found.kept serial ≡ false →
-            IsFound (shown_of self.now.world) self.now.world.intersection_observers self.now.found serial }
+        ensures exact { (chained : HaveChains (shown_of self.now.world)) (serial : ℕ) → is_stale_in (shown_of self.now.world) self.now.world.scroll_margins chained self.now.world.intersection_observers self.now.found.kept serial ≡ false →
+            IsFound (shown_of self.now.world) self.now.world.scroll_margins self.now.world.intersection_observers self.now.found serial }
     {
         // These tell what is so of the elements and documents of every page.
         let page = self.laid.page();
@@ -374,6 +390,14 @@ impl Page {
     }
 }
 
+// As many of a kind as a page for a script of this version may have.
+#[tactic(auto, using(crate::proofs::Limits::fits))]
+pub(crate) fn most(kind: LimitKind, version: Version) -> u32
+    ensures { result ≡ limit_number version kind }
+{
+    kind.number(version) as u32
+}
+
 // The size of the viewport of a document as it is now.
 pub(crate) fn viewport_now<L: Ledger>(
     laid: &mut LaidTree,
@@ -381,7 +405,7 @@ pub(crate) fn viewport_now<L: Ledger>(
     document: u32,
     steps: &mut Steps<L>,
 ) -> Size
-    requires { IsNatural screen.size }
+    requires { IsScreen screen }
     ensures value { seen_size result ≡ viewport_of laid.new.elements.tree (seen_screen screen) document }
     ensures natural { IsNatural result }
     ensures same { laid.new.elements ≡ laid.old.elements }
@@ -394,7 +418,7 @@ pub(crate) fn viewport_now<L: Ledger>(
 
 // What is shown of a page of whose boxes none is due.
 pub(crate) fn shown_now<'a>(laid: &'a LaidTree, scrolls: &'a Scrolls, screen: Screen) -> Shown<'a>
-    requires natural { IsNatural screen.size }
+    requires screen { IsScreen screen }
     requires done { (n : ℕ) → is_due laid.now.elements.tree (seen_screen screen) laid.now.kept n ≡ false }
     ensures { result ≡ shown_with laid.now.elements.tree (seen_screen screen) scrolls.now }
 {
@@ -407,7 +431,7 @@ pub(crate) fn shown_at_once<'a>(
     scrolls: &'a Scrolls,
     screen: Screen,
 ) -> Shown<'a>
-    requires natural { IsNatural screen.size }
+    requires screen { IsScreen screen }
     requires done { (n : ℕ) → is_due laid.now.elements.tree (seen_screen screen) laid.now.kept n ≡ false }
     ensures { result ≡ shown_with laid.now.elements.tree (seen_screen screen) scrolls.now }
 {

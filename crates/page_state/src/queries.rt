@@ -12,15 +12,12 @@ ghost use Rattle.page_state.specs.Queries.{seen_query_list, is_changed, changed_
 
 use crate::answers::{Effect, PageFault};
 use crate::names::Thing;
-use crate::page::{Page, viewport_now};
+use crate::page::{Page, most, viewport_now};
 use media_queries::Query;
 use px_units::Size;
 use std::sync::ledger::Ledger;
 use step_count::Steps;
 use text_io::{LimitKind, Name};
-
-/// As many query lists as may be made.
-const MOST_QUERIES: usize = 4096;
 
 /// A media query list, with its state at the last evaluation, or at creation.
 #[derive(Drop)]
@@ -80,7 +77,7 @@ impl Page {
         self.names.check_free(name)?;
         let document = self.document(document)?;
         let number = self.queries.len();
-        if number >= MOST_QUERIES {
+        if number >= most(LimitKind::Queries, self.version) as usize {
             return Err(PageFault::Limit(LimitKind::Queries));
         }
         let query = query.copy(*self.queries.allocator())?;

@@ -29,7 +29,7 @@ impl Page {
         document: Name,
         handler: Option<Name>,
     ) -> Result<Effect, PageFault>
-        ensures done { (present : Present) → Kept self.old self.new result (does (handler_names (handlers_in script.now)) self.old.world present (MakeResizeObserver name document handler)) }
+        ensures done { (present : Present) → Kept self.old self.new result (does (handler_names (handlers_in script.now.items)) self.old.world present (MakeResizeObserver name document handler)) }
         ensures boxes { self.new.kept ≡ self.old.kept }
         ensures findings { self.new.found ≡ self.old.found }
     {

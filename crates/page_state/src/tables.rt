@@ -33,7 +33,7 @@ impl Page {
         requires counted { self.old.world.listeners.given < self.old.world.begun }
         requires flag { self.old.begun ≡ false }
         requires subject { IsSubject (length self.old.world.tree.elements) subject }
-        ensures done { Kept self.old self.new result (does (handler_names (handlers_in script.now)) self.old.world (present_of subject) (Listen (aim_of aim) event handler)) }
+        ensures done { Kept self.old self.new result (does (handler_names (handlers_in script.now.items)) self.old.world (present_of subject) (Listen (aim_of aim) event handler)) }
         ensures boxes { self.new.kept ≡ self.old.kept }
         ensures findings { self.new.found ≡ self.old.found }
     {
@@ -54,7 +54,7 @@ impl Page {
         subject: Option<NodeId>,
     ) -> Result<Effect, PageFault>
         requires { IsSubject (length self.old.world.tree.elements) subject }
-        ensures done { Kept self.old self.new result (does (handler_names (handlers_in script.now)) self.old.world (present_of subject) (Unlisten (aim_of aim) event handler)) }
+        ensures done { Kept self.old self.new result (does (handler_names (handlers_in script.now.items)) self.old.world (present_of subject) (Unlisten (aim_of aim) event handler)) }
         ensures boxes { self.new.kept ≡ self.old.kept }
         ensures findings { self.new.found ≡ self.old.found }
     {
@@ -73,7 +73,7 @@ impl Page {
     ) -> Result<Effect, PageFault>
         requires counted { self.old.world.frame_callbacks.given < self.old.world.begun }
         requires flag { self.old.begun ≡ false }
-        ensures done { (present : Present) → Kept self.old self.new result (does (handler_names (handlers_in script.now)) self.old.world present (RequestFrame document key handler)) }
+        ensures done { (present : Present) → Kept self.old self.new result (does (handler_names (handlers_in script.now.items)) self.old.world present (RequestFrame document key handler)) }
         ensures boxes { self.new.kept ≡ self.old.kept }
         ensures findings { self.new.found ≡ self.old.found }
     {
@@ -107,7 +107,7 @@ impl Page {
         requires counted { self.old.world.timers.given < self.old.world.begun }
         requires flag { self.old.begun ≡ false }
         requires delay { IsTime delay }
-        ensures done { (present : Present) → Kept self.old self.new result (does (handler_names (handlers_in script.now)) self.old.world present (SetTimer document key delay handler)) }
+        ensures done { (present : Present) → Kept self.old self.new result (does (handler_names (handlers_in script.now.items)) self.old.world present (SetTimer document key delay handler)) }
         ensures boxes { self.new.kept ≡ self.old.kept }
         ensures findings { self.new.found ≡ self.old.found }
     {
@@ -135,7 +135,7 @@ impl Page {
         document: Name,
         handler: Name,
     ) -> Result<Effect, PageFault>
-        ensures done { (present : Present) → Kept self.old self.new result (does (handler_names (handlers_in script.now)) self.old.world present (Post document handler)) }
+        ensures done { (present : Present) → Kept self.old self.new result (does (handler_names (handlers_in script.now.items)) self.old.world present (Post document handler)) }
         ensures boxes { self.new.kept ≡ self.old.kept }
         ensures findings { self.new.found ≡ self.old.found }
     {

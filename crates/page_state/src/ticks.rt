@@ -63,7 +63,7 @@ impl Page {
     }
 
     /// Updates the intersection observations of a document (Intersection Observer, 3.2.10): what is found of each target of
-    /// the observers whose root is the document or stands in it is stored, entries are queued where something differs, and a
+    /// the observers whose root is the document or stands in it, through the scroll margins of each, is stored, entries are queued where something differs, and a
     /// notify task where an entry was. Only what is stale of it is computed.
     ///
     /// # Errors
@@ -77,13 +77,13 @@ impl Page {
         requires { document < length self.old.world.tree.documents }
         ensures updated { IfOk result (λ _. self.new ≡ record self.old { world = update_intersections document (self.old.world); kept = self.new.kept; found = self.new.found }) }
         ensures rest { OnErr result (self.new ≡ record self.old { world = record (self.old.world) { intersection_observers = self.new.world.intersection_observers }; kept = self.new.kept; found = self.new.found }) }
-        ensures stopped { OnErr result (IsStopped (shown_of self.old.world) self.old.world.tree document self.old.world.clock self.old.world.intersection_observers self.new.world.intersection_observers) }
+        ensures stopped { OnErr result (IsStopped (shown_of self.old.world) self.old.world.scroll_margins self.old.world.tree document self.old.world.clock self.old.world.intersection_observers self.new.world.intersection_observers) }
         ensures boxes { FillsOnly self.old.kept self.new.kept }
-        ensures settled { OnOk result (AreSettled (shown_of self.old.world) document self.old.world.intersection_observers self.new.world.intersection_observers) }
-        ensures findings { Updates (shown_of self.old.world) document self.old.world.intersection_observers self.old.found self.new.found }
-        ensures fresh { OnOk result (AreUpdated (shown_of self.old.world) document self.new.world.intersection_observers self.new.found) }
+        ensures settled { OnOk result (AreSettled (shown_of self.old.world) self.old.world.scroll_margins document self.old.world.intersection_observers self.new.world.intersection_observers) }
+        ensures findings { Updates (shown_of self.old.world) self.old.world.scroll_margins document self.old.world.intersection_observers self.old.found self.new.found }
+        ensures fresh { OnOk result (AreUpdated (shown_of self.old.world) self.old.world.scroll_margins document self.new.world.intersection_observers self.new.found) }
         ensures refused { (chained : HaveChains (shown_of self.old.world)) →
-            OnErr result (IsUnfinished (shown_of self.old.world) chained document self.old.world.clock self.old.world.intersection_observers self.new.world.intersection_observers self.old.found self.new.found) }
+            OnErr result (IsUnfinished (shown_of self.old.world) self.old.world.scroll_margins chained document self.old.world.clock self.old.world.intersection_observers self.new.world.intersection_observers self.old.found self.new.found) }
         ensures ticks { (chained : HaveChains (shown_of self.old.world)) → OnOk result (TakesAtMost document self.old self.new chained steps.old steps.new) }
     {
         self.laid.refresh(self.screen, steps);
@@ -91,6 +91,7 @@ impl Page {
         let queued = update(
             &shown,
             &mut self.watchers,
+            self.scroll_margins.as_slice(),
             &mut self.findings,
             document,
             self.clock,

@@ -14,7 +14,7 @@ use kept_layout::Kept;
 use page_boxes::{Screen, nothing_kept_fits, refresh};
 use page_documents::DocumentState;
 use page_tree::{Container, PageTree, PlaceFault};
-use px_units::Size;
+use px_units::{Percent, Size};
 use std::alloc::Global;
 use std::marker::Brand;
 use std::process::Abort;
@@ -22,15 +22,16 @@ use std::sync::ledger::{Blank, Ledger};
 use std::test::Fail;
 use step_count::Steps;
 use style_values::Declaration;
-use text_io::Name;
+use text_io::{Name, Version};
 use thresholds::{Margins, Thresholds};
 
-/// 800 by 600 pixels.
+/// 800 by 600 pixels, each of which is a device pixel.
 pub(crate) const SCREEN: Screen = Screen {
     size: Size {
         width: 51200,
         height: 38400,
     },
+    ratio: Percent(10_000),
 };
 
 pub(crate) fn any_name(rt: &impl Abort) -> Name {
@@ -198,7 +199,7 @@ pub(crate) fn apply(rt: &impl Abort, page: &mut PageTree, edit: Edit) -> &'stati
 
 /// A block, the frames of documents 1, 2 and 3, numbers 1, 2 and 3, and two blocks more, all made in `top`.
 pub(crate) fn framed_page(rt: &impl Abort, alloc: Global) -> Result<PageTree, Fail> {
-    let mut page = PageTree::new(alloc)?;
+    let mut page = PageTree::new(alloc, Version::First)?;
     make_elements(rt, &mut page, 6, &[1, 2, 3])?;
     for (node, framed) in [
         (1, Some(1)),

@@ -1,19 +1,19 @@
 //! Readings of a page with the numbers that an independent program for the same rules gives.
 
 ghost use Rattle.std.specs.Prelude.{◌≡◌, ◌<◌};
-ghost use Rattle.page_tree.specs.Items.{IsKind, IsNatural};
+ghost use Rattle.page_tree.specs.Items.{IsKind};
 ghost use Rattle.page_boxes.specs.Fresh.{IsFresh};
 ghost use Rattle.page_boxes.specs.Kept.{AreKept};
-ghost use Rattle.page_boxes.specs.Pages.{seen_screen};
+ghost use Rattle.page_boxes.specs.Pages.{seen_screen, IsScreen};
 
-use crate::common::{all_boxes, any_name, empty_slots, make_elements, put, remove, set};
+use crate::common::{SCREEN, all_boxes, any_name, empty_slots, make_elements, put, remove, set};
 use block_layout::ItemKind;
 use element_tree::NodeId;
 use kept_layout::Kept;
 use page_boxes::{Screen, has_box, is_scroller, nothing_kept_fits, refresh_for, size_of};
 use page_geometry::{Reading, Shown};
 use page_tree::{Container, PageTree};
-use px_units::{BoxKind, Point, Rect, Size};
+use px_units::{BoxKind, Percent, Point, Rect, Size};
 use scrolling::{ScrollTarget, Scrolls};
 use std::alloc::Global;
 use std::marker::Brand;
@@ -21,6 +21,7 @@ use std::process::Abort;
 use std::sync::ledger::{Blank, Ledger};
 use std::test::Fail;
 use step_count::Steps;
+use text_io::Version;
 
 /// Parents with their children in order: the root element 0 has 1 to 3; the image 4 and the block 6 are in 3.
 const PLACES: [(u32, u32); 7] = [(0, 1), (0, 2), (0, 3), (3, 4), (4, 5), (3, 6), (6, 7)];
@@ -128,7 +129,7 @@ fn place_and_style(rt: &impl Abort, page: &mut PageTree) {
 }
 
 fn page_of(rt: &impl Abort, alloc: Global) -> Result<PageTree, Fail> {
-    let mut page = PageTree::new(alloc)?;
+    let mut page = PageTree::new(alloc, Version::First)?;
     make_with_image(rt, &mut page)?;
     place_and_style(rt, &mut page);
     Ok(page)
@@ -151,7 +152,7 @@ fn reading(edges: (i64, i64, i64, i64), scrolled: i64) -> Reading {
 }
 
 fn screen_of(is_narrow: bool) -> Screen
-    ensures { IsNatural result.size }
+    ensures { IsScreen result }
 {
     let (width, height) = if is_narrow {
         (20480, 12800)
@@ -160,6 +161,7 @@ fn screen_of(is_narrow: bool) -> Screen
     };
     Screen {
         size: Size { width, height },
+        ratio: Percent(10_000),
     }
 }
 
@@ -180,7 +182,7 @@ fn see(
     screen: Screen,
     step: Step,
 )
-    requires natural { IsNatural screen.size }
+    requires screen { IsScreen screen }
     requires fresh { IsFresh page.now.tree (seen_screen screen) boxes.now }
 {
     let shown = Shown::new(page, boxes, scrolls, screen).with_documents();
@@ -421,7 +423,7 @@ fn place_and_style_nested(rt: &impl Abort, page: &mut PageTree) {
 }
 
 fn nested_page(rt: &impl Abort, alloc: Global) -> Result<PageTree, Fail> {
-    let mut page = PageTree::new(alloc)?;
+    let mut page = PageTree::new(alloc, Version::First)?;
     make_elements(rt, &mut page, 8, &[1, 3])?;
     place_and_style_nested(rt, &mut page);
     Ok(page)
@@ -452,7 +454,7 @@ fn read_all(
     screen: Screen,
     node: u32,
 ) -> Result<(Reading, Rect), Fail>
-    requires { IsNatural screen.size }
+    requires { IsScreen screen }
 {
     let all = all_boxes(rt, alloc, page, screen)?;
     let shown = Shown::new(page, &all, scrolls, screen);
@@ -470,7 +472,7 @@ fn read_looked(
     screen: Screen,
     node: u32,
 ) -> Result<(Reading, Rect), Fail>
-    requires { IsNatural screen.size }
+    requires { IsScreen screen }
 {
     let all = all_boxes(rt, alloc, page, screen)?;
     let shown = Shown::new(page, &all, scrolls, screen).with_documents();
@@ -487,14 +489,14 @@ fn size_some(
     screen: Screen,
     node: u32,
 ) -> Result<Size, Fail>
-    requires { IsNatural screen.size }
+    requires { IsScreen screen }
 {
     assert!(rt; !page.holds(NodeId(9)));
     let container = Container::Element(NodeId(node));
     let mut some = empty_slots(alloc)?;
     nothing_kept_fits();
     renew_for::<Brand>(Blank::new(1), &mut some, page, screen, container);
-    Ok(size_of(page, &some, NodeId(node), BoxKind::Border))
+    Ok(size_of(page, &some, screen, NodeId(node), BoxKind::Border))
 }
 
 // What is read of an element, the same in all ways.
@@ -547,7 +549,7 @@ fn scroll_over(
     target: ScrollTarget,
     down: u16,
 ) -> Result<(), Fail>
-    requires natural { IsNatural screen.size }
+    requires screen { IsScreen screen }
     requires fresh { IsFresh page.now.tree (seen_screen screen) boxes.now }
 {
     let range = Shown::new(page, boxes, scrolls, screen).range_of(target);
@@ -678,4 +680,50 @@ fn frames_have_their_places(rt: HostRuntime) -> Result<(), Fail> {
     let page = nested_page(&rt, rt.alloc())?;
     let mut scrolls = Scrolls::new(rt.alloc());
     see_frames(&rt, rt.alloc(), &page, &mut scrolls)
+}
+
+/// Hundredths of a percent, and the device pixels of a content box of 10.5 by 3 pixels.
+const RATIOS: [(i32, (i64, i64)); 5] = [
+    (15_000, (16, 5)),
+    (20_000, (21, 6)),
+    (11_000, (12, 3)),
+    (0, (0, 0)),
+    (1_000_000, (1050, 300)),
+];
+
+fn see_pixels(
+    rt: &impl Abort,
+    alloc: Global,
+    page: &PageTree,
+    scrolls: &Scrolls,
+    row: (i32, (i64, i64)),
+) -> Result<(), Fail> {
+    let (ratio, (width, height)) = row;
+    assert!(rt; (0..=1_000_000).contains(&ratio));
+    let screen = Screen {
+        size: SCREEN.size,
+        ratio: Percent(ratio),
+    };
+    let boxes = all_boxes(rt, alloc, page, screen)?;
+    let shown = Shown::new(page, &boxes, scrolls, screen);
+    let found = shown.size_of(NodeId(0), BoxKind::Device);
+    assert_eq!(rt; found, Size { width, height }, "{ratio}");
+    let content = shown.size_of(NodeId(0), BoxKind::Content);
+    assert_eq!(rt; (content.width, content.height), (672, 192), "{ratio}");
+    Ok(())
+}
+
+#[test]
+fn sizes_are_counted_in_device_pixels(rt: HostRuntime) -> Result<(), Fail> {
+    let mut page = PageTree::new(rt.alloc(), Version::Second)?;
+    make_elements(&rt, &mut page, 1, &[])?;
+    put(&rt, &mut page, Container::Document(0), 0);
+    for (property, value) in [("width", "10.5px"), ("height", "3px"), ("padding", "2px")] {
+        set(&rt, &mut page, 0, property, value);
+    }
+    let scrolls = Scrolls::new(rt.alloc());
+    for row in RATIOS {
+        see_pixels(&rt, rt.alloc(), &page, &scrolls, row)?;
+    }
+    Ok(())
 }

@@ -16,6 +16,8 @@ use scrolling::{ScrollTarget, Scrolls};
 use std::alloc::Global;
 use std::process::Abort;
 use std::test::Fail;
+use text_io::Version;
+use thresholds::Margins;
 
 /// Where elements are put: 1 is the frame of document 1. All are made in `top`.
 const PLACES: [(Container, u32); 9] = [
@@ -366,7 +368,7 @@ fn place_and_style(rt: &impl Abort, page: &mut PageTree) {
 }
 
 fn page_of(rt: &impl Abort, alloc: Global) -> Result<PageTree, Fail> {
-    let mut page = PageTree::new(alloc)?;
+    let mut page = PageTree::new(alloc, Version::First)?;
     make_elements(rt, &mut page, 9, &[1])?;
     place_and_style(rt, &mut page);
     Ok(page)
@@ -411,6 +413,7 @@ fn find_over(
     scrolls: &Scrolls,
     watchers: &Watchers,
     watcher: WatcherId,
+    scroll: &Margins,
     target: NodeId,
 ) -> Finding
     requires watcher { watcher.0 < length watchers.now.part.made }
@@ -418,7 +421,7 @@ fn find_over(
 {
     let shown = Shown::new(page, boxes, scrolls, SCREEN);
     let is_chained = reaches(&shown, Spot::Node(target), Spot::View(0));
-    let finding = find(&shown, watchers, watcher, target);
+    let finding = find(&shown, watchers, watcher, scroll, target);
     assert!(rt; is_chained || !finding.meets);
     finding
 }
@@ -430,6 +433,7 @@ fn found(
     scrolls: &Scrolls,
     watchers: &Watchers,
     watcher: u32,
+    scroll: &Margins,
     target: u32,
 ) -> Result<Finding, Fail> {
     assert!(rt; watcher < watchers.count());
@@ -441,6 +445,7 @@ fn found(
         scrolls,
         watchers,
         WatcherId(watcher),
+        scroll,
         NodeId(target),
     ))
 }
@@ -473,7 +478,8 @@ fn take_step(
         Step::Set(node, property, value) => set(rt, page, node, property, value),
         Step::Remove(node) => remove(rt, page, node),
         Step::Find(watcher, target, counts, areas, edges) => {
-            let it = found(rt, alloc, page, scrolls, watchers, watcher, target)?;
+            let none = Margins::parse(b"")?;
+            let it = found(rt, alloc, page, scrolls, watchers, watcher, &none, target)?;
             compare(rt, it, counts, areas, edges);
         }
     }
@@ -504,4 +510,118 @@ fn follow(rt: &impl Abort, alloc: Global, steps: &[Step]) -> Result<(), Fail> {
 #[test]
 fn targets_are_found_as_they_are(rt: HostRuntime) -> Result<(), Fail> {
     follow(&rt, rt.alloc(), &STEPS)
+}
+
+/// Scroll margins, an observer and a target, and what is found as in `Step::Find`.
+type Through = (
+    &'static str,
+    u32,
+    u32,
+    (u32, bool),
+    (u128, u128),
+    [Edges; 3],
+);
+
+const THROUGH: [Through; 6] = [
+    (
+        "60px",
+        0,
+        4,
+        (1, true),
+        (4915200, 491520000),
+        [
+            (0, 0, 51200, 38400),
+            (768, 17408, 19968, 43008),
+            (768, 17408, 19968, 17664),
+        ],
+    ),
+    (
+        "100%",
+        0,
+        4,
+        (3, true),
+        (309657600, 491520000),
+        [
+            (0, 0, 51200, 38400),
+            (768, 17408, 19968, 43008),
+            (768, 17408, 19968, 33536),
+        ],
+    ),
+    (
+        "0px",
+        0,
+        4,
+        (1, false),
+        (0, 491520000),
+        [
+            (0, 0, 51200, 38400),
+            (768, 17408, 19968, 43008),
+            (0, 0, 0, 0),
+        ],
+    ),
+    // the clip of a root stays
+    (
+        "50px",
+        4,
+        4,
+        (1, false),
+        (0, 491520000),
+        [
+            (512, 512, 20224, 13824),
+            (768, 17408, 19968, 43008),
+            (0, 0, 0, 0),
+        ],
+    ),
+    (
+        "-20px",
+        0,
+        7,
+        (1, true),
+        (6821376, 42462720),
+        [
+            (0, 0, 51200, 38400),
+            (512, 3072, 6041, 10752),
+            (1600, 3520, 6041, 5056),
+        ],
+    ),
+    // and so does the viewport of a document in a frame
+    (
+        "30px",
+        1,
+        7,
+        (3, true),
+        (36447168, 42462720),
+        [
+            (0, -640, 12800, 10240),
+            (512, 3072, 6041, 10752),
+            (512, 3072, 6041, 9664),
+        ],
+    ),
+];
+
+fn see_through(
+    rt: &impl Abort,
+    alloc: Global,
+    page: &PageTree,
+    watchers: &Watchers,
+    row: Through,
+) -> Result<(), Fail> {
+    let (margins, watcher, target, counts, areas, edges) = row;
+    let scroll = Margins::parse(margins.as_bytes())?;
+    let scrolls = Scrolls::new(alloc);
+    let it = found(
+        rt, alloc, page, &scrolls, watchers, watcher, &scroll, target,
+    )?;
+    compare(rt, it, counts, areas, edges);
+    Ok(())
+}
+
+#[test]
+fn scroll_margins_move_the_clips_of_scroll_containers(rt: HostRuntime) -> Result<(), Fail> {
+    let watchers = watchers_of(rt.alloc())?;
+    let page = page_of(&rt, rt.alloc())?;
+    for row in THROUGH {
+        see_through(&rt, rt.alloc(), &page, &watchers, row)?;
+    }
+    Ok(())
 }

@@ -3,6 +3,7 @@
 
 ghost use Rattle.std.specs.Prelude.{◌≡◌, ◌<◌};
 ghost use Rattle.page_tree.specs.Items.{IsKind, IsNatural};
+ghost use Rattle.page_boxes.specs.Pages.{IsScreen};
 
 use crate::common::{any_name, declaration};
 use block_layout::ItemKind;
@@ -10,12 +11,13 @@ use element_tree::NodeId;
 use page_boxes::{Screen, size_of};
 use page_layout::LaidTree;
 use page_tree::{Axis, Container};
-use px_units::{BoxKind, Px, Size};
+use px_units::{BoxKind, Percent, Px, Size};
 use std::marker::Brand;
 use std::process::Abort;
 use std::sync::ledger::{Blank, Ledger};
 use std::test::Fail;
 use step_count::Steps;
+use text_io::Version;
 
 /// The image 2 is in the block 1, and the block 5 in the block 4, which is the root element of the document in the frame 3.
 const PLACES: [(Container, u32); 6] = [
@@ -44,6 +46,7 @@ const WIDE: Screen = Screen {
         width: 40960,
         height: 30720,
     },
+    ratio: Percent(10_000),
 };
 
 const NARROW: Screen = Screen {
@@ -51,6 +54,7 @@ const NARROW: Screen = Screen {
         width: 20480,
         height: 12800,
     },
+    ratio: Percent(10_000),
 };
 
 /// What is done to a page. A parent comes before its child, and the sibling last.
@@ -437,36 +441,52 @@ fn lay_out(laid: &mut LaidTree, screen: Screen, read: Option<u32>) {
     renew::<Brand>(Blank::new(1), laid, screen, read);
 }
 
-fn check(rt: &impl Abort, laid: &LaidTree, node: u32, sides: (i64, i64)) {
+fn check(rt: &impl Abort, laid: &LaidTree, screen: Screen, node: u32, sides: (i64, i64))
+    requires { IsScreen screen }
+{
     let (width, height) = sides;
-    let found = size_of(laid.page(), laid.boxes(), NodeId(node), BoxKind::Border);
+    let found = size_of(
+        laid.page(),
+        laid.boxes(),
+        screen,
+        NodeId(node),
+        BoxKind::Border,
+    );
     assert_eq!(rt; found, Size { width, height }, "{node}");
 }
 
 // What a reading of one element rests on is computed first, and then all.
-fn see_sizes(rt: &impl Abort, laid: &mut LaidTree, screen: Screen, sizes: [(i64, i64); 6]) {
+fn see_sizes(rt: &impl Abort, laid: &mut LaidTree, screen: Screen, sizes: [(i64, i64); 6])
+    requires { IsScreen screen }
+{
     lay_out(laid, screen, Some(4));
-    check(rt, laid, 4, sizes[4]);
+    check(rt, laid, screen, 4, sizes[4]);
     lay_out(laid, screen, None);
     for node in 0..6u32 {
-        check(rt, laid, node, sizes[node as usize]);
+        check(rt, laid, screen, node, sizes[node as usize]);
     }
 }
 
+fn screen_of(is_narrow: bool) -> Screen
+    ensures { IsScreen result }
+{
+    if is_narrow { NARROW } else { WIDE }
+}
+
 fn see_changes(rt: &impl Abort, laid: &mut LaidTree) {
-    let mut screen = WIDE;
+    let mut is_narrow = false;
     for (change, sizes) in CHANGES {
         if let Change::Narrow = change {
-            screen = NARROW;
+            is_narrow = true;
         }
         apply(rt, laid, change);
-        see_sizes(rt, laid, screen, sizes);
+        see_sizes(rt, laid, screen_of(is_narrow), sizes);
     }
 }
 
 #[test]
 fn boxes_are_exact_after_each_change(rt: HostRuntime) -> Result<(), Fail> {
-    let mut laid = LaidTree::new(rt.alloc())?;
+    let mut laid = LaidTree::new(rt.alloc(), Version::First)?;
     make_six(&rt, &mut laid)?;
     place_and_style(&rt, &mut laid);
     see_changes(&rt, &mut laid);

@@ -12,7 +12,7 @@ use std::alloc::Global;
 use std::process::Abort;
 use std::test::Fail;
 use style_values::Declaration;
-use text_io::{LimitKind, ThrowKind};
+use text_io::{LimitKind, ThrowKind, Version};
 
 fn push_children(
     text: &mut String,
@@ -43,9 +43,9 @@ fn push_shape(text: &mut String, alloc: Global, page: &PageTree) -> Result<(), F
     Ok(())
 }
 
-// So many blocks.
-fn page_of(rt: &impl Abort, alloc: Global, count: u32) -> Result<PageTree, Fail> {
-    let mut page = PageTree::new(alloc)?;
+// So many blocks on a page of this version.
+fn page_of(rt: &impl Abort, alloc: Global, version: Version, count: u32) -> Result<PageTree, Fail> {
+    let mut page = PageTree::new(alloc, version)?;
     make_elements(rt, &mut page, count, &[])?;
     Ok(page)
 }
@@ -102,7 +102,7 @@ fn see_depth(rt: &impl Abort, page: &PageTree, node: u32, depth: u32, is_attache
 
 #[test]
 fn edits_give_the_lists_of_children(rt: HostRuntime) -> Result<(), Fail> {
-    let mut page = page_of(&rt, rt.alloc(), 5)?;
+    let mut page = page_of(&rt, rt.alloc(), Version::First, 5)?;
     see_edits(&rt, rt.alloc(), &mut page)?;
     for (node, depth, is_attached) in [(1, 1, true), (3, 2, true), (2, 4, true), (4, 1, false)] {
         see_depth(&rt, &page, node, depth, is_attached);
@@ -127,7 +127,7 @@ fn see_no_deeper(rt: &impl Abort, page: &mut PageTree) {
 
 #[test]
 fn no_element_stands_deeper_than_the_limit(rt: HostRuntime) -> Result<(), Fail> {
-    let mut page = page_of(&rt, rt.alloc(), 257)?;
+    let mut page = page_of(&rt, rt.alloc(), Version::First, 257)?;
     make_deep(&rt, &mut page);
     see_no_deeper(&rt, &mut page);
     Ok(())
@@ -183,7 +183,7 @@ fn see_growing(rt: &impl Abort, page: &mut PageTree) {
 
 #[test]
 fn lengths_grow_and_images_load(rt: HostRuntime) -> Result<(), Fail> {
-    let mut page = PageTree::new(rt.alloc())?;
+    let mut page = PageTree::new(rt.alloc(), Version::First)?;
     make_image(&rt, &mut page)?;
     see_loading(&rt, &mut page);
     see_growing(&rt, &mut page);
@@ -202,7 +202,11 @@ fn see_full(rt: &impl Abort, page: &mut PageTree) {
 
 #[test]
 fn no_more_elements_are_made_than_the_limit(rt: HostRuntime) -> Result<(), Fail> {
-    let mut page = page_of(&rt, rt.alloc(), 20000)?;
+    let mut page = page_of(&rt, rt.alloc(), Version::First, 20_000)?;
+    see_full(&rt, &mut page);
+    let page = page_of(&rt, rt.alloc(), Version::Second, 20_000)?;
+    assert!(rt; !page.is_full());
+    let mut page = page_of(&rt, rt.alloc(), Version::Second, 40_000)?;
     see_full(&rt, &mut page);
     Ok(())
 }
@@ -239,7 +243,7 @@ fn see_full_of_documents(rt: &impl Abort, page: &mut PageTree) -> Result<(), Fai
 
 #[test]
 fn no_more_documents_are_made_than_the_limit(rt: HostRuntime) -> Result<(), Fail> {
-    let mut page = PageTree::new(rt.alloc())?;
+    let mut page = PageTree::new(rt.alloc(), Version::First)?;
     see_frames(&rt, &mut page)?;
     see_full_of_documents(&rt, &mut page)
 }

@@ -14,11 +14,11 @@ use std::process::Abort;
 use std::sync::ledger::{Blank, Ledger};
 use std::test::Fail;
 use step_count::Steps;
-use text_io::ThrowKind;
+use text_io::{ThrowKind, Version};
 
 #[test]
 fn a_frame_comes_into_a_page(rt: HostRuntime) -> Result<(), Fail> {
-    let mut page = PageTree::new(rt.alloc())?;
+    let mut page = PageTree::new(rt.alloc(), Version::First)?;
     assert!(rt; page.document_count() == 1); // `top`
     let body = page.make(0, any_name(&rt), ItemKind::Block)?;
     let (frame, inside) = page.make_frame(0, any_name(&rt))?; // a Fresh document in it
@@ -36,13 +36,13 @@ fn see_height<L: Ledger>(blank: Blank, rt: &impl Abort, alloc: Global) -> Result
     requires one_part { 0 < blank.parts }
 {
     let mut steps = Steps::<L>::new(blank);
-    let mut laid = LaidTree::new(alloc)?;
+    let mut laid = LaidTree::new(alloc, Version::First)?;
     assert!(rt; laid.page().document_count() == 1); // `top`
     let body = laid.make(0, any_name(rt), ItemKind::Block)?;
     assert!(rt; laid.place(Container::Document(0), body, None).is_ok());
     laid.set(body, declaration(rt, "height", "20px")); // marks the element
     laid.refresh(SCREEN, &mut steps); // computes the boxes that are due
-    let size = size_of(laid.page(), laid.boxes(), body, BoxKind::Border);
+    let size = size_of(laid.page(), laid.boxes(), SCREEN, body, BoxKind::Border);
     assert_eq!(rt; (size.width, size.height), (51200, 1280)); // 800 by 20 pixels
     Ok(())
 }

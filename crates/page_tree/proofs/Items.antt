@@ -1,5 +1,6 @@
 -- Styles and kinds of single elements, as the tree carries them and as the page has them.
 use Rattle.std.proofs.Common.{◌≡◌, ℕ, List, map, length, Option, Some, None, option_map, slice_get, refl, ap, sym, subst, ◌∙◌}
+use Rattle.text_io.specs.declared.kinds.Version.{Version}
 use Rattle.layout_model.specs.Items.{Item}
 use Rattle.page_model.specs.World.{Element, Tree}
 use Rattle.page_model.specs.Edits.{change_item}
@@ -23,7 +24,7 @@ carried_is : (it : Option (Knot Described)) (knot : Knot Described) (had : Descr
 carried_is None knot had e f = cc
 carried_is (Some k) knot had e f = cc
 
-module _ (old : PageElements) (forest : Forest Described) (documents : HeldDocuments) (seen : seen_page forest documents ≡ old) (is : IsPage forest documents)
+module _ {version : Version} (old : PageElements) (forest : Forest Described) (documents : HeldDocuments) (seen : seen_page version forest documents ≡ old) (is : IsPage version forest documents)
     (n : ℕ) (had now : Described) (there : carried forest.nodes n ≡ Some had) (change : Item → Item) (made : now ≡ with_item change had) where
   abbrev later : Forest Described
   later = with_nodes (changed_at (with_payload now) n) forest
@@ -51,10 +52,10 @@ module _ (old : PageElements) (forest : Forest Described) (documents : HeldDocum
   framed_written =
       subst AreFramed (sym written_done) (item_framed old.tree change n (subst (λ (page : PageElements). AreFramed page.tree) seen is.framed))
 
-  pub IsPage-written : IsPage (with_nodes (changed_at (with_payload now) n) forest) documents
+  pub IsPage-written : IsPage version (with_nodes (changed_at (with_payload now) n) forest) documents
   IsPage-written = IsPage-kept old forest documents seen later documents kept is refl framed_written
 
-  pub written_rest : seen_page (with_nodes (changed_at (with_payload now) n) forest) documents
+  pub written_rest : seen_page version (with_nodes (changed_at (with_payload now) n) forest) documents
       ≡ record old { tree = seen_tree carried_in (with_nodes (changed_at (with_payload now) n) forest) documents.held }
   written_rest = kept_rest old forest documents seen later documents kept
 

@@ -10,6 +10,7 @@ pub mod Outcomes
 pub mod Trees
 pub mod Items
 pub mod Growing
+pub mod Limits
 pub mod Making
 pub mod Moves
 pub mod Differences

@@ -4,6 +4,8 @@ use Rattle.std.proofs.lemmas.List.{length-map}
 use Rattle.std.proofs.lemmas.Bool.Decides.{nat_tests}
 use Rattle.text_io.specs.declared.kinds.LimitKind.{LimitKind}
 use Rattle.text_io.specs.declared.kinds.LimitKind.TheVariants as limits
+use Rattle.text_io.specs.declared.kinds.Version.{Version}
+use Rattle.text_io.specs.Limits.{limit_number}
 use Rattle.layout_model.specs.Items.{Kind, FrameKind}
 use Rattle.page_model.specs.World.{Active, Element, Tree}
 use Rattle.page_model.specs.Edits.{new_document}
@@ -20,25 +22,30 @@ use Rattle.page_documents.specs.Frames.{AreFramed}
 use Rattle.page_documents.proofs.Making.{element_framed, frame_framed, opening_framed}
 use Rattle.page_tree.specs.Items.{Described, carried_in, described}
 use Rattle.page_tree.specs.Views.{PageElements, seen_page, IsPage}
-use Rattle.page_tree.specs.Faults.{frame_room, element_room}
+use Rattle.page_tree.specs.Faults.{frame_room, element_room, has_element_room}
 
 did_below : (below : Bool) (limit : LimitKind) → met_unless below limit ≡ Did tt → below ≡ true
 did_below true limit e = refl
 did_below false limit e = cc
 
-below_limit : (count : ℕ) → room limits.Nodes count ≡ Did tt → count < 20000
-below_limit count e = let below = did_below (nat_lt count 20000) limits.Nodes e in grind (arith, nat_tests)
+below : (count most : ℕ) → nat_lt count most ≡ true → count < most
+below count most is = grind (arith, nat_tests)
 
-module _ (forest : Forest Described) (documents : HeldDocuments) (is : IsPage forest documents) (later : Forest Described) where
-  pub IsPage-made : (old middle : PageElements) → seen_page forest documents ≡ middle → middle ≡ record old { ready = middle.ready } → element_room old ≡ Did tt
+below_limit : (version : Version) (count : ℕ) → room version limits.Nodes count ≡ Did tt → count < limit_number version limits.Nodes
+below_limit version count e = below count (limit_number version limits.Nodes) (did_below (nat_lt count (limit_number version limits.Nodes)) limits.Nodes e)
+
+module _ {version : Version} (forest : Forest Described) (documents : HeldDocuments) (is : IsPage version forest documents) (later : Forest Described) where
+  pub IsPage-made : (old middle : PageElements) → seen_page version forest documents ≡ middle → middle ≡ record old { ready = middle.ready } → element_room old ≡ Did tt
       → (payload : Described) → later ≡ record forest { nodes = forest.nodes ++ lone payload ∷ []; ready = later.ready }
-      → (left : HeldDocuments) → left.most ≡ documents.most → AreFramed (seen_tree carried_in later left.held) → IsPage later left
+      → (left : HeldDocuments) → left.most ≡ documents.most → AreFramed (seen_tree carried_in later left.held) → IsPage version later left
   IsPage-made old middle seen same roomy payload added left most framed =
       let count : length forest.nodes ≡ length old.tree.elements
       = sym (length-map forest.nodes (element_of carried_in)) ∙ ap (λ (page : PageElements). length page.tree.elements) (seen ∙ same) in
-      let below : length old.tree.elements < 20000 = below_limit (length old.tree.elements) roomy in
+      let below : length old.tree.elements < limit_number version limits.Nodes
+      = subst (λ of. length old.tree.elements < limit_number of limits.Nodes) (sym (ap (λ (page : PageElements). page.version) (seen ∙ same)))
+      (below_limit old.version (length old.tree.elements) roomy) in
       let long = length-append forest.nodes (lone payload ∷ []) in
-      subst (λ f. IsPage f left) (sym added)
+      subst (λ f. IsPage version f left) (sym added)
       (record {
         most_nodes = is.most_nodes;
         counted = omega arith;
@@ -110,7 +117,7 @@ documents_full true true full a b other c d = cc
 documents_full true false full a b other c d = refl
 documents_full false documents full a b other c d = cc
 
-module _ (page : PageElements) (full : Bool) (says : full ≡ not (nat_lt (length page.tree.elements) 20000)) where
+module _ (page : PageElements) (full : Bool) (says : full ≡ not (has_element_room page)) where
   pub frame_met_nodes : full ≡ true → frame_room page ≡ Met limits.Nodes
   frame_met_nodes is = elements_full _ _ full says is
 
@@ -131,19 +138,23 @@ unready forest (Err (NodeLimit, it)) why not_added below = absurd (below why)
 unready forest (Err (DepthLimit, it)) why not_added below = absurd why
 unready forest (Err (Memory, it)) why not_added below = why.1
 
-pub frame_unready : (old : PageElements) (forest : Forest Described) (documents : HeldDocuments) → seen_page forest documents ≡ old → IsPage forest documents
-    → (full : Bool) → full ≡ not (nat_lt (length old.tree.elements) 20000) → full ≡ false
+roomier : (count most : ℕ) (full : Bool) → full ≡ not (nat_lt count most) → full ≡ false → count < most
+roomier count most full says is = grind (arith, nat_tests)
+
+pub frame_unready : {version : Version} (old : PageElements) (forest : Forest Described) (documents : HeldDocuments) → seen_page version forest documents ≡ old
+    → IsPage version forest documents → (full : Bool) → full ≡ not (has_element_room old) → full ≡ false
     → (outcome : Result NodeId (TreeFault × Described)) → IfErr outcome (λ refused. IsAddFault forest (refused.0)) → ((node : NodeId) → outcome ≡ Ok node → ⊥)
     → old.ready ≡ false
-frame_unready old forest documents seen is full says so outcome why not_added =
+frame_unready {version} old forest documents seen is full says so outcome why not_added =
     let count : length forest.nodes ≡ length old.tree.elements
     = sym (length-map forest.nodes (element_of carried_in)) ∙ ap (λ (page : PageElements). length page.tree.elements) seen in
-    let below : length old.tree.elements < 20000 = grind (arith, nat_tests) in
-    let most = is.most_nodes in
+    let below : length old.tree.elements < limit_number old.version limits.Nodes = roomier (length old.tree.elements) (limit_number old.version limits.Nodes) full says so in
+    let most : forest.most_nodes ≡ limit_number old.version limits.Nodes
+    = is.most_nodes ∙ ap (λ (page : PageElements). limit_number page.version limits.Nodes) seen in
     sym (ap (λ (page : PageElements). page.ready) seen) ∙ unready forest outcome why not_added (λ same. omega arith)
 
-pub element_roomy : (page : PageElements) (full : Bool) → full ≡ not (nat_lt (length page.tree.elements) 20000) → full ≡ false → element_room page ≡ Did tt
-element_roomy page full says is = roomy (nat_lt (length page.tree.elements) 20000) (sym says ∙ is)
+pub element_roomy : (page : PageElements) (full : Bool) → full ≡ not (has_element_room page) → full ≡ false → element_room page ≡ Did tt
+element_roomy page full says is = roomy (has_element_room page) (sym says ∙ is)
   where
     roomy : (below : Bool) → not below ≡ false → met_unless below limits.Nodes ≡ Did tt
     roomy true e = refl
@@ -153,9 +164,9 @@ pub few_documents : (page : PageElements) (full : Bool) → full ≡ not (nat_lt
 few_documents page full says is = let below : length page.tree.documents < 64 = grind (arith, nat_tests) in omega arith
 
 -- `top` alone
-pub opening_page : (forest : Forest Described) (documents : HeldDocuments) → forest.nodes ≡ [] → forest.most_nodes ≡ 20000 → forest.most_depth ≡ 256
-    → documents ≡ record { held = record { state = Active; frame = None; root = None } ∷ []; most = 64 } → IsPage forest documents
-opening_page forest documents empty nodes depth top = record {
+pub opening_page : (version : Version) (forest : Forest Described) (documents : HeldDocuments) → forest.nodes ≡ [] → forest.most_nodes ≡ limit_number version limits.Nodes → forest.most_depth ≡ 256
+    → documents ≡ record { held = record { state = Active; frame = None; root = None } ∷ []; most = 64 } → IsPage version forest documents
+opening_page version forest documents empty nodes depth top = record {
   most_nodes = nodes;
   counted = let none : length forest.nodes ≡ 0 = ap length empty in omega arith;
   most_depth = depth;
@@ -165,5 +176,5 @@ opening_page forest documents empty nodes depth top = record {
       (sym
       (ap (λ (nodes : List (Knot Described)). let tree : Tree = record { elements = map (element_of carried_in) nodes; documents = documents.held } in tree) empty
       ∙ ap (λ (it : HeldDocuments). let tree : Tree = record { elements = []; documents = it.held } in tree) top))
-      opening_framed;
+      (opening_framed version);
 }

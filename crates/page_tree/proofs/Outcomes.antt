@@ -1,6 +1,9 @@
 -- What is kept of the page as its tree and its documents change.
 use Rattle.std.proofs.Common.{◌≡◌, ◌≤◌, ℕ, ◌<◌, List, [], map, length, Option, Some, None, Bool, option_map, refl, ap, sym, subst, ◌∙◌, arith, is_some}
 use Rattle.std.proofs.lemmas.List.{length-map}
+use Rattle.text_io.specs.declared.kinds.LimitKind.TheVariants as limits
+use Rattle.text_io.specs.declared.kinds.Version.{Version}
+use Rattle.text_io.specs.Limits.{limit_number}
 use Rattle.page_model.specs.Lookups.{change_each}
 use Rattle.page_model.specs.Documents.{inclusive_descendants}
 use Rattle.element_tree.specs.Forest.{Knot, Forest}
@@ -48,7 +51,7 @@ kept_adopted document n forest later is =
     (names_adopted document (inclusive_descendants (seen_tree carried_in forest []) n) forest.nodes)
     (changes_length (adopting owned_by document) (inclusive_descendants (seen_tree carried_in forest []) n) forest.nodes)
 
-module _ (old : PageElements) (forest : Forest Described) (documents : HeldDocuments) (seen : seen_page forest documents ≡ old) where
+module _ {version : Version} (old : PageElements) (forest : Forest Described) (documents : HeldDocuments) (seen : seen_page version forest documents ≡ old) where
   pub within : (n : ℕ) → n < length old.tree.elements → n < length forest.nodes
   within n inside =
       let same : length (map (element_of carried_in) forest.nodes) ≡ length old.tree.elements = ap (λ (page : PageElements). length page.tree.elements) seen in
@@ -59,14 +62,16 @@ module _ (old : PageElements) (forest : Forest Described) (documents : HeldDocum
 
   -- elements and documents may differ, and nothing else
   pub rest_same : (later : Forest Described) (left : HeldDocuments) → map name_in later.nodes ≡ map name_in forest.nodes → later.ready ≡ forest.ready
-      → seen_page later left ≡ record old { tree = seen_tree carried_in later left.held }
+      → seen_page version later left ≡ record old { tree = seen_tree carried_in later left.held }
   rest_same later left names ready =
-      let made : List (List ℕ) → Bool → PageElements = λ texts ready. record { tree = seen_tree carried_in later left.held; names = texts; ready = ready } in
-      ap (λ texts. made texts later.ready) (names ∙ ap (λ (page : PageElements). page.names) seen)
-      ∙ ap (made old.names) (ready ∙ ap (λ (page : PageElements). page.ready) seen)
+      let made : Version → List (List ℕ) → Bool → PageElements
+      = λ of texts ready. record { version = of; tree = seen_tree carried_in later left.held; names = texts; ready = ready } in
+      ap (λ of. made of (map name_in later.nodes) later.ready) (ap (λ (page : PageElements). page.version) seen)
+      ∙ ap (λ texts. made old.version texts later.ready) (names ∙ ap (λ (page : PageElements). page.names) seen)
+      ∙ ap (made old.version old.names) (ready ∙ ap (λ (page : PageElements). page.ready) seen)
 
   module _ (later : Forest Described) (left : HeldDocuments) (kept : IsKept forest later) where
-    pub kept_rest : seen_page later left ≡ record old { tree = seen_tree carried_in later left.held }
+    pub kept_rest : seen_page version later left ≡ record old { tree = seen_tree carried_in later left.held }
     kept_rest = rest_same later left kept.names kept.ready
 
     pub kept_count : length (map (element_of carried_in) later.nodes) ≡ length old.tree.elements
@@ -74,10 +79,10 @@ module _ (old : PageElements) (forest : Forest Described) (documents : HeldDocum
         length-map later.nodes (element_of carried_in) ∙ kept.count ∙ sym (length-map forest.nodes (element_of carried_in))
         ∙ ap (λ (page : PageElements). length page.tree.elements) seen
 
-    pub IsPage-kept : IsPage forest documents → left.most ≡ documents.most → AreFramed (seen_tree carried_in later left.held) → IsPage later left
+    pub IsPage-kept : IsPage version forest documents → left.most ≡ documents.most → AreFramed (seen_tree carried_in later left.held) → IsPage version later left
     IsPage-kept is same framed = record {
       most_nodes = kept.most_nodes ∙ is.most_nodes;
-      counted = subst (λ k. k ≤ 20000) (sym kept.count) is.counted;
+      counted = subst (λ k. k ≤ limit_number version limits.Nodes) (sym kept.count) is.counted;
       most_depth = kept.most_depth ∙ is.most_depth;
       most_documents = same ∙ is.most_documents;
       framed = framed;

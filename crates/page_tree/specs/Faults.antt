@@ -1,6 +1,6 @@
 -- What refusals stand for in the definitions of the page.
 use Rattle.std.specs.Prelude.{◌≡◌, Bool, false, nat_lt, length}
-use Rattle.text_io.specs.Limits.{limit_number}
+use Rattle.text_io.specs.Limits.{limit_number, common_limit}
 use Rattle.text_io.specs.declared.kinds.LimitKind.TheVariants as limits
 use Rattle.page_model.specs.World.{Tree}
 use Rattle.page_model.specs.Steps.{Step, Did, Threw, Met, ◌>>◌, room}
@@ -17,17 +17,17 @@ refusal (Limit kind) = Met kind
 
 -- whether one more element, or one more document, may be made
 abbrev pub has_element_room : PageElements → Bool
-has_element_room page = nat_lt (length page.tree.elements) (limit_number limits.Nodes)
+has_element_room page = nat_lt (length page.tree.elements) (limit_number (page.version) limits.Nodes)
 
 abbrev pub has_document_room : PageElements → Bool
-has_document_room page = nat_lt (length page.tree.documents) (limit_number limits.Documents)
+has_document_room page = nat_lt (length page.tree.documents) (common_limit limits.Documents)
 
 -- room for one more element, and for a frame with its document
 abbrev pub element_room : PageElements → Step (Unit {0})
-element_room page = room limits.Nodes (length page.tree.elements)
+element_room page = room (page.version) limits.Nodes (length page.tree.elements)
 
 abbrev pub frame_room : PageElements → Step (Unit {0})
-frame_room page = element_room page >> room limits.Documents (length page.tree.documents)
+frame_room page = element_room page >> room (page.version) limits.Documents (length page.tree.documents)
 
 -- why something isn't made for which there has to be this room: the limit is met, or memory was needed and there was none
 abbrev pub IsUnmade : Step (Unit {0}) → PageElements → MakeFault → Type 0

@@ -1,8 +1,10 @@
 //! The elements and documents of the page, and the commands that change them.
 
-ghost use Rattle.std.specs.Prelude.{◌≡◌, ◌+◌, ◌<◌, ◌++◌, ◌∷◌, [], not, length, option_map, unsigned_abs, Some, None, Ok, Err, IfOk, IfErr, IfSome, OnOk, OnErr, MatchResult, true};
+ghost use Rattle.std.specs.Prelude.{◌≡◌, ◌+◌, ◌<◌, ◌≤◌, ◌++◌, ◌∷◌, [], not, length, option_map, unsigned_abs, Some, None, Ok, Err, IfOk, IfErr, IfSome, OnOk, OnErr, MatchResult, true};
 ghost use Rattle.std.specs.Option.{ForSome};
 ghost use Rattle.px_units.specs.Lengths.{Pixels};
+ghost use Rattle.text_io.specs.Limits.{limit_number};
+ghost use Rattle.text_io.specs.declared.kinds.LimitKind.TheVariants as limits;
 ghost use Rattle.style_values.specs.Ranges.{IsAllowed, IsUnits};
 ghost use Rattle.style_values.specs.Seen.{seen_declaration};
 ghost use Rattle.element_tree.specs.Links.{number};
@@ -30,10 +32,7 @@ use px_units::{Length, Px, Size};
 use std::alloc::{AllocError, Global};
 use std::marker::Model;
 use style_values::Declaration;
-use text_io::{LimitKind, Name, ThrowKind};
-
-/// As many elements as a page may have, in all.
-const MOST_NODES: u32 = 20000;
+use text_io::{LimitKind, Name, ThrowKind, Version};
 
 /// As many elements as a path to a root may have.
 const MOST_DEPTH: u32 = 256;
@@ -62,10 +61,11 @@ pub enum Axis {
     Height,
 }
 
-/// The elements and documents of a page. A contract sees them as the lists of a world (`specs/Views.antt`). Both are numbered
-/// from 0 in order of making, and stay for good; `top` is document 0.
+/// The elements and documents of a page, within the limits of a version of the script language. A contract sees them as the lists of
+/// a world (`specs/Views.antt`). Both are numbered from 0 in order of making, and stay for good; `top` is document 0.
 #[derive(Drop)]
 pub struct PageTree {
+    version: Version,
     pub(crate) tree: Tree<Element>,
     pub(crate) documents: Documents,
 }
@@ -75,33 +75,35 @@ impl Model for PageTree {
 
     ghost Value = { PageElements };
 
-    ghost view = { λ p. seen_page p.tree p.documents };
+    ghost view = { λ p. seen_page p.version p.tree p.documents };
 
-    ghost invariant = { λ p. IsPage p.tree p.documents };
+    ghost invariant = { λ p. IsPage p.version p.tree p.documents };
 }
 
 impl PageTree {
-    /// No element, and `top` alone, which is Active. The room for all documents is made here.
+    /// No element, and `top` alone, which is Active, of a page for scripts of this version. The room for all documents is made here.
     ///
     /// # Errors
     ///
     /// Where there is no memory.
-    pub fn new(alloc: Global) -> Result<PageTree, AllocError>
-        ensures tree { IfOk result (λ page. page.tree ≡ opening_world.tree) }
+    pub fn new(alloc: Global, version: Version) -> Result<PageTree, AllocError>
+        ensures version { IfOk result (λ page. page.version ≡ version) }
+        ensures tree { IfOk result (λ page. page.tree ≡ (opening_world version).tree) }
         ensures names { IfOk result (λ page. page.names ≡ []) }
     {
         let documents = Documents::new(alloc, MOST_DOCUMENTS)?;
         Ok(PageTree {
-            tree: Tree::new(alloc, MOST_NODES, MOST_DEPTH),
+            version,
+            tree: Tree::new(alloc, most_nodes(version), MOST_DEPTH),
             documents,
         })
     }
 
-    /// Whether as many elements were made as a page may have: 20,000.
+    /// Whether as many elements were made as a page may have: 20,000 in the first version, 40,000 in the second.
     pub fn is_full(&self) -> bool
         ensures { result ≡ not (has_element_room self.now) }
     {
-        self.tree.holds(NodeId(MOST_NODES - 1))
+        self.tree.holds(NodeId(most_nodes(self.version) - 1))
     }
 
     /// Whether as many documents were made as a page may have: 64.
@@ -113,8 +115,7 @@ impl PageTree {
 
     /// Makes room for one element, and tells the number that the next `make` or `make_frame` gives it.
     ///
-    /// That call doesn't answer `Memory`. `Limit` comes exactly where 20,000 elements were made; else `Memory` where there is
-    /// none. Besides the room nothing changes.
+    /// That call doesn't answer `Memory`. `Limit` comes exactly where the page is full; else `Memory` where there is none. Besides the room nothing changes.
     pub fn reserve(&mut self) -> Result<NodeId, MakeFault>
         ensures node { IfOk result (λ node. node.0 ≡ length self.old.tree.elements) }
         ensures roomy { OnOk result (element_room self.old ≡ Did tt) }
@@ -131,7 +132,7 @@ impl PageTree {
 
     /// Makes an element with this name and kind, in a document and standing nowhere, and gives its number. It has no style set.
     ///
-    /// `Limit` comes exactly where 20,000 elements were made; else `Memory` where there is none, which isn't after
+    /// `Limit` comes exactly where the page is full; else `Memory` where there is none, which isn't after
     /// `reserve`. Nothing is changed then but that room may have been made.
     pub fn make(&mut self, document: u32, name: Name, kind: ItemKind) -> Result<NodeId, MakeFault>
         requires { IsKind kind }
@@ -161,7 +162,7 @@ impl PageTree {
     /// Makes a frame with this name, in a document and standing nowhere, and the Fresh document in it, which has no root element
     /// (HTML, 4.8.5 and 7.3), and gives both numbers. The frame has no style set.
     ///
-    /// `Limit(Nodes)` comes exactly where 20,000 elements were made, then `Limit(Documents)` where 64 documents were; else
+    /// `Limit(Nodes)` comes exactly where the page is full, then `Limit(Documents)` where 64 documents were made; else
     /// `Memory` where there is none, which isn't after `reserve`. Nothing is changed then but that room may have been made.
     pub fn make_frame(&mut self, document: u32, name: Name) -> Result<(NodeId, u32), MakeFault>
         ensures node { IfOk result (λ made. made.0.0 ≡ length self.old.tree.elements) }
@@ -383,6 +384,15 @@ impl PageTree {
             _ => None,
         }
     }
+}
+
+// As many elements as a page for scripts of this version may have, in all.
+#[tactic(auto, using(crate::proofs::Limits::some_nodes, crate::proofs::Limits::few_nodes))]
+fn most_nodes(version: Version) -> u32
+    ensures value { result ≡ limit_number version limits.Nodes }
+    ensures some { 1 ≤ result }
+{
+    LimitKind::Nodes.number(version) as u32
 }
 
 // Why a node can't be put among the children of another one, before a sibling or last.

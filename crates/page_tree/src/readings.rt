@@ -1,7 +1,7 @@
 //! What is asked of the elements and documents of a page.
 
 ghost use Rattle.std.specs.Prelude.{◌≡◌, ◌≢◌, ℕ, ◌<◌, ◌≤◌, nat_lt, length, option_map, slice_get, Some, None, IfOk, IfSome, IsSome, is_some, true};
-ghost use Rattle.text_io.specs.Limits.{limit_number};
+ghost use Rattle.text_io.specs.Limits.{common_limit};
 ghost use Rattle.text_io.specs.declared.kinds.LimitKind.TheVariants as limits;
 ghost use Rattle.element_tree.specs.Links.{number};
 ghost use Rattle.style_values.specs.Ranges.{IsStyle};
@@ -35,7 +35,7 @@ impl PageTree {
     /// what rests on it.
     pub fn document_count(&self) -> u32
         ensures value { result ≡ length self.now.tree.documents }
-        ensures bound { length self.now.tree.documents ≤ limit_number limits.Documents }
+        ensures bound { length self.now.tree.documents ≤ common_limit limits.Documents }
         ensures framed { AreFramed (self.now.tree) }
     {
         self.documents.count()
@@ -55,7 +55,7 @@ impl PageTree {
     /// Whether a document is Active (HTML, 7.3: active document). Not where there is no such document.
     pub fn is_active(&self, document: u32) -> bool
         ensures value { result ≡ is_active (self.now.tree) document }
-        ensures bound { result ≡ true → document < limit_number limits.Documents }
+        ensures bound { result ≡ true → document < common_limit limits.Documents }
     {
         if document >= self.document_count() {
             return false;
@@ -142,7 +142,7 @@ impl PageTree {
     pub fn holds(&self, node: NodeId) -> bool
         ensures value { result ≡ nat_lt node.0 (length self.now.tree.elements) }
         ensures trees { AreTrees (nodes_of (self.now.tree)) }
-        ensures deep { (n : ℕ) → element_depth (self.now.tree) n ≤ limit_number limits.Depth }
+        ensures deep { (n : ℕ) → element_depth (self.now.tree) n ≤ common_limit limits.Depth }
     {
         self.tree.holds(node)
     }
@@ -197,9 +197,9 @@ impl PageTree {
 
     /// The tree by itself, as layout reads it. No element stands more than 256 deep in it.
     pub fn tree(&self) -> &Tree<Element>
-        ensures value { seen_with result.now self.now.tree.documents ≡ self.now }
+        ensures value { seen_with self.now.version result.now self.now.tree.documents ≡ self.now }
         ensures nodes { nodes_of (self.now.tree) ≡ tree_in style_in kind_in result.now.nodes }
-        ensures depth { result.now.most_depth ≡ limit_number limits.Depth }
+        ensures depth { result.now.most_depth ≡ common_limit limits.Depth }
         ensures framed { AreFramed (self.now.tree) }
     {
         &self.tree

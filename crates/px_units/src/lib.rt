@@ -58,4 +58,6 @@ pub struct Rect {
 pub enum BoxKind {
     Content,
     Border,
+    /// The content box in device pixels.
+    Device,
 }

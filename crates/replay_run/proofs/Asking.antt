@@ -2,7 +2,7 @@
 use Rattle.std.proofs.Common.{◌≡◌, ◌∙◌, ap, refl, sym, subst, ℕ, List, Option}
 use Rattle.std.specs.Prelude.{Some, None, Ok, Err, IfSome, is_some, true}
 use Rattle.text_io.specs.Streams.{Rose}
-use Rattle.script_model.specs.Syntax.{Item}
+use Rattle.script_model.specs.Syntax.{Script}
 use Rattle.script_model.specs.Reading.{Refusal, Reading}
 use Rattle.replay_run.specs.Answers.{Tells}
 use Rattle.replay_run.specs.Replies.{Reply, read_reply, refused_with, script_reply}
@@ -17,7 +17,7 @@ refused-reply : (job : Job) (refusal : Refusal) → refused_with refusal ≡ rea
 unfolding read_reply
 refused-reply job refusal = refl
 
-script-reply : (job : Job) (items : List Item) → script_reply job items ≡ read_reply job (Ok items)
+script-reply : (job : Job) (items : Script) → script_reply job items ≡ read_reply job (Ok items)
 unfolding read_reply
 script-reply job items = refl
 
@@ -29,13 +29,13 @@ pub refusal_tells : (status : Status) (job : Job) (refusal : Refusal) (read : Re
 refusal_tells status job refusal read before after f g is told =
     reply_tells status (refused_with refusal) (read_reply job read) before after f g (refused-reply job refusal ∙ ap (read_reply job) (sym is)) told
 
-pub script_tells : (status : Status) (job : Job) (items : List Item) (read : Reading) (before after : Option (List ℕ)) (f g : ℕ) → read ≡ Ok items
+pub script_tells : (status : Status) (job : Job) (items : Script) (read : Reading) (before after : Option (List ℕ)) (f g : ℕ) → read ≡ Ok items
     → Tells status (script_reply job items) before after f g → Tells status (read_reply job read) before after f g
 script_tells status job items read before after f g is told =
     reply_tells status (script_reply job items) (read_reply job read) before after f g (script-reply job items ∙ ap (read_reply job) (sym is)) told
 
 -- what is done is the job
-pub job_tells : (status : Status) (it other : Job) (items : List Item) (before after : Option (List ℕ)) (f g : ℕ) → it ≡ other
+pub job_tells : (status : Status) (it other : Job) (items : Script) (before after : Option (List ℕ)) (f g : ℕ) → it ≡ other
     → Tells status (script_reply other items) before after f g → Tells status (script_reply it items) before after f g
 job_tells status it other items before after f g is told = subst (λ (job : Job). Tells status (script_reply job items) before after f g) (sym is) told
 

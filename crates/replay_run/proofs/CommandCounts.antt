@@ -3,8 +3,9 @@ use Rattle.std.proofs.Common.{◌≡◌, ◌∙◌, refl, ap, sym, ℕ, ◌+◌,
 use Rattle.std.proofs.lemmas.List.{drop_more, drop_all, length-replicate}
 use Rattle.std.specs.Prelude.{map, replicate, codes}
 use Rattle.text_io.specs.declared.kinds.LimitKind.TheVariants as limits
-use Rattle.text_io.specs.Limits.{limit_number}
-use Rattle.script_model.specs.Syntax.{Command, Simple, Each, When, Block, NoMore, Then, Item, Outside, Tick, Handler}
+use Rattle.text_io.specs.Kinds.{version_word}
+use Rattle.text_io.specs.Limits.{common_limit}
+use Rattle.script_model.specs.Syntax.{Command, Simple, Each, When, Block, NoMore, Then, Item, Outside, Tick, Handler, Script}
 use Rattle.script_model.specs.Scripts.{commands_in, block_commands, item_commands, command_count}
 use Rattle.script_syntax.specs.Seen.{block_of, command_at, command_of, item_at, item_of}
 use Rattle.script_syntax.specs.declared.operands.Condition.{Condition}
@@ -70,13 +71,13 @@ lines_long number (l ∷ ls) rise =
     let back = length-append (line_text l.words) (lines_text l.number ls) in
     omega arith
 
-pub few_commands : (items : List Item) → IsWellFormed items → command_count items ≤ 16777216
+pub few_commands : (script : Script) → IsWellFormed script → command_count (script.items) ≤ 16777216
 unfolding script_text
-few_commands items well =
-    let few = items_few items in
-    let long = lines_long 1 (items_lines items) well.numbers_rise in
-    let short : length (codes "script 1" ++ lines_text 1 (items_lines items)) ≤ limit_number limits.Script = well.short_text in
-    let both = length-append (codes "script 1") (lines_text 1 (items_lines items)) in
+few_commands script well =
+    let few = items_few (script.items) in
+    let long = lines_long 1 (items_lines (script.items)) well.numbers_rise in
+    let short : length (codes "script " ++ version_word (script.version) ++ lines_text 1 (items_lines (script.items))) ≤ common_limit limits.Script = well.short_text in
+    let both = length-append (codes "script " ++ version_word (script.version)) (lines_text 1 (items_lines (script.items))) in
     omega arith
 
 -- from a place on

@@ -3,8 +3,7 @@ use Rattle.std.proofs.Common.{◌≡◌, ◌∙◌, ℕ, List, [], ◌∷◌, �
 use Rattle.std.specs.Prelude.{Result, Ok, Err}
 use Rattle.std.specs.Io.KnownBytes.{Appends}
 use Rattle.text_io.specs.declared.kinds.LimitKind.{LimitKind}
-use Rattle.text_io.specs.Limits.{limit_number}
-use Rattle.script_model.specs.Syntax.{Item}
+use Rattle.script_model.specs.Syntax.{Script}
 use Rattle.script_model.specs.TraceLines.{LimitLine}
 use Rattle.page_model.specs.Outcome.{Outcome, outcome_read, outcome_said, ending_of, bytes_of, opening_world, run_items}
 use Rattle.page_model.specs.Runs as runs
@@ -27,20 +26,15 @@ pub tells_end : (status : Status) (reply : Reply) (before after : Option (List �
 tells_end ReadFault reply before after f g w = absurd w
 tells_end status reply before after f g w = w
 
--- the line of a limit, with its number
-pub limit_wrote : {A : Type 0} (r : Result A RunFault) (kind : LimitKind) (line most : ℕ) (before after : Option (List ℕ)) (f g : ℕ) → most ≡ limit_number kind
-    → Told r before after f g (LimitLine kind line most ∷ []) → Told r before after f g (LimitLine kind line (limit_number kind) ∷ [])
-limit_wrote r kind line most before after f g is w = subst (λ (n : ℕ). Told r before after f g (LimitLine kind line n ∷ [])) is w
-
 -- a script that was run
 
-run-outcome : (script : List Item) (world : World) → world ≡ opening_world → outcome_said (run_items script world) ≡ outcome_read (Ok script)
+run-outcome : (script : Script) (world : World) → world ≡ opening_world (script.version) → outcome_said (run_items (script.items) world) ≡ outcome_read (Ok script)
 unfolding outcome_read
-run-outcome script world opening = ap (λ (w : World). outcome_said (run_items script w)) opening
+run-outcome script world opening = ap (λ (w : World). outcome_said (run_items (script.items) w)) opening
 
-module _ (script : List Item) (world : World) (opening : world ≡ opening_world) (before : Option (List ℕ)) (f : ℕ) where
+module _ (script : Script) (world : World) (opening : world ≡ opening_world (script.version)) (before : Option (List ℕ)) (f : ℕ) where
   abbrev said : Said World
-  said = run_items script world
+  said = run_items (script.items) world
 
   as_run : (status : Status) (after : Option (List ℕ)) (g : ℕ) → Tells status (outcome_reply (outcome_said said)) before after f g → Tells status (outcome_reply (outcome_read (Ok script))) before after f g
   as_run status after g w = subst (λ (x : Outcome). Tells status (outcome_reply x) before after f g) (run-outcome script world opening) w
@@ -57,19 +51,19 @@ module _ (script : List Item) (world : World) (opening : world ≡ opening_world
   done_world ended = sym ended.state_is ∙ ap (λ (x : Outcome). x.world) (run-outcome script world opening)
 
   -- to a limit, whose line is then written
-  module _ (kind : LimitKind) (line : ℕ) (mid : Option (List ℕ)) (fm : ℕ) (met : Run.MeetsLimit kind line before mid f fm said) where
-    whole : bytes_of met.lines ++ bytes_of (LimitLine kind line (limit_number kind) ∷ []) ≡ bytes_of said.lines
-    whole = bytes_both met.lines (LimitLine kind line (limit_number kind) ∷ []) ∙ sym (ap bytes_of met.last)
+  module _ (kind : LimitKind) (line most : ℕ) (mid : Option (List ℕ)) (fm : ℕ) (met : Run.MeetsLimit kind line most before mid f fm said) where
+    whole : bytes_of met.lines ++ bytes_of (LimitLine kind line most ∷ []) ≡ bytes_of said.lines
+    whole = bytes_both met.lines (LimitLine kind line most ∷ []) ∙ sym (ap bytes_of met.last)
 
-    limit-so : {A : Type 0} (r : Result A RunFault) (after : Option (List ℕ)) (g : ℕ) → Told r mid after fm g (LimitLine kind line (limit_number kind) ∷ []) → Tells (status_after r Limit) (outcome_reply (outcome_said said)) before after f g
+    limit-so : {A : Type 0} (r : Result A RunFault) (after : Option (List ℕ)) (g : ℕ) → Told r mid after fm g (LimitLine kind line most ∷ []) → Tells (status_after r Limit) (outcome_reply (outcome_said said)) before after f g
     unfolding ending_of
     limit-so (Ok done) after g w =
-        (ap (λ (flow : runs.Flow). status_at (ending_of flow)) met.flow_is, subst (λ (t : List ℕ). Appends before after t) whole (both before mid after (bytes_of met.lines) (bytes_of (LimitLine kind line (limit_number kind) ∷ [])) met.written.written w.0.written))
-    limit-so (Err (fault.Limit other at)) after g w = absurd w
+        (ap (λ (flow : runs.Flow). status_at (ending_of flow)) met.flow_is, subst (λ (t : List ℕ). Appends before after t) whole (both before mid after (bytes_of met.lines) (bytes_of (LimitLine kind line most ∷ [])) met.written.written w.0.written))
+    limit-so (Err (fault.Limit other at number)) after g w = absurd w
     limit-so (Err fault.Memory) after g w = subst (λ (t : List ℕ). AppendsPart before after t) whole (part_behind before (bytes_of met.lines) met.written.written w)
     limit-so (Err fault.WriteFault) after g w = subst (λ (t : List ℕ). FailsWithin before after f g t) whole (failure_behind before f (bytes_of met.lines) met.written.written met.unfailed w)
 
-    pub limit_said : {A : Type 0} (r : Result A RunFault) (after : Option (List ℕ)) (g : ℕ) → Told r mid after fm g (LimitLine kind line (limit_number kind) ∷ []) → Tells (status_after r Limit) (outcome_reply (outcome_read (Ok script))) before after f g
+    pub limit_said : {A : Type 0} (r : Result A RunFault) (after : Option (List ℕ)) (g : ℕ) → Told r mid after fm g (LimitLine kind line most ∷ []) → Tells (status_after r Limit) (outcome_reply (outcome_read (Ok script))) before after f g
     limit_said r after g w = as_run (status_after r Limit) after g (limit-so r after g w)
 
   -- cut off for want of memory or by a write

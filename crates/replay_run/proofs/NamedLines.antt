@@ -20,7 +20,7 @@ use Rattle.trace_summary.proofs.Splits.{first_fed, behind_fed}
 use Rattle.trace_summary.proofs.Traces.{FeedLaw}
 use Rattle.trace_judge.specs.Lines.{lines_of}
 use Rattle.trace_judge.proofs.Splits.{lines_by_first}
-use Rattle.replay_run.specs.StreamRuns.{named_text}
+use Rattle.stream_runs.specs.StreamRuns.{named_text}
 
 -- the lines of a text with a name before each
 abbrev pub named_lines : List ℕ → List ℕ → List ℕ
@@ -56,7 +56,7 @@ named_more {before} {mid} {after} {f} {fm} {g} {whole} {line} {behind} name rest
 -- a text of which a first part was written, and behind it a first part of what follows
 pub cut_behind : (A B : Type 0) (before mid after : Option (List ℕ)) (f fm g : ℕ) (whole rest : List ℕ) (it : RunFault) (text more : List ℕ) → Writing before mid f fm whole rest → rest ≡ text ++ more
     → Wrote {A = A} (Err it) mid after fm g text → Wrote {A = B} (Err it) before after f g whole
-cut_behind A B before mid after f fm g whole rest (fault.Limit kind line) text more here is cut = absurd cut
+cut_behind A B before mid after f fm g whole rest (fault.Limit kind line number) text more here is cut = absurd cut
 cut_behind A B before mid after f fm g whole rest fault.Memory text more here is cut =
     subst (λ (t : List ℕ). AppendsPart before after t) (ap (λ t. here.part ++ t) (sym is) ∙ here.makes)
     (part_behind before here.part here.written (part_begins more cut))

@@ -8,7 +8,7 @@ use Rattle.script_model.specs.Reading.{SyntaxAt, LimitAt, last_line}
 use Rattle.page_stream.specs.Pages.{is_stream, page_line_past}
 use Rattle.replay_run.specs.Answers.{Ends, IsTaken, Tells}
 use Rattle.replay_run.specs.Replies.{Reply, few_pages_reply, pages_reply, read_reply, refused_with, run_reply}
-use Rattle.replay_run.specs.StreamRuns.{stream_run}
+use Rattle.stream_runs.specs.StreamRuns.{stream_run}
 use Rattle.replay_run.specs.declared.status.Status.{Status}
 use Rattle.replay_run.specs.declared.words.Job.TheVariants.{Replay}
 use Rattle.replay_run.proofs.Endings.{tells_end}

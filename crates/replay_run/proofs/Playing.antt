@@ -1,6 +1,7 @@
 -- The items of a script, run one after another.
 use Rattle.std.proofs.Common.{◌≡◌, ℕ, List, map, refl, ap, sym, subst, ◌∙◌}
 use Rattle.std.specs.Prelude.{Result, Option, Ok, Err, IfOk, []}
+use Rattle.text_io.specs.declared.kinds.Version.{Version}
 use Rattle.script_model.specs.Syntax as model
 use Rattle.script_model.specs.Syntax.{Handler}
 use Rattle.script_model.specs.Scripts.{handlers_in, NamedBlock}
@@ -49,9 +50,9 @@ ready_behind script item before after (Ok done) ready run =
 ready_behind script item before after (Err fault) ready run = tt
 
 -- and for the first one
-pub opening_ready : (script : List model.Item) (world : World) → world ≡ opening_world → IsReady script world
-opening_ready script world opening =
-    subst (IsReady script) (sym opening) (record { range = opening-in _; limits = opening-within })
+pub opening_ready : (script : List model.Item) (version : Version) (world : World) → world ≡ opening_world version → IsReady script world
+opening_ready script version world opening =
+    subst (IsReady script) (sym opening) (record { range = opening-in _ version; limits = opening-within version })
 
 -- the items of the program
 pub items_are : (items : List Item) (script : List model.Item) (world : World) → map item_of items ≡ script

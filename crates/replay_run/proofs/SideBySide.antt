@@ -5,8 +5,9 @@ use Rattle.std.specs.Io.KnownBytes.{Appends}
 use Rattle.std.specs.List.{All, list_any}
 use Rattle.std.proofs.lemmas.List.{append-nil, map-append, drop_all}
 use Rattle.std.proofs.lemmas.List.Elements.{All-append, All-cons, All-nil}
+use Rattle.text_io.specs.declared.kinds.Version.{Version}
 use Rattle.script_model.specs.Reading.{Reading, Refusal, reading, refusal_line}
-use Rattle.script_model.specs.Syntax.{Item}
+use Rattle.script_model.specs.Syntax.{Item, Script}
 use Rattle.script_model.specs.TraceLines.{TraceLine}
 use Rattle.page_model.specs.World.{World}
 use Rattle.page_model.specs.Outcome.{opening_world, Ending}
@@ -19,9 +20,10 @@ use Rattle.page_stream.specs.declared.stream.Part.{Part}
 use Rattle.page_stream.specs.Pages.{pages_of}
 use Rattle.page_stream.specs.Parts.{parts_of, script_of}
 use Rattle.replay_run.specs.Answers.{Tells}
-use Rattle.replay_run.specs.PageRuns.{PageScript, PageRun, Standing, Turn, ending_at, opened, refused_lines, turn_at}
+use Rattle.stream_runs.specs.PageRuns.{PageScript, PageRun, Standing, Turn, ending_at, opened, refused_lines, turn_at}
 use Rattle.replay_run.specs.Replies.{Reply, run_reply}
-use Rattle.replay_run.specs.StreamRuns.{StreamRun, named_text, refused_text, scripts_from, scripts_of, stream_opened, stream_step, turned, with_turn, parts_run, stream_run, is_faulty, met_limit, stream_status}
+use Rattle.stream_runs.specs.StreamRuns.{StreamRun, named_text, refused_text, scripts_from, scripts_of, stream_opened, stream_step, turned, with_turn, parts_run, stream_run}
+use Rattle.replay_run.specs.StreamStatuses.{is_faulty, met_limit, stream_status}
 use Rattle.replay_run.specs.StreamPages.{progress_ending, seen_page, seen_standing, IsReadyBy, IsReadyPage}
 use Rattle.replay_run.specs.declared.stream_page.Progress.{Progress}
 use Rattle.replay_run.specs.declared.stream_page.Progress.TheVariants as progresses
@@ -253,7 +255,7 @@ stream_parts source =
 pub wrote_behind : {A : Type 0} (r : Result A RunFault) (before mid after : Option (List ℕ)) (f fm g : ℕ) (first second : List ℕ) → Appends before mid first → fm ≡ f → Wrote r mid after fm g second
     → Wrote r before after f g (first ++ second)
 wrote_behind (Ok value) before mid after f fm g first second begun unfailed wrote = (both before mid after first second begun wrote.0, wrote.1 ∙ unfailed)
-wrote_behind (Err (fault.Limit kind line)) before mid after f fm g first second begun unfailed wrote = absurd wrote
+wrote_behind (Err (fault.Limit kind line number)) before mid after f fm g first second begun unfailed wrote = absurd wrote
 wrote_behind (Err fault.Memory) before mid after f fm g first second begun unfailed wrote = part_behind before first begun wrote
 wrote_behind (Err fault.WriteFault) before mid after f fm g first second begun unfailed wrote = failure_behind before f first begun unfailed wrote
 
@@ -267,7 +269,7 @@ whole-status pages = whole-at (list_any (λ page. is_faulty (ending_at page.stan
 
 -- a text that was cut off
 fault_tells : (it : RunFault) (reply : Reply) (before after : Option (List ℕ)) (f g : ℕ) → Wrote {A = Unit {0}} (Err it) before after f g reply.text → Tells (status_of it) reply before after f g
-fault_tells (fault.Limit kind line) reply before after f g cut = absurd cut
+fault_tells (fault.Limit kind line number) reply before after f g cut = absurd cut
 fault_tells fault.Memory reply before after f g cut = cut
 fault_tells fault.WriteFault reply before after f g cut = cut
 
@@ -299,7 +301,7 @@ stream_tells r source status start parts after_pages before mid after f fm g ope
 
 pub cut_tells : (A : Type 0) (it : RunFault) (source : List ℕ) (before after : Option (List ℕ)) (f g : ℕ) → Wrote {A = A} (Err it) before after f g (stream_opened (scripts_of source)).text
     → Tells (status_of it) (run_reply (stream_run source)) before after f g
-cut_tells A (fault.Limit kind line) source before after f g cut = absurd cut
+cut_tells A (fault.Limit kind line number) source before after f g cut = absurd cut
 cut_tells A fault.Memory source before after f g cut =
     subst (λ (t : List ℕ). AppendsPart before after t) (ap (λ (r : StreamRun). r.text) (sym (stream_parts source))) (part_begins (parts_run (stream_opened (scripts_of source)).pages (parts_of source)).text cut)
 cut_tells A fault.WriteFault source before after f g cut =
@@ -315,7 +317,7 @@ ending-seen progresses.LimitMet script k world = refl
 any-seen : (test : Ending → Bool) (pages : List StreamPage) → list_any (λ page. test (ending_at page.standing)) (map seen_page pages) ≡ list_any (λ page. test (progress_ending page.progress)) pages
 any-seen test [] = refl
 any-seen test (p ∷ ps) =
-    ap (λ ending. test ending || list_any (λ page. test (ending_at page.standing)) (map seen_page ps)) (ending-seen p.progress p.script p.next p.page.world)
+    ap (λ ending. test ending || list_any (λ page. test (ending_at page.standing)) (map seen_page ps)) (ending-seen p.progress p.script.items p.next p.page.world)
     ∙ ap (λ others. test (progress_ending p.progress) || others) (any-seen test ps)
 
 pub status_seen : (pages : List StreamPage) → stream_status (map seen_page pages)
@@ -326,10 +328,10 @@ status_seen pages =
 
 -- ---- a page more
 
-pub ready_opening : (progress : Progress) (script : List Item) (world : World) → world ≡ opening_world → IsReadyBy progress script world
-ready_opening progresses.Going script world opening = opening_ready script world opening
-ready_opening progresses.Faulty script world opening = tt
-ready_opening progresses.LimitMet script world opening = tt
+pub ready_opening : (progress : Progress) (script : List Item) (version : Version) (world : World) → world ≡ opening_world version → IsReadyBy progress script world
+ready_opening progresses.Going script version world opening = opening_ready script version world opening
+ready_opening progresses.Faulty script version world opening = tt
+ready_opening progresses.LimitMet script version world opening = tt
 
 pub ready_more : (r : Result (Unit {0}) RunFault) (pages longer : List StreamPage) (page : StreamPage) → OnOk r (longer ≡ pages ++ (page ∷ [])) → IsReadyPage page → OnOk r (All IsReadyPage pages → All IsReadyPage longer)
 ready_more (Ok done) pages longer page is ready = λ all.
@@ -339,7 +341,7 @@ ready_more (Err it) pages longer page is ready = tt
 -- what was written before want of memory
 pub then_wrote : (r : Result (Unit {0}) RunFault) (before after : Option (List ℕ)) (f g : ℕ) (text : List ℕ) → OnErr r (r ≡ Err fault.Memory) → Appends before after text → g ≡ f → Wrote r before after f g text
 then_wrote (Ok done) before after f g text memory written unfailed = (written, unfailed)
-then_wrote (Err (fault.Limit kind line)) before after f g text memory written unfailed = absurd (let no : ⊥ = cc in no)
+then_wrote (Err (fault.Limit kind line number)) before after f g text memory written unfailed = absurd (let no : ⊥ = cc in no)
 then_wrote (Err fault.Memory) before after f g text memory written unfailed = record { part = text; rest = []; whole = sym (append-nil text); written = written }
 then_wrote (Err fault.WriteFault) before after f g text memory written unfailed = absurd (let no : ⊥ = cc in no)
 
@@ -347,9 +349,9 @@ pub memory_cut : (it : RunFault) (now : Option (List ℕ)) (f : ℕ) (text : Lis
 memory_cut it now f text is = subst (λ (e : RunFault). Wrote {A = Unit {0}} (Err e) now now f f text) (sym is) (no_part now text)
 
 -- what is said of a script by its reading
-pub refused_none : (name : List ℕ) (read : Reading) (items : List Item) → read ≡ Ok items → refused_text (record { name = name; read = read }) ≡ []
+pub refused_none : (name : List ℕ) (read : Reading) (script : Script) → read ≡ Ok script → refused_text (record { name = name; read = read }) ≡ []
 unfolding refused_text
-refused_none name read items is = ap (λ (it : Reading). named_text name (refused_lines it)) is ∙ named_nothing name
+refused_none name read script is = ap (λ (it : Reading). named_text name (refused_lines it)) is ∙ named_nothing name
 
 pub refused_one : (name : List ℕ) (read : Reading) (refusal : Refusal) → read ≡ Err refusal → named_text name (refusal_line refusal ∷ []) ≡ refused_text (record { name = name; read = read })
 unfolding refused_text

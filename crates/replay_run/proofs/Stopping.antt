@@ -1,13 +1,11 @@
 -- Runs that are broken off as one of their ticks ends.
 use Rattle.std.proofs.Common.{◌≡◌, ◌∙◌, ℕ, zero, suc, ◌+◌, ◌-◌, ◌<◌, ◌≤◌, List, [], ◌∷◌, ◌++◌, drop, get_or, length, map, Option, refl, ap, sym, subst, arith, length-append}
 use Rattle.std.proofs.lemmas.List.{drop_more, drop_all, drop_at}
+use Rattle.std.specs.Prelude.{Result}
 use Rattle.text_io.specs.declared.kinds.LimitKind.{LimitKind}
-use Rattle.text_io.specs.Limits.{limit_number}
 use Rattle.script_model.specs.Syntax as model
 use Rattle.script_model.specs.Scripts.{handlers_in}
-use Rattle.script_model.specs.Reading.{LimitAt, refusal_line}
 use Rattle.script_model.specs.TraceLines.{TraceLine, LimitLine}
-use Rattle.script_model.specs.TraceText.{line_text}
 use Rattle.script_syntax.specs.Seen.{item_at, item_of}
 use Rattle.script_syntax.specs.declared.commands.Item.{Item}
 use Rattle.script_syntax.specs.declared.commands.What.{What}
@@ -16,15 +14,18 @@ use Rattle.script_syntax.proofs.Inner.{inner_item, inner_unless_tick}
 use Rattle.page_model.specs.Outcome.{bytes_of, opening_world, run_item}
 use Rattle.page_model.specs.Runs.{Flow, Next, Limited, Said, for_each, silent, ◌followed_by◌}
 use Rattle.page_model.specs.World.{World}
-use Rattle.trace_runs.proofs.Lines.{bytes_one}
+use Rattle.trace_runs.specs.declared.faults.RunFault.{RunFault}
 use Rattle.trace_runs.specs.Runs as Run
+use Rattle.trace_runs.specs.Writes.{Told}
 use Rattle.replay_run.specs.Answers.{Tells}
-use Rattle.replay_run.specs.Replies.{Reply, done_with, refused_with, script_reply, sight_reply, told_text, told_with}
+use Rattle.replay_run.specs.Replies.{Reply, done_with, script_reply, sight_reply, told_text, told_with}
+use Rattle.replay_run.specs.Statuses.{status_after}
 use Rattle.replay_run.specs.Stops.{after, last_of, tick_count, ticks_in, to_tick}
 use Rattle.replay_run.specs.declared.words.Job.TheVariants as job
 use Rattle.replay_run.specs.declared.words.Sight.{Sight}
 use Rattle.replay_run.specs.declared.status.Status.{Status}
 use Rattle.replay_run.specs.declared.status.Status.TheVariants.{Limit}
+use Rattle.replay_run.proofs.Summaries.{wrote_of, wrote_tells}
 
 -- ticks ---------------------------------------------------------------------------------------------------------------------
 
@@ -89,43 +90,42 @@ last_one lines line =
     let count : length (lines ++ line ∷ []) ≡ length lines + 1 = length-append lines (line ∷ []) in
     drop_at lines (line ∷ []) (length (lines ++ line ∷ []) - 1) (omega (arith, count))
 
-module _ (sight : Sight) (number : ℕ) (items : List model.Item) (world : World) (opening : world ≡ opening_world) where
+module _ (sight : Sight) (number : ℕ) (script : model.Script) (world : World) (opening : world ≡ opening_world (script.version)) where
   abbrev said : Said World
-  said = for_each (run_item (handlers_in items)) (to_tick number items) world
+  said = for_each (run_item (handlers_in (script.items))) (to_tick number (script.items)) world
 
-  from_opening : said ≡ after items number
+  from_opening : said ≡ after script number
   unfolding after
-  from_opening = ap (λ (w : World). for_each (run_item (handlers_in items)) (to_tick number items) w) opening
+  from_opening = ap (λ (w : World). for_each (run_item (handlers_in (script.items))) (to_tick number (script.items)) w) opening
 
-  by_flow : (flow : Flow) → said.flow ≡ flow → told_with sight number items said flow ≡ sight_reply sight number items
+  by_flow : (flow : Flow) → said.flow ≡ flow → told_with sight number (script.items) said flow ≡ sight_reply sight number script
   unfolding sight_reply
-  by_flow flow is = ap (told_with sight number items said) (sym is) ∙ ap (λ (s : Said World). told_with sight number items s (s.flow)) from_opening
+  by_flow flow is =
+      ap (told_with sight number (script.items) said) (sym is)
+      ∙ ap (λ (s : Said World). told_with sight number (script.items) s (s.flow)) from_opening
 
   pub told_tells : (status : Status) (new : World) (before after_it : Option (List ℕ)) (f g : ℕ) → said.flow ≡ Next → said.state ≡ new
-      → Tells status (done_with (told_text sight number items new)) before after_it f g → Tells status (sight_reply sight number items) before after_it f g
+      → Tells status (done_with (told_text sight number (script.items) new)) before after_it f g → Tells status (sight_reply sight number script) before after_it f g
   told_tells status new before after_it f g flow state told =
       subst (λ (reply : Reply). Tells status reply before after_it f g)
-      (ap (λ (w : World). done_with (told_text sight number items w)) (sym state) ∙ by_flow Next flow) told
+      (ap (λ (w : World). done_with (told_text sight number (script.items) w)) (sym state) ∙ by_flow Next flow) told
 
-  limit_line : (kind : LimitKind) (line : ℕ) (lines : List TraceLine) → said.lines ≡ lines ++ LimitLine kind line (limit_number kind) ∷ []
-      → line_text (refusal_line (LimitAt kind line)) ≡ bytes_of (last_of (said.lines))
-  limit_line kind line lines last =
-      bytes_one (LimitLine kind line (limit_number kind))
-      ∙ ap bytes_of (sym (last_one lines (LimitLine kind line (limit_number kind))))
-      ∙ ap (λ all. bytes_of (last_of all)) (sym last)
+  limit_reply : (kind : LimitKind) (line most : ℕ) (lines : List TraceLine) → said.lines ≡ lines ++ LimitLine kind line most ∷ [] → said.flow ≡ Limited
+      → record { text = bytes_of (LimitLine kind line most ∷ []); status = Limit } ≡ sight_reply sight number script
+  limit_reply kind line most lines last flow =
+      ap (λ (those : List TraceLine). record { text = bytes_of those; status = Limit })
+      (sym (last_one lines (LimitLine kind line most)) ∙ ap last_of (sym last))
+      ∙ by_flow Limited flow
 
-  limit_reply : (kind : LimitKind) (line : ℕ) (lines : List TraceLine) → said.lines ≡ lines ++ LimitLine kind line (limit_number kind) ∷ [] → said.flow ≡ Limited
-      → refused_with (LimitAt kind line) ≡ sight_reply sight number items
-  limit_reply kind line lines last flow =
-      ap (λ (text : List ℕ). record { text = text; status = Limit }) (limit_line kind line lines last) ∙ by_flow Limited flow
+  pub limit_tells : {A : Type 0} (r : Result A RunFault) (kind : LimitKind) (line most : ℕ) (taken mid before after_it : Option (List ℕ)) (faults faults_after f g : ℕ)
+      → Run.MeetsLimit kind line most taken mid faults faults_after said
+      → Told r before after_it f g (LimitLine kind line most ∷ []) → Tells (status_after r Limit) (sight_reply sight number script) before after_it f g
+  limit_tells r kind line most taken mid before after_it faults faults_after f g met told =
+      subst (λ (reply : Reply). Tells (status_after r Limit) reply before after_it f g) (limit_reply kind line most met.lines met.last met.flow_is)
+      (wrote_tells r Limit (bytes_of (LimitLine kind line most ∷ [])) before after_it f g tt
+      (wrote_of r (LimitLine kind line most ∷ []) before after_it f g told))
 
-  pub limit_tells : (status : Status) (kind : LimitKind) (line : ℕ) (taken mid before after_it : Option (List ℕ)) (faults faults_after f g : ℕ)
-      → Run.MeetsLimit kind line taken mid faults faults_after said
-      → Tells status (refused_with (LimitAt kind line)) before after_it f g → Tells status (sight_reply sight number items) before after_it f g
-  limit_tells status kind line taken mid before after_it faults faults_after f g met told =
-      subst (λ (reply : Reply). Tells status reply before after_it f g) (limit_reply kind line met.lines met.last met.flow_is) told
-
-pub sight_tells : (status : Status) (sight : Sight) (number : ℕ) (items : List model.Item) (before after_it : Option (List ℕ)) (f g : ℕ)
-    → Tells status (sight_reply sight number items) before after_it f g → Tells status (script_reply (job.AtTick sight number) items) before after_it f g
+pub sight_tells : (status : Status) (sight : Sight) (number : ℕ) (script : model.Script) (before after_it : Option (List ℕ)) (f g : ℕ)
+    → Tells status (sight_reply sight number script) before after_it f g → Tells status (script_reply (job.AtTick sight number) script) before after_it f g
 unfolding script_reply
-sight_tells status sight number items before after_it f g told = told
+sight_tells status sight number script before after_it f g told = told

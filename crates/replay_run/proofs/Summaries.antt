@@ -3,8 +3,7 @@ use Rattle.std.proofs.Common.{◌≡◌, ◌∙◌, refl, ap, sym, subst, ℕ, L
 use Rattle.std.proofs.lemmas.List.Elements.{All-append}
 use Rattle.std.specs.Prelude.{Result, Ok, Err, false}
 use Rattle.text_io.specs.declared.kinds.LimitKind.{LimitKind}
-use Rattle.text_io.specs.Limits.{limit_number}
-use Rattle.script_model.specs.Syntax.{Item}
+use Rattle.script_model.specs.Syntax.{Script}
 use Rattle.script_model.specs.Reading.{Refusal, SyntaxAt, LimitAt, refusal_line}
 use Rattle.script_model.specs.Summary.{summary_text}
 use Rattle.script_model.specs.TraceLines.{TraceLine, LimitLine}
@@ -45,14 +44,14 @@ wrote_tells (Ok done) Syntax text before after f g whole w = (refl, w.0)
 wrote_tells (Ok done) Limit text before after f g whole w = (refl, w.0)
 wrote_tells (Ok done) Differs text before after f g whole w = (refl, w.0)
 wrote_tells (Ok done) status text before after f g whole w = absurd whole
-wrote_tells (Err (fault.Limit kind line)) status text before after f g whole w = absurd w
+wrote_tells (Err (fault.Limit kind line number)) status text before after f g whole w = absurd w
 wrote_tells (Err fault.Memory) status text before after f g whole w = w
 wrote_tells (Err fault.WriteFault) status text before after f g whole w = w
 
 pub wrote_of : {A : Type 0} (r : Result A RunFault) (lines : List TraceLine) (before after : Option (List ℕ)) (f g : ℕ) → Told r before after f g lines
     → Wrote r before after f g (bytes_of lines)
 wrote_of (Ok done) lines before after f g w = (w.0.written, w.1)
-wrote_of (Err (fault.Limit kind line)) lines before after f g w = absurd w
+wrote_of (Err (fault.Limit kind line number)) lines before after f g w = absurd w
 wrote_of (Err fault.Memory) lines before after f g w = w
 wrote_of (Err fault.WriteFault) lines before after f g w = w
 
@@ -70,22 +69,22 @@ refused_tells r refusal before after f g told =
     (wrote_tells r status (bytes_of (refusal_line refusal ∷ [])) before after f g (whole-refused refusal) (wrote_of r (refusal_line refusal ∷ []) before after f g told))
 
 -- what is done with a script
-pub replay_tells : (status : Status) (script : List Item) (before after : Option (List ℕ)) (f g : ℕ) → Tells status (outcome_reply (outcome_read (Ok script))) before after f g
+pub replay_tells : (status : Status) (script : Script) (before after : Option (List ℕ)) (f g : ℕ) → Tells status (outcome_reply (outcome_read (Ok script))) before after f g
     → Tells status (script_reply job.Replay script) before after f g
 unfolding script_reply
 replay_tells status script before after f g told = told
 
-pub check_tells : (status : Status) (script : List Item) (before after : Option (List ℕ)) (f g : ℕ) → Tells status (done_with (check_read (Ok script))) before after f g
+pub check_tells : (status : Status) (script : Script) (before after : Option (List ℕ)) (f g : ℕ) → Tells status (done_with (check_read (Ok script))) before after f g
     → Tells status (script_reply job.Check script) before after f g
 unfolding script_reply
 check_tells status script before after f g told = told
 
-pub lint_tells : (status : Status) (script : List Item) (before after : Option (List ℕ)) (f g : ℕ) → Tells status (done_with (lint_text script)) before after f g
+pub lint_tells : (status : Status) (script : Script) (before after : Option (List ℕ)) (f g : ℕ) → Tells status (done_with (lint_text (script.items))) before after f g
     → Tells status (script_reply job.Lint script) before after f g
 unfolding script_reply
 lint_tells status script before after f g told = told
 
-pub print_tells : (status : Status) (script : List Item) (before after : Option (List ℕ)) (f g : ℕ) → Tells status (done_with (printed script)) before after f g
+pub print_tells : (status : Status) (script : Script) (before after : Option (List ℕ)) (f g : ℕ) → Tells status (done_with (printed script)) before after f g
     → Tells status (script_reply job.Print script) before after f g
 unfolding script_reply
 print_tells status script before after f g told = told
@@ -104,13 +103,13 @@ gathered_more before after lines more it said = record {
 abbrev summary_reply : Said World → Reply
 summary_reply said = record { text = summary_text (said.lines); status = status_at (ending_of (said.flow)) }
 
-summary-is : (script : List Item) → summary_reply (run_items script opening_world) ≡ script_reply job.Summary script
+summary-is : (script : Script) → summary_reply (run_items (script.items) (opening_world (script.version))) ≡ script_reply job.Summary script
 unfolding script_reply outcome_read summary_read
 summary-is script = refl
 
-module _ (script : List Item) (world : World) (opening : world ≡ opening_world) where
+module _ (script : Script) (world : World) (opening : world ≡ opening_world (script.version)) where
   abbrev said : Said World
-  said = run_items script world
+  said = run_items (script.items) world
 
   -- the summary of these lines is that of the script's run
   run_tells : (status ended : Status) (lines : List TraceLine) (before after : Option (List ℕ)) (f g : ℕ) → status_at (ending_of (said.flow)) ≡ ended → said.lines ≡ lines
@@ -120,7 +119,7 @@ module _ (script : List Item) (world : World) (opening : world ≡ opening_world
       subst (λ (told : List TraceLine). Tells status (record { text = summary_text told; status = ended }) before after f g) (sym same) told in
       let by-end : Tells status (summary_reply said) before after f g =
       subst (λ (end : Status). Tells status (record { text = summary_text (said.lines); status = end }) before after f g) (sym ends) by-run in
-      subst (λ (reply : Reply). Tells status reply before after f g) (ap (λ (w : World). summary_reply (run_items script w)) opening ∙ summary-is script) by-end
+      subst (λ (reply : Reply). Tells status reply before after f g) (ap (λ (w : World). summary_reply (run_items (script.items) w)) opening ∙ summary-is script) by-end
 
   ended-so : {new : World} {b a : Option (List ℕ)} {f g : ℕ} → Run.Ended runs.Next new b a f g said → status_at (ending_of (said.flow)) ≡ Done
   unfolding ending_of
@@ -140,12 +139,12 @@ module _ (script : List Item) (world : World) (opening : world ≡ opening_world
       (wrote_tells r Done (summary_text (said.lines)) before after f g tt (wrote (said.lines) (gathered_trace gathered taken (said.lines) none ended.written)))
 
   -- a run to a limit
-  pub limit_summary : (gathered taken : List ℕ) (fg gg : ℕ) (kind : LimitKind) (line : ℕ) (status : Status) (before after : Option (List ℕ)) (f g : ℕ) → gathered ≡ []
-      → Run.MeetsLimit kind line (Some gathered) (Some taken) fg gg said
-      → ((lines : List TraceLine) → IsTrace taken lines → Tells status (record { text = summary_text (lines ++ (LimitLine kind line (limit_number kind) ∷ [])); status = Limit }) before after f g)
+  pub limit_summary : (gathered taken : List ℕ) (fg gg : ℕ) (kind : LimitKind) (line most : ℕ) (status : Status) (before after : Option (List ℕ)) (f g : ℕ) → gathered ≡ []
+      → Run.MeetsLimit kind line most (Some gathered) (Some taken) fg gg said
+      → ((lines : List TraceLine) → IsTrace taken lines → Tells status (record { text = summary_text (lines ++ (LimitLine kind line most ∷ [])); status = Limit }) before after f g)
       → Tells status (script_reply job.Summary script) before after f g
-  limit_summary gathered taken fg gg kind line status before after f g none met told =
-      run_tells status Limit (met.lines ++ (LimitLine kind line (limit_number kind) ∷ [])) before after f g (limited-so met.flow_is) met.last
+  limit_summary gathered taken fg gg kind line most status before after f g none met told =
+      run_tells status Limit (met.lines ++ (LimitLine kind line most ∷ [])) before after f g (limited-so met.flow_is) met.last
       (told met.lines (gathered_trace gathered taken met.lines none met.written))
 
 -- a summary that was written of the lines that were read
@@ -156,19 +155,18 @@ summary_wrote r before after f g summary found lines is same rows wrote =
 
 -- with the line of a limit behind the trace
 pub limit_tells : {A : Type 0} (r : Result A RunFault) (kind : LimitKind) (line most : ℕ) (gathered taken : List ℕ) (status : Status) (before after : Option (List ℕ)) (f g : ℕ) (lines : List TraceLine)
-    → most ≡ limit_number kind → Says (Some gathered) (Some taken) (LimitLine kind line most ∷ []) → IsTrace gathered lines
+    → Says (Some gathered) (Some taken) (LimitLine kind line most ∷ []) → IsTrace gathered lines
     → ((all : List TraceLine) → IsTrace taken all → Wrote r before after f g (summary_text all)) → status ≡ status_after r Limit
-    → Tells status (record { text = summary_text (lines ++ (LimitLine kind line (limit_number kind) ∷ [])); status = Limit }) before after f g
-limit_tells r kind line most gathered taken status before after f g lines number said is wrote status_is =
-    let all : List TraceLine = lines ++ (LimitLine kind line (limit_number kind) ∷ []) in
-    let more = gathered_more gathered taken lines (LimitLine kind line (limit_number kind) ∷ []) is
-    (subst (λ (n : ℕ). Says (Some gathered) (Some taken) (LimitLine kind line n ∷ [])) number said) in
+    → Tells status (record { text = summary_text (lines ++ (LimitLine kind line most ∷ [])); status = Limit }) before after f g
+limit_tells r kind line most gathered taken status before after f g lines said is wrote status_is =
+    let all : List TraceLine = lines ++ (LimitLine kind line most ∷ []) in
+    let more = gathered_more gathered taken lines (LimitLine kind line most ∷ []) is said in
     subst (λ (s : Status). Tells s (record { text = summary_text all; status = Limit }) before after f g) (sym status_is)
     (wrote_tells r Limit (summary_text all) before after f g tt (wrote all more))
 
 pub limit_not_done : {A : Type 0} (r : Result A RunFault) → is_done (status_after r Limit) ≡ false
 limit_not_done (Ok done) = refl
-limit_not_done (Err (fault.Limit kind line)) = refl
+limit_not_done (Err (fault.Limit kind line number)) = refl
 limit_not_done (Err fault.Memory) = refl
 limit_not_done (Err fault.WriteFault) = refl
 

@@ -3,7 +3,6 @@ use Rattle.std.proofs.Common.{◌≡◌, ◌∙◌, refl, sym, ap, subst, ℕ, z
 use Rattle.std.specs.Prelude.{◌==◌, Some, None, slice_get}
 use Rattle.std.proofs.lemmas.Bool.{false≢true}
 use Rattle.text_io.specs.declared.kinds.LimitKind.{LimitKind}
-use Rattle.text_io.specs.Limits.{limit_number}
 use Rattle.script_model.specs.Syntax.{Item}
 use Rattle.script_model.specs.Scripts.{handlers_in}
 use Rattle.script_model.specs.TraceLines.{TraceLine, LimitLine}
@@ -17,7 +16,7 @@ use Rattle.page_model.specs.Runs.{Said}
 use Rattle.trace_runs.specs.Runs as Run
 use Rattle.trace_runs.specs.Writes.{Says}
 use Rattle.trace_summary.specs.Counts.{IsTrace}
-use Rattle.replay_run.specs.PageRuns.{Standing, Going as GoesOn, Over, Turn, passed, stands_by, went_on, item_line, turn_at}
+use Rattle.stream_runs.specs.PageRuns.{Standing, Going as GoesOn, Over, Turn, passed, stands_by, went_on, item_line, turn_at}
 use Rattle.replay_run.specs.StreamPages.{seen_standing, item_begins, begins}
 use Rattle.replay_run.specs.declared.stream_page.Progress.{Progress}
 use Rattle.replay_run.specs.declared.stream_page.Progress.TheVariants.{Going, Faulty, LimitMet}
@@ -106,14 +105,14 @@ module _ (line : ℕ) (progress : Progress) (script : List Item) (k : ℕ) (worl
       ∙ ap (λ flow. stands_by flow (handlers_in script) (drop (k + 1) script) (said.state)) (sym ended.flow_is)
       ∙ ap (λ (t : Turn). t.standing) (sym (turn_taken line progress script k world item is at))
 
-  pub limit_lines : (kind : LimitKind) (number : ℕ) (gathered taken all : List ℕ) (f g : ℕ) → gathered ≡ [] → Run.MeetsLimit kind number (Some gathered) (Some taken) f g said
-      → Says (Some taken) (Some all) (LimitLine kind number (limit_number kind) ∷ []) → IsTrace all turn.lines
-  limit_lines kind number gathered taken all f g none met last =
+  pub limit_lines : (kind : LimitKind) (number most : ℕ) (gathered taken all : List ℕ) (f g : ℕ) → gathered ≡ [] → Run.MeetsLimit kind number most (Some gathered) (Some taken) f g said
+      → Says (Some taken) (Some all) (LimitLine kind number most ∷ []) → IsTrace all turn.lines
+  limit_lines kind number most gathered taken all f g none met last =
       subst (λ (t : Turn). IsTrace all t.lines) (sym (turn_taken line progress script k world item is at))
       (subst (λ (lines : List TraceLine). IsTrace all lines) (sym met.last)
-      (gathered_more taken all met.lines (LimitLine kind number (limit_number kind) ∷ []) (gathered_trace gathered taken met.lines none met.written) last))
+      (gathered_more taken all met.lines (LimitLine kind number most ∷ []) (gathered_trace gathered taken met.lines none met.written) last))
 
-  pub limit_standing : {kind : LimitKind} {number : ℕ} {b a : Option (List ℕ)} {f g : ℕ} → Run.MeetsLimit kind number b a f g said → Over outcomes.LimitMet ≡ turn.standing
+  pub limit_standing : {kind : LimitKind} {number most : ℕ} {b a : Option (List ℕ)} {f g : ℕ} → Run.MeetsLimit kind number most b a f g said → Over outcomes.LimitMet ≡ turn.standing
   limit_standing met =
       ap (λ flow. stands_by flow (handlers_in script) (drop (k + 1) script) (said.state)) (sym met.flow_is)
       ∙ ap (λ (t : Turn). t.standing) (sym (turn_taken line progress script k world item is at))

@@ -5,7 +5,7 @@ use Rattle.std.specs.Io.KnownBytes.{Appends}
 use Rattle.text_io.specs.Streams.{Rose, TakesPart}
 use Rattle.std.specs.Prelude.{Ok, codes, slice_get}
 use Rattle.word_model.specs.Numbers.{decimal}
-use Rattle.script_model.specs.Syntax.{Item}
+use Rattle.script_model.specs.Syntax.{Item, Script}
 use Rattle.script_model.specs.Scripts.{command_count}
 use Rattle.page_model.specs.Outcome.{check_read}
 use Rattle.trace_runs.specs.Writes.{AppendsPart}
@@ -56,8 +56,8 @@ lines_written before now f g whole [] none here = (refl, subst (λ (text : List 
 lines_written before now f g whole (b ∷ bs) none here = absurd (omega arith)
 
 -- the line of a check, part by part
-pub count_text : (count : ℕ) (script : List Item) (first second whole : List ℕ) → first ≡ codes "ok " → second ≡ first ++ decimal count → whole ≡ second ++ (10 ∷ [])
-    → count ≡ command_count script → whole ≡ check_read (Ok script)
+pub count_text : (count : ℕ) (script : Script) (first second whole : List ℕ) → first ≡ codes "ok " → second ≡ first ++ decimal count → whole ≡ second ++ (10 ∷ [])
+    → count ≡ command_count (script.items) → whole ≡ check_read (Ok script)
 unfolding check_read
 count_text count script first second whole a b c is =
     c ∙ ap (λ text. text ++ (10 ∷ [])) (b ∙ ap (λ text. text ++ decimal count) a) ∙ ap (λ (n : ℕ). (codes "ok " ++ decimal n) ++ (10 ∷ [])) is

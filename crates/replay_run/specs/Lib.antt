@@ -3,8 +3,7 @@ pub mod Certificates
 pub mod Words
 pub mod Recorded
 pub mod Stops
-pub mod PageRuns
-pub mod StreamRuns
+pub mod StreamStatuses
 pub mod StreamPages
 pub mod Replies
 pub mod Answers

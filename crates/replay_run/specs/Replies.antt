@@ -2,8 +2,8 @@
 -- of the source's bytes. All of this is this project's own choice.
 use Rattle.std.specs.Prelude.{ℕ, cond, nat_lt, List, length, Option, Some, None, Ok, Err}
 use Rattle.text_io.specs.declared.kinds.LimitKind.TheVariants as limits
-use Rattle.text_io.specs.Limits.{limit_number}
-use Rattle.script_model.specs.Syntax.{Item}
+use Rattle.text_io.specs.Limits.{common_limit}
+use Rattle.script_model.specs.Syntax as syntax
 use Rattle.script_model.specs.Generator.{generated}
 use Rattle.script_model.specs.Reading.{Reading, reading, Refusal, SyntaxAt, LimitAt, refusal_line, last_line}
 use Rattle.script_model.specs.TraceText.{line_text}
@@ -20,7 +20,8 @@ use Rattle.page_stream.specs.Pages.{is_stream, page_line_past}
 use Rattle.replay_run.specs.Certificates.{lint_text}
 use Rattle.replay_run.specs.Stops.{after, last_of, sight_text, tick_count, ticks_text}
 use Rattle.replay_run.specs.Statuses.{status_at}
-use Rattle.replay_run.specs.StreamRuns.{StreamRun, stream_run, stream_status}
+use Rattle.stream_runs.specs.StreamRuns.{StreamRun, stream_run}
+use Rattle.replay_run.specs.StreamStatuses.{stream_status}
 use Rattle.replay_run.specs.declared.status.Status.{Status}
 use Rattle.replay_run.specs.declared.status.Status.TheVariants.{Done, Limit, Differs}
 use Rattle.replay_run.specs.declared.words.Job.{Job}
@@ -45,34 +46,34 @@ abbrev pub outcome_reply : Outcome → Reply
 outcome_reply outcome = record { text = bytes_of outcome.lines; status = status_at outcome.ending }
 
 -- what is told of the page of a script as a tick of it ends; the number of its ticks where it has fewer
-unfoldable pub told_text : Sight → ℕ → List Item → World → List ℕ
+unfoldable pub told_text : Sight → ℕ → List syntax.Item → World → List ℕ
 unfolding sight_text tick_count ticks_text
 told_text sight number items world = cond (nat_lt (tick_count items) number) (ticks_text (tick_count items)) (sight_text sight world)
 
 -- the same by how the run up to that tick goes on: of one that meets a limit the line that says so
-abbrev pub told_with : Sight → ℕ → List Item → Said World → Flow → Reply
+abbrev pub told_with : Sight → ℕ → List syntax.Item → Said World → Flow → Reply
 told_with sight number items said Next = done_with (told_text sight number items (said.state))
 told_with sight number items said Thrown = done_with (told_text sight number items (said.state))
 told_with sight number items said Limited = record { text = bytes_of (last_of (said.lines)); status = Limit }
 
-unfoldable pub sight_reply : Sight → ℕ → List Item → Reply
+unfoldable pub sight_reply : Sight → ℕ → syntax.Script → Reply
 unfolding after bytes_of last_of told_text
-sight_reply sight number items = told_with sight number items (after items number) (after items number).flow
+sight_reply sight number script = told_with sight number (script.items) (after script number) (after script number).flow
 
 -- what is done with a script
-unfoldable pub script_reply : Job → List Item → Reply
+unfoldable pub script_reply : Job → syntax.Script → Reply
 unfolding outcome_read bytes_of check_read lint_text sight_reply summary_read printed
-script_reply Replay items = outcome_reply (outcome_read (Ok items))
-script_reply Check items = done_with (check_read (Ok items))
-script_reply Lint items = done_with (lint_text items)
-script_reply Summary items = record { text = summary_read (Ok items); status = status_at (outcome_read (Ok items)).ending }
-script_reply Print items = done_with (printed items)
-script_reply (AtTick sight number) items = sight_reply sight number items
+script_reply Replay script = outcome_reply (outcome_read (Ok script))
+script_reply Check script = done_with (check_read (Ok script))
+script_reply Lint script = done_with (lint_text (script.items))
+script_reply Summary script = record { text = summary_read (Ok script); status = status_at (outcome_read (Ok script)).ending }
+script_reply Print script = done_with (printed script)
+script_reply (AtTick sight number) script = sight_reply sight number script
 
 -- the same with a text by its reading
 unfoldable pub read_reply : Job → Reading → Reply
 unfolding script_reply line_text
-read_reply job (Ok items) = script_reply job items
+read_reply job (Ok script) = script_reply job script
 read_reply job (Err refusal) = refused_with refusal
 
 abbrev pub judgement_status : Judgement → Status
@@ -88,8 +89,8 @@ judgement_reply it = record { text = judgement_text it; status = judgement_statu
 unfoldable pub judge_reply : List ℕ → Reply
 unfolding judgement judgement_reply last_line line_text script_of trace trace_of
 judge_reply source =
-    cond (nat_lt (limit_number limits.Recorded) (length source))
-    (refused_with (LimitAt limits.Recorded (last_line (limit_number limits.Recorded) source)))
+    cond (nat_lt (common_limit limits.Recorded) (length source))
+    (refused_with (LimitAt limits.Recorded (last_line (common_limit limits.Recorded) source)))
     (judgement_reply (judgement (trace (script_of source)) (trace_of source)))
 
 abbrev pub run_reply : StreamRun → Reply
@@ -104,9 +105,9 @@ few_pages_reply (Some line) source = refused_with (LimitAt limits.Pages line)
 unfoldable pub pages_reply : List ℕ → Reply
 unfolding is_stream page_line_past stream_run line_text last_line
 pages_reply source =
-    cond (nat_lt (limit_number limits.Script) (length source))
-    (refused_with (LimitAt limits.Script (last_line (limit_number limits.Script) source)))
-    (cond (is_stream source) (few_pages_reply (page_line_past (limit_number limits.Pages) source) source) (refused_with (SyntaxAt 1 1)))
+    cond (nat_lt (common_limit limits.Script) (length source))
+    (refused_with (LimitAt limits.Script (last_line (common_limit limits.Script) source)))
+    (cond (is_stream source) (few_pages_reply (page_line_past (common_limit limits.Pages) source) source) (refused_with (SyntaxAt 1 1)))
 
 -- the text of the script that the words speak of
 abbrev pub script_text : Words → List ℕ → List ℕ

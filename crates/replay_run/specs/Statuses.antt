@@ -44,7 +44,7 @@ status_at Faulty = Syntax
 status_at LimitMet = Limit
 
 abbrev pub status_of : RunFault → Status
-status_of (fault.Limit kind line) = Limit
+status_of (fault.Limit kind line number) = Limit
 status_of fault.Memory = NoMemory
 status_of fault.WriteFault = WriteFault
 

@@ -1,7 +1,7 @@
 -- A run that is broken off as one of its ticks ends, and what is written of the page then. All of this is this project's own choice.
 use Rattle.std.specs.Prelude.{ℕ, zero, suc, ◌+◌, ◌-◌, List, [], ◌∷◌, ◌++◌, drop, flat_map, length, map, codes}
 use Rattle.word_model.specs.Numbers.{decimal}
-use Rattle.script_model.specs.Syntax.{Item, Outside, Tick, Handler}
+use Rattle.script_model.specs.Syntax.{Script, Item, Outside, Tick, Handler}
 use Rattle.script_model.specs.Scripts.{handlers_in}
 use Rattle.script_model.specs.TraceLines.{TraceLine}
 use Rattle.page_model.specs.World.{World}
@@ -31,9 +31,10 @@ tick_count [] = 0
 tick_count (item ∷ items) = ticks_in item + tick_count items
 
 -- the run of a script, broken off as its tick of this number ends, also where that one threw
-unfoldable pub after : List Item → ℕ → Said World
+unfoldable pub after : Script → ℕ → Said World
 unfolding for_each run_item handlers_in to_tick
-after items number = for_each (run_item (handlers_in items)) (to_tick number items) opening_world
+after script number =
+    for_each (run_item (handlers_in (script.items))) (to_tick number (script.items)) (opening_world (script.version))
 
 -- a script with fewer ticks is told with their number
 unfoldable pub ticks_text : ℕ → List ℕ

@@ -5,7 +5,7 @@ use Rattle.script_model.specs.Scripts.{handlers_in}
 use Rattle.page_model.specs.World.{World}
 use Rattle.page_model.specs.Outcome as outcomes
 use Rattle.frame_update.specs.Ready.{IsReady}
-use Rattle.replay_run.specs.PageRuns.{PageRun, Standing, Going as GoesOn, Over, item_line}
+use Rattle.stream_runs.specs.PageRuns.{PageRun, Standing, Going as GoesOn, Over, item_line}
 use Rattle.replay_run.specs.declared.stream_page.Progress.{Progress}
 use Rattle.replay_run.specs.declared.stream_page.Progress.TheVariants.{Going, Faulty, LimitMet}
 use Rattle.replay_run.specs.declared.stream_page.StreamPage.{StreamPage}
@@ -16,7 +16,7 @@ seen_standing Faulty script next world = Over outcomes.Faulty
 seen_standing LimitMet script next world = Over outcomes.LimitMet
 
 abbrev pub seen_page : StreamPage → PageRun
-seen_page it = record { name = it.name; standing = seen_standing it.progress it.script it.next it.page.world }
+seen_page it = record { name = it.name; standing = seen_standing it.progress it.script.items it.next it.page.world }
 
 -- how a page ends that isn't run on
 abbrev pub progress_ending : Progress → outcomes.Ending
@@ -42,4 +42,4 @@ IsReadyBy Faulty script world = Unit {0}
 IsReadyBy LimitMet script world = Unit {0}
 
 abbrev pub IsReadyPage : StreamPage → Type 0
-IsReadyPage it = IsReadyBy it.progress it.script it.page.world
+IsReadyPage it = IsReadyBy it.progress it.script.items it.page.world

@@ -2,7 +2,6 @@
 
 ghost use Rattle.std.specs.Prelude.{◌≡◌, ◌↔◌, ◌<◌, ◌&&◌, None, Ok, Err, is_some, true, false, map, string_bytes, IfSome, [], ◌∷◌};
 ghost use Rattle.text_io.specs.Streams.{Rose};
-ghost use Rattle.text_io.specs.Limits.{limit_number};
 ghost use Rattle.script_model.specs.Generator.{generated};
 ghost use Rattle.script_model.specs.TraceLines.{LimitLine};
 ghost use Rattle.script_model.specs.Reading.{Reading, reading, LimitAt};
@@ -75,25 +74,28 @@ pub(crate) fn with_page(status: Status, page: Page) -> Report
     }
 }
 
+// The line of a limit, with how much there may be.
 pub(crate) fn write_limit<K: Sink>(
     alloc: Global,
     kind: LimitKind,
     line: u32,
+    number: u64,
     sink: &mut K,
 ) -> Result<(), RunFault>
     ensures { Told result (K.taken sink.old) (K.taken sink.new) (K.faults sink.old) (K.faults sink.new)
-        (LimitLine kind line (limit_number kind) ∷ []) }
+        (LimitLine kind line number ∷ []) }
 {
-    let line = TraceLine::Limit(kind, line, kind.number());
+    let line = TraceLine::Limit(kind, line, number);
     write_one(alloc, &line, sink)
 }
 
-/// A limit that was met while the source was read.
+/// A limit that was met while the source was read. Such a limit is the same in each version.
 pub(crate) fn meet_limit<K: Sink>(alloc: Global, kind: LimitKind, line: u32, sink: &mut K) -> Status
     ensures tells { Tells result (refused_with (LimitAt kind line)) (K.taken sink.old) (K.taken sink.new) (K.faults sink.old) (K.faults sink.new) }
     ensures done { is_done result ≡ false }
 {
-    status_of(write_limit(alloc, kind, line, sink), Status::Limit)
+    let wrote = write_limit(alloc, kind, line, kind.common(), sink);
+    status_of(wrote, Status::Limit)
 }
 
 /// A text that is no script.
@@ -120,14 +122,15 @@ fn run_on<K: Sink, L: Ledger>(
     sink: &mut K,
     steps: &mut Steps<L>,
 ) -> Status
-    requires opening { page.old.world ≡ opening_world }
+    requires opening { page.old.world ≡ opening_world script.now.version }
     ensures answers { Tells result (outcome_reply (outcome_read (Ok script.now))) (K.taken sink.old) (K.taken sink.new) (K.faults sink.old) (K.faults sink.new) }
     ensures world { is_done result ≡ true → page.new.world ≡ (outcome_read (Ok script.now)).world }
 {
     match play(alloc, page, script, sink, steps) {
         Ok(()) => Status::Done,
-        Err(RunFault::Limit { kind, line }) => {
-            status_of(write_limit(alloc, kind, line, sink), Status::Limit)
+        Err(RunFault::Limit { kind, line, number }) => {
+            let wrote = write_limit(alloc, kind, line, number, sink);
+            status_of(wrote, Status::Limit)
         }
         Err(RunFault::Memory) => Status::NoMemory,
         Err(RunFault::WriteFault) => Status::WriteFault,
@@ -145,7 +148,7 @@ fn run_script<K: Sink, L: Ledger>(
     ensures page { is_some result.page ≡ is_done result.status }
     ensures world { IfSome result.page (λ page. page.world ≡ (outcome_read (Ok script.now)).world) }
 {
-    match Page::new(alloc) {
+    match Page::new(alloc, script.version()) {
         Ok(mut page) => {
             let status = run_on(alloc, &mut page, script, sink, steps);
             with_page(status, page)

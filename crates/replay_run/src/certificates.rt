@@ -34,7 +34,7 @@ fn push_certificate(
 }
 
 fn certificates_of(alloc: Global, script: &Script) -> Result<Vec<u8>, AllocError>
-    ensures { IfOk result (λ text. text.items ≡ lint_text script.now) }
+    ensures { IfOk result (λ text. text.items ≡ lint_text script.now.items) }
 {
     let mut text = Vec::new(alloc);
     push_certificate(
@@ -49,7 +49,7 @@ fn certificates_of(alloc: Global, script: &Script) -> Result<Vec<u8>, AllocError
 
 /// Writes the certificates of a script, a line for each.
 pub fn write_certificates<K: Sink>(alloc: Global, script: &Script, sink: &mut K) -> Status
-    ensures { Tells result (done_with (lint_text script.now)) (K.taken sink.old) (K.taken sink.new) (K.faults sink.old) (K.faults sink.new) }
+    ensures { Tells result (done_with (lint_text script.now.items)) (K.taken sink.old) (K.taken sink.new) (K.faults sink.old) (K.faults sink.new) }
 {
     match certificates_of(alloc, script) {
         Ok(text) => write_lines(&text, sink),

@@ -64,7 +64,7 @@ fn count_items(items: &[Item]) -> u64
 
 /// How many commands a script has, those of its handlers and blocks included; `each`, `when` and `tick` are commands too.
 pub fn commands_of(script: &Script) -> u64
-    ensures { result ≡ command_count script.now }
+    ensures { result ≡ command_count script.now.items }
 {
     // the law by which a script has no more commands than a text has lines
     what_is_read_is_well_formed();

@@ -4,7 +4,7 @@ ghost use Rattle.std.specs.Prelude.{◌≡◌, ◌∷◌, ◌++◌, List, IfOk};
 ghost use Rattle.script_model.specs.TraceLines.{TraceLine as LineModel};
 ghost use Rattle.trace_runs.specs.Writes.{Wrote};
 ghost use Rattle.trace_summary.specs.Counts.{IsTrace};
-ghost use Rattle.replay_run.specs.StreamRuns.{named_text};
+ghost use Rattle.stream_runs.specs.StreamRuns.{named_text};
 
 use std::alloc::{AllocError, Global};
 use text_io::{Name, Sink};

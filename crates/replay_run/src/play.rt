@@ -33,7 +33,7 @@ fn run_caught<K: Sink, L: Ledger>(
 ) -> Result<(), RunFault>
     requires { InnerAllowed command.now }
     ensures { Runs goes_on (λ _. page.new.world) result (K.taken sink.old) (K.taken sink.new) (K.faults sink.old) (K.faults sink.new)
-        (caught (run_command (handlers_in script.now) [] (command_of command.now) NoEntry page.old.world)) }
+        (caught (run_command (handlers_in script.now.items) [] (command_of command.now) NoEntry page.old.world)) }
 {
     let nothing = Entries::Nothing;
     match run_command(alloc, page, script, command, &nothing, None, sink, steps) {
@@ -51,11 +51,11 @@ fn run_outside<K: Sink, L: Ledger>(
     sink: &mut K,
     steps: &mut Steps<L>,
 ) -> Result<(), RunFault>
-    requires ready { IsReady script.now page.old.world }
+    requires ready { IsReady script.now.items page.old.world }
     requires allowed { IsAllowed command.now }
     ensures says { Runs goes_on (λ _. page.new.world) result (K.taken sink.old) (K.taken sink.new) (K.faults sink.old) (K.faults sink.new)
-        (run_item (handlers_in script.now) (item_at command.now.line command.now.what) page.old.world) }
-    ensures ready { IfOk result (λ _. IsReady script.now page.new.world) }
+        (run_item (handlers_in script.now.items) (item_at command.now.line command.now.what) page.old.world) }
+    ensures ready { IfOk result (λ _. IsReady script.now.items page.new.world) }
 {
     match command.what {
         What::Tick(time) => tick(alloc, page, script, command.line, time, sink, steps),
@@ -72,11 +72,11 @@ pub(crate) fn run_item<K: Sink, L: Ledger>(
     sink: &mut K,
     steps: &mut Steps<L>,
 ) -> Result<(), RunFault>
-    requires ready { IsReady script.now page.old.world }
+    requires ready { IsReady script.now.items page.old.world }
     requires allowed { ItemAllowed item.now }
     ensures says { Runs goes_on (λ _. page.new.world) result (K.taken sink.old) (K.taken sink.new) (K.faults sink.old) (K.faults sink.new)
-        (run_item (handlers_in script.now) (item_of item.now) page.old.world) }
-    ensures ready { IfOk result (λ _. IsReady script.now page.new.world) }
+        (run_item (handlers_in script.now.items) (item_of item.now) page.old.world) }
+    ensures ready { IfOk result (λ _. IsReady script.now.items page.new.world) }
 {
     match item {
         Item::Handler { .. } => Ok(()),
@@ -98,8 +98,8 @@ pub fn play<K: Sink, L: Ledger>(
     sink: &mut K,
     steps: &mut Steps<L>,
 ) -> Result<(), RunFault>
-    requires ready { IsReady script.now page.old.world }
-    ensures { Runs goes_on (λ _. page.new.world) result (K.taken sink.old) (K.taken sink.new) (K.faults sink.old) (K.faults sink.new) (run_items script.now page.old.world) }
+    requires ready { IsReady script.now.items page.old.world }
+    ensures { Runs goes_on (λ _. page.new.world) result (K.taken sink.old) (K.taken sink.new) (K.faults sink.old) (K.faults sink.new) (run_items script.now.items page.old.world) }
 {
     for item in script.items() {
         match run_item(alloc, page, script, item, sink, steps) {

@@ -4,6 +4,7 @@ ghost use Rattle.std.specs.Io.KnownBytes.{Appends};
 ghost use Rattle.std.specs.Prelude.{ℕ, List, Option, ◌≡◌, ◌≤◌, ◌++◌, ◌∷◌, [], length, map, ◌<◌, Ok, Err, IfOk, IfSome, OnOk, OnErr};
 ghost use Rattle.std.specs.List.{All, list_any};
 ghost use Rattle.text_io.specs.Streams.{Rose};
+ghost use Rattle.text_io.specs.declared.kinds.Version.TheVariants.{First};
 ghost use Rattle.script_model.specs.Reading.{reading};
 ghost use Rattle.page_model.specs.Outcome.{opening_world};
 ghost use Rattle.trace_runs.specs.Writes.{Wrote};
@@ -12,9 +13,10 @@ ghost use Rattle.trace_text.specs.Seen.{seen_line};
 ghost use Rattle.page_stream.specs.Pages.{pages_of};
 ghost use Rattle.page_stream.specs.Parts.{script_of};
 ghost use Rattle.replay_run.specs.Answers.{Ends, IsTaken, Tells};
-ghost use Rattle.replay_run.specs.PageRuns.{opened};
+ghost use Rattle.stream_runs.specs.PageRuns.{opened};
 ghost use Rattle.replay_run.specs.Replies.{pages_reply, run_reply};
-ghost use Rattle.replay_run.specs.StreamRuns.{named_text, is_faulty, met_limit, parts_run, refused_text, scripts_of, stream_opened, stream_run, stream_status};
+ghost use Rattle.stream_runs.specs.StreamRuns.{named_text, parts_run, refused_text, scripts_of, stream_opened, stream_run};
+ghost use Rattle.replay_run.specs.StreamStatuses.{is_faulty, met_limit, stream_status};
 ghost use Rattle.replay_run.specs.StreamPages.{progress_ending, seen_page, seen_standing, IsReadyPage};
 
 use crate::call::{meet_limit, refuse_text};
@@ -60,11 +62,11 @@ fn add_page(
     progress: Progress,
     pages: &mut Vec<StreamPage>,
 ) -> Result<(), RunFault>
-    ensures ok { OnOk result (map seen_page pages.new.items ≡ map seen_page pages.old.items ++ (record { name = name; standing = seen_standing progress script 0 opening_world } ∷ [])) }
+    ensures ok { OnOk result (map seen_page pages.new.items ≡ map seen_page pages.old.items ++ (record { name = name; standing = seen_standing progress script.items 0 (opening_world script.version) } ∷ [])) }
     ensures ready { OnOk result (All IsReadyPage pages.old.items → All IsReadyPage pages.new.items) }
     ensures err { OnErr result (result ≡ Err RunFault.Memory) }
 {
-    let Ok(page) = Page::new(alloc) else {
+    let Ok(page) = Page::new(alloc, script.version()) else {
         return Err(RunFault::Memory);
     };
     push_page(
@@ -79,9 +81,9 @@ fn add_page(
     )
 }
 
-// A script without items, for a page whose own is refused.
+// A script without items, for a page whose own is refused. It is of the first version, which nobody looks at.
 fn no_script(alloc: Global) -> Result<Script, RunFault>
-    ensures none { IfOk result (λ script. script ≡ []) }
+    ensures none { IfOk result (λ script. script ≡ record { version = First; items = [] }) }
     ensures memory { OnErr result (result ≡ Err RunFault.Memory) }
 {
     // the law by which a text reads as such a script
@@ -103,7 +105,7 @@ fn refuse_page<K: Sink>(
 ) -> Result<(), RunFault>
     requires { HasReach (seen_line line.now) }
     ensures wrote { Wrote result (K.taken sink.old) (K.taken sink.new) (K.faults sink.old) (K.faults sink.new) (named_text name (seen_line line.now ∷ [])) }
-    ensures pages { OnOk result (map seen_page pages.new.items ≡ map seen_page pages.old.items ++ (record { name = name; standing = seen_standing progress [] 0 opening_world } ∷ [])) }
+    ensures pages { OnOk result (map seen_page pages.new.items ≡ map seen_page pages.old.items ++ (record { name = name; standing = seen_standing progress [] 0 (opening_world First) } ∷ [])) }
     ensures ready { OnOk result (All IsReadyPage pages.old.items → All IsReadyPage pages.new.items) }
 {
     let mut gathered = GatherSink::new(alloc);
@@ -138,7 +140,7 @@ fn open_page<K: Sink>(
             refuse_page(alloc, name, &line, Progress::Faulty, pages, sink)
         }
         Err(ParseFault::ScriptLimit { kind, line }) => {
-            let line = TraceLine::Limit(kind, line, kind.number());
+            let line = TraceLine::Limit(kind, line, kind.common());
             refuse_page(alloc, name, &line, Progress::LimitMet, pages, sink)
         }
         Err(ParseFault::Memory) => Err(RunFault::Memory),

@@ -12,10 +12,11 @@ ghost use Rattle.replay_run.specs.Answers.{Tells};
 ghost use Rattle.replay_run.specs.Replies.{done_with, sight_reply, told_text};
 ghost use Rattle.replay_run.specs.Stops.{hit_text, hits_text, sight_text, tick_count, ticks_text};
 
-use crate::call::{meet_limit, with_page};
+use crate::call::{with_page, write_limit};
 use crate::lines::write_lines;
 use crate::status::Status;
 use crate::stops::play_to_tick;
+use crate::summary::status_of;
 use crate::words::Sight;
 use box_inspector::{BoxLine, inspect, write_box};
 use element_tree::NodeId;
@@ -129,8 +130,8 @@ fn told<L: Ledger>(
     script: &Script,
     steps: &mut Steps<L>,
 ) -> Result<Vec<u8>, AllocError>
-    requires { lacking ≡ number - tick_count script.now }
-    ensures { IfOk result (λ text. text.items ≡ told_text sight number script.now page.old.world) }
+    requires { lacking ≡ number - tick_count script.now.items }
+    ensures { IfOk result (λ text. text.items ≡ told_text sight number script.now.items page.old.world) }
 {
     if lacking == 0 {
         return seen(alloc, page, sight, steps);
@@ -149,8 +150,8 @@ fn write_told<K: Sink, L: Ledger>(
     sink: &mut K,
     steps: &mut Steps<L>,
 ) -> Status
-    requires { lacking ≡ number - tick_count script.now }
-    ensures { Tells result (done_with (told_text sight number script.now page.old.world)) (K.taken sink.old) (K.taken sink.new) (K.faults sink.old) (K.faults sink.new) }
+    requires { lacking ≡ number - tick_count script.now.items }
+    ensures { Tells result (done_with (told_text sight number script.now.items page.old.world)) (K.taken sink.old) (K.taken sink.new) (K.faults sink.old) (K.faults sink.new) }
 {
     match told(alloc, page, sight, number, lacking, script, steps) {
         Ok(text) => write_lines(&text, sink),
@@ -168,13 +169,16 @@ fn write_sight_on<K: Sink, L: Ledger>(
     sink: &mut K,
     steps: &mut Steps<L>,
 ) -> Status
-    requires { page.old.world ≡ opening_world }
+    requires { page.old.world ≡ opening_world script.now.version }
     ensures { Tells result (sight_reply sight number script.now) (K.taken sink.old) (K.taken sink.new) (K.faults sink.old) (K.faults sink.new) }
 {
     let mut gathered = GatherSink::new(alloc);
     match play_to_tick(alloc, page, script, number, &mut gathered, steps) {
         Ok(lacking) => write_told(alloc, page, sight, number, lacking, script, sink, steps),
-        Err(RunFault::Limit { kind, line }) => meet_limit(alloc, kind, line, sink),
+        Err(RunFault::Limit { kind, line, number }) => {
+            let wrote = write_limit(alloc, kind, line, number, sink);
+            status_of(wrote, Status::Limit)
+        }
         // In memory a write fails for want of it alone.
         Err(RunFault::Memory | RunFault::WriteFault) => Status::NoMemory,
     }
@@ -192,7 +196,7 @@ pub fn write_sight<K: Sink, L: Ledger>(
 ) -> Status
     ensures { Tells result (sight_reply sight number script.now) (K.taken sink.old) (K.taken sink.new) (K.faults sink.old) (K.faults sink.new) }
 {
-    match Page::new(alloc) {
+    match Page::new(alloc, script.version()) {
         Ok(mut page) => {
             let status = write_sight_on(alloc, &mut page, sight, number, script, sink, steps);
             with_page(status, page).into_status()

@@ -7,8 +7,9 @@ ghost use Rattle.script_syntax.specs.Seen.{item_of};
 ghost use Rattle.page_model.specs.Outcome.{opening_world};
 ghost use Rattle.trace_runs.specs.Writes.{Wrote};
 ghost use Rattle.trace_summary.specs.Counts.{IsTrace};
-ghost use Rattle.replay_run.specs.PageRuns.{item_line, turn_at};
-ghost use Rattle.replay_run.specs.StreamRuns.{is_faulty, met_limit, named_text};
+ghost use Rattle.stream_runs.specs.PageRuns.{item_line, turn_at};
+ghost use Rattle.stream_runs.specs.StreamRuns.{named_text};
+ghost use Rattle.replay_run.specs.StreamStatuses.{is_faulty, met_limit};
 ghost use Rattle.replay_run.specs.StreamPages.{begins, progress_ending, seen_page, IsReadyPage};
 
 use crate::call::write_limit;
@@ -78,7 +79,7 @@ fn first_line(item: &Item) -> u32
 
 // Whether the next item of a page is run at a line.
 fn next_begins(page: &StreamPage, line: u32) -> bool
-    ensures { result ≡ begins line page.now.progress page.now.script page.now.next }
+    ensures { result ≡ begins line page.now.progress page.now.script.items page.now.next }
 {
     match page.progress {
         Progress::Going => match page.script.items().get(page.next) {
@@ -97,7 +98,7 @@ fn run_next<L: Ledger>(
     steps: &mut Steps<L>,
 ) -> Result<GatherSink, RunFault>
     requires ready { IsReadyPage page.old }
-    requires begins { begins line page.old.progress page.old.script page.old.next ≡ true }
+    requires begins { begins line page.old.progress page.old.script.items page.old.next ≡ true }
     ensures lines { IfOk result (λ gathered. IsTrace gathered.taken (turn_at line (seen_page page.old).standing).lines) }
     ensures page { OnOk result (seen_page page.new ≡ record { name = page.old.name; standing = (turn_at line (seen_page page.old).standing).standing }) }
     ensures ready { OnOk result (IsReadyPage page.new) }
@@ -117,9 +118,9 @@ fn run_next<L: Ledger>(
             page.next += 1;
             Ok(gathered)
         }
-        Err(RunFault::Limit { kind, line }) => {
+        Err(RunFault::Limit { kind, line, number }) => {
             page.progress = Progress::LimitMet;
-            match write_limit(alloc, kind, line, &mut gathered) {
+            match write_limit(alloc, kind, line, number, &mut gathered) {
                 Ok(()) => Ok(gathered),
                 Err(_) => Err(RunFault::Memory),
             }

@@ -1,7 +1,6 @@
 //! Scripts that are run for the summary of their traces.
 
 ghost use Rattle.std.specs.Prelude.{◌≡◌, ◌++◌, List, [], ◌∷◌, false, true, Ok, is_some, IfSome};
-ghost use Rattle.text_io.specs.Limits.{limit_number};
 ghost use Rattle.script_model.specs.Summary.{summary_text};
 ghost use Rattle.script_model.specs.TraceLines.{LimitLine, TraceLine as LineModel};
 ghost use Rattle.page_model.specs.Outcome.{opening_world, outcome_read};
@@ -58,14 +57,15 @@ fn summarize_to_limit<K: Sink>(
     alloc: Global,
     kind: LimitKind,
     line: u32,
+    number: u64,
     mut gathered: GatherSink,
     sink: &mut K,
 ) -> Status
     ensures tells { (lines : List LineModel) → IsTrace gathered.taken lines →
-        Tells result (record { text = summary_text (lines ++ LimitLine kind line (limit_number kind) ∷ []); status = Status.Limit }) (K.taken sink.old) (K.taken sink.new) (K.faults sink.old) (K.faults sink.new) }
+        Tells result (record { text = summary_text (lines ++ LimitLine kind line number ∷ []); status = Status.Limit }) (K.taken sink.old) (K.taken sink.new) (K.faults sink.old) (K.faults sink.new) }
     ensures done { is_done result ≡ false }
 {
-    let line = TraceLine::Limit(kind, line, kind.number());
+    let line = TraceLine::Limit(kind, line, number);
     match write_one(alloc, &line, &mut gathered) {
         Ok(()) => status_of(write_summary(alloc, gathered.taken(), sink), Status::Limit),
         // In memory a write fails for want of it alone.
@@ -81,15 +81,15 @@ fn summarize_on<K: Sink, L: Ledger>(
     sink: &mut K,
     steps: &mut Steps<L>,
 ) -> Status
-    requires opening { page.old.world ≡ opening_world }
+    requires opening { page.old.world ≡ opening_world script.now.version }
     ensures tells { Tells result (script_reply Job.Summary script.now) (K.taken sink.old) (K.taken sink.new) (K.faults sink.old) (K.faults sink.new) }
     ensures world { is_done result ≡ true → page.new.world ≡ (outcome_read (Ok script.now)).world }
 {
     let mut gathered = GatherSink::new(alloc);
     match play(alloc, page, script, &mut gathered, steps) {
         Ok(()) => status_of(write_summary(alloc, gathered.taken(), sink), Status::Done),
-        Err(RunFault::Limit { kind, line }) => {
-            summarize_to_limit(alloc, kind, line, gathered, sink)
+        Err(RunFault::Limit { kind, line, number }) => {
+            summarize_to_limit(alloc, kind, line, number, gathered, sink)
         }
         // In memory a write fails for want of it alone.
         Err(RunFault::Memory | RunFault::WriteFault) => Status::NoMemory,
@@ -108,7 +108,7 @@ pub fn summarize<K: Sink, L: Ledger>(
     ensures page { is_some result.page ≡ is_done result.status }
     ensures world { IfSome result.page (λ page. page.world ≡ (outcome_read (Ok script.now)).world) }
 {
-    match Page::new(alloc) {
+    match Page::new(alloc, script.version()) {
         Ok(mut page) => {
             let status = summarize_on(alloc, &mut page, script, sink, steps);
             with_page(status, page)

@@ -42,6 +42,13 @@ const TAKES: &str =
 
 const TAKES_TOLD: &str = "take i 0\ntake i 0\nthrow 4 ReferenceError\n";
 
+// A ratio, and margins before scroll margins before thresholds.
+const MARGINS: &str =
+    "script 2\nhandler h\nratio 150%\nsay first\nio j top - root - margin scroll 2 threshold 3\nend\nio i top - root - margin 1 scroll 2 threshold 3\nio i top - root - margin scroll 2 threshold 3\nio i top - root - margin scroll 2px threshold 3\nratio 50%\nio i top - root - margin scroll 2px threshold 1\nio-take i\n";
+
+const MARGINS_TOLD: &str =
+    "throw 7 SyntaxError\nthrow 8 SyntaxError\nthrow 9 RangeError\ntake i 0\nsay first\nthrow 5 SyntaxError\n";
+
 // No trace of a test is longer.
 const ROOM: usize = 512;
 
@@ -100,7 +107,7 @@ fn run_alone(
     document: u32,
     sink: &mut MemorySink,
 ) -> Result<(), RunFault> {
-    let Ok(mut page) = Page::new(alloc) else {
+    let Ok(mut page) = Page::new(alloc, script.version()) else {
         return Err(RunFault::Memory);
     };
     let ran = run_text::<Brand>(Blank::new(1), alloc, &mut page, script, document, sink);
@@ -139,10 +146,11 @@ type Row = (
     &'static str,
 );
 
-const RUNS: [Row; 5] = [
+const RUNS: [Row; 6] = [
     (BLOCKS, 0, None, Ok(()), BLOCKS_TOLD),
     (GROWS, 0, None, Ok(()), GROWS_TOLD),
     (TAKES, 0, None, Ok(()), TAKES_TOLD),
+    (MARGINS, 0, None, Ok(()), MARGINS_TOLD),
     // A document that isn't Active.
     (BLOCKS, 1, None, Ok(()), OUTSIDE),
     (BLOCKS, 0, Some(2), Err(RunFault::WriteFault), CUT),
@@ -176,6 +184,7 @@ fn a_limit_ends_the_run(rt: HostRuntime) -> Result<(), Fail> {
     let met = Err(RunFault::Limit {
         kind: LimitKind::Depth,
         line: 5,
+        number: 256,
     });
     expect(&rt, rt.alloc(), &text, 0, None, met, "say first\n")
 }

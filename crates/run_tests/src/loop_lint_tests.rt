@@ -7,7 +7,7 @@ use std::process::Abort;
 use std::test::Fail;
 
 /// A script, and for each law the line that it is broken at.
-const ROWS: [(&str, Option<u32>, Option<u32>); 8] = [
+const ROWS: [(&str, Option<u32>, Option<u32>); 9] = [
     (
         "script 1\nblock r top\nappend top r\nro o top -\nro-observe o r content\ntick 0\n",
         None,
@@ -16,6 +16,12 @@ const ROWS: [(&str, Option<u32>, Option<u32>); 8] = [
     // a handler makes a deeper element higher
     (
         "script 1\nhandler more\ngrow c height 1px\nend\nro o top more\n",
+        None,
+        Some(3),
+    ),
+    // a handler doubles the device pixels of a pixel, which moves nothing
+    (
+        "script 2\nhandler h\nratio 200%\nend\nblock r top\nappend top r\nro o top h\nro-observe o r device\ntick 0\n",
         None,
         Some(3),
     ),

@@ -18,8 +18,24 @@ const FRAMED: &str =
 const THROWN: &str =
     "script 1\nblock r top\nset r height 5px\nappend top r\ntick 5\ntick 0\nset r height 6px\ntick 9\n";
 
+/// An observer with a scroll margin, for which alone a clip is moved: what is seen of a box is cut by the clips as they are.
+const MOVED: &str =
+    "script 2\nblock r top\nappend top r\nblock s top\nset s height 100px\nset s overflow hidden\nappend r s\nblock u top\nset u height 130px\nappend s u\nblock t top\nset t height 10px\nappend s t\nio i top - root - margin scroll 60px threshold 0\nio j top - root - margin threshold 0\nio-observe i t\nio-observe j t\ntick 0\n";
+
 /// Words, the text of the source, and the status and the text that they give.
-const SIGHTS: [(&[&str], &str, Status, &str); 15] = [
+const SIGHTS: [(&[&str], &str, Status, &str); 17] = [
+    (
+        &["--inspect", "1"],
+        MOVED,
+        Status::Done,
+        "box r 1 0 0 800 100 seen 0 0 800 100\nbox s 2 0 0 800 100 seen 0 0 800 100\nbox u 3 0 0 800 130 seen 0 0 800 100\nbox t 3 0 130 800 10 hidden\n",
+    ),
+    (
+        &["--hit", "1", "5px", "135px"],
+        MOVED,
+        Status::Done,
+        "miss\n",
+    ),
     (
         &["--inspect", "2"],
         SCROLLED,

@@ -38,7 +38,6 @@ fn expect_on(rt: &impl Abort, alloc: Global, text: &mut String) -> Result<(), Fa
 }
 
 fn push_number(text: &mut String, it: &Numbered, count: u32) -> Result<(), AllocError> {
-    text.push_str("script 1\n")?;
     text.push_str(it.first)?;
     push_numbered(text, it.before, it.after, count)
 }
@@ -70,14 +69,24 @@ fn push_observed(text: &mut String, it: &Observing, count: u32) -> Result<(), Al
     push_numbered(text, "block b", " top\n", 16_667)?;
     push_numbered(text, it.make, it.made, 3)?;
     for k in 0..count {
-        write!(
-            text,
-            "{}{} b{}{}",
-            it.observe,
-            k / 16_667,
-            k % 16_667,
-            it.observed
-        )?;
+        let (observer, block) = (k / 16_667, k % 16_667);
+        write!(text, "{}{observer} b{block}{}", it.observe, it.observed)?;
+    }
+    Ok(())
+}
+
+// The same in the second version, with 33,334 blocks.
+fn push_observed_by_second(
+    text: &mut String,
+    it: &Observing,
+    count: u32,
+) -> Result<(), AllocError> {
+    text.push_str("script 2\n")?;
+    push_numbered(text, "block b", " top\n", 33_334)?;
+    push_numbered(text, it.make, it.made, 3)?;
+    for k in 0..count {
+        let (observer, block) = (k / 33_334, k % 33_334);
+        write!(text, "{}{observer} b{block}{}", it.observe, it.observed)?;
     }
     Ok(())
 }
@@ -94,11 +103,25 @@ fn see_too_many_observed(rt: &impl Abort, alloc: Global, it: &Observing) -> Resu
     expect(rt, alloc, &text, WHOLE, Status::Limit, it.told)
 }
 
+fn see_observed_by_second(rt: &impl Abort, alloc: Global, it: &Observing) -> Result<(), Fail> {
+    let mut text = String::new(alloc);
+    push_observed_by_second(&mut text, it, 100_001)?;
+    expect(rt, alloc, &text, WHOLE, Status::Limit, it.told_by_second)
+}
+
 #[test]
 fn no_more_is_observed_than_the_limits(rt: HostRuntime) -> Result<(), Fail> {
     for it in &OBSERVING {
         see_all_observed(&rt, rt.alloc(), it)?;
         see_too_many_observed(&rt, rt.alloc(), it)?;
+    }
+    Ok(())
+}
+
+#[test]
+fn no_more_is_observed_than_the_limits_of_the_second_version(rt: HostRuntime) -> Result<(), Fail> {
+    for it in &OBSERVING {
+        see_observed_by_second(&rt, rt.alloc(), it)?;
     }
     Ok(())
 }

@@ -7,7 +7,7 @@ use std::process::Abort;
 use std::test::Fail;
 
 /// Streams, and the status and the text that they give.
-const STREAMS: [(&str, Status, &str); 8] = [
+const STREAMS: [(&str, Status, &str); 10] = [
     // two pages in turn
     (
         "page a\nscript 1\npage b\nscript 1\npage a\nblock r top\nappend top r\ntick 5\npage b\nremove z\ntick 3\npage a\ntick 9\n",
@@ -41,6 +41,18 @@ const STREAMS: [(&str, Status, &str); 8] = [
         "page a\npage b\nscript 1\ntick 0\npage c\r",
         Status::Syntax,
         "a syntax 1 1\nb syntax 3 7\n",
+    ),
+    // pages of both versions
+    (
+        "page a\nscript 2\npage b\nscript 1\npage a\nblock r top\nset r width 10.5px\nappend top r\nratio 150%\nro o top -\nro-observe o r device\npage b\nblock r top\nappend top r\nro o top -\nro-observe o r content\npage a\ntick 0\npage b\ntick 0\n",
+        Status::Done,
+        "a tick 0\na resize o r rect 0 0 10.5 0 border 10.5 0 device 16 0\na round top 1\nb tick 0\nb resize o r rect 0 0 800 0 border 800 0\nb round top 1\n",
+    ),
+    // a command of the second version in a page of the first
+    (
+        "page a\nscript 2\npage b\nscript 1\npage a\nratio 150%\npage b\nratio 150%\npage a\nblock r top\nappend top r\nro o top -\nro-observe o r content\ntick 0\n",
+        Status::Syntax,
+        "b syntax 2 1\na tick 0\na resize o r rect 0 0 800 0 border 800 0 device 1200 0\na round top 1\n",
     ),
     // a limit that one page meets
     (

@@ -1,7 +1,7 @@
 //! Scripts with their traces.
 
 /// Scripts that run to their end, and what each writes.
-pub(crate) const RUNS: [(&str, &str); 31] = [
+pub(crate) const RUNS: [(&str, &str); 36] = [
     // A block is told its size in its first tick, and nothing in a second one.
     (
         "script 1\nblock r top\nappend top r\nro o top -\nro-observe o r content\ntick 0\ntick 16\n",
@@ -113,6 +113,31 @@ pub(crate) const RUNS: [(&str, &str); 31] = [
         "script 1\nhandler ha\nro-observe a x border\nend\nblock r top\nappend top r\nblock x top\nset x height 10px\nappend r x\nblock y top\nset y height 10px\nappend r y\nro a top ha\nro-observe a x content\nro b top -\nro-observe b y content\ntick 0\n",
         "tick 0\nresize a x rect 0 0 800 10 border 800 10\nresize b y rect 0 0 800 10 border 800 10\nround top 2\nevent error @top ResizeObserver loop completed with undelivered notifications.\n",
     ),
+    // A size in device pixels is told anew where the ratio changes it.
+    (
+        "script 2\nblock r top\nappend top r\nset r width 10.5px\nset r height 3px\nratio 150%\nro o top -\nro-observe o r device\ntick 0\nratio 200%\ntick 16\n",
+        "tick 0\nresize o r rect 0 0 10.5 3 border 10.5 3 device 16 5\nround top 1\ntick 16\nresize o r rect 0 0 10.5 3 border 10.5 3 device 21 6\nround top 1\n",
+    ),
+    // A target below a scroll container, within its clip for an observer with a scroll margin alone.
+    (
+        "script 2\nblock r top\nappend top r\nblock s top\nset s height 100px\nset s overflow hidden\nappend r s\nblock u top\nset u height 130px\nappend s u\nblock t top\nset t height 10px\nappend s t\nio i top - root - margin scroll 60px threshold 0\nio j top - root - margin threshold 0\nio-observe i t\nio-observe j t\ntick 0\n",
+        "tick 0\nintersect i t 0 yes 32768000/32768000 root 0 0 800 600 box 0 130 800 10 cut 0 130 800 10\nintersect j t 0 no 0/32768000 root 0 0 800 600 box 0 130 800 10 cut 0 0 0 0\n",
+    ),
+    // The first version has no scroll margins, and tells no device pixels.
+    (
+        "script 1\nblock r top\nappend top r\nio i top - root - margin 1px scroll 60px threshold 0\nro o top -\nro-observe o r border\ntick 0\n",
+        "throw 4 SyntaxError\ntick 0\nresize o r rect 0 0 800 0 border 800 0\nround top 1\n",
+    ),
+    // Margins that throw before scroll margins, which throw before thresholds; halves of device pixels, and ratios at which others alone are told anew.
+    (
+        "script 2\nblock r top\nappend top r\nset r width 0.5px\nset r height 0.49px\nset r padding 1px\nio i top - root - margin 1 scroll 1 threshold 2\nio i top - root - margin scroll 1 threshold 2\nio i top - root - margin 1px 2% scroll 1px 2% 3px threshold 2\nio i top - root - margin scroll threshold\nro o top -\nro-observe o r device\nro p top -\nro-observe p r content\nro q top -\nro-observe q r border\ntick 0\nratio 99.99%\ntick 1\nratio 0%\ntick 2\nro-observe o r device\ntick 3\nratio 10000%\ntick 4\n",
+        "throw 7 SyntaxError\nthrow 8 SyntaxError\nthrow 9 RangeError\ntick 0\nresize o r rect 1 1 0.5 0.484375 border 2.5 2.484375 device 1 0\nresize p r rect 1 1 0.5 0.484375 border 2.5 2.484375 device 1 0\nresize q r rect 1 1 0.5 0.484375 border 2.5 2.484375 device 1 0\nround top 1\ntick 1\nresize o r rect 1 1 0.5 0.484375 border 2.5 2.484375 device 0 0\nround top 1\ntick 2\ntick 3\ntick 4\nresize o r rect 1 1 0.5 0.484375 border 2.5 2.484375 device 50 48\nround top 1\n",
+    ),
+    // Scroll margins move the clips of scroll containers but not those of other boxes, nor that of the root.
+    (
+        "script 2\nblock r top\nappend top r\nblock s top\nset s height 100px\nset s width 200px\nset s padding 10px\nset s overflow scroll\nappend r s\nblock c top\nset c height 50px\nset c overflow clip\nappend s c\nblock u top\nset u height 70px\nappend c u\nblock t top\nset t height 10px\nappend c t\nblock v top\nset v height 60px\nappend s v\nblock w top\nset w height 20px\nappend s w\nio i top - root - margin scroll 10% threshold 0\nio j top - root s margin scroll 1000px threshold 0\nio k top - root - margin scroll 0px 0px 5px threshold 0\nio l top - root - margin scroll -60px 0px threshold 0\nio-observe i t\nio-observe i w\nio-observe j w\nio-observe k w\nio-observe l w\ntick 0\nscroll s 0px 30px\ntick 16\n",
+        "tick 0\nintersect i t 0 no 0/8192000 root 0 0 800 600 box 10 80 200 10 cut 0 0 0 0\nintersect i w 0 yes 16384000/16384000 root 0 0 800 600 box 10 120 200 20 cut 10 120 200 20\nintersect j w 0 yes 0/16384000 root 0 0 220 120 box 10 120 200 20 cut 10 120 200 0\nintersect k w 0 yes 4096000/16384000 root 0 0 800 600 box 10 120 200 20 cut 10 120 200 5\nintersect l w 0 no 0/16384000 root 0 0 800 600 box 10 120 200 20 cut 0 0 0 0\ntick 16\nevent scroll s\n",
+    ),
     // A last line without a line feed: nothing but the head.
     ("script 1", ""),
     // A last line that is cut within a name.
@@ -152,7 +177,7 @@ pub(crate) const RUNS: [(&str, &str); 31] = [
 ];
 
 /// Texts that are no scripts, and what is written of each.
-pub(crate) const REFUSED: [(&str, &str); 13] = [
+pub(crate) const REFUSED: [(&str, &str); 21] = [
     ("", "syntax 1 1\n"),
     ("script 1\nwhen wider a 5\n", "syntax 2 14\n"),
     ("script 1\nmedia m top (width: 5)\n", "syntax 2 22\n"),
@@ -177,6 +202,23 @@ pub(crate) const REFUSED: [(&str, &str); 13] = [
     (
         "script 1\nblock r top\nappend top r\nro o top -\nro-observe o r content\ntick",
         "syntax 6 5\n",
+    ),
+    ("script 3\n", "syntax 1 8\n"),
+    ("script 2\nblock r top\nratio 1\n", "syntax 3 7\n"),
+    ("script 2\nratio 10000.01%\n", "syntax 2 7\n"),
+    ("script 2\nro-observe o r devic\n", "syntax 2 16\n"),
+    (
+        "script 2\nio i top - root - margin 1px scroll 1px scroll 1px threshold\n",
+        "syntax 2 41\n",
+    ),
+    (
+        "script 1\nblock r top\nappend top r\nset r width 10.5px\nset r height 3px\nratio 150%\nro o top -\nro-observe o r device\ntick 0\nratio 200%\ntick 16\n",
+        "syntax 6 1\n",
+    ),
+    ("script 1\nro-observe o r device\n", "syntax 2 16\n"),
+    (
+        "script 2\nio i top - root - scroll 1px threshold\n",
+        "syntax 2 19\n",
     ),
 ];
 
@@ -211,58 +253,65 @@ pub(crate) struct Numbered {
 }
 
 /// A line each for the limits on what a script may make.
-pub(crate) const NUMBERED: [Numbered; 8] = [
+pub(crate) const NUMBERED: [Numbered; 9] = [
     Numbered {
-        first: "",
+        first: "script 1\n",
         before: "handler h",
         after: "\nend\n",
         most: 4096,
         told: "limit handlers 8194 4096\n",
     },
     Numbered {
-        first: "",
+        first: "script 1\n",
         before: "block b",
         after: " top\n",
         most: 20_000,
         told: "limit nodes 20002 20000\n",
     },
     Numbered {
-        first: "",
+        first: "script 2\n",
+        before: "block b",
+        after: " top\n",
+        most: 40_000,
+        told: "limit nodes 40002 40000\n",
+    },
+    Numbered {
+        first: "script 1\n",
         before: "ro o",
         after: " top -\n",
         most: 4096,
         told: "limit resize-observers 4098 4096\n",
     },
     Numbered {
-        first: "",
+        first: "script 1\n",
         before: "io o",
         after: " top - root - margin threshold\n",
         most: 4096,
         told: "limit intersection-observers 4098 4096\n",
     },
     Numbered {
-        first: "handler h\nend\n",
+        first: "script 1\nhandler h\nend\n",
         before: "timer top t",
         after: " 1 h\n",
         most: 4096,
         told: "limit timers 4100 4096\n",
     },
     Numbered {
-        first: "handler h\nend\n",
+        first: "script 1\nhandler h\nend\n",
         before: "raf top f",
         after: " h\n",
         most: 4096,
         told: "limit frame-callbacks 4100 4096\n",
     },
     Numbered {
-        first: "handler h\nend\n",
+        first: "script 1\nhandler h\nend\n",
         before: "post top h #",
         after: "\n",
         most: 4096,
         told: "limit tasks 4100 4096\n",
     },
     Numbered {
-        first: "",
+        first: "script 1\n",
         before: "media m",
         after: " top all\n",
         most: 4096,
@@ -276,8 +325,10 @@ pub(crate) struct Observing {
     pub(crate) made: &'static str,
     pub(crate) observe: &'static str,
     pub(crate) observed: &'static str,
-    /// What is written of the 50,001st observation, behind 16,667 blocks and three observers.
+    /// What is written of one more observation than the limit in the first version, behind 16,667 blocks and three observers.
     pub(crate) told: &'static str,
+    /// The same in the second version, behind 33,334 blocks.
+    pub(crate) told_by_second: &'static str,
 }
 
 /// Both kinds of observers.
@@ -288,6 +339,7 @@ pub(crate) const OBSERVING: [Observing; 2] = [
         observe: "ro-observe o",
         observed: " content\n",
         told: "limit resize-observations 66672 50000\n",
+        told_by_second: "limit resize-observations 133339 100000\n",
     },
     Observing {
         make: "io o",
@@ -295,5 +347,6 @@ pub(crate) const OBSERVING: [Observing; 2] = [
         observe: "io-observe o",
         observed: "\n",
         told: "limit intersection-observations 66672 50000\n",
+        told_by_second: "limit intersection-observations 133339 100000\n",
     },
 ];

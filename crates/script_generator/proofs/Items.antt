@@ -4,9 +4,10 @@ use Rattle.std.specs.Prelude.{codes, pos}
 use Rattle.word_model.specs.Numbers.{decimal}
 use Rattle.px_units.specs.Lengths.{Pixels}
 use Rattle.px_units.specs.declared.BoxKind.TheVariants.{Content}
+use Rattle.text_io.specs.declared.kinds.Version.TheVariants.{First}
 use Rattle.layout_model.specs.Styles.{SetHeight}
 use Rattle.script_model.specs.Generator.{card_count, root_margin}
-use Rattle.script_model.specs.Syntax.{Named, Target, MakeBlock, MakeImage, Append, SetStyle, Load, MakeResizeObserver, ObserveResize, MakeIntersectionObserver, ObserveIntersection, UnobserveIntersection, ScrollTo, Seen, Simple, Each, When, Block, NoMore, Then, Item, Handler}
+use Rattle.script_model.specs.Syntax.{Named, Target, MakeBlock, MakeImage, Append, SetStyle, Load, MakeResizeObserver, ObserveResize, MakeIntersectionObserver, ObserveIntersection, UnobserveIntersection, ScrollTo, Seen, Simple, Each, When, Block, NoMore, Then, Item, Handler, Script}
 use Rattle.script_generator.proofs.Consecutive.{Words}
 use Rattle.script_generator.proofs.Plain.{Plain, Does, Ticks, plain_items}
 
@@ -54,6 +55,7 @@ head_plain margin =
       handler = Some (codes "show");
       root = None;
       margin = decimal margin ++ codes "px";
+      scroll = None;
       thresholds = pos 0 ∷ [];
     }))
     ∷ []
@@ -103,3 +105,6 @@ generated_plain number = head_plain (root_margin number) ++ cards_plain 0 (card_
 
 unfoldable pub generated_items : ℕ → List Item
 generated_items number = handler ∷ plain_items 9 (generated_plain number)
+
+abbrev pub generated_script : ℕ → Script
+generated_script number = record { version = First; items = generated_items number }

@@ -2,11 +2,12 @@
 use Rattle.std.proofs.Common.{◌≡◌, refl, ap, ℕ, ◌+◌, ◌≤◌, List, [], ◌∷◌, ◌++◌, arith}
 use Rattle.std.specs.Prelude.{map, codes}
 use Rattle.word_model.specs.Numbers.{decimal}
+use Rattle.text_io.specs.declared.kinds.Version.TheVariants.{First}
 use Rattle.script_model.specs.Syntax.{Action, Simple, Item, Outside, Tick}
 use Rattle.script_model.specs.Scripts.{handlers_in}
 use Rattle.script_text.specs.NumberedLines.{items_lines, item_lines, command_lines}
-use Rattle.script_text.specs.Phrases.{action_words, action_parts}
-use Rattle.script_text.specs.WellFormed.{AreMeant, IsCommand, IsItem, AreItems, command_depth, item_depth, items_depth}
+use Rattle.script_text.specs.Phrases.{action_words}
+use Rattle.script_text.specs.WellFormed.{IsAction, IsCommand, IsItem, AreItems, command_depth, item_depth, items_depth}
 use Rattle.script_generator.proofs.Consecutive.{Words, consecutive}
 
 pub data Plain : Type 0 where
@@ -44,9 +45,9 @@ plain_depth line [] = omega arith
 plain_depth line (Does action ∷ ps) = let rest = plain_depth (line + 1) ps in omega arith
 plain_depth line (Ticks time ∷ ps) = let rest = plain_depth (line + 1) ps in omega arith
 
--- each operand has its form
+-- each command is of the first version, and each operand has its form
 abbrev pub IsPlain : Plain → Type 0
-IsPlain (Does action) = AreMeant (action_parts action)
+IsPlain (Does action) = IsAction First action
 IsPlain (Ticks time) = time ≤ 1000000000000
 
 unfoldable pub ArePlain : List Plain → Type 0
@@ -58,7 +59,7 @@ unfolding ArePlain
 plain_both [] ys are others = others
 plain_both (x ∷ xs) ys are others = (are.0, plain_both xs ys are.1 others)
 
-pub plain_allowed : (line : ℕ) (ps : List Plain) → ArePlain ps → AreItems (plain_items line ps)
+pub plain_allowed : (line : ℕ) (ps : List Plain) → ArePlain ps → AreItems First (plain_items line ps)
 unfolding plain_items ArePlain AreItems IsItem IsCommand
 plain_allowed line [] are = tt
 plain_allowed line (Does action ∷ ps) are = (are.0, plain_allowed (line + 1) ps are.1)

@@ -9,6 +9,7 @@ use Rattle.word_model.specs.Names.{is_digit, is_name_byte, is_name}
 use Rattle.word_model.specs.Numbers.{decimal}
 use Rattle.word_model.proofs.RoundTrip.{decimal_digits}
 use Rattle.px_units.specs.Lengths.{Pixels}
+use Rattle.text_io.specs.declared.kinds.Version.TheVariants.{First}
 use Rattle.script_model.specs.Generator.{root_margin, card_count}
 use Rattle.script_model.specs.MarginText.{parts_of}
 use Rattle.script_model.specs.Scripts.{handlers_in}
@@ -21,7 +22,7 @@ use Rattle.script_text.specs.WellFormed.{IsMargin, is_margin_word, IsCommand, Is
 use Rattle.script_text.proofs.Decimals.{decimal_short}
 use Rattle.script_generator.proofs.Consecutive.{Words, consecutive, begun, consecutive_text, consecutive_rise, consecutive_short, AreBrief, brief_both, brief_text}
 use Rattle.script_generator.proofs.Plain.{plain_words, plain_lines, plain_handlers, plain_depth, ArePlain, plain_both, plain_allowed}
-use Rattle.script_generator.proofs.Items.{shown, handler, handler_words, head_plain, card_name, image_name, title_name, card_plain, cards_plain, tail_plain, generated_plain, generated_items}
+use Rattle.script_generator.proofs.Items.{shown, handler, handler_words, head_plain, card_name, image_name, title_name, card_plain, cards_plain, tail_plain, generated_plain, generated_items, generated_script}
 use Rattle.script_generator.proofs.Texts.{each_margin, all_words}
 
 -- names ---------------------------------------------------------------------------------------------------------------------
@@ -54,19 +55,22 @@ title_named card few = numbered_name card few
 
 -- operands ------------------------------------------------------------------------------------------------------------------
 
-margin_read : (number : ℕ) → IsMargin (decimal (root_margin number) ++ codes "px")
+margin_read : (number : ℕ) → IsMargin First (decimal (root_margin number) ++ codes "px")
 unfolding parts_of is_margin_word decimal
-margin_read number = each_margin (λ margin. IsMargin (decimal margin ++ codes "px")) refl refl refl refl refl number
+margin_read number = each_margin (λ margin. IsMargin First (decimal margin ++ codes "px")) refl refl refl refl refl number
 
-head_allowed : (margin : ℕ) → IsMargin (decimal margin ++ codes "px") → ArePlain (head_plain margin)
+head_allowed : (margin : ℕ) → IsMargin First (decimal margin ++ codes "px") → ArePlain (head_plain margin)
 unfolding ArePlain
 head_allowed margin reads = (
-  (refl, (refl, tt)),
+  record { known = refl; operands = (refl, (refl, tt)) },
   (
-    (refl, (refl, tt)),
+    record { known = refl; operands = (refl, (refl, tt)) },
     (
-      (refl, (refl, (tt, tt))),
-      ((refl, (refl, (tt, tt))), ((refl, (refl, (refl, (tt, (tt, (tt, (reads, (tt, ((omega arith, tt), tt))))))))), tt)),
+      record { known = refl; operands = (refl, (refl, (tt, tt))) },
+      (
+        record { known = refl; operands = (refl, (refl, (tt, tt))) },
+        (record { known = refl; operands = (refl, (refl, (refl, (tt, (tt, (tt, ((reads, tt), (tt, ((omega arith, tt), tt))))))))) }, tt),
+      ),
     ),
   ),
 )
@@ -77,14 +81,23 @@ card_allowed card few =
     let block = card_named card few in
     let image = image_named card few in
     let title = title_named card few in (
-      (block, (refl, tt)),
+      record { known = refl; operands = (block, (refl, tt)) },
       (
-        (block, (omega arith, tt)),
+        record { known = refl; operands = (block, (omega arith, tt)) },
         (
-          (refl, (block, tt)),
+          record { known = refl; operands = (refl, (block, tt)) },
           (
-            (image, (refl, (omega arith, (omega arith, tt)))),
-            ((block, (image, tt)), ((title, (refl, tt)), ((title, (omega arith, tt)), ((block, (title, tt)), ((refl, (image, tt)), tt))))),
+            record { known = refl; operands = (image, (refl, (omega arith, (omega arith, tt)))) },
+            (
+              record { known = refl; operands = (block, (image, tt)) },
+              (
+                record { known = refl; operands = (title, (refl, tt)) },
+                (
+                  record { known = refl; operands = (title, (omega arith, tt)) },
+                  (record { known = refl; operands = (block, (title, tt)) }, (record { known = refl; operands = (refl, (image, tt)) }, tt)),
+                ),
+              ),
+            ),
           ),
         ),
       ),
@@ -101,12 +114,18 @@ unfolding ArePlain
 tail_allowed = (
   omega arith,
   (
-    (refl, (omega arith, (omega arith, tt))),
+    record { known = refl; operands = (refl, (omega arith, (omega arith, tt))) },
     (
       omega arith,
       (
-        (refl, (omega arith, (omega arith, tt))),
-        (omega arith, ((refl, (omega arith, (omega arith, tt))), (omega arith, ((refl, (omega arith, (omega arith, tt))), (omega arith, tt))))),
+        record { known = refl; operands = (refl, (omega arith, (omega arith, tt))) },
+        (
+          omega arith,
+          (
+            record { known = refl; operands = (refl, (omega arith, (omega arith, tt))) },
+            (omega arith, (record { known = refl; operands = (refl, (omega arith, (omega arith, tt))) }, (omega arith, tt))),
+          ),
+        ),
       ),
     ),
   ),
@@ -124,11 +143,23 @@ plain_is_allowed number =
     (plain_both head cards (head_allowed (root_margin number) (margin_read number)) (cards_allowed 0 (card_count number) (few_cards number)))
     tail_allowed
 
-handler_allowed : IsItem handler
+handler_allowed : IsItem First handler
 unfolding IsItem IsCommand IsBlock
 handler_allowed = (
   refl,
-  (((tt, ((tt, (omega arith, (omega arith, tt))), ((refl, (tt, tt)), tt))), tt), tt),
+  (
+    (
+      (
+        tt,
+        (
+          record { known = refl; operands = (tt, (omega arith, (omega arith, tt))) },
+          (record { known = refl; operands = (refl, (tt, tt)) }, tt),
+        ),
+      ),
+      tt,
+    ),
+    tt,
+  ),
 )
 
 -- lines ---------------------------------------------------------------------------------------------------------------------
@@ -261,12 +292,12 @@ pub lines_follow : (number : ℕ) → items_lines (generated_items number) ≡ c
 unfolding generated_items all_words consecutive items_lines item_lines command_lines block_lines
 lines_follow number = ap (λ (rest : List NumberedLine). item_lines handler ++ rest) (plain_lines 9 (generated_plain number))
 
-pub text_is : (number : ℕ) → script_text (generated_items number) ≡ codes "script 1" ++ flat_map begun (all_words number)
+pub text_is : (number : ℕ) → script_text (generated_script number) ≡ codes "script 1" ++ flat_map begun (all_words number)
 unfolding script_text
 text_is number =
     ap (λ text. codes "script 1" ++ text) (ap (lines_text 1) (lines_follow number) ∙ consecutive_text 1 (all_words number))
 
-pub text_short : (number : ℕ) → length (script_text (generated_items number)) ≤ 2000000
+pub text_short : (number : ℕ) → length (script_text (generated_script number)) ≤ 2000000
 text_short number =
     let is = ap length (text_is number) in
     let both = length-append (codes "script 1") (flat_map begun (all_words number)) in
@@ -286,11 +317,11 @@ new_name : AreNew [] (record { name = codes "show"; block = shown } ∷ [])
 unfolding AreNew
 new_name = (refl, tt)
 
-all_allowed : (number : ℕ) → AreItems (generated_items number)
+all_allowed : (number : ℕ) → AreItems First (generated_items number)
 unfolding generated_items AreItems
 all_allowed number = (handler_allowed, plain_allowed 9 (generated_plain number) (plain_is_allowed number))
 
-pub well_formed : (number : ℕ) → IsWellFormed (generated_items number)
+pub well_formed : (number : ℕ) → IsWellFormed (generated_script number)
 well_formed number = record {
   operands = all_allowed number;
   nested = depth_small number;

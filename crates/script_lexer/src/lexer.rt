@@ -1,6 +1,6 @@
 ghost use Rattle.std.specs.Prelude.{◌≡◌, ◌<◌, ◌+◌, ◌-◌, ◌^◌, ◌++◌, [], length, IfOk, OnOk, OnErr};
 ghost use Rattle.text_io.specs.declared.kinds.LimitKind.TheVariants as limits;
-ghost use Rattle.text_io.specs.Limits.{limit_number};
+ghost use Rattle.text_io.specs.Limits.{common_limit};
 ghost use Rattle.script_model.specs.Lexing.{lexed};
 ghost use Rattle.script_lexer.specs.Limited.{lexed_within};
 ghost use Rattle.script_lexer.specs.Texts.{text_seen, lines_before};
@@ -83,7 +83,7 @@ impl Lexer {
         ensures bytes { IfOk result (λ text. text.bytes ≡ self.text) }
         ensures places { IfOk result (λ text. text_seen text ≡ lexed_within self.most_line self.text) }
         ensures counted { IfOk result (λ text. text.line_count ≡ lines_before (lexed_within self.most_line self.text).ending) }
-        ensures script { self.most_line ≡ limit_number limits.Line → IfOk result (λ text. text_seen text ≡ lexed self.text) }
+        ensures script { self.most_line ≡ common_limit limits.Line → IfOk result (λ text. text_seen text ≡ lexed self.text) }
     {
         let mut scanner = self.scanner;
         let fault = scanner.end(self.bytes.as_slice(), self.most_line, self.fault)?;

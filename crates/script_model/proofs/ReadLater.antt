@@ -3,8 +3,9 @@ use Rattle.std.proofs.Common.{◌≡◌, ◌∙◌, refl, sym, ap, ℕ, ◌+◌,
 use Rattle.std.specs.Prelude.{cond, map, reverse, nat_lt, fold, count_by, Result, Ok, Err}
 use Rattle.std.proofs.lemmas.List.{map-append, reverse-append}
 use Rattle.text_io.specs.declared.kinds.LimitKind.TheVariants as limits
-use Rattle.text_io.specs.Limits.{limit_number}
-use Rattle.script_model.specs.Syntax.{Command, Simple, Each, When, Block, NoMore, Then, Item}
+use Rattle.text_io.specs.declared.kinds.Version.{Version}
+use Rattle.text_io.specs.Limits.{common_limit}
+use Rattle.script_model.specs.Syntax.{Command, Simple, Each, When, Block, NoMore, Then, Item, Script}
 use Rattle.script_model.specs.Readers.{◌>>=◌, with_fault, is_empty}
 use Rattle.script_model.specs.Lexing.{Line, Ending, Whole, BadByte, LongLine, Lexed}
 use Rattle.script_model.specs.Statements.{Statement, Does, Ticks, OpensEach, OpensWhen, OpensHandler, Ends, statement_of, version_as}
@@ -20,6 +21,7 @@ frame_later lines frame = record {
 
 abbrev state_later : ℕ → State → State
 state_later lines s = record {
+  version = s.version;
   frames = map (frame_later lines) s.frames;
   items = map (item_later lines) s.items;
   names = s.names;
@@ -66,7 +68,7 @@ chosen_later false lines near refusal = refl
 open_later : (line lines : ℕ) (opening : Opening) (s : State) → open_block (line + lines) opening (state_later lines s) ≡ result_later (state_later lines) lines (open_block line opening s)
 unfolding open_block opened
 open_later line lines opening s =
-    ap (λ (n : ℕ). cond (nat_lt n (limit_number limits.Nesting)) (Ok (opened (line + lines) opening (state_later lines s))) (Err (LimitAt limits.Nesting (line + lines)))) (blocks_later s.frames lines)
+    ap (λ (n : ℕ). cond (nat_lt n (common_limit limits.Nesting)) (Ok (opened (line + lines) opening (state_later lines s))) (Err (LimitAt limits.Nesting (line + lines)))) (blocks_later s.frames lines)
     ∙ chosen_later _ lines (opened line opening s) (LimitAt limits.Nesting line)
 
 placed_later : (statement : Statement) (line lines : ℕ) (s : State) → placed (line + lines) statement (state_later lines s) ≡ result_later (state_later lines) lines (placed line statement s)
@@ -76,7 +78,7 @@ placed_later (Ticks time) line lines s = refl
 placed_later OpensEach line lines s = open_later line lines EachBlock s
 placed_later (OpensWhen condition) line lines s = open_later line lines (WhenBlock condition) s
 placed_later (OpensHandler name) line lines s =
-    chosen_later (nat_lt (length s.names) (limit_number limits.Handlers)) lines (opened line (HandlerBlock name) (record s { names = name ∷ s.names })) (LimitAt limits.Handlers line)
+    chosen_later (nat_lt (length s.names) (common_limit limits.Handlers)) lines (opened line (HandlerBlock name) (record s { names = name ∷ s.names })) (LimitAt limits.Handlers line)
 placed_later Ends line lines s = ap (λ (t : State). Ok t) (close_later s.frames line lines s)
 
 empty_later : (frames : List Frame) (lines : ℕ) → is_empty (map (frame_later lines) frames) ≡ is_empty frames
@@ -92,7 +94,7 @@ bound_later (Err column) line lines near far alike = refl
 step_later : (s : State) (line : Line) (lines : ℕ) → step (state_later lines s) (renumbered lines line) ≡ result_later (state_later lines) lines (step s line)
 unfolding step standing
 step_later s line lines =
-    ap (λ (outside : Bool). with_fault (SyntaxAt (line.number + lines)) (statement_of (record { outside = outside; names = s.names }) line.row) >>= λ statement. placed (line.number + lines) statement (state_later lines s)) (empty_later s.frames lines)
+    ap (λ (outside : Bool). with_fault (SyntaxAt (line.number + lines)) (statement_of (record { version = s.version; outside = outside; names = s.names }) line.row) >>= λ statement. placed (line.number + lines) statement (state_later lines s)) (empty_later s.frames lines)
     ∙ bound_later (statement_of (standing s) line.row) line.number lines _ _ (λ statement. placed_later statement line.number lines s)
 
 behind_later : (read : Result State Refusal) (lines : ℕ) (near far : State → Result State Refusal) → ((s : State) → far (state_later lines s) ≡ result_later (state_later lines) lines (near s)) →
@@ -115,23 +117,24 @@ reverse_later (i ∷ is) lines =
     ∙ sym (map-append (item_later lines) (reverse is) (i ∷ []))
     ∙ ap (map (item_later lines)) (sym (reverse-append (i ∷ []) is))
 
-finished_later : (frames : List Frame) (items : List Item) (ending : Ending) (lines : ℕ) → finished (map (frame_later lines) frames) (map (item_later lines) items) (ending_renumbered lines ending) ≡ reading_later lines (finished frames items ending)
+finished_later : (version : Version) (frames : List Frame) (items : List Item) (ending : Ending) (lines : ℕ) →
+    finished version (map (frame_later lines) frames) (map (item_later lines) items) (ending_renumbered lines ending) ≡ reading_later lines (finished version frames items ending)
 unfolding finished
-finished_later [] items (Whole next_line) lines = ap (λ (x : List Item). Ok x) (reverse_later items lines)
-finished_later [] items (BadByte line column) lines = refl
-finished_later [] items (LongLine line) lines = refl
-finished_later (f ∷ fs) items (Whole next_line) lines = refl
-finished_later (f ∷ fs) items (BadByte line column) lines = refl
-finished_later (f ∷ fs) items (LongLine line) lines = refl
+finished_later version [] items (Whole next_line) lines = ap (λ (x : List Item). Ok (record { version = version; items = x })) (reverse_later items lines)
+finished_later version [] items (BadByte line column) lines = refl
+finished_later version [] items (LongLine line) lines = refl
+finished_later version (f ∷ fs) items (Whole next_line) lines = refl
+finished_later version (f ∷ fs) items (BadByte line column) lines = refl
+finished_later version (f ∷ fs) items (LongLine line) lines = refl
 
 last_later : (read : Result State Refusal) (ending : Ending) (lines : ℕ) →
-    (result_later (state_later lines) lines read >>= λ s. finished s.frames s.items (ending_renumbered lines ending)) ≡ reading_later lines (read >>= λ s. finished s.frames s.items ending)
-last_later (Ok s) ending lines = finished_later s.frames s.items ending lines
+    (result_later (state_later lines) lines read >>= λ s. finished s.version s.frames s.items (ending_renumbered lines ending)) ≡ reading_later lines (read >>= λ s. finished s.version s.frames s.items ending)
+last_later (Ok s) ending lines = finished_later s.version s.frames s.items ending lines
 last_later (Err refusal) ending lines = refl
 
-first_later : (version : Result (Unit {0}) ℕ) (line lines : ℕ) (near far : Result (List Item) Refusal) → far ≡ reading_later lines near →
-    (with_fault (SyntaxAt (line + lines)) version >>= λ x. far) ≡ reading_later lines (with_fault (SyntaxAt line) version >>= λ x. near)
-first_later (Ok x) line lines near far alike = alike
+first_later : (version : Result Version ℕ) (line lines : ℕ) (near far : Version → Result Script Refusal) → ((x : Version) → far x ≡ reading_later lines (near x)) →
+    (with_fault (SyntaxAt (line + lines)) version >>= far) ≡ reading_later lines (with_fault (SyntaxAt line) version >>= near)
+first_later (Ok x) line lines near far alike = alike x
 first_later (Err column) line lines near far alike = refl
 
 lines_later : (list : List Line) (ending : Ending) (lines : ℕ) → read_lines (map (renumbered lines) list) (ending_renumbered lines ending) ≡ reading_later lines (read_lines list ending)
@@ -140,9 +143,9 @@ lines_later [] (Whole next_line) lines = refl
 lines_later [] (BadByte line column) lines = refl
 lines_later [] (LongLine line) lines = refl
 lines_later (l ∷ ls) ending lines =
-    first_later (version_as l.row) l.number lines _ _
-    (ap (λ (read : Result State Refusal). read >>= λ s. finished s.frames s.items (ending_renumbered lines ending)) (steps_later ls lines nothing_read)
-    ∙ last_later (steps nothing_read ls) ending lines)
+    first_later (version_as l.row) l.number lines _ _ (λ version.
+    ap (λ (read : Result State Refusal). read >>= λ s. finished s.version s.frames s.items (ending_renumbered lines ending)) (steps_later ls lines (nothing_read version))
+    ∙ last_later (steps (nothing_read version) ls) ending lines)
 
 pub lexed_later : (lexed : Lexed) (lines : ℕ) → read_lexed (all_renumbered lines lexed) ≡ reading_later lines (read_lexed lexed)
 unfolding read_lexed

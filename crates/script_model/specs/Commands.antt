@@ -1,9 +1,11 @@
 -- The table of commands: the first word of a line, the forms of the parts behind it, and what they make. The commands
 -- are this project's own choice; what they do follows the public standards and isn't said here.
 use Rattle.std.specs.Prelude.{List, [], ◌∷◌, codes}
-use Rattle.script_model.specs.Syntax.{Action, Viewport, MakeBlock, MakeImage, MakeFrame, Append, Before, Remove, SetStyle, Grow, Load, MakeResizeObserver, ObserveResize, UnobserveResize, DisconnectResize, MakeIntersectionObserver, ObserveIntersection, UnobserveIntersection, DisconnectIntersection, TakeIntersections, Listen, Unlisten, MakeQueryList, ScrollTo, ScrollBy, RequestFrame, CancelFrame, SetTimer, ClearTimer, Post, Say, Read, Test, Wider, Taller, Matches, Attached, Seen}
+use Rattle.text_io.specs.declared.kinds.Version.{Version}
+use Rattle.text_io.specs.declared.kinds.Version.TheVariants.{First, Second}
+use Rattle.script_model.specs.Syntax.{Action, Viewport, SetRatio, MakeBlock, MakeImage, MakeFrame, Append, Before, Remove, SetStyle, Grow, Load, MakeResizeObserver, ObserveResize, UnobserveResize, DisconnectResize, MakeIntersectionObserver, ObserveIntersection, UnobserveIntersection, DisconnectIntersection, TakeIntersections, Listen, Unlisten, MakeQueryList, ScrollTo, ScrollBy, RequestFrame, CancelFrame, SetTimer, ClearTimer, Post, Say, Read, Test, Wider, Taller, Matches, Attached, Seen}
 use Rattle.script_model.specs.Keywords.{Keyword, keyword}
-use Rattle.script_model.specs.Forms.{Form, NameForm, NodeForm, AimForm, HandlerForm, RootForm, LengthForm, SignedForm, WholeForm, EventForm, BoxForm, DimensionForm, DeclarationForm, JustForm, MarginForm, NumbersForm, QueryForm, From}
+use Rattle.script_model.specs.Forms.{Form, NameForm, NodeForm, AimForm, HandlerForm, RootForm, LengthForm, SignedForm, PercentForm, WholeForm, EventForm, BoxForm, DimensionForm, DeclarationForm, JustForm, MarginForm, NumbersForm, QueryForm, From}
 
 -- what a `when` asks: its words, and the test that they make
 pub data TestShape : Type 0 where
@@ -27,33 +29,35 @@ pub data Head : Type 0 where
   HandlerHead : Head
   EndHead : Head
 
--- `io NAME DOCUMENT HANDLER root ROOT margin WORD* threshold NUMBER*`
-abbrev pub observer_forms : List Form
-observer_forms =
+-- `io NAME DOCUMENT HANDLER root ROOT margin WORD* threshold NUMBER*`; in the second version `scroll WORD*` may stand before `threshold`
+abbrev pub observer_forms : Version → List Form
+observer_forms version =
     NameForm
     ∷ NameForm
     ∷ HandlerForm
     ∷ JustForm (codes "root")
     ∷ RootForm
     ∷ JustForm (codes "margin")
-    ∷ MarginForm
+    ∷ MarginForm version
     ∷ JustForm (codes "threshold")
     ∷ NumbersForm
     ∷ []
 
-abbrev pub make_observer : From observer_forms Action
-make_observer name document handler root_word root margin_word margin threshold_word thresholds =
+abbrev pub make_observer : (version : Version) → From (observer_forms version) Action
+make_observer version name document handler root_word root margin_word margins threshold_word thresholds =
     MakeIntersectionObserver (record {
       name = name;
       document = document;
       handler = handler;
       root = root;
-      margin = margin;
+      margin = margins.0;
+      scroll = margins.1;
       thresholds = thresholds;
     })
 
-abbrev pub heads : List (Keyword Head)
-heads =
+-- what first words begin in each version
+abbrev pub heads : Version → List (Keyword Head)
+heads version =
     keyword (codes "viewport") (ActionHead (LengthForm ∷ LengthForm ∷ []) Viewport)
     ∷ keyword (codes "block") (ActionHead (NameForm ∷ NameForm ∷ []) MakeBlock)
     ∷ keyword (codes "image") (ActionHead (NameForm ∷ NameForm ∷ LengthForm ∷ LengthForm ∷ []) MakeImage)
@@ -65,10 +69,10 @@ heads =
     ∷ keyword (codes "grow") (ActionHead (NodeForm ∷ DimensionForm ∷ SignedForm ∷ []) Grow)
     ∷ keyword (codes "load") (ActionHead (NodeForm ∷ LengthForm ∷ LengthForm ∷ []) Load)
     ∷ keyword (codes "ro") (ActionHead (NameForm ∷ NameForm ∷ HandlerForm ∷ []) MakeResizeObserver)
-    ∷ keyword (codes "ro-observe") (ActionHead (NameForm ∷ NodeForm ∷ BoxForm ∷ []) ObserveResize)
+    ∷ keyword (codes "ro-observe") (ActionHead (NameForm ∷ NodeForm ∷ BoxForm version ∷ []) ObserveResize)
     ∷ keyword (codes "ro-unobserve") (ActionHead (NameForm ∷ NodeForm ∷ []) UnobserveResize)
     ∷ keyword (codes "ro-disconnect") (ActionHead (NameForm ∷ []) DisconnectResize)
-    ∷ keyword (codes "io") (ActionHead observer_forms make_observer)
+    ∷ keyword (codes "io") (ActionHead (observer_forms version) (make_observer version))
     ∷ keyword (codes "io-observe") (ActionHead (NameForm ∷ NodeForm ∷ []) ObserveIntersection)
     ∷ keyword (codes "io-unobserve") (ActionHead (NameForm ∷ NodeForm ∷ []) UnobserveIntersection)
     ∷ keyword (codes "io-disconnect") (ActionHead (NameForm ∷ []) DisconnectIntersection)
@@ -91,3 +95,12 @@ heads =
     ∷ keyword (codes "handler") HandlerHead
     ∷ keyword (codes "end") EndHead
     ∷ []
+
+-- what one begins in the second version alone
+abbrev pub ratio_head : Keyword Head
+ratio_head = keyword (codes "ratio") (ActionHead (PercentForm ∷ []) SetRatio)
+
+-- all that first words begin in a version
+abbrev pub heads_in : Version → List (Keyword Head)
+heads_in First = heads First
+heads_in Second = ratio_head ∷ heads Second

@@ -1,12 +1,14 @@
 -- The forms that parts of a line have, and the reading of a line's parts from left to right. A fault is the column of the
 -- first word that doesn't fit, or the column after the line's last word where a word is missing. The forms are this
--- project's own choice.
-use Rattle.std.specs.Prelude.{ℕ, ℤ, ◌+◌, ◌-◌, cond, List, [], ◌∷◌, drop, Option, Result, Ok, Err, bytes_eq, codes}
+-- project's own choice. A form that reads more in the second version of the language has the version.
+use Rattle.std.specs.Prelude.{ℕ, ℤ, ◌+◌, ◌-◌, Bool, ◌||◌, cond, List, [], ◌∷◌, drop, Option, Some, None, Result, Ok, Err, bytes_eq, codes}
 use Rattle.std.specs.List.{join_with_byte}
-use Rattle.word_model.specs.Numbers.{whole_of, length_of, signed_of, number_of}
+use Rattle.word_model.specs.Numbers.{whole_of, length_of, signed_of, percent_of, number_of}
 use Rattle.px_units.specs.declared.BoxKind.{BoxKind}
 use Rattle.layout_model.specs.Styles.{Declaration}
 use Rattle.text_io.specs.declared.kinds.EventKind.{EventKind}
+use Rattle.text_io.specs.declared.kinds.Version.{Version}
+use Rattle.text_io.specs.declared.kinds.Version.TheVariants.{First, Second}
 use Rattle.script_model.specs.Queries.{MediaQuery}
 use Rattle.script_model.specs.Syntax.{Operand, Aim, Dimension}
 use Rattle.script_model.specs.Readers.{◌>>=◌, or_fault, with_fault}
@@ -49,24 +51,53 @@ unfoldable pub declaration_as : Row → Taken Declaration
 unfolding word_as property_of
 declaration_as row = word_as property_of row >>= λ property. word_as property.0 property.1
 
--- the words before the first one that is this word
-unfoldable pub words_before : List ℕ → List Word → List (List ℕ)
-words_before stop [] = []
-words_before stop (w ∷ ws) = cond (bytes_eq w.text stop) [] (w.text ∷ words_before stop ws)
+-- the words before the first one at which a test holds
+unfoldable pub words_before : (List ℕ → Bool) → List Word → List (List ℕ)
+words_before stops [] = []
+words_before stops (w ∷ ws) = cond (stops w.text) [] (w.text ∷ words_before stops ws)
 
 -- that word with those after it
-unfoldable pub words_from : List ℕ → List Word → List Word
-words_from stop [] = []
-words_from stop (w ∷ ws) = cond (bytes_eq w.text stop) (w ∷ ws) (words_from stop ws)
+unfoldable pub words_from : (List ℕ → Bool) → List Word → List Word
+words_from stops [] = []
+words_from stops (w ∷ ws) = cond (stops w.text) (w ∷ ws) (words_from stops ws)
 
--- the words before `threshold`, joined by one space
-unfoldable pub margin_as : Row → Taken (List ℕ)
+-- a margin goes up to the word `threshold`, in the second version also to `scroll`
+abbrev pub ends_margin : Version → List ℕ → Bool
+ends_margin First word = bytes_eq word (codes "threshold")
+ends_margin Second word = bytes_eq word (codes "threshold") || bytes_eq word (codes "scroll")
+
+-- the words of a margin, joined by one space
+unfoldable pub margin_as : Version → Row → Taken (List ℕ)
 unfolding words_before words_from
-margin_as row =
+margin_as version row =
     Ok (
-      join_with_byte 32 (words_before (codes "threshold") row.left),
-      record row { left = words_from (codes "threshold") row.left },
+      join_with_byte 32 (words_before (ends_margin version) row.left),
+      record row { left = words_from (ends_margin version) row.left },
     )
+
+-- a margin behind the word `scroll`, where that stands next
+unfoldable pub scroll_in : List Word → Row → Taken (Option (List ℕ))
+unfolding margin_as
+scroll_in [] row = Ok (None, row)
+scroll_in (w ∷ ws) row =
+    cond (bytes_eq w.text (codes "scroll"))
+    (margin_as Second (record row { left = ws }) >>= λ margin. Ok (Some margin.0, margin.1))
+    (Ok (None, row))
+
+-- a scroll margin, which scripts of the first version don't have
+unfoldable pub scroll_as : Version → Row → Taken (Option (List ℕ))
+unfolding scroll_in
+scroll_as First row = Ok (None, row)
+scroll_as Second row = scroll_in row.left row
+
+-- a margin, and a scroll margin if there is one
+abbrev pub MarginTexts : Type 0
+MarginTexts = List ℕ × Option (List ℕ)
+
+unfoldable pub margins_as : Version → Row → Taken MarginTexts
+unfolding margin_as scroll_as
+margins_as version row =
+    margin_as version row >>= λ margin. scroll_as version margin.1 >>= λ scroll. Ok ((margin.0, scroll.0), scroll.1)
 
 unfoldable pub numbers_of : List Word → Result (List ℤ) ℕ
 unfolding number_of
@@ -98,13 +129,14 @@ pub data Form : Type 0 where
   RootForm : Form
   LengthForm : Form
   SignedForm : Form
+  PercentForm : Form
   WholeForm : Form
   EventForm : Form
-  BoxForm : Form
+  BoxForm : (version : Version) → Form
   DimensionForm : Form
   DeclarationForm : Form
   JustForm : (word : List ℕ) → Form
-  MarginForm : Form
+  MarginForm : (version : Version) → Form
   NumbersForm : Form
   QueryForm : Form
 
@@ -117,19 +149,20 @@ Meant HandlerForm = Option (List ℕ)
 Meant RootForm = Option Operand
 Meant LengthForm = ℕ
 Meant SignedForm = ℤ
+Meant PercentForm = ℕ
 Meant WholeForm = ℕ
 Meant EventForm = EventKind
-Meant BoxForm = BoxKind
+Meant (BoxForm version) = BoxKind
 Meant DimensionForm = Dimension
 Meant DeclarationForm = Declaration
 Meant (JustForm word) = Unit {0}
-Meant MarginForm = List ℕ
+Meant (MarginForm version) = MarginTexts
 Meant NumbersForm = List ℤ
 Meant QueryForm = List MediaQuery
 
 -- the part of this form that stands next in a line
 unfoldable pub part_as : (form : Form) → Row → Taken (Meant form)
-unfolding word_as name_of node_of aim_of or_dash length_of signed_of whole_of lookup declaration_as just margin_as numbers_as query_as
+unfolding word_as name_of node_of aim_of or_dash length_of signed_of percent_of whole_of lookup declaration_as just margins_as numbers_as query_as
 part_as NameForm row = word_as name_of row
 part_as NodeForm row = word_as node_of row
 part_as AimForm row = word_as aim_of row
@@ -137,13 +170,14 @@ part_as HandlerForm row = word_as (or_dash name_of) row
 part_as RootForm row = word_as (or_dash node_of) row
 part_as LengthForm row = word_as length_of row
 part_as SignedForm row = word_as signed_of row
+part_as PercentForm row = word_as percent_of row
 part_as WholeForm row = word_as whole_of row
 part_as EventForm row = word_as (lookup events) row
-part_as BoxForm row = word_as (lookup boxes) row
+part_as (BoxForm version) row = word_as (lookup (boxes version)) row
 part_as DimensionForm row = word_as (lookup dimensions) row
 part_as DeclarationForm row = declaration_as row
 part_as (JustForm word) row = word_as (just word) row
-part_as MarginForm row = margin_as row
+part_as (MarginForm version) row = margins_as version row
 part_as NumbersForm row = numbers_as row
 part_as QueryForm row = query_as row
 

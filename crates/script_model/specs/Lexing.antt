@@ -3,7 +3,7 @@
 use Rattle.std.specs.Prelude.{ℕ, ◌+◌, ◌-◌, Bool, true, false, cond, ◌&&◌, ◌||◌, ◌==◌, nat_lt, nat_le, List, [], ◌∷◌, ◌++◌, length, take, reverse}
 use Rattle.word_model.specs.Numbers.{begins_with}
 use Rattle.text_io.specs.declared.kinds.LimitKind.TheVariants as limits
-use Rattle.text_io.specs.Limits.{limit_number}
+use Rattle.text_io.specs.Limits.{common_limit}
 use Rattle.script_model.specs.Readers.{is_empty}
 
 -- a longest run of bytes 33 to 126
@@ -118,7 +118,7 @@ pub data ByteClass : Type 0 where
 unfoldable pub class_of : ℕ → Bool → ℕ → ByteClass
 class_of byte feed_next column =
     cond (byte == 10) LineFeedByte
-    (cond (nat_lt (limit_number limits.Line) column) LongByte
+    (cond (nat_lt (common_limit limits.Line) column) LongByte
     (cond (byte == 32 || byte == 9 || (byte == 13 && feed_next)) SpaceByte
     (cond (nat_le 33 byte && nat_le byte 126) WordByte ForbiddenByte)))
 

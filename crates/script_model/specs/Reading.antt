@@ -4,8 +4,9 @@
 use Rattle.std.specs.Prelude.{ℕ, ◌+◌, Bool, true, false, cond, ◌==◌, nat_lt, List, [], ◌∷◌, length, take, reverse, count_by, Result, Ok, Err}
 use Rattle.text_io.specs.declared.kinds.LimitKind.{LimitKind}
 use Rattle.text_io.specs.declared.kinds.LimitKind.TheVariants as limits
-use Rattle.text_io.specs.Limits.{limit_number}
-use Rattle.script_model.specs.Syntax.{Condition, Command, Simple, Each, When, Block, NoMore, Then, Item, Outside, Tick, Handler}
+use Rattle.text_io.specs.declared.kinds.Version.{Version}
+use Rattle.text_io.specs.Limits.{common_limit}
+use Rattle.script_model.specs.Syntax.{Condition, Command, Simple, Each, When, Block, NoMore, Then, Item, Outside, Tick, Handler, Script}
 use Rattle.script_model.specs.TraceLines.{TraceLine, LimitLine, SyntaxLine}
 use Rattle.script_model.specs.Readers.{◌>>=◌, with_fault, is_empty}
 use Rattle.script_model.specs.Lexing.{Line, Ending, Whole, BadByte, LongLine, Lexed, lexed}
@@ -19,7 +20,7 @@ pub data Refusal : Type 0 where
 -- the trace of a text that is refused
 abbrev pub refusal_line : Refusal → TraceLine
 refusal_line (SyntaxAt line column) = SyntaxLine line column
-refusal_line (LimitAt limit line) = LimitLine limit line (limit_number limit)
+refusal_line (LimitAt limit line) = LimitLine limit line (common_limit limit)
 
 -- what a line opened that an `end` will close
 pub data Opening : Type 0 where
@@ -33,14 +34,15 @@ pub record Frame : Type 0 where
   pub opening : Opening
   pub commands : List Command
 
--- what was read so far: what is open, innermost first; the items, last first; and the names of the handlers
+-- what was read so far: the version; what is open, innermost first; the items, last first; and the names of the handlers
 pub record State : Type 0 where
+  pub version : Version
   pub frames : List Frame
   pub items : List Item
   pub names : List (List ℕ)
 
-abbrev pub nothing_read : State
-nothing_read = record { frames = []; items = []; names = [] }
+abbrev pub nothing_read : Version → State
+nothing_read version = record { version = version; frames = []; items = []; names = [] }
 
 unfoldable pub put_in : List Frame → Command → State → State
 put_in [] command s = record s { items = Outside command ∷ s.items }
@@ -69,13 +71,13 @@ opened line opening s =
 unfoldable pub open_block : ℕ → Opening → State → Result State Refusal
 unfolding opened
 open_block line opening s =
-    cond (nat_lt (count_by (λ frame. is_block frame.opening) s.frames) (limit_number limits.Nesting))
+    cond (nat_lt (count_by (λ frame. is_block frame.opening) s.frames) (common_limit limits.Nesting))
     (Ok (opened line opening s)) (Err (LimitAt limits.Nesting line))
 
 unfoldable pub open_handler : ℕ → List ℕ → State → Result State Refusal
 unfolding opened
 open_handler line name s =
-    cond (nat_lt (length s.names) (limit_number limits.Handlers))
+    cond (nat_lt (length s.names) (common_limit limits.Handlers))
     (Ok (opened line (HandlerBlock name) (record s { names = name ∷ s.names })))
     (Err (LimitAt limits.Handlers line))
 
@@ -105,7 +107,7 @@ placed line Ends s = Ok (close_in s.frames line s)
 
 unfoldable pub standing : State → Standing
 unfolding is_empty
-standing s = record { outside = is_empty s.frames; names = s.names }
+standing s = record { version = s.version; outside = is_empty s.frames; names = s.names }
 
 unfoldable pub step : State → Line → Result State Refusal
 unfolding standing statement_of placed
@@ -125,19 +127,19 @@ refused_at (BadByte line column) = SyntaxAt line column
 refused_at (LongLine line) = LimitAt limits.Line line
 
 -- nothing may be open at the end
-unfoldable pub finished : List Frame → List Item → Ending → Result (List Item) Refusal
-finished [] items (Whole next_line) = Ok (reverse items)
-finished frames items ending = Err (refused_at ending)
+unfoldable pub finished : Version → List Frame → List Item → Ending → Result Script Refusal
+finished version [] items (Whole next_line) = Ok (record { version = version; items = reverse items })
+finished version frames items ending = Err (refused_at ending)
 
--- the first line that has words is `script 1`
-unfoldable pub read_lines : List Line → Ending → Result (List Item) Refusal
+-- the first line that has words is `script` and the version
+unfoldable pub read_lines : List Line → Ending → Result Script Refusal
 unfolding version_as steps finished
 read_lines [] ending = Err (refused_at ending)
 read_lines (l ∷ ls) ending =
     with_fault (SyntaxAt l.number) (version_as l.row) >>= λ version.
-    steps nothing_read ls >>= λ s. finished s.frames s.items ending
+    steps (nothing_read version) ls >>= λ s. finished s.version s.frames s.items ending
 
-unfoldable pub read_lexed : Lexed → Result (List Item) Refusal
+unfoldable pub read_lexed : Lexed → Result Script Refusal
 unfolding read_lines
 read_lexed text = read_lines text.lines text.ending
 
@@ -146,10 +148,10 @@ unfoldable pub last_line : ℕ → List ℕ → ℕ
 last_line most text = 1 + count_by (λ byte. byte == 10) (take most text)
 
 abbrev pub Reading : Type 0
-Reading = Result (List Item) Refusal
+Reading = Result Script Refusal
 
 unfoldable pub reading : List ℕ → Reading
 unfolding last_line read_lexed lexed
 reading text =
-    cond (nat_lt (limit_number limits.Script) (length text))
-    (Err (LimitAt limits.Script (last_line (limit_number limits.Script) text))) (read_lexed (lexed text))
+    cond (nat_lt (common_limit limits.Script) (length text))
+    (Err (LimitAt limits.Script (last_line (common_limit limits.Script) text))) (read_lexed (lexed text))

@@ -46,5 +46,5 @@ refusal_later lines (SyntaxAt line column) = SyntaxAt (line + lines) column
 refusal_later lines (LimitAt limit line) = LimitAt limit (line + lines)
 
 abbrev pub reading_later : ℕ → Reading → Reading
-reading_later lines (Ok items) = Ok (map (item_later lines) items)
+reading_later lines (Ok script) = Ok (record script { items = map (item_later lines) (script.items) })
 reading_later lines (Err refusal) = Err (refusal_later lines refusal)

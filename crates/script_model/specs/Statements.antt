@@ -1,14 +1,16 @@
 -- What one line of a script says. That depends on where it stands: `handler` and `tick` stand outside handlers and
--- blocks alone, `end` inside alone, and no two handlers have one name. All of this is this project's own choice.
+-- blocks alone, `end` inside alone, no two handlers have one name, and each version of the language has its commands. All of this is this project's own choice.
 use Rattle.std.specs.Prelude.{ℕ, Bool, true, false, cond, ◌&&◌, not, List, [], ◌∷◌, Option, Some, None, option_and_then, Result, Ok, bytes_eq, codes}
 use Rattle.std.specs.List.{list_any}
 use Rattle.word_model.specs.Names.{is_name}
+use Rattle.text_io.specs.declared.kinds.Version.{Version}
 use Rattle.script_model.specs.Syntax.{Action, Test, Condition}
 use Rattle.script_model.specs.Readers.{◌>>=◌}
 use Rattle.script_model.specs.Keywords.{lookup}
 use Rattle.script_model.specs.Lexing.{Word, Row}
-use Rattle.script_model.specs.Forms.{word_as, none_left, WholeForm, JustForm, made}
-use Rattle.script_model.specs.Commands.{TestShape, TestOf, tests, Head, ActionHead, TickHead, EachHead, WhenHead, HandlerHead, EndHead, heads}
+use Rattle.script_model.specs.Forms.{word_as, none_left, WholeForm, made}
+use Rattle.script_model.specs.Commands.{TestShape, TestOf, tests, Head, ActionHead, TickHead, EachHead, WhenHead, HandlerHead, EndHead, heads_in}
+use Rattle.script_model.specs.Words.{just, versions}
 
 pub data Statement : Type 0 where
   Does : (action : Action) → Statement
@@ -18,8 +20,9 @@ pub data Statement : Type 0 where
   OpensHandler : (name : List ℕ) → Statement
   Ends : Statement
 
--- where a line stands: outside handlers and blocks or not, and behind handlers of these names
+-- where a line stands: in a script of which version, outside handlers and blocks or not, and behind handlers of these names
 pub record Standing : Type 0 where
+  pub version : Version
   pub outside : Bool
   pub names : List (List ℕ)
 
@@ -31,9 +34,9 @@ permitted false TickHead = None
 permitted false HandlerHead = None
 permitted false head = Some head
 
-unfoldable pub head_of : Bool → List ℕ → Option Head
+unfoldable pub head_of : Version → Bool → List ℕ → Option Head
 unfolding permitted lookup
-head_of outside text = option_and_then (permitted outside) (lookup heads text)
+head_of version outside text = option_and_then (permitted outside) (lookup (heads_in version) text)
 
 -- a name that no handler has yet
 unfoldable pub fresh_name_of : List (List ℕ) → List ℕ → Option (List ℕ)
@@ -76,9 +79,11 @@ operands_of names EndHead row = made [] Ends row
 unfoldable pub statement_of : Standing → Row → Result Statement ℕ
 unfolding word_as head_of operands_of
 statement_of standing row =
-    word_as (head_of standing.outside) row >>= λ head. operands_of standing.names head.0 head.1
+    word_as (head_of standing.version standing.outside) row >>= λ head. operands_of standing.names head.0 head.1
 
--- a script's first line
-unfoldable pub version_as : Row → Result (Unit {0}) ℕ
-unfolding made
-version_as row = made (JustForm (codes "script") ∷ JustForm (codes "1") ∷ []) (λ script version. tt) row
+-- a script's first line, which names its version
+unfoldable pub version_as : Row → Result Version ℕ
+unfolding word_as just lookup none_left
+version_as row =
+    word_as (just (codes "script")) row >>= λ script.
+    word_as (lookup versions) script.1 >>= λ version. none_left version.1 >>= λ end. Ok version.0

@@ -4,6 +4,7 @@ use Rattle.std.specs.Prelude.{ℕ, ℤ, Bool, List, Option}
 use Rattle.px_units.specs.declared.BoxKind.{BoxKind}
 use Rattle.layout_model.specs.Styles.{Declaration}
 use Rattle.text_io.specs.declared.kinds.EventKind.{EventKind}
+use Rattle.text_io.specs.declared.kinds.Version.{Version}
 use Rattle.script_model.specs.Queries.{MediaQuery}
 
 -- a node by its name, or `$target`, the target of the present entry
@@ -20,19 +21,21 @@ pub data Dimension : Type 0 where
   WidthDimension : Dimension
   HeightDimension : Dimension
 
--- the operands of the command that makes an intersection observer; the margin is its words joined by one space, and
--- thresholds are in ten-thousandths
+-- the operands of the command that makes an intersection observer; a margin is its words joined by one space, the scroll margin is
+-- none where it was left out, and thresholds are in ten-thousandths
 pub record ObserverMaking : Type 0 where
   pub name : List ℕ
   pub document : List ℕ
   pub handler : Option (List ℕ)
   pub root : Option Operand
   pub margin : List ℕ
+  pub scroll : Option (List ℕ)
   pub thresholds : List ℤ
 
--- a command without a block
+-- a command without a block; a ratio is in hundredths of a percent
 pub data Action : Type 0 where
   Viewport : (width height : ℕ) → Action
+  SetRatio : (hundredths : ℕ) → Action
   MakeBlock : (name document : List ℕ) → Action
   MakeImage : (name document : List ℕ) (width height : ℕ) → Action
   MakeFrame : (name document inside : List ℕ) → Action
@@ -92,3 +95,8 @@ pub data Item : Type 0 where
   Outside : (command : Command) → Item
   Tick : (line time : ℕ) → Item
   Handler : (line : ℕ) (name : List ℕ) (block : Block) (end_line : ℕ) → Item
+
+-- a script: its version, and what stands behind its first line
+pub record Script : Type 0 where
+  pub version : Version
+  pub items : List Item

@@ -1,5 +1,6 @@
--- The lines of a trace as values. Lengths are in units of 1/64 pixel; a rectangle is by its edges.
-use Rattle.std.specs.Prelude.{ℕ, Bool, List}
+-- The lines of a trace as values. Lengths are in units of 1/64 pixel; a rectangle is by its edges. A size in device pixels is told in
+-- traces of the second version alone.
+use Rattle.std.specs.Prelude.{ℕ, Bool, List, Option}
 use Rattle.px_units.specs.declared.Rect.{Rect}
 use Rattle.px_units.specs.declared.Point.{Point}
 use Rattle.px_units.specs.declared.Size.{Size}
@@ -30,7 +31,7 @@ pub data TraceLine : Type 0 where
   FrameLine : (document key : List ℕ) → TraceLine
   TaskLine : (document handler : List ℕ) → TraceLine
   EventLine : (event : FiredEvent) → TraceLine
-  ResizeLine : (observer target : List ℕ) (rect : Rect) (border : Size) → TraceLine
+  ResizeLine : (observer target : List ℕ) (rect : Rect) (border : Size) (device : Option Size) → TraceLine
   RoundLine : (document : List ℕ) (depth : ℕ) → TraceLine
   IntersectLine : (found : Intersection) → TraceLine
   TakeLine : (observer : List ℕ) (count : ℕ) → TraceLine

@@ -1,9 +1,9 @@
 -- The text of each trace line. Fields are separated by one space, and each line ends with a line feed. The form is this
 -- project's own choice; the message of an `error` event is the standard's (Resize Observer, 3.4.6).
-use Rattle.std.specs.Prelude.{ℕ, ◌-ℤ◌, Bool, true, false, List, [], ◌∷◌, ◌++◌, codes}
+use Rattle.std.specs.Prelude.{ℕ, ℤ, ◌-ℤ◌, unsigned_abs, Bool, true, false, List, [], ◌∷◌, ◌++◌, Option, Some, None, codes}
 use Rattle.std.specs.List.{join_with_byte}
 use Rattle.word_model.specs.Numbers.{decimal}
-use Rattle.px_units.specs.Texts.{pixel_text}
+use Rattle.px_units.specs.Texts.{sign_text, pixel_text}
 use Rattle.px_units.specs.declared.Rect.{Rect}
 use Rattle.px_units.specs.declared.Point.{Point}
 use Rattle.px_units.specs.declared.Size.{Size}
@@ -31,6 +31,17 @@ rect_fields r =
 unfoldable pub size_fields : Size → List (List ℕ)
 unfolding pixel_text
 size_fields size = pixel_text size.width ∷ pixel_text size.height ∷ []
+
+-- a whole number, with a minus sign if it is negative
+unfoldable pub whole_text : ℤ → List ℕ
+unfolding sign_text decimal
+whole_text number = sign_text number ++ decimal (unsigned_abs number)
+
+-- a size in device pixels, if it is told
+unfoldable pub device_fields : Option Size → List (List ℕ)
+unfolding whole_text
+device_fields None = []
+device_fields (Some size) = codes "device" ∷ whole_text size.width ∷ whole_text size.height ∷ []
 
 unfoldable pub point_fields : Point → List (List ℕ)
 unfolding pixel_text
@@ -66,7 +77,7 @@ kind_text (TimerLine document key) = codes "timer"
 kind_text (FrameLine document key) = codes "frame"
 kind_text (TaskLine document handler) = codes "task"
 kind_text (EventLine event) = codes "event"
-kind_text (ResizeLine observer target rect border) = codes "resize"
+kind_text (ResizeLine observer target rect border device) = codes "resize"
 kind_text (RoundLine document depth) = codes "round"
 kind_text (IntersectLine found) = codes "intersect"
 kind_text (TakeLine observer count) = codes "take"
@@ -78,14 +89,14 @@ kind_text (SyntaxLine line column) = codes "syntax"
 
 -- the fields behind it
 unfoldable pub fields_of : TraceLine → List (List ℕ)
-unfolding decimal event_fields rect_fields size_fields point_fields intersection_fields
+unfolding decimal event_fields rect_fields size_fields device_fields point_fields intersection_fields
 fields_of (TickLine time) = decimal time ∷ []
 fields_of (TimerLine document key) = document ∷ key ∷ []
 fields_of (FrameLine document key) = document ∷ key ∷ []
 fields_of (TaskLine document handler) = document ∷ handler ∷ []
 fields_of (EventLine event) = event_fields event
-fields_of (ResizeLine observer target rect border) =
-    (observer ∷ target ∷ codes "rect" ∷ rect_fields rect) ++ (codes "border" ∷ size_fields border)
+fields_of (ResizeLine observer target rect border device) =
+    (observer ∷ target ∷ codes "rect" ∷ rect_fields rect) ++ (codes "border" ∷ size_fields border) ++ device_fields device
 fields_of (RoundLine document depth) = document ∷ decimal depth ∷ []
 fields_of (IntersectLine found) = intersection_fields found
 fields_of (TakeLine observer count) = observer ∷ decimal count ∷ []

@@ -2,10 +2,12 @@
 use Rattle.std.specs.Prelude.{ℕ, cond, ◌==◌, List, [], ◌∷◌, Option, Some, None, option_map, bytes_eq, codes}
 use Rattle.word_model.specs.Names.{is_name}
 use Rattle.px_units.specs.declared.BoxKind.{BoxKind}
-use Rattle.px_units.specs.declared.BoxKind.TheVariants.{Content, Border}
+use Rattle.px_units.specs.declared.BoxKind.TheVariants.{Content, Border, Device}
 use Rattle.text_io.specs.declared.kinds.EventKind.{EventKind}
 use Rattle.text_io.specs.declared.kinds.EventKind.TheVariants as event
-use Rattle.text_io.specs.Kinds.{event_word}
+use Rattle.text_io.specs.declared.kinds.Version.{Version}
+use Rattle.text_io.specs.declared.kinds.Version.TheVariants.{First, Second}
+use Rattle.text_io.specs.Kinds.{event_word, version_word}
 use Rattle.script_model.specs.Keywords.{Keyword, keyword}
 use Rattle.script_model.specs.Syntax.{Operand, Named, Target, Aim, PlainAim, WindowAim, Dimension, WidthDimension, HeightDimension}
 
@@ -39,8 +41,13 @@ events =
     ∷ keyword (event_word event.Change) event.Change
     ∷ []
 
-abbrev pub boxes : List (Keyword BoxKind)
-boxes = keyword (codes "content") Content ∷ keyword (codes "border") Border ∷ []
+abbrev pub versions : List (Keyword Version)
+versions = keyword (version_word First) First ∷ keyword (version_word Second) Second ∷ []
+
+-- the boxes that scripts of a version observe
+abbrev pub boxes : Version → List (Keyword BoxKind)
+boxes First = keyword (codes "content") Content ∷ keyword (codes "border") Border ∷ []
+boxes Second = keyword (codes "content") Content ∷ keyword (codes "border") Border ∷ keyword (codes "device") Device ∷ []
 
 abbrev pub dimensions : List (Keyword Dimension)
 dimensions = keyword (codes "width") WidthDimension ∷ keyword (codes "height") HeightDimension ∷ []

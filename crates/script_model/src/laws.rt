@@ -3,7 +3,8 @@ ghost use Rattle.std.specs.Prelude.{◌≡◌, ℕ, ◌+◌, ◌<◌, ◌≤◌,
 ghost use Rattle.std.specs.List.{list_all};
 ghost use Rattle.word_model.specs.Numbers.{begins_with};
 ghost use Rattle.text_io.specs.declared.kinds.LimitKind.TheVariants as limits;
-ghost use Rattle.text_io.specs.Limits.{limit_number};
+ghost use Rattle.text_io.specs.declared.kinds.Version.{Version};
+ghost use Rattle.text_io.specs.Limits.{common_limit};
 ghost use Rattle.script_model.specs.Lexing.{Row, BadByte, LongLine, line_start, ends, lex_on, lexed};
 ghost use Rattle.script_model.specs.Lines.{is_line_byte, words_of, line_with};
 ghost use Rattle.script_model.specs.Media.{is_blank};
@@ -14,7 +15,7 @@ ghost use Rattle.script_model.specs.Reading.{LimitAt, last_line, read_lexed, rea
 /// A line feed ends a line, whose words are its longest runs of word bytes up to a comment.
 #[tactic(auto, using(crate::proofs::LineLaw::line_is_read))]
 pub fn line_feed_ends_a_line()
-    ensures { (number : ℕ) (line rest : List ℕ) → list_all is_line_byte line ≡ true → length line ≤ limit_number limits.Line →
+    ensures { (number : ℕ) (line rest : List ℕ) → list_all is_line_byte line ≡ true → length line ≤ common_limit limits.Line →
         lex_on (line_start number) (line ++ (10 ∷ rest)) ≡
         line_with (words_of line) number line (lex_on (line_start (number + 1)) rest) }
 {}
@@ -22,7 +23,7 @@ pub fn line_feed_ends_a_line()
 /// A carriage return directly before the line feed belongs to no word; it is one of the line's bytes.
 #[tactic(auto, using(crate::proofs::LineLaw::line_is_read_returned))]
 pub fn carriage_return_before_a_line_feed()
-    ensures { (number : ℕ) (line rest : List ℕ) → list_all is_line_byte line ≡ true → length line < limit_number limits.Line →
+    ensures { (number : ℕ) (line rest : List ℕ) → list_all is_line_byte line ≡ true → length line < common_limit limits.Line →
         lex_on (line_start number) (line ++ (13 ∷ 10 ∷ rest)) ≡
         line_with (words_of line) number line (lex_on (line_start (number + 1)) rest) }
 {}
@@ -30,14 +31,14 @@ pub fn carriage_return_before_a_line_feed()
 /// A last line without a line feed is read as with one, if it has a byte.
 #[tactic(auto, using(crate::proofs::LineEnds::last_line_is_read))]
 pub fn last_line_needs_no_line_feed()
-    ensures { (number : ℕ) (line : List ℕ) → list_all is_line_byte line ≡ true → length line ≤ limit_number limits.Line → 0 < length line →
+    ensures { (number : ℕ) (line : List ℕ) → list_all is_line_byte line ≡ true → length line ≤ common_limit limits.Line → 0 < length line →
         lex_on (line_start number) line ≡ lex_on (line_start number) (line ++ (10 ∷ [])) }
 {}
 
 /// The first byte that no line may have ends the reading at its column.
 #[tactic(auto, using(crate::proofs::LineEnds::bad_byte_ends))]
 pub fn bad_byte_ends_the_text()
-    ensures { (number : ℕ) (line : List ℕ) (byte : ℕ) (rest : List ℕ) → list_all is_line_byte line ≡ true → length line < limit_number limits.Line →
+    ensures { (number : ℕ) (line : List ℕ) (byte : ℕ) (rest : List ℕ) → list_all is_line_byte line ≡ true → length line < common_limit limits.Line →
         is_line_byte byte ≡ false → (byte == 10) ≡ false → ((byte == 13) && begins_with 10 rest) ≡ false →
         lex_on (line_start number) (line ++ (byte ∷ rest)) ≡ ends (BadByte number (length line + 1)) }
 {}
@@ -45,7 +46,7 @@ pub fn bad_byte_ends_the_text()
 /// One byte more than a line may have ends the reading, whatever it is.
 #[tactic(auto, using(crate::proofs::LineEnds::long_line_ends))]
 pub fn long_line_ends_the_text()
-    ensures { (number : ℕ) (line : List ℕ) (byte : ℕ) (rest : List ℕ) → list_all is_line_byte line ≡ true → length line ≡ limit_number limits.Line →
+    ensures { (number : ℕ) (line : List ℕ) (byte : ℕ) (rest : List ℕ) → list_all is_line_byte line ≡ true → length line ≡ common_limit limits.Line →
         (byte == 10) ≡ false → lex_on (line_start number) (line ++ (byte ∷ rest)) ≡ ends (LongLine number) }
 {}
 
@@ -59,7 +60,7 @@ pub fn indentation_moves_words()
 #[tactic(auto, using(crate::proofs::LineEnds::comment_is_passed))]
 pub fn comment_changes_nothing()
     ensures { (number : ℕ) (line comment rest : List ℕ) → list_all is_line_byte (line ++ (32 ∷ 35 ∷ comment)) ≡ true →
-        length (line ++ (32 ∷ 35 ∷ comment)) ≤ limit_number limits.Line →
+        length (line ++ (32 ∷ 35 ∷ comment)) ≤ common_limit limits.Line →
         lex_on (line_start number) ((line ++ (32 ∷ 35 ∷ comment)) ++ (10 ∷ rest)) ≡ lex_on (line_start number) (line ++ (10 ∷ rest)) }
 {}
 
@@ -73,20 +74,21 @@ pub fn later_lines_are_renumbered()
 /// refusal is the same one.
 #[tactic(auto, using(crate::proofs::ReadLaw::wordless_is_read))]
 pub fn line_without_words_is_passed_over()
-    ensures { (line rest : List ℕ) → list_all is_line_byte line ≡ true → length line ≤ limit_number limits.Line → words_of line ≡ [] →
-        length (line ++ (10 ∷ rest)) ≤ limit_number limits.Script → reading (line ++ (10 ∷ rest)) ≡ reading_later 1 (reading rest) }
+    ensures { (line rest : List ℕ) → list_all is_line_byte line ≡ true → length line ≤ common_limit limits.Line → words_of line ≡ [] →
+        length (line ++ (10 ∷ rest)) ≤ common_limit limits.Script → reading (line ++ (10 ∷ rest)) ≡ reading_later 1 (reading rest) }
 {}
 
 /// The limit of a script's bytes comes before any line is looked at.
 #[tactic(auto, using(crate::proofs::ReadLaw::too_long, crate::proofs::ReadLaw::within))]
 pub fn script_limit_comes_first()
-    ensures above { (text : List ℕ) → limit_number limits.Script < length text →
-        reading text ≡ Err (LimitAt limits.Script (last_line (limit_number limits.Script) text)) }
-    ensures within { (text : List ℕ) → length text ≤ limit_number limits.Script → reading text ≡ read_lexed (lexed text) }
+    ensures above { (text : List ℕ) → common_limit limits.Script < length text →
+        reading text ≡ Err (LimitAt limits.Script (last_line (common_limit limits.Script) text)) }
+    ensures within { (text : List ℕ) → length text ≤ common_limit limits.Script → reading text ≡ read_lexed (lexed text) }
 {}
 
 /// A line `end` is read only where something is open, so there is always something that it closes.
 #[tactic(auto, using(crate::proofs::Impossible::no_end_outside))]
 pub fn end_closes_something()
-    ensures { (names : List (List ℕ)) (row : Row) → statement_of (record { outside = true; names = names }) row ≡ Ok Ends → ⊥ }
+    ensures { (version : Version) (names : List (List ℕ)) (row : Row) →
+        statement_of (record { version = version; outside = true; names = names }) row ≡ Ok Ends → ⊥ }
 {}

@@ -3,9 +3,11 @@
 
 ghost use Rattle.std.specs.Prelude.{◌≡◌, ◌++◌, [], ◌∷◌, Ok, Err, Some, None, true, pos, negsuc, replicate, codes};
 ghost use Rattle.std.specs.List.{concat};
+ghost use Rattle.px_units.specs.declared.BoxKind.TheVariants.{Device};
 ghost use Rattle.text_io.specs.declared.kinds.LimitKind.TheVariants as limits;
+ghost use Rattle.text_io.specs.declared.kinds.Version.TheVariants.{First, Second};
 ghost use Rattle.script_model.specs.Reading.{SyntaxAt, LimitAt, HandlerBlock, nothing_read, opened, open_handler, reading};
-ghost use Rattle.script_model.specs.Syntax.{Tick, Handler, Outside, Then, NoMore, Simple, Each, When, Say, Seen, MakeIntersectionObserver};
+ghost use Rattle.script_model.specs.Syntax.{Tick, Handler, Outside, Then, NoMore, Simple, Each, When, Say, Seen, Named, SetRatio, ObserveResize, MakeIntersectionObserver};
 
 /// A text without a byte lacks its first line.
 pub fn empty_text()
@@ -19,7 +21,8 @@ pub fn comments_alone()
 
 /// A last line without a line feed is a line.
 pub fn no_line_feed_at_the_end()
-    ensures { reading (codes "script 1") ≡ Ok [] }
+    ensures first { reading (codes "script 1") ≡ Ok (record { version = First; items = [] }) }
+    ensures second { reading (codes "script 2") ≡ Ok (record { version = Second; items = [] }) }
 {}
 
 /// The first line is cut after its first word.
@@ -29,7 +32,7 @@ pub fn cut_first_line()
 
 /// Another version is a fault at the second word.
 pub fn other_version()
-    ensures { reading (codes "script 2\n") ≡ Err (SyntaxAt 1 8) }
+    ensures { reading (codes "script 3\n") ≡ Err (SyntaxAt 1 8) }
 {}
 
 /// A word too many is a fault at it.
@@ -134,7 +137,7 @@ pub fn dash_for_a_handler()
 
 /// A carriage return directly before a line feed is a space, and so is a tab.
 pub fn return_before_a_line_feed()
-    ensures { reading (codes "\tscript\t1 \r\n\n# note\n \ttick  7 # at 7\r\n") ≡ Ok (Tick 4 7 ∷ []) }
+    ensures { reading (codes "\tscript\t1 \r\n\n# note\n \ttick  7 # at 7\r\n") ≡ Ok (record { version = First; items = Tick 4 7 ∷ [] }) }
 {}
 
 /// A carriage return that no line feed follows is a bad byte.
@@ -159,7 +162,7 @@ pub fn bad_byte_behind_a_fault()
 
 /// A line may have 4,096 bytes.
 pub fn longest_line()
-    ensures { reading (codes "script 1" ++ replicate 4088 32) ≡ Ok [] }
+    ensures { reading (codes "script 1" ++ replicate 4088 32) ≡ Ok (record { version = First; items = [] }) }
 {}
 
 /// The next byte is the limit, whatever it is, and its words aren't looked at.
@@ -180,9 +183,9 @@ pub fn nesting_too_deep()
 /// The 4,097th handler meets the limit.
 #[tactic(auto, unfolding(crate::specs::Reading::open_handler))]
 pub fn one_handler_too_many()
-    ensures last { open_handler 8193 (codes "h") (record nothing_read { names = replicate 4095 [] }) ≡
-        Ok (opened 8193 (HandlerBlock (codes "h")) (record nothing_read { names = codes "h" ∷ replicate 4095 [] })) }
-    ensures next { open_handler 8195 (codes "h") (record nothing_read { names = replicate 4096 [] }) ≡ Err (LimitAt limits.Handlers 8195) }
+    ensures last { open_handler 8193 (codes "h") (record (nothing_read First) { names = replicate 4095 [] }) ≡
+        Ok (opened 8193 (HandlerBlock (codes "h")) (record (nothing_read First) { names = codes "h" ∷ replicate 4095 [] })) }
+    ensures next { open_handler 8195 (codes "h") (record (nothing_read First) { names = replicate 4096 [] }) ≡ Err (LimitAt limits.Handlers 8195) }
 {}
 
 /// A fault of the same line comes before the limit.
@@ -193,42 +196,125 @@ pub fn fault_before_the_limit()
 /// Handlers and blocks hold the commands up to their end, with the lines of both.
 pub fn nested_blocks()
     ensures { reading (codes "script 1\nhandler h\neach\nwhen not seen\nsay a\nend\nend\nsay b\nend\nsay c\n") ≡
-        Ok (
-        Handler
-        2
-        (codes "h")
-        (Then
-        (Each
-        3
-        (Then
-        (When
-        4
-        (record { negated = true; asks = Seen })
-        (Then (Simple 5 (Say (codes "a"))) NoMore)
-        6)
-        NoMore)
-        7)
-        (Then (Simple 8 (Say (codes "b"))) NoMore))
-        9
-        ∷ Outside (Simple 10 (Say (codes "c"))) ∷ []) }
+        Ok (record {
+          version = First;
+          items = Handler
+              2
+              (codes "h")
+              (Then
+              (Each
+              3
+              (Then
+              (When
+              4
+              (record { negated = true; asks = Seen })
+              (Then (Simple 5 (Say (codes "a"))) NoMore)
+              6)
+              NoMore)
+              7)
+              (Then (Simple 8 (Say (codes "b"))) NoMore))
+              9
+              ∷ Outside (Simple 10 (Say (codes "c"))) ∷ [];
+        }) }
 {}
 
 /// The operands of an intersection observer in the order of its line.
 pub fn observer_line()
     ensures missing_threshold { reading (codes "script 1\nio i top - root $target margin 1px  2% # all\n") ≡ Err (SyntaxAt 2 39) }
     ensures read { reading (codes "script 1\nio i top h root - margin 1px  2% threshold 0.5 -1\n") ≡
-        Ok (
-        Outside
-        (Simple
-        2
-        (MakeIntersectionObserver
-        (record {
-          name = codes "i";
-          document = codes "top";
-          handler = Some (codes "h");
-          root = None;
-          margin = codes "1px 2%";
-          thresholds = pos 5000 ∷ negsuc 9999 ∷ [];
-        })))
-        ∷ []) }
+        Ok (record {
+          version = First;
+          items = Outside
+              (Simple
+              2
+              (MakeIntersectionObserver
+              (record {
+                name = codes "i";
+                document = codes "top";
+                handler = Some (codes "h");
+                root = None;
+                margin = codes "1px 2%";
+                scroll = None;
+                thresholds = pos 5000 ∷ negsuc 9999 ∷ [];
+              })))
+              ∷ [];
+        }) }
+{}
+
+/// What the second version has more, in its own scripts.
+pub fn second_version()
+    ensures ratio { reading (codes "script 2\nratio 150%\n") ≡
+        Ok (record { version = Second; items = Outside (Simple 2 (SetRatio 15000)) ∷ [] }) }
+    ensures device { reading (codes "script 2\nro-observe o r device\n") ≡
+        Ok (record { version = Second; items = Outside (Simple 2 (ObserveResize (codes "o") (Named (codes "r")) Device)) ∷ [] }) }
+    ensures scroll { reading (codes "script 2\nio i top - root - margin 1px scroll 2px  3% threshold\n") ≡
+        Ok (record {
+          version = Second;
+          items = Outside
+              (Simple
+              2
+              (MakeIntersectionObserver
+              (record {
+                name = codes "i";
+                document = codes "top";
+                handler = None;
+                root = None;
+                margin = codes "1px";
+                scroll = Some (codes "2px 3%");
+                thresholds = [];
+              })))
+              ∷ [];
+        }) }
+    ensures nothing_behind_scroll { reading (codes "script 2\nio i top - root - margin scroll threshold\n") ≡
+        Ok (record {
+          version = Second;
+          items = Outside
+              (Simple
+              2
+              (MakeIntersectionObserver
+              (record {
+                name = codes "i";
+                document = codes "top";
+                handler = None;
+                root = None;
+                margin = [];
+                scroll = Some [];
+                thresholds = [];
+              })))
+              ∷ [];
+        }) }
+{}
+
+/// Its words with other operands are faults at these.
+pub fn second_version_faults()
+    ensures ratio_with_a_sign { reading (codes "script 2\nratio -1%\n") ≡ Err (SyntaxAt 2 7) }
+    ensures ratio_with_another_unit { reading (codes "script 2\nratio 1px\n") ≡ Err (SyntaxAt 2 7) }
+    ensures ratio_above_its_bound { reading (codes "script 2\nratio 10000.01%\n") ≡ Err (SyntaxAt 2 7) }
+    ensures ratio_without_a_number { reading (codes "script 2\nratio\n") ≡ Err (SyntaxAt 2 6) }
+    ensures another_box { reading (codes "script 2\nro-observe o r both\n") ≡ Err (SyntaxAt 2 16) }
+    ensures scroll_twice { reading (codes "script 2\nio i top - root - margin scroll 1px scroll threshold\n") ≡ Err (SyntaxAt 2 37) }
+{}
+
+/// A script of the first version has none of it. There `scroll` is a word of the margin.
+pub fn second_version_in_the_first()
+    ensures ratio { reading (codes "script 1\nratio 150%\n") ≡ Err (SyntaxAt 2 1) }
+    ensures device { reading (codes "script 1\nro-observe o r device\n") ≡ Err (SyntaxAt 2 16) }
+    ensures scroll { reading (codes "script 1\nio i top - root - margin scroll 1px threshold\n") ≡
+        Ok (record {
+          version = First;
+          items = Outside
+              (Simple
+              2
+              (MakeIntersectionObserver
+              (record {
+                name = codes "i";
+                document = codes "top";
+                handler = None;
+                root = None;
+                margin = codes "scroll 1px";
+                scroll = None;
+                thresholds = [];
+              })))
+              ∷ [];
+        }) }
 {}

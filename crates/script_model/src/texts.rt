@@ -86,8 +86,17 @@ pub fn trace_lines()
         (codes "o")
         (codes "r")
         (record { left = pos 64; top = pos 1; right = pos 51264; bottom = pos 1 })
-        (record { width = pos 51200; height = pos 33 })) ≡
+        (record { width = pos 51200; height = pos 33 })
+        None) ≡
         codes "resize o r rect 1 0.015625 800 0 border 800 0.515625\n" }
+    ensures device { line_text
+        (ResizeLine
+        (codes "o")
+        (codes "r")
+        (record { left = pos 0; top = pos 0; right = pos 672; bottom = pos 192 })
+        (record { width = pos 672; height = pos 192 })
+        (Some (record { width = pos 16; height = pos 5 }))) ≡
+        codes "resize o r rect 0 0 10.5 3 border 10.5 3 device 16 5\n" }
     ensures intersect { line_text
         (IntersectLine
         (record {
@@ -139,9 +148,9 @@ pub fn generated_scripts()
 pub fn counts()
     ensures commands { IsOkAnd
         (reading (codes "script 1\nhandler a\neach\nsay x\nend\nend\nhandler b\nend\nwhen seen\nend\ntick 0\n"))
-        (λ items. command_count items ≡ 4) }
+        (λ script. command_count script.items ≡ 4) }
     ensures handlers { IsOkAnd
         (reading (codes "script 1\nhandler a\nend\nsay x\nhandler b\nend\n"))
-        (λ items. handler_number items (codes "b") ≡ Some 1) }
-    ensures no_handler { IsOkAnd (reading (codes "script 1\nhandler a\nend\n")) (λ items. handler_number items (codes "b") ≡ None) }
+        (λ script. handler_number script.items (codes "b") ≡ Some 1) }
+    ensures no_handler { IsOkAnd (reading (codes "script 1\nhandler a\nend\n")) (λ script. handler_number script.items (codes "b") ≡ None) }
 {}

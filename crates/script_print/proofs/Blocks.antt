@@ -4,6 +4,8 @@ use Rattle.std.proofs.lemmas.List.{drop_more, drop_all}
 use Rattle.std.specs.Prelude.{codes, replicate}
 use Rattle.media_queries.proofs.Appends.{two_parts, three_parts}
 use Rattle.word_model.specs.Numbers.{decimal}
+use Rattle.text_io.specs.Kinds.{version_word}
+use Rattle.text_io.specs.declared.kinds.Version.{Version}
 use Rattle.script_model.specs.Syntax.{Action, Condition, Command as CommandModel, Simple, Each, When, Block, Item as ItemModel, Outside, Tick, Handler}
 use Rattle.script_syntax.specs.Seen.{command_of, block_of, item_of}
 use Rattle.script_syntax.specs.declared.commands.Command.{Command}
@@ -174,10 +176,11 @@ unfolding items_lines
 items_are [] = refl
 items_are (x ∷ xs) = ap (λ l. item_lines (item_of x) ++ l) (items_are xs)
 
-pub script_pushed : (items : List ItemModel) (old middle new : List ℕ) → middle ≡ old ++ codes "script 1" → new ≡ middle ++ lines_text 1 (items_lines items)
-    → new ≡ old ++ script_text items
+pub script_pushed : (version : Version) (items : List ItemModel) (old one two new : List ℕ) → one ≡ old ++ codes "script " → two ≡ one ++ version_word version
+    → new ≡ two ++ lines_text 1 (items_lines items) → new ≡ old ++ script_text (record { version = version; items = items })
 unfolding script_text
-script_pushed items old middle new e f = two_parts old (codes "script 1") (lines_text 1 (items_lines items)) middle new e f
+script_pushed version items old one two new e f g =
+    three_parts old (codes "script ") (version_word version) (lines_text 1 (items_lines items)) one two new e f g
 
 -- line feeds, one at a time
 pub feeds_on : (out new whole : List ℕ) (i to : ℕ) → i < to → out ++ replicate (to - i) 10 ≡ whole → new ≡ out ++ (10 ∷ [])

@@ -1,12 +1,12 @@
 -- Words appended one after the other.
-use Rattle.std.proofs.Common.{◌≡◌, ℕ, ◌+◌, ◌<◌, ◌≤◌, List, [], ◌∷◌, ◌++◌, length, drop, get_or, map, refl, ap, sym, ◌∙◌, append_assoc, append-nil, cond, ◌==◌, Bool, true, false, ℤ, arith}
+use Rattle.std.proofs.Common.{◌≡◌, ℕ, ◌+◌, ◌<◌, ◌≤◌, List, [], ◌∷◌, ◌++◌, length, drop, get_or, map, refl, ap, sym, ◌∙◌, append_assoc, append-nil, cond, ◌==◌, Bool, true, false, Option, Some, None, ℤ, arith}
 use Rattle.std.proofs.lemmas.List.{drop_more, drop_all}
 use Rattle.std.proofs.lemmas.Bool.Decides.{nat_tests}
 use Rattle.std.specs.List.{join_with_byte}
 use Rattle.std.specs.Prelude.{codes}
 use Rattle.media_queries.proofs.Appends.{two_parts}
 use Rattle.script_model.specs.MarginText.{parts_of, split_at_spaces, before_first}
-use Rattle.script_text.specs.Parts.{Part, PartOf, part_words, all_words}
+use Rattle.script_text.specs.Parts.{Part, PartOf, part_words, all_words, scroll_words}
 use Rattle.script_text.specs.NumberText.{number_text}
 use Rattle.script_text.specs.ScriptText.{line_text}
 use Rattle.script_print.specs.Spaced.{spaced}
@@ -102,6 +102,12 @@ pub no_margin : (margin old new : List ℕ) → length margin ≡ 0 → new ≡ 
 unfolding parts_of spaced
 no_margin [] old new none e = e ∙ sym (append-nil old)
 no_margin (b ∷ bs) old new none e = absurd (omega arith)
+
+-- a scroll margin that was left out has no words
+pub no_scroll : (scroll : Option (List ℕ)) (old : List ℕ) → scroll ≡ None → old ≡ old ++ spaced (scroll_words scroll)
+unfolding spaced
+no_scroll None old e = sym (append-nil old)
+no_scroll (Some margin) old e = cc
 
 -- The loops over words, a step at a time: what is there and what is still to come make the whole.
 

@@ -1,7 +1,7 @@
 -- A script's text whose last line is ended, where it then isn't longer than a script may be.
 use Rattle.std.specs.Prelude.{ℕ, nat_lt, cond, List, [], ◌∷◌, ◌++◌, length}
 use Rattle.text_io.specs.declared.kinds.LimitKind.TheVariants as limits
-use Rattle.text_io.specs.Limits.{limit_number}
+use Rattle.text_io.specs.Limits.{common_limit}
 
 abbrev pub ended : List ℕ → List ℕ
-ended text = cond (nat_lt (length text) (limit_number limits.Script)) (text ++ (10 ∷ [])) text
+ended text = cond (nat_lt (length text) (common_limit limits.Script)) (text ++ (10 ∷ [])) text

@@ -7,13 +7,14 @@ ghost use Rattle.script_text.specs.Phrases.{action_words};
 ghost use Rattle.script_text.specs.ScriptText.{line_text};
 
 use crate::operands::Entry::{
-    Aimed, Declared, Dimension, Event, Handler, Length, Node, Observed, Root, Signed, Whole, Word,
+    Aimed, Declared, Dimension, Event, Handler, Length, Node, Observed, Percentage, Root, Signed,
+    Whole, Word,
 };
 use crate::operands::{
-    push_line, push_margin, push_phrase, push_query, push_thresholds, push_word,
+    push_line, push_margins, push_phrase, push_query, push_thresholds, push_word,
 };
 use media_queries::Query;
-use px_units::{BoxKind, Point, Px, Size};
+use px_units::{BoxKind, Percent, Point, Px, Size};
 use script_syntax::{Aim, Axis, IoMaking, Operand, What};
 use std::alloc::AllocError;
 use style_values::Declaration;
@@ -26,6 +27,7 @@ pub fn push_action(into: &mut Vec<u8>, what: &What) -> Result<(), AllocError>
 {
     match what {
         What::Viewport(size) => viewport(into, *size),
+        What::Ratio(percent) => ratio(into, *percent),
         What::Block(name, document) => block(into, *name, *document),
         What::Image(name, document, size) => image(into, *name, *document, *size),
         What::Frame(name, document, inside) => frame(into, *name, *document, *inside),
@@ -79,6 +81,13 @@ fn viewport(into: &mut Vec<u8>, size: Size) -> Result<(), AllocError>
         b"viewport",
         &[Length(size.width), Length(size.height)],
     )
+}
+
+/// `ratio PERCENT`
+fn ratio(into: &mut Vec<u8>, ratio: Percent) -> Result<(), AllocError>
+    ensures { OnOk result (into.new.items ≡ into.old.items ++ line_text (action_words (action_of (what.Ratio ratio)))) }
+{
+    push_line(into, b"ratio", &[Percentage(ratio)])
 }
 
 /// `block NAME DOCUMENT`
@@ -204,7 +213,8 @@ fn ro_disconnect(into: &mut Vec<u8>, observer: Name) -> Result<(), AllocError>
     push_line(into, b"ro-disconnect", &[Word(observer)])
 }
 
-/// `io NAME DOCUMENT HANDLER root ROOT margin WORD* threshold NUMBER*`
+/// `io NAME DOCUMENT HANDLER root ROOT margin WORD* scroll WORD* threshold NUMBER*`, without `scroll` where no scroll margin was
+/// given.
 fn io(into: &mut Vec<u8>, making: &IoMaking) -> Result<(), AllocError>
     ensures { OnOk result (into.new.items ≡ into.old.items ++ line_text (action_words (action_of (what.Io making.now)))) }
 {
@@ -219,7 +229,7 @@ fn io(into: &mut Vec<u8>, making: &IoMaking) -> Result<(), AllocError>
     )?;
     push_phrase(into, b"root", &[Root(making.root)])?;
     push_word(into, b"margin")?;
-    push_margin(into, &making.margin)?;
+    push_margins(into, making)?;
     push_word(into, b"threshold")?;
     push_thresholds(into, &making.thresholds)?;
     Ok(())

@@ -12,7 +12,7 @@ use crate::operands::Entry::{Whole, Word};
 use crate::operands::push_line;
 use script_syntax::{Command, CommandList, Item, What};
 use std::alloc::AllocError;
-use text_io::Name;
+use text_io::{Name, Version};
 
 /// Appends the line of a `tick`, and gives its number.
 #[tactic(auto, using(crate::proofs::Blocks::tick_pushed, crate::proofs::Blocks::tick_last))]
@@ -88,11 +88,12 @@ fn push_items(into: &mut Vec<u8>, items: &[Item]) -> Result<(), AllocError>
     Ok(())
 }
 
-/// Appends the text of a script, without a line feed behind its last line.
+/// Appends the text of a script of this version with these items, without a line feed behind its last line.
 #[tactic(auto, using(crate::proofs::Blocks::script_pushed))]
-pub fn push_script(into: &mut Vec<u8>, items: &[Item]) -> Result<(), AllocError>
-    ensures { OnOk result (into.new.items ≡ into.old.items ++ script_text (map item_of items.now)) }
+pub fn push_script(into: &mut Vec<u8>, version: Version, items: &[Item]) -> Result<(), AllocError>
+    ensures { OnOk result (into.new.items ≡ into.old.items ++ script_text (record { version = version; items = map item_of items.now })) }
 {
-    into.extend_from_slice(b"script 1")?;
+    into.extend_from_slice(b"script ")?;
+    into.extend_from_slice(version.text().as_bytes())?;
     push_items(into, items)
 }

@@ -23,13 +23,13 @@ use text_io::LimitKind;
 fn end_last_line(text: &mut Vec<u8>) -> Result<(), AllocError>
     ensures { OnOk result (text.new.items ≡ ended text.old.items) }
 {
-    if (text.len() as u64) < LimitKind::Script.number() {
+    if (text.len() as u64) < LimitKind::Script.common() {
         text.push(b'\n')?;
     }
     Ok(())
 }
 
-/// The text of a script: each line on its own number, one space between each two words of a line, each length, percentage
+/// The text of a script, of its version: each line on its own number, one space between each two words of a line, each length, percentage
 /// and number as its shortest text. A line feed ends the last line too, where the text then isn't longer than a script may
 /// be. The text reads as the same script, with the same line numbers. The error is want of memory.
 pub fn print(alloc: Global, script: &Script) -> Result<Vec<u8>, AllocError>
@@ -40,7 +40,7 @@ pub fn print(alloc: Global, script: &Script) -> Result<Vec<u8>, AllocError>
     what_is_read_is_well_formed();
     printed_script_reads_back();
     let mut text = Vec::new(alloc);
-    items::push_script(&mut text, script.items())?;
+    items::push_script(&mut text, script.version(), script.items())?;
     end_last_line(&mut text)?;
     Ok(text)
 }

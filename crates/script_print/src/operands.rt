@@ -1,23 +1,23 @@
 //! The operands of a line, each word of them behind a space.
 
-ghost use Rattle.std.specs.Prelude.{◌≡◌, ◌++◌, ◌∷◌, [], map, option_map, OnOk};
+ghost use Rattle.std.specs.Prelude.{◌≡◌, ◌++◌, ◌∷◌, [], Some, map, option_map, unsigned_abs, OnOk};
 ghost use Rattle.media_queries.specs.QueryText.{list_text};
 ghost use Rattle.script_print.specs.OperandParts.{part_of};
 ghost use Rattle.script_print.specs.Spaced.{spaced};
 ghost use Rattle.script_model.specs.MarginText.{parts_of};
 ghost use Rattle.script_syntax.specs.Seen.{operand_of, aim_of, dimension_of};
-ghost use Rattle.script_text.specs.NumberText.{signed_text, number_text};
-ghost use Rattle.script_text.specs.Parts.{all_words};
+ghost use Rattle.script_text.specs.NumberText.{percent_text, signed_text, number_text};
+ghost use Rattle.script_text.specs.Parts.{all_words, scroll_words};
 ghost use Rattle.script_text.specs.WordText.{operand_text, aim_text, box_text, dimension_text, dash_or};
 ghost use Rattle.script_text.specs.ScriptText.{line_text};
 ghost use Rattle.word_model.specs.Numbers.{decimal};
 ghost use Rattle.media_queries.specs.LengthText.{length_text};
 
 use crate::declarations::push_declaration;
-use crate::numbers::{push_length, push_number, push_signed};
+use crate::numbers::{push_length, push_number, push_percent, push_signed};
 use media_queries::Query;
-use px_units::BoxKind;
-use script_syntax::{Aim, Axis, MarginText, NumberList, Operand};
+use px_units::{BoxKind, Percent};
+use script_syntax::{Aim, Axis, IoMaking, MarginText, NumberList, Operand};
 use std::alloc::AllocError;
 use style_values::Declaration;
 use text_io::{EventKind, Name};
@@ -35,6 +35,7 @@ pub enum Entry {
     Root(Option<Operand>),
     Length(i64),
     Signed(i64),
+    Percentage(Percent),
     Whole(u64),
     Event(EventKind),
     Observed(BoxKind),
@@ -120,6 +121,16 @@ fn push_spaced_signed(into: &mut Vec<u8>, units: i64) -> Result<(), AllocError>
     push_signed(into, units)
 }
 
+/// Appends a percentage behind a space.
+#[tactic(auto, using(crate::proofs::LineWords::word_pushed))]
+fn push_spaced_percent(into: &mut Vec<u8>, percent: Percent) -> Result<(), AllocError>
+    ensures { OnOk result (into.new.items ≡ into.old.items ++ spaced (percent_text (unsigned_abs percent.0) ∷ [])) }
+{
+    let hundredths = percent.0.unsigned_abs();
+    into.push(b' ')?;
+    push_percent(into, u64::from(hundredths))
+}
+
 /// Appends a whole number behind a space.
 #[tactic(auto, using(crate::proofs::LineWords::word_pushed))]
 fn push_spaced_whole(into: &mut Vec<u8>, number: u64) -> Result<(), AllocError>
@@ -145,6 +156,7 @@ fn box_text(observed: BoxKind) -> &'static [u8]
     match observed {
         BoxKind::Content => b"content",
         BoxKind::Border => b"border",
+        BoxKind::Device => b"device",
     }
 }
 
@@ -169,6 +181,7 @@ fn push_entry(into: &mut Vec<u8>, entry: Entry) -> Result<(), AllocError>
         Entry::Root(root) => push_root(into, root),
         Entry::Length(units) => push_spaced_length(into, units.unsigned_abs()),
         Entry::Signed(units) => push_spaced_signed(into, units),
+        Entry::Percentage(percent) => push_spaced_percent(into, percent),
         Entry::Whole(number) => push_spaced_whole(into, number),
         Entry::Event(event) => push_word(into, event.text().as_bytes()),
         Entry::Observed(observed) => push_word(into, box_text(observed)),
@@ -205,9 +218,35 @@ pub fn push_phrase(into: &mut Vec<u8>, head: &[u8], entries: &[Entry]) -> Result
     push_entries(into, entries)
 }
 
-/// Appends the words of a root margin as they were read.
+/// Appends the words of a root margin, and those of a scroll margin behind `scroll`, where there is one.
+#[tactic(auto, using(crate::proofs::LineWords::words_pushed))]
+pub fn push_margins(into: &mut Vec<u8>, making: &IoMaking) -> Result<(), AllocError>
+    ensures { OnOk result (into.new.items ≡ into.old.items ++ spaced (parts_of making.now.margin ++ scroll_words making.now.scroll)) }
+{
+    push_margin(into, &making.margin)?;
+    push_scroll(into, making)
+}
+
+fn push_scroll(into: &mut Vec<u8>, making: &IoMaking) -> Result<(), AllocError>
+    ensures { OnOk result (into.new.items ≡ into.old.items ++ spaced (scroll_words making.now.scroll)) }
+{
+    match &making.scroll {
+        Some(margin) => push_scroll_margin(into, margin),
+        None => Ok(()),
+    }
+}
+
+#[tactic(auto, using(crate::proofs::LineWords::phrase_pushed))]
+fn push_scroll_margin(into: &mut Vec<u8>, margin: &MarginText) -> Result<(), AllocError>
+    ensures { OnOk result (into.new.items ≡ into.old.items ++ spaced (scroll_words (Some margin.now))) }
+{
+    push_word(into, b"scroll")?;
+    push_margin(into, margin)
+}
+
+/// Appends the words of a margin as they were read.
 #[tactic(auto, using(crate::proofs::LineWords::margin_pushed, crate::proofs::LineWords::no_margin))]
-pub fn push_margin(into: &mut Vec<u8>, margin: &MarginText) -> Result<(), AllocError>
+fn push_margin(into: &mut Vec<u8>, margin: &MarginText) -> Result<(), AllocError>
     ensures { OnOk result (into.new.items ≡ into.old.items ++ spaced (parts_of margin.now)) }
 {
     let words = margin.as_slice();

@@ -14,3 +14,11 @@ pub mapped : {A B : Type 0} (see : A → B) (table : List (Keyword A)) (text : L
 unfolding lookup
 mapped see [] text = refl
 mapped see (k ∷ ks) text = option_cond see (bytes_eq text k.word) k.means (lookup ks text) ∙ ap (λ rest. cond (bytes_eq text k.word) (Some (see k.means)) rest) (mapped see ks text)
+
+pub found_first : {A : Type 0} (k : Keyword A) (ks : List (Keyword A)) (text : List ℕ) → bytes_eq text k.word ≡ true → lookup (k ∷ ks) text ≡ Some k.means
+unfolding lookup
+found_first k ks text e = ap (λ found. cond found (Some k.means) (lookup ks text)) e
+
+pub passed_first : {A : Type 0} (k : Keyword A) (ks : List (Keyword A)) (text : List ℕ) → bytes_eq text k.word ≡ false → lookup (k ∷ ks) text ≡ lookup ks text
+unfolding lookup
+passed_first k ks text e = ap (λ found. cond found (Some k.means) (lookup ks text)) e

@@ -1,6 +1,6 @@
 -- The ranges of a command's numbers: lengths without a sign are from 0 to 1,000,000 CSS pixels, those with one up to as
--- many in both directions, and times are at most 1,000,000,000,000 milliseconds. These bounds are this project's own
--- choice.
+-- many in both directions, percentages are from 0 to 10,000 percent, in hundredths, and times are at most
+-- 1,000,000,000,000 milliseconds. These bounds are this project's own choice.
 use Rattle.std.specs.Prelude.{ℕ, ℤ, pos, negsuc, ◌≤◌, ◌≤ℤ◌}
 use Rattle.style_values.specs.Ranges as style
 use Rattle.px_units.specs.declared.Size.{Size}
@@ -25,6 +25,9 @@ IsSize size = IsUnits size.width × IsUnits size.height
 abbrev pub IsOffset : Point → Type 0
 IsOffset point = IsSignedUnits point.left × IsSignedUnits point.top
 
+abbrev pub IsPercent : ℤ → Type 0
+IsPercent hundredths = (pos 0 ≤ℤ hundredths) × (hundredths ≤ℤ pos 1000000)
+
 abbrev pub IsTime : ℕ → Type 0
 IsTime time = time ≤ 1000000000000
 
@@ -35,6 +38,7 @@ TestAllowed other = Unit {0}
 
 abbrev pub WhatAllowed : What → Type 0
 WhatAllowed (what.Viewport size) = IsSize size
+WhatAllowed (what.Ratio percent) = IsPercent percent.0
 WhatAllowed (what.Image name document size) = IsSize size
 WhatAllowed (what.Set node declaration) = style.IsAllowed declaration
 WhatAllowed (what.Grow node axis by) = IsSignedUnits by.0

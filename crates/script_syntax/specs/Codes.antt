@@ -1,9 +1,9 @@
 -- Codes of commands and blocks: trees of numbers that tell them apart.
-use Rattle.std.proofs.Common.{◌≡◌, List, refl}
+use Rattle.std.proofs.Common.{◌≡◌, refl}
 use base.Stored.{Gv, gnil, gnum, gcons}
-use Rattle.std.specs.Coded.{Coded, codes, coded_list}
+use Rattle.std.specs.Coded.{Coded, codes}
 use Rattle.script_model.specs.Reading.{State}
-use Rattle.script_model.specs.Syntax.{Action, Condition, Command, Simple, Each, When, Block, NoMore, Then, Item}
+use Rattle.script_model.specs.Syntax.{Action, Condition, Command, Simple, Each, When, Block, NoMore, Then, Item, Script}
 
 pub action_code : Coded Action
 action_code = hlevel codes
@@ -62,8 +62,8 @@ command_code = record { code = code_of_command; inj = command_inj }
 item_code : Coded Item
 item_code = hlevel (codes, command_code, block_code)
 
-pub items_code : Coded (List Item)
-items_code = coded_list item_code
+pub script_code : Coded Script
+script_code = hlevel (codes, item_code)
 
 pub state_code : Coded State
 state_code = hlevel (codes, command_code, item_code)

@@ -1,12 +1,14 @@
 -- What readers of a line's words answer against the definition; want of memory is free.
-use Rattle.std.specs.Prelude.{◌≡◌, ℕ, ◌-◌, ◌<◌, ◌≤◌, List, [], ◌∷◌, length, drop, map, Option, Some, None, Result, Ok, Err}
+use Rattle.std.specs.Prelude.{◌≡◌, ℕ, ◌-◌, ◌<◌, ◌≤◌, Bool, true, false, List, [], ◌∷◌, length, drop, map, Option, Some, None, Result, Ok, Err}
 use Rattle.std.specs.List.{All}
 use Rattle.std.specs.Borrow.{Bor}
+use Rattle.text_io.specs.declared.kinds.Version.TheVariants.{Second}
 use Rattle.script_lexer.specs.declared.places.Span.{Span}
 use Rattle.script_lexer.specs.Texts.{word_seen, InLine}
 use Rattle.script_model.specs.Lexing.{Row}
 use Rattle.script_model.specs.Lexing as model
-use Rattle.script_model.specs.Forms.{words_before, words_from}
+use Rattle.script_model.specs.Readers.{◌>>=◌}
+use Rattle.script_model.specs.Forms.{words_before, words_from, margin_as, scroll_in}
 use Rattle.script_syntax.specs.declared.words.Word.{Word}
 use Rattle.script_syntax.specs.Words.{word_of}
 use Rattle.script_syntax.specs.declared.faults.LineFault.{LineFault}
@@ -28,8 +30,8 @@ abbrev pub Popped : Option Word → Row → Row → Type 0
 Popped None old new = (old.left ≡ []) × (new ≡ old)
 Popped (Some word) old new = (old.left ≡ word_of word ∷ new.left) × (new ≡ record old { left = new.left })
 
--- the next word is taken, or there is none, or it is the word to stop at
-abbrev pub NextBefore : List ℕ → Option (Bor (List ℕ)) → Row → Row → Type 0
+-- the next word is taken, or there is none, or it is one to stop at
+abbrev pub NextBefore : (List ℕ → Bool) → Option (Bor (List ℕ)) → Row → Row → Type 0
 NextBefore stop None old new =
     (words_before stop old.left ≡ []) × (words_from stop old.left ≡ old.left) × (new ≡ old)
 NextBefore stop (Some text) old new =
@@ -37,6 +39,11 @@ NextBefore stop (Some text) old new =
     × (words_from stop old.left ≡ words_from stop new.left)
     × (new ≡ record old { left = new.left })
     × (length new.left < length old.left)
+
+-- the word `scroll` is taken, and a margin is to follow, or another word or none stands next
+abbrev pub ScrollBegins : Bool → Row → Row → Type 0
+ScrollBegins true old new = scroll_in old.left old ≡ margin_as Second new >>= λ margin. Ok (Some margin.0, margin.1)
+ScrollBegins false old new = (scroll_in old.left old ≡ Ok (None, old)) × (new ≡ old)
 
 -- the column of the next word, and the text from there to the end of the line's last one
 abbrev pub rest_in : List model.Word → Row → Result (ℕ × List ℕ × Row) ℕ

@@ -1,7 +1,7 @@
 -- What a parser answers against the definition's reading; want of memory is free.
-use Rattle.std.specs.Prelude.{◌≡◌, ◌+◌, ◌<◌, ◌^◌, List, None, Result, Ok, Err}
+use Rattle.std.specs.Prelude.{◌≡◌, ◌+◌, ◌<◌, ◌^◌, None, Result, Ok, Err}
 use Rattle.script_lexer.specs.Texts.{TextParts}
-use Rattle.script_model.specs.Syntax.{Item}
+use Rattle.script_model.specs.Syntax.{Script}
 use Rattle.script_model.specs.Reading.{Reading, Refusal, SyntaxAt, LimitAt}
 use Rattle.script_syntax.specs.declared.faults.ParseFault.{ParseFault}
 use Rattle.script_syntax.specs.declared.faults.ParseFault.TheVariants.{Syntax, ScriptLimit as MeetsLimit, Memory}
@@ -14,8 +14,8 @@ Answers seen (Err (MeetsLimit kind line)) reading = reading ≡ Err (LimitAt kin
 Answers seen (Err Memory) reading = Unit {0}
 
 -- a script is the text's reading, a fault or limit its refusal
-abbrev pub Parses : Result (List Item) ParseFault → Reading → Type 0
-Parses result reading = Answers (λ items. items) result reading
+abbrev pub Parses : Result Script ParseFault → Reading → Type 0
+Parses result reading = Answers (λ script. script) result reading
 
 -- this fault or limit is the refusal
 abbrev pub IsRefused : ParseFault → Refusal → Type 0

@@ -38,6 +38,7 @@ making_of making = record {
   handler = making.handler;
   root = option_map operand_of making.root;
   margin = making.margin;
+  scroll = making.scroll;
   thresholds = making.thresholds;
 }
 
@@ -55,6 +56,7 @@ condition_of condition = record { negated = condition.negated; asks = test_of co
 -- text reads
 abbrev pub action_of : What → model.Action
 action_of (what.Viewport size) = model.Viewport (unsigned_abs size.width) (unsigned_abs size.height)
+action_of (what.Ratio percent) = model.SetRatio (unsigned_abs percent.0)
 action_of (what.Block name document) = model.MakeBlock name document
 action_of (what.Image name document size) =
     model.MakeImage name document (unsigned_abs size.width) (unsigned_abs size.height)

@@ -1,6 +1,8 @@
-//! Commands without a block, one function a command.
+//! Commands without a block, one function a command. Where both versions read a command alike, its function says it of the
+//! first one.
 
 ghost use Rattle.std.specs.Prelude.{IfOk};
+ghost use Rattle.text_io.specs.declared.kinds.Version.TheVariants.{First};
 ghost use Rattle.script_syntax.specs.Acts.{Acts};
 ghost use Rattle.script_syntax.specs.Allowed.{ActionAllowed};
 ghost use Rattle.script_syntax.specs.declared.heads.Verb.TheVariants as verb;
@@ -12,14 +14,21 @@ use crate::operands::IoMaking;
 use crate::words::Words;
 use px_units::{Point, Size};
 use std::alloc::Global;
+use text_io::Version;
 
 /// The command whose operands these words are, all of them.
-pub fn action(alloc: Global, verb: Verb, words: &mut Words<'_>) -> Result<What, LineFault>
-    ensures value { Acts result verb words.old }
+pub fn action(
+    alloc: Global,
+    version: Version,
+    verb: Verb,
+    words: &mut Words<'_>,
+) -> Result<What, LineFault>
+    ensures value { Acts result version verb words.old }
     ensures allowed { IfOk result (λ what. ActionAllowed what) }
 {
     match verb {
         Verb::Viewport => viewport(words),
+        Verb::Ratio => ratio(words),
         Verb::Block => block(words),
         Verb::Image => image(words),
         Verb::Frame => frame(words),
@@ -30,10 +39,10 @@ pub fn action(alloc: Global, verb: Verb, words: &mut Words<'_>) -> Result<What, 
         Verb::Grow => grow(words),
         Verb::Load => load(words),
         Verb::Ro => ro(words),
-        Verb::RoObserve => ro_observe(words),
+        Verb::RoObserve => ro_observe(version, words),
         Verb::RoUnobserve => ro_unobserve(words),
         Verb::RoDisconnect => ro_disconnect(words),
-        Verb::Io => io(alloc, words),
+        Verb::Io => io(alloc, version, words),
         Verb::IoObserve => io_observe(words),
         Verb::IoUnobserve => io_unobserve(words),
         Verb::IoDisconnect => io_disconnect(words),
@@ -56,7 +65,7 @@ pub fn action(alloc: Global, verb: Verb, words: &mut Words<'_>) -> Result<What, 
 /// `viewport WIDTH HEIGHT`
 #[tactic(auto, unfolding(script_model::specs::Forms::made, crate::specs::Acts::Acts))]
 fn viewport(words: &mut Words<'_>) -> Result<What, LineFault>
-    ensures value { Acts result verb.Viewport words.old }
+    ensures value { Acts result First verb.Viewport words.old }
     ensures allowed { IfOk result (λ what. ActionAllowed what) }
 {
     let width = words.length()?;
@@ -68,10 +77,21 @@ fn viewport(words: &mut Words<'_>) -> Result<What, LineFault>
     }))
 }
 
+/// `ratio PERCENT`
+#[tactic(auto, unfolding(script_model::specs::Forms::made, crate::specs::Acts::Acts))]
+fn ratio(words: &mut Words<'_>) -> Result<What, LineFault>
+    ensures value { Acts result First verb.Ratio words.old }
+    ensures allowed { IfOk result (λ what. ActionAllowed what) }
+{
+    let ratio = words.percent()?;
+    words.end()?;
+    Ok(What::Ratio(ratio))
+}
+
 /// `block NAME DOCUMENT`
 #[tactic(auto, unfolding(script_model::specs::Forms::made, crate::specs::Acts::Acts))]
 fn block(words: &mut Words<'_>) -> Result<What, LineFault>
-    ensures value { Acts result verb.Block words.old }
+    ensures value { Acts result First verb.Block words.old }
     ensures allowed { IfOk result (λ what. ActionAllowed what) }
 {
     let name = words.name()?;
@@ -83,7 +103,7 @@ fn block(words: &mut Words<'_>) -> Result<What, LineFault>
 /// `image NAME DOCUMENT WIDTH HEIGHT`
 #[tactic(auto, unfolding(script_model::specs::Forms::made, crate::specs::Acts::Acts))]
 fn image(words: &mut Words<'_>) -> Result<What, LineFault>
-    ensures value { Acts result verb.Image words.old }
+    ensures value { Acts result First verb.Image words.old }
     ensures allowed { IfOk result (λ what. ActionAllowed what) }
 {
     let name = words.name()?;
@@ -104,7 +124,7 @@ fn image(words: &mut Words<'_>) -> Result<What, LineFault>
 /// `frame NAME DOCUMENT INSIDE`
 #[tactic(auto, unfolding(script_model::specs::Forms::made, crate::specs::Acts::Acts))]
 fn frame(words: &mut Words<'_>) -> Result<What, LineFault>
-    ensures value { Acts result verb.Frame words.old }
+    ensures value { Acts result First verb.Frame words.old }
     ensures allowed { IfOk result (λ what. ActionAllowed what) }
 {
     let name = words.name()?;
@@ -117,7 +137,7 @@ fn frame(words: &mut Words<'_>) -> Result<What, LineFault>
 /// `append PARENT NODE`
 #[tactic(auto, unfolding(script_model::specs::Forms::made, crate::specs::Acts::Acts))]
 fn append(words: &mut Words<'_>) -> Result<What, LineFault>
-    ensures value { Acts result verb.Append words.old }
+    ensures value { Acts result First verb.Append words.old }
     ensures allowed { IfOk result (λ what. ActionAllowed what) }
 {
     let parent = words.node()?;
@@ -129,7 +149,7 @@ fn append(words: &mut Words<'_>) -> Result<What, LineFault>
 /// `before PARENT NODE SIBLING`
 #[tactic(auto, unfolding(script_model::specs::Forms::made, crate::specs::Acts::Acts))]
 fn before(words: &mut Words<'_>) -> Result<What, LineFault>
-    ensures value { Acts result verb.Before words.old }
+    ensures value { Acts result First verb.Before words.old }
     ensures allowed { IfOk result (λ what. ActionAllowed what) }
 {
     let parent = words.node()?;
@@ -142,7 +162,7 @@ fn before(words: &mut Words<'_>) -> Result<What, LineFault>
 /// `remove NODE`
 #[tactic(auto, unfolding(script_model::specs::Forms::made, crate::specs::Acts::Acts))]
 fn remove(words: &mut Words<'_>) -> Result<What, LineFault>
-    ensures value { Acts result verb.Remove words.old }
+    ensures value { Acts result First verb.Remove words.old }
     ensures allowed { IfOk result (λ what. ActionAllowed what) }
 {
     let node = words.node()?;
@@ -153,7 +173,7 @@ fn remove(words: &mut Words<'_>) -> Result<What, LineFault>
 /// `set NODE PROPERTY VALUE`
 #[tactic(auto, unfolding(script_model::specs::Forms::made, crate::specs::Acts::Acts))]
 fn set(words: &mut Words<'_>) -> Result<What, LineFault>
-    ensures value { Acts result verb.Set words.old }
+    ensures value { Acts result First verb.Set words.old }
     ensures allowed { IfOk result (λ what. ActionAllowed what) }
 {
     let node = words.node()?;
@@ -165,7 +185,7 @@ fn set(words: &mut Words<'_>) -> Result<What, LineFault>
 /// `grow NODE AXIS BY`
 #[tactic(auto, unfolding(script_model::specs::Forms::made, crate::specs::Acts::Acts))]
 fn grow(words: &mut Words<'_>) -> Result<What, LineFault>
-    ensures value { Acts result verb.Grow words.old }
+    ensures value { Acts result First verb.Grow words.old }
     ensures allowed { IfOk result (λ what. ActionAllowed what) }
 {
     let node = words.node()?;
@@ -178,7 +198,7 @@ fn grow(words: &mut Words<'_>) -> Result<What, LineFault>
 /// `load NODE WIDTH HEIGHT`
 #[tactic(auto, unfolding(script_model::specs::Forms::made, crate::specs::Acts::Acts))]
 fn load(words: &mut Words<'_>) -> Result<What, LineFault>
-    ensures value { Acts result verb.Load words.old }
+    ensures value { Acts result First verb.Load words.old }
     ensures allowed { IfOk result (λ what. ActionAllowed what) }
 {
     let node = words.node()?;
@@ -197,7 +217,7 @@ fn load(words: &mut Words<'_>) -> Result<What, LineFault>
 /// `ro NAME DOCUMENT HANDLER`
 #[tactic(auto, unfolding(script_model::specs::Forms::made, crate::specs::Acts::Acts))]
 fn ro(words: &mut Words<'_>) -> Result<What, LineFault>
-    ensures value { Acts result verb.Ro words.old }
+    ensures value { Acts result First verb.Ro words.old }
     ensures allowed { IfOk result (λ what. ActionAllowed what) }
 {
     let name = words.name()?;
@@ -209,13 +229,13 @@ fn ro(words: &mut Words<'_>) -> Result<What, LineFault>
 
 /// `ro-observe OBSERVER NODE OBSERVED`
 #[tactic(auto, unfolding(script_model::specs::Forms::made, crate::specs::Acts::Acts))]
-fn ro_observe(words: &mut Words<'_>) -> Result<What, LineFault>
-    ensures value { Acts result verb.RoObserve words.old }
+fn ro_observe(version: Version, words: &mut Words<'_>) -> Result<What, LineFault>
+    ensures value { Acts result version verb.RoObserve words.old }
     ensures allowed { IfOk result (λ what. ActionAllowed what) }
 {
     let observer = words.name()?;
     let node = words.node()?;
-    let observed = words.box_kind()?;
+    let observed = words.box_kind(version)?;
     words.end()?;
     Ok(What::RoObserve(observer, node, observed))
 }
@@ -223,7 +243,7 @@ fn ro_observe(words: &mut Words<'_>) -> Result<What, LineFault>
 /// `ro-unobserve OBSERVER NODE`
 #[tactic(auto, unfolding(script_model::specs::Forms::made, crate::specs::Acts::Acts))]
 fn ro_unobserve(words: &mut Words<'_>) -> Result<What, LineFault>
-    ensures value { Acts result verb.RoUnobserve words.old }
+    ensures value { Acts result First verb.RoUnobserve words.old }
     ensures allowed { IfOk result (λ what. ActionAllowed what) }
 {
     let observer = words.name()?;
@@ -235,7 +255,7 @@ fn ro_unobserve(words: &mut Words<'_>) -> Result<What, LineFault>
 /// `ro-disconnect OBSERVER`
 #[tactic(auto, unfolding(script_model::specs::Forms::made, crate::specs::Acts::Acts))]
 fn ro_disconnect(words: &mut Words<'_>) -> Result<What, LineFault>
-    ensures value { Acts result verb.RoDisconnect words.old }
+    ensures value { Acts result First verb.RoDisconnect words.old }
     ensures allowed { IfOk result (λ what. ActionAllowed what) }
 {
     let observer = words.name()?;
@@ -243,10 +263,11 @@ fn ro_disconnect(words: &mut Words<'_>) -> Result<What, LineFault>
     Ok(What::RoDisconnect(observer))
 }
 
-/// `io NAME DOCUMENT HANDLER root ROOT margin WORD* threshold NUMBER*`
+/// `io NAME DOCUMENT HANDLER root ROOT margin WORD* scroll WORD* threshold NUMBER*`, where `scroll WORD*` may be left out and
+/// stands in scripts of the second version alone
 #[tactic(auto, unfolding(script_model::specs::Forms::made, crate::specs::Acts::Acts))]
-fn io(alloc: Global, words: &mut Words<'_>) -> Result<What, LineFault>
-    ensures value { Acts result verb.Io words.old }
+fn io(alloc: Global, version: Version, words: &mut Words<'_>) -> Result<What, LineFault>
+    ensures value { Acts result version verb.Io words.old }
     ensures allowed { IfOk result (λ what. ActionAllowed what) }
 {
     let name = words.name()?;
@@ -255,7 +276,7 @@ fn io(alloc: Global, words: &mut Words<'_>) -> Result<What, LineFault>
     words.just(b"root")?;
     let root = words.root()?;
     words.just(b"margin")?;
-    let margin = words.margin(alloc)?;
+    let (margin, scroll) = words.margins(alloc, version)?;
     words.just(b"threshold")?;
     let thresholds = words.numbers(alloc)?;
     words.end()?;
@@ -266,13 +287,14 @@ fn io(alloc: Global, words: &mut Words<'_>) -> Result<What, LineFault>
         root,
         margin,
         thresholds,
+        scroll,
     }))
 }
 
 /// `io-observe OBSERVER NODE`
 #[tactic(auto, unfolding(script_model::specs::Forms::made, crate::specs::Acts::Acts))]
 fn io_observe(words: &mut Words<'_>) -> Result<What, LineFault>
-    ensures value { Acts result verb.IoObserve words.old }
+    ensures value { Acts result First verb.IoObserve words.old }
     ensures allowed { IfOk result (λ what. ActionAllowed what) }
 {
     let observer = words.name()?;
@@ -284,7 +306,7 @@ fn io_observe(words: &mut Words<'_>) -> Result<What, LineFault>
 /// `io-unobserve OBSERVER NODE`
 #[tactic(auto, unfolding(script_model::specs::Forms::made, crate::specs::Acts::Acts))]
 fn io_unobserve(words: &mut Words<'_>) -> Result<What, LineFault>
-    ensures value { Acts result verb.IoUnobserve words.old }
+    ensures value { Acts result First verb.IoUnobserve words.old }
     ensures allowed { IfOk result (λ what. ActionAllowed what) }
 {
     let observer = words.name()?;
@@ -296,7 +318,7 @@ fn io_unobserve(words: &mut Words<'_>) -> Result<What, LineFault>
 /// `io-disconnect OBSERVER`
 #[tactic(auto, unfolding(script_model::specs::Forms::made, crate::specs::Acts::Acts))]
 fn io_disconnect(words: &mut Words<'_>) -> Result<What, LineFault>
-    ensures value { Acts result verb.IoDisconnect words.old }
+    ensures value { Acts result First verb.IoDisconnect words.old }
     ensures allowed { IfOk result (λ what. ActionAllowed what) }
 {
     let observer = words.name()?;
@@ -307,7 +329,7 @@ fn io_disconnect(words: &mut Words<'_>) -> Result<What, LineFault>
 /// `io-take OBSERVER`
 #[tactic(auto, unfolding(script_model::specs::Forms::made, crate::specs::Acts::Acts))]
 fn io_take(words: &mut Words<'_>) -> Result<What, LineFault>
-    ensures value { Acts result verb.IoTake words.old }
+    ensures value { Acts result First verb.IoTake words.old }
     ensures allowed { IfOk result (λ what. ActionAllowed what) }
 {
     let observer = words.name()?;
@@ -318,7 +340,7 @@ fn io_take(words: &mut Words<'_>) -> Result<What, LineFault>
 /// `listen AIM EVENT HANDLER`
 #[tactic(auto, unfolding(script_model::specs::Forms::made, crate::specs::Acts::Acts))]
 fn listen(words: &mut Words<'_>) -> Result<What, LineFault>
-    ensures value { Acts result verb.Listen words.old }
+    ensures value { Acts result First verb.Listen words.old }
     ensures allowed { IfOk result (λ what. ActionAllowed what) }
 {
     let aim = words.aim()?;
@@ -331,7 +353,7 @@ fn listen(words: &mut Words<'_>) -> Result<What, LineFault>
 /// `unlisten AIM EVENT HANDLER`
 #[tactic(auto, unfolding(script_model::specs::Forms::made, crate::specs::Acts::Acts))]
 fn unlisten(words: &mut Words<'_>) -> Result<What, LineFault>
-    ensures value { Acts result verb.Unlisten words.old }
+    ensures value { Acts result First verb.Unlisten words.old }
     ensures allowed { IfOk result (λ what. ActionAllowed what) }
 {
     let aim = words.aim()?;
@@ -344,7 +366,7 @@ fn unlisten(words: &mut Words<'_>) -> Result<What, LineFault>
 /// `media NAME DOCUMENT QUERY`
 #[tactic(auto, unfolding(script_model::specs::Forms::made, crate::specs::Acts::Acts))]
 fn media(alloc: Global, words: &mut Words<'_>) -> Result<What, LineFault>
-    ensures value { Acts result verb.Media words.old }
+    ensures value { Acts result First verb.Media words.old }
     ensures allowed { IfOk result (λ what. ActionAllowed what) }
 {
     let name = words.name()?;
@@ -357,7 +379,7 @@ fn media(alloc: Global, words: &mut Words<'_>) -> Result<What, LineFault>
 /// `scroll TARGET LEFT TOP`
 #[tactic(auto, unfolding(script_model::specs::Forms::made, crate::specs::Acts::Acts))]
 fn scroll(words: &mut Words<'_>) -> Result<What, LineFault>
-    ensures value { Acts result verb.Scroll words.old }
+    ensures value { Acts result First verb.Scroll words.old }
     ensures allowed { IfOk result (λ what. ActionAllowed what) }
 {
     let target = words.node()?;
@@ -376,7 +398,7 @@ fn scroll(words: &mut Words<'_>) -> Result<What, LineFault>
 /// `scroll-by TARGET LEFT TOP`
 #[tactic(auto, unfolding(script_model::specs::Forms::made, crate::specs::Acts::Acts))]
 fn scroll_by(words: &mut Words<'_>) -> Result<What, LineFault>
-    ensures value { Acts result verb.ScrollBy words.old }
+    ensures value { Acts result First verb.ScrollBy words.old }
     ensures allowed { IfOk result (λ what. ActionAllowed what) }
 {
     let target = words.node()?;
@@ -395,7 +417,7 @@ fn scroll_by(words: &mut Words<'_>) -> Result<What, LineFault>
 /// `raf DOCUMENT KEY HANDLER`
 #[tactic(auto, unfolding(script_model::specs::Forms::made, crate::specs::Acts::Acts))]
 fn raf(words: &mut Words<'_>) -> Result<What, LineFault>
-    ensures value { Acts result verb.Raf words.old }
+    ensures value { Acts result First verb.Raf words.old }
     ensures allowed { IfOk result (λ what. ActionAllowed what) }
 {
     let document = words.name()?;
@@ -408,7 +430,7 @@ fn raf(words: &mut Words<'_>) -> Result<What, LineFault>
 /// `cancel-raf DOCUMENT KEY`
 #[tactic(auto, unfolding(script_model::specs::Forms::made, crate::specs::Acts::Acts))]
 fn cancel_raf(words: &mut Words<'_>) -> Result<What, LineFault>
-    ensures value { Acts result verb.CancelRaf words.old }
+    ensures value { Acts result First verb.CancelRaf words.old }
     ensures allowed { IfOk result (λ what. ActionAllowed what) }
 {
     let document = words.name()?;
@@ -420,7 +442,7 @@ fn cancel_raf(words: &mut Words<'_>) -> Result<What, LineFault>
 /// `timer DOCUMENT KEY DELAY HANDLER`
 #[tactic(auto, unfolding(script_model::specs::Forms::made, crate::specs::Acts::Acts))]
 fn timer(words: &mut Words<'_>) -> Result<What, LineFault>
-    ensures value { Acts result verb.Timer words.old }
+    ensures value { Acts result First verb.Timer words.old }
     ensures allowed { IfOk result (λ what. ActionAllowed what) }
 {
     let document = words.name()?;
@@ -434,7 +456,7 @@ fn timer(words: &mut Words<'_>) -> Result<What, LineFault>
 /// `clear-timer DOCUMENT KEY`
 #[tactic(auto, unfolding(script_model::specs::Forms::made, crate::specs::Acts::Acts))]
 fn clear_timer(words: &mut Words<'_>) -> Result<What, LineFault>
-    ensures value { Acts result verb.ClearTimer words.old }
+    ensures value { Acts result First verb.ClearTimer words.old }
     ensures allowed { IfOk result (λ what. ActionAllowed what) }
 {
     let document = words.name()?;
@@ -446,7 +468,7 @@ fn clear_timer(words: &mut Words<'_>) -> Result<What, LineFault>
 /// `post DOCUMENT HANDLER`
 #[tactic(auto, unfolding(script_model::specs::Forms::made, crate::specs::Acts::Acts))]
 fn post(words: &mut Words<'_>) -> Result<What, LineFault>
-    ensures value { Acts result verb.Post words.old }
+    ensures value { Acts result First verb.Post words.old }
     ensures allowed { IfOk result (λ what. ActionAllowed what) }
 {
     let document = words.name()?;
@@ -458,7 +480,7 @@ fn post(words: &mut Words<'_>) -> Result<What, LineFault>
 /// `say WORD`
 #[tactic(auto, unfolding(script_model::specs::Forms::made, crate::specs::Acts::Acts))]
 fn say(words: &mut Words<'_>) -> Result<What, LineFault>
-    ensures value { Acts result verb.Say words.old }
+    ensures value { Acts result First verb.Say words.old }
     ensures allowed { IfOk result (λ what. ActionAllowed what) }
 {
     let word = words.name()?;
@@ -469,7 +491,7 @@ fn say(words: &mut Words<'_>) -> Result<What, LineFault>
 /// `read TARGET`
 #[tactic(auto, unfolding(script_model::specs::Forms::made, crate::specs::Acts::Acts))]
 fn read(words: &mut Words<'_>) -> Result<What, LineFault>
-    ensures value { Acts result verb.Read words.old }
+    ensures value { Acts result First verb.Read words.old }
     ensures allowed { IfOk result (λ what. ActionAllowed what) }
 {
     let target = words.node()?;

@@ -12,13 +12,14 @@ use crate::statements::Statement;
 use indexmap::IndexSet;
 use std::alloc::{AllocError, Global};
 use std::marker::Model;
-use text_io::{LimitKind, Name};
+use text_io::{LimitKind, Name, Version};
 
 /// What the lines so far make. A contract sees it as the definition's state. Where no memory is left nothing is said of
 /// it.
 #[derive(Drop)]
 pub struct Builder {
     alloc: Global,
+    version: Version,
     // Innermost last.
     frames: Vec<Frame>,
     items: Vec<Item>,
@@ -41,6 +42,7 @@ impl Model for Builder {
     ghost use Rattle.script_syntax.specs.Seen.{item_of};
 
     ghost view = { λ b. record {
+      version = b.version;
       frames = reverse (map frame_of b.frames.items);
       items = reverse (map item_of b.items.items);
       names = reverse b.names.keys;
@@ -59,16 +61,24 @@ impl Builder {
     ghost use Rattle.script_syntax.specs.Frames.{OpeningAllowed};
     ghost use Rattle.script_syntax.specs.Statements.{statement_of, StatementAllowed, IsFreshAmong};
 
-    /// Before the first line behind `script 1`.
-    pub fn new(alloc: Global) -> Builder
-        ensures { result ≡ model.nothing_read }
+    /// Before the first line behind the one with the version.
+    pub fn new(alloc: Global, version: Version) -> Builder
+        ensures { result ≡ model.nothing_read version }
     {
         Builder {
             alloc,
+            version,
             frames: Vec::new(alloc),
             items: Vec::new(alloc),
             names: IndexSet::new(alloc),
         }
+    }
+
+    /// The version of the script.
+    pub fn version(&self) -> Version
+        ensures { result ≡ self.now.version }
+    {
+        self.version
     }
 
     /// Whether no block or handler is open.
@@ -150,7 +160,7 @@ impl Builder {
         requires { OpeningAllowed opening }
         ensures { Answers (λ opened. self.new) result (model.open_block line (opening_of opening) self.old) }
     {
-        if self.blocks() as u64 >= LimitKind::Nesting.number() {
+        if self.blocks() as u64 >= LimitKind::Nesting.common() {
             return Err(ParseFault::ScriptLimit {
                 kind: LimitKind::Nesting,
                 line,
@@ -171,7 +181,7 @@ impl Builder {
         requires { list_any (bytes_eq name) self.old.names ≡ false }
         ensures { Answers (λ opened. self.new) result (model.open_handler line name self.old) }
     {
-        if self.names.len() as u64 >= LimitKind::Handlers.number() {
+        if self.names.len() as u64 >= LimitKind::Handlers.common() {
             return Err(ParseFault::ScriptLimit {
                 kind: LimitKind::Handlers,
                 line,

@@ -5,7 +5,7 @@ ghost use Rattle.std.specs.List.{All};
 
 use crate::operands::{Aim, Axis, Condition, IoMaking, Operand};
 use media_queries::Query;
-use px_units::{BoxKind, Point, Px, Size};
+use px_units::{BoxKind, Percent, Point, Px, Size};
 use std::marker::Model;
 use style_values::Declaration;
 use text_io::{EventKind, Name};
@@ -17,6 +17,9 @@ use text_io::{EventKind, Name};
 pub enum What {
     /// `viewport`: sets the size of the outermost document's viewport.
     Viewport(Size),
+    /// `ratio`: sets the device pixel ratio of the page, in hundredths of a percent from 0 to 1,000,000. Scripts of the first
+    /// version don't have it.
+    Ratio(Percent),
     /// `block`: makes a block, in the document of the second name.
     Block(Name, Name),
     /// `image`: makes an image with a natural size.

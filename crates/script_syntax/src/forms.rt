@@ -1,12 +1,12 @@
 //! The forms of a line's parts, one function a form. Each takes its words, and fails at the first one that doesn't fit.
 
 ghost use Rattle.std.specs.Prelude.{◌≡◌, unsigned_abs, option_map, IfOk, is_some, bytes_eq};
-ghost use Rattle.script_model.specs.Forms.{part_as, declaration_as, margin_as, numbers_as, query_as, NameForm, NodeForm, AimForm, HandlerForm, RootForm, LengthForm, SignedForm, WholeForm, EventForm, BoxForm, DimensionForm, DeclarationForm, JustForm, MarginForm, NumbersForm, QueryForm};
+ghost use Rattle.script_model.specs.Forms.{part_as, declaration_as, margin_as, numbers_as, query_as, NameForm, NodeForm, AimForm, HandlerForm, RootForm, LengthForm, SignedForm, PercentForm, WholeForm, EventForm, BoxForm, DimensionForm, DeclarationForm, JustForm, MarginForm, NumbersForm, QueryForm};
 ghost use Rattle.script_model.specs.Words.{node_of, aim_of as aim_read};
 ghost use Rattle.script_model.specs.Properties.{property_of};
 ghost use Rattle.style_values.specs.Ranges.{IsAllowed};
 ghost use Rattle.style_values.specs.Seen.{seen_declaration};
-ghost use Rattle.script_syntax.specs.Allowed.{IsUnits, IsSignedUnits, IsTime};
+ghost use Rattle.script_syntax.specs.Allowed.{IsUnits, IsSignedUnits, IsPercent, IsTime};
 ghost use Rattle.script_syntax.specs.Lines.{Gives};
 ghost use Rattle.script_syntax.specs.Seen.{operand_of, aim_of, dimension_of};
 
@@ -16,11 +16,11 @@ use crate::tables;
 use crate::texts::{MarginText, NumberList};
 use crate::words::{Word, Words};
 use media_queries::{Query, QueryFault};
-use px_units::{BoxKind, Px};
+use px_units::{BoxKind, Percent, Px};
 use std::alloc::Global;
 use style_values::{Declaration, StyleFault};
-use text_io::{EventKind, Name};
-use word_model::{length, number, signed_length, whole};
+use text_io::{EventKind, Name, Version};
+use word_model::{length, number, percent, signed_length, whole};
 
 /// The node that a word names.
 #[tactic(auto, unfolding(script_model::specs::Words::node_of))]
@@ -163,6 +163,21 @@ impl Words<'_> {
         }
     }
 
+    /// PERCENT
+    #[tactic(auto, unfolding(script_model::specs::Forms::part_as))]
+    pub fn percent(&mut self) -> Result<Percent, LineFault>
+        ensures value { Gives (λ percent. (unsigned_abs percent.0, self.new)) result (part_as PercentForm self.old) }
+        ensures allowed { IfOk result (λ percent. IsPercent percent.0) }
+    {
+        let word = self.next()?;
+        match percent(word.text) {
+            Some(hundredths) => Ok(Percent(hundredths as i32)),
+            None => Err(LineFault::At {
+                column: word.column,
+            }),
+        }
+    }
+
     /// WHOLE
     #[tactic(auto, unfolding(script_model::specs::Forms::part_as))]
     pub fn whole(&mut self) -> Result<u64, LineFault>
@@ -192,13 +207,13 @@ impl Words<'_> {
         }
     }
 
-    /// `content` or `border`
+    /// `content` or `border`, in the second version also `device`
     #[tactic(auto, unfolding(script_model::specs::Forms::part_as))]
-    pub fn box_kind(&mut self) -> Result<BoxKind, LineFault>
-        ensures { Gives (λ kind. (kind, self.new)) result (part_as BoxForm self.old) }
+    pub fn box_kind(&mut self, version: Version) -> Result<BoxKind, LineFault>
+        ensures { Gives (λ kind. (kind, self.new)) result (part_as (BoxForm version) self.old) }
     {
         let word = self.next()?;
-        match tables::box_kind(word.text) {
+        match tables::box_kind(version, word.text) {
             Some(kind) => Ok(kind),
             None => Err(LineFault::At {
                 column: word.column,

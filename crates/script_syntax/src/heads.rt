@@ -4,6 +4,7 @@
 #[derive(Clone, Copy)]
 pub enum Verb {
     Viewport,
+    Ratio,
     Block,
     Image,
     Frame,

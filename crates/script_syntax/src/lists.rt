@@ -1,7 +1,7 @@
 //! The parts of a line that have more than one word: margins, numbers and media queries.
 
 ghost use Rattle.std.specs.Prelude.{◌≡◌};
-ghost use Rattle.script_model.specs.Forms.{part_as, MarginForm, NumbersForm, QueryForm};
+ghost use Rattle.script_model.specs.Forms.{part_as, margin_as, scroll_as, MarginForm, NumbersForm, QueryForm};
 ghost use Rattle.script_syntax.specs.Lines.{Gives};
 
 use crate::faults::LineFault;
@@ -9,19 +9,51 @@ use crate::texts::{MarginText, NumberList};
 use crate::words::Words;
 use media_queries::{Query, QueryFault};
 use std::alloc::Global;
+use text_io::Version;
 use word_model::number;
 
 impl Words<'_> {
-    /// The words before `threshold`, joined by one space.
-    #[tactic(auto, unfolding(script_model::specs::Forms::part_as, script_model::specs::Forms::margin_as), using(crate::proofs::Joined::joined))]
-    pub fn margin(&mut self, alloc: Global) -> Result<MarginText, LineFault>
-        ensures { Gives (λ text. (text, self.new)) result (part_as MarginForm self.old) }
+    /// A margin and the scroll margin, if there is one.
+    #[tactic(auto, unfolding(script_model::specs::Forms::part_as, script_model::specs::Forms::margins_as))]
+    pub fn margins(
+        &mut self,
+        alloc: Global,
+        version: Version,
+    ) -> Result<(MarginText, Option<MarginText>), LineFault>
+        ensures { Gives (λ texts. (texts, self.new)) result (part_as (MarginForm version) self.old) }
     {
-        let Some(first) = self.next_before(b"threshold") else {
+        let margin = self.margin(alloc, version)?;
+        let scroll = self.scroll(alloc, version)?;
+        Ok((margin, scroll))
+    }
+
+    /// `scroll` and the words of a margin, where that word stands next, in scripts of the second version.
+    #[tactic(auto, unfolding(script_model::specs::Forms::scroll_as))]
+    fn scroll(&mut self, alloc: Global, version: Version) -> Result<Option<MarginText>, LineFault>
+        ensures { Gives (λ text. (text, self.new)) result (scroll_as version self.old) }
+    {
+        match version {
+            Version::First => Ok(None),
+            Version::Second => {
+                if !self.begins_scroll() {
+                    return Ok(None);
+                }
+                let margin = self.margin(alloc, Version::Second)?;
+                Ok(Some(margin))
+            }
+        }
+    }
+
+    /// The words of a margin, joined by one space.
+    #[tactic(auto, unfolding(script_model::specs::Forms::margin_as), using(crate::proofs::Joined::joined))]
+    fn margin(&mut self, alloc: Global, version: Version) -> Result<MarginText, LineFault>
+        ensures { Gives (λ text. (text, self.new)) result (margin_as version self.old) }
+    {
+        let Some(first) = self.next_of_margin(version) else {
             return Ok(MarginText::new(Vec::new(alloc)));
         };
         let mut bytes = Vec::from_slice(alloc, first)?;
-        while let Some(text) = self.next_before(b"threshold") {
+        while let Some(text) = self.next_of_margin(version) {
             bytes.push(b' ')?;
             bytes.extend_from_slice(text)?;
         }

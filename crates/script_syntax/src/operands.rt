@@ -41,6 +41,8 @@ pub struct IoMaking {
     pub margin: MarginText,
     /// In ten-thousandths.
     pub thresholds: NumberList,
+    /// None where it was left out.
+    pub scroll: Option<MarginText>,
 }
 
 /// What a `when` asks. Lengths are in units of 1/64 CSS pixel, from 0 to 64,000,000.

@@ -3,7 +3,7 @@
 ghost use Rattle.std.specs.Prelude.{◌≡◌, ◌≤◌, map, length, count_by, ◌==◌, IfOk};
 ghost use Rattle.std.specs.List.{All};
 ghost use Rattle.text_io.specs.declared.kinds.LimitKind.TheVariants as limits;
-ghost use Rattle.text_io.specs.Limits.{limit_number};
+ghost use Rattle.text_io.specs.Limits.{common_limit};
 ghost use Rattle.script_lexer.specs.Texts.{text_seen, line_seen, ending_seen, LineFits};
 ghost use Rattle.script_model.specs.Lexing.{lexed};
 ghost use Rattle.script_model.specs.Reading as model;
@@ -20,7 +20,7 @@ use crate::statements::{read_statement, version};
 use crate::words::Words;
 use script_lexer::{LexFault, Line, Text};
 use std::alloc::Global;
-use text_io::LimitKind;
+use text_io::{LimitKind, Version};
 
 /// The script that a text is, which a lexer read with lines of at most 4,096 bytes.
 ///
@@ -34,27 +34,27 @@ pub fn parse(alloc: Global, text: &Text) -> Result<Script, ParseFault>
     ensures { Parses result (reading text.now.bytes) }
 {
     let bytes = text.bytes();
-    if bytes.len() as u64 > LimitKind::Script.number() {
+    if bytes.len() as u64 > LimitKind::Script.common() {
         return Err(ParseFault::ScriptLimit {
             kind: LimitKind::Script,
             line: last_line(bytes),
         });
     }
-    let items = match read_text(alloc, text) {
-        Ok(items) => items,
+    let (version, items) = match read_text(alloc, text) {
+        Ok(read) => read,
         Err(stop) => return Err(stop),
     };
-    let script = Script::build(alloc, items)?;
+    let script = Script::make(alloc, version, items)?;
     Ok(script)
 }
 
 /// The line of the first byte that a text has too many.
 #[tactic(auto, unfolding(script_model::specs::Reading::last_line))]
 fn last_line(bytes: &[u8]) -> u32
-    requires { limit_number limits.Script ≤ length bytes.now }
-    ensures { result ≡ model.last_line (limit_number limits.Script) bytes.now }
+    requires { common_limit limits.Script ≤ length bytes.now }
+    ensures { result ≡ model.last_line (common_limit limits.Script) bytes.now }
 {
-    let most = LimitKind::Script.number() as usize;
+    let most = LimitKind::Script.common() as usize;
     let feeds = feeds(&bytes[..most]);
     1 + feeds as u32
 }
@@ -68,20 +68,20 @@ fn feeds(bytes: &[u8]) -> usize
     bytes.iter().filter(|byte| **byte == b'\n').count()
 }
 
-/// The items of a text with at most 16,777,216 bytes.
+/// The version and the items of a text with at most 16,777,216 bytes.
 #[tactic(auto, unfolding(script_model::specs::Reading::read_lexed))]
-fn read_text(alloc: Global, text: &Text) -> Result<Vec<Item>, ParseFault>
+fn read_text(alloc: Global, text: &Text) -> Result<(Version, Vec<Item>), ParseFault>
     requires short { length text.now.bytes ≤ 16777216 }
     requires ends { EndsSoon text.now }
-    ensures value { Answers (λ items. map item_of items.items) result (read_lexed (text_seen text.now)) }
-    ensures allowed { IfOk result (λ items. All ItemAllowed items.items) }
+    ensures value { Answers (λ read. record { version = read.0; items = map item_of read.1.items }) result (read_lexed (text_seen text.now)) }
+    ensures allowed { IfOk result (λ read. All ItemAllowed read.1.items) }
 {
     let [first, rest @ ..] = text.lines() else {
         return Err(refusal(text));
     };
     let mut words = Words::of(text, first);
-    match version(&mut words) {
-        Ok(()) => {}
+    let version = match version(&mut words) {
+        Ok(version) => version,
         Err(LineFault::At { column }) => {
             return Err(ParseFault::Syntax {
                 line: first.number,
@@ -89,8 +89,8 @@ fn read_text(alloc: Global, text: &Text) -> Result<Vec<Item>, ParseFault>
             });
         }
         Err(LineFault::Memory) => return Err(ParseFault::Memory),
-    }
-    let builder = match read_lines(alloc, text, rest) {
+    };
+    let builder = match read_lines(alloc, version, text, rest) {
         Ok(builder) => builder,
         Err(stop) => return Err(stop),
     };
@@ -99,12 +99,17 @@ fn read_text(alloc: Global, text: &Text) -> Result<Vec<Item>, ParseFault>
 
 /// What the lines behind the first one make.
 #[tactic(auto, unfolding(script_model::specs::Reading::steps))]
-fn read_lines(alloc: Global, text: &Text, lines: &[Line]) -> Result<Builder, ParseFault>
+fn read_lines(
+    alloc: Global,
+    version: Version,
+    text: &Text,
+    lines: &[Line],
+) -> Result<Builder, ParseFault>
     requires short { length text.now.bytes ≤ 16777216 }
     requires fit { All (LineFits text.now.bytes text.now.words) lines.now }
-    ensures { Answers (λ builder. builder) result (model.steps nothing_read (map (line_seen text.now.bytes text.now.words) lines.now)) }
+    ensures { Answers (λ builder. builder) result (model.steps (nothing_read version) (map (line_seen text.now.bytes text.now.words) lines.now)) }
 {
-    let mut builder = Builder::new(alloc);
+    let mut builder = Builder::new(alloc, version);
     for line in lines {
         if let Err(stop) = read_line(alloc, text, line, &mut builder) {
             return Err(stop);
@@ -126,8 +131,9 @@ fn read_line(
     ensures { Answers (λ done. builder.new) result (model.step builder.old (line_seen text.now.bytes text.now.words line.now)) }
 {
     let mut words = Words::of(text, line);
+    let version = builder.version();
     let outside = builder.is_outside();
-    match read_statement(alloc, outside, builder.handlers(), &mut words) {
+    match read_statement(alloc, version, outside, builder.handlers(), &mut words) {
         Ok(statement) => builder.place(line.number, statement),
         Err(LineFault::At { column }) => Err(ParseFault::Syntax {
             line: line.number,
@@ -137,12 +143,12 @@ fn read_line(
     }
 }
 
-/// The items, if nothing is open and the text ends whole.
+/// The version and the items, if nothing is open and the text ends whole.
 #[tactic(auto, using(crate::proofs::Finishes::finished_whole, crate::proofs::Finishes::finished_open, crate::proofs::Finishes::finished_fault))]
-fn finish(text: &Text, builder: Builder) -> Result<Vec<Item>, ParseFault>
+fn finish(text: &Text, builder: Builder) -> Result<(Version, Vec<Item>), ParseFault>
     requires { EndsSoon text.now }
-    ensures value { Answers (λ items. map item_of items.items) result (model.finished builder.frames builder.items (ending_seen text.now.fault text.now.line_count)) }
-    ensures allowed { IfOk result (λ items. All ItemAllowed items.items) }
+    ensures value { Answers (λ read. record { version = read.0; items = map item_of read.1.items }) result (model.finished builder.version builder.frames builder.items (ending_seen text.now.fault text.now.line_count)) }
+    ensures allowed { IfOk result (λ read. All ItemAllowed read.1.items) }
 {
     if !builder.is_outside() {
         return Err(refusal(text));
@@ -150,7 +156,8 @@ fn finish(text: &Text, builder: Builder) -> Result<Vec<Item>, ParseFault>
     if text.fault().is_some() {
         return Err(refusal(text));
     }
-    Ok(builder.into_items())
+    let version = builder.version();
+    Ok((version, builder.into_items()))
 }
 
 /// Why a text is no script, of which nothing is refused up to its ending.

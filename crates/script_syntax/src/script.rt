@@ -2,6 +2,7 @@
 
 ghost use Rattle.std.specs.Prelude.{◌≡◌, map, length, filter, option_map, slice_get, IfOk};
 ghost use Rattle.std.specs.List.{All};
+ghost use Rattle.text_io.specs.declared.kinds.Version.TheVariants.{First};
 ghost use Rattle.script_model.specs.Scripts.{handlers_in, handler_number};
 ghost use Rattle.script_syntax.specs.Seen.{item_of, is_handler};
 ghost use Rattle.script_syntax.specs.Allowed.{ItemAllowed};
@@ -11,25 +12,26 @@ use crate::commands::Item;
 use crate::index::{Index, index_of};
 use std::alloc::{AllocError, Global};
 use std::marker::Model;
-use text_io::Name;
+use text_io::{Name, Version};
 
-/// A script: its items in the order of their lines, and its handlers, which are numbered from 0 in that order. A contract
-/// sees it as its items.
+/// A script: its version, its items in the order of their lines, and its handlers, which are numbered from 0 in that order. A
+/// contract sees it as the definitions' record of the version and the items.
 #[derive(Drop)]
 pub struct Script {
+    version: Version,
     items: Vec<Item>,
     index: Index,
 }
 
 impl Model for Script {
-    ghost use Rattle.std.specs.Prelude.{List, map};
+    ghost use Rattle.std.specs.Prelude.{map};
     ghost use Rattle.std.specs.List.{All};
-    ghost use Rattle.script_model.specs.Syntax.{Item};
-    ghost use Rattle.script_syntax.specs.Codes.{items_code};
+    ghost use Rattle.script_model.specs.Syntax.{Script};
+    ghost use Rattle.script_syntax.specs.Codes.{script_code};
 
-    ghost Value = { List Item };
+    ghost Value = { Script };
 
-    ghost coded = { items_code };
+    ghost coded = { script_code };
 
     ghost use Rattle.script_syntax.specs.Seen.{item_of};
     ghost use Rattle.std.specs.Prelude.{bytes_eq};
@@ -38,29 +40,53 @@ impl Model for Script {
     ghost use Rattle.script_syntax.specs.Indexes.{Indexed};
     ghost use Rattle.script_syntax.specs.Read.{IsRead};
 
-    ghost view = { λ script. map item_of script.items.items };
+    ghost view = { λ script. record { version = script.version; items = map item_of script.items.items } };
 
     ghost invariant = { λ script. All ItemAllowed script.items.items
-        × IsRead (map item_of script.items.items)
+        × IsRead (record { version = script.version; items = map item_of script.items.items })
         × Indexed (map item_of script.items.items) script.index.places.items (get bytes_eq script.index.numbers) };
 }
 
 impl Script {
-    /// The script of these items, which are those of some text: operands, nesting, the names of handlers, line numbers and
-    /// lengths of lines are as the grammar wants them. Which items these are stands in `script_text`, whose laws give the text.
-    /// The error is want of memory.
+    /// The script of the first version with these items, which are those of some text: operands, nesting, the names of handlers,
+    /// line numbers and lengths of lines are as the grammar wants them. Which items these are stands in `script_text`, whose laws
+    /// give the text. The error is want of memory.
     pub fn build(alloc: Global, items: Vec<Item>) -> Result<Script, AllocError>
         requires allowed { All ItemAllowed items.items }
-        requires read { IsRead (map item_of items.items) }
-        ensures { IfOk result (λ script. script ≡ map item_of items.items) }
+        requires read { IsRead (record { version = First; items = map item_of items.items }) }
+        ensures { IfOk result (λ script. script ≡ record { version = First; items = map item_of items.items }) }
+    {
+        Script::make(alloc, Version::First, items)
+    }
+
+    /// The script of this version with these items. The error is want of memory.
+    pub(crate) fn make(
+        alloc: Global,
+        version: Version,
+        items: Vec<Item>,
+    ) -> Result<Script, AllocError>
+        requires allowed { All ItemAllowed items.items }
+        requires read { IsRead (record { version = version; items = map item_of items.items }) }
+        ensures { IfOk result (λ script. script ≡ record { version = version; items = map item_of items.items }) }
     {
         let index = index_of(alloc, items.as_slice())?;
-        Ok(Script { items, index })
+        Ok(Script {
+            version,
+            items,
+            index,
+        })
+    }
+
+    /// The version of the language that it is written in.
+    pub fn version(&self) -> Version
+        ensures { result ≡ self.now.version }
+    {
+        self.version
     }
 
     /// The items in the order of their lines. They are those of some text.
     pub fn items(&self) -> &[Item]
-        ensures value { map item_of result.now ≡ self.now }
+        ensures value { map item_of result.now ≡ self.now.items }
         ensures read { IsRead self.now }
         ensures allowed { All ItemAllowed result.now }
     {
@@ -70,7 +96,7 @@ impl Script {
     /// How many handlers there are.
     #[tactic(auto, using(crate::proofs::Handlers::handler_count))]
     pub fn handlers(&self) -> u32
-        ensures { result ≡ length (handlers_in self.now) }
+        ensures { result ≡ length (handlers_in self.now.items) }
     {
         self.index.places.len() as u32
     }
@@ -78,7 +104,7 @@ impl Script {
     /// The handler of this number, none exactly where the number isn't below `handlers`.
     #[tactic(auto, using(crate::proofs::Handlers::handler_at, crate::proofs::Handlers::no_handler_at))]
     pub fn handler(&self, number: u32) -> Option<&Item>
-        ensures { option_map (λ item. item_of item.now) result ≡ slice_get (filter is_handler self.now) number }
+        ensures { option_map (λ item. item_of item.now) result ≡ slice_get (filter is_handler self.now.items) number }
     {
         let place = self.index.places.get(number as usize)?;
         self.items.get(*place)
@@ -86,7 +112,7 @@ impl Script {
 
     /// The number of the handler of this name, none exactly where there is none.
     pub fn handler_named(&self, name: Name) -> Option<u32>
-        ensures { result ≡ handler_number self.now name }
+        ensures { result ≡ handler_number self.now.items name }
     {
         self.index.numbers.get(&name).copied()
     }

@@ -2,9 +2,11 @@
 
 ghost use Rattle.std.specs.Prelude.{◌≡◌, cond, false, not, option_map, Some, None, IfOk, IfSome, bytes_eq, reverse};
 ghost use Rattle.std.specs.List.{list_any};
+ghost use Rattle.text_io.specs.declared.kinds.Version.{Version};
 ghost use Rattle.script_model.specs.Forms.{word_as};
 ghost use Rattle.script_model.specs.Keywords.{lookup};
 ghost use Rattle.script_model.specs.Commands.{tests};
+ghost use Rattle.script_model.specs.Words.{versions};
 ghost use Rattle.script_model.specs.Statements as model;
 ghost use Rattle.script_syntax.specs.Allowed.{TestAllowed};
 ghost use Rattle.script_syntax.specs.Heads.{head_of, shape_of};
@@ -21,7 +23,7 @@ use crate::tables;
 use crate::words::Words;
 use indexmap::IndexSet;
 use std::alloc::Global;
-use text_io::Name;
+use text_io::{Name, Version};
 
 /// What a line does.
 #[derive(Drop)]
@@ -36,27 +38,28 @@ pub enum Statement {
     Ends,
 }
 
-/// What a line says that stands outside handlers and blocks, or inside; `handlers` are the names that handlers have
+/// What a line of a script of this version says that stands outside handlers and blocks, or inside; `handlers` are the names that handlers have
 /// already.
 #[tactic(auto, unfolding(script_model::specs::Statements::statement_of))]
 pub fn read_statement(
     alloc: Global,
+    version: Version,
     outside: bool,
     handlers: &IndexSet<Name>,
     words: &mut Words<'_>,
 ) -> Result<Statement, LineFault>
-    ensures value { Gives statement_of result (model.statement_of (record { outside = outside; names = reverse handlers.now.keys }) words.old) }
+    ensures value { Gives statement_of result (model.statement_of (record { version = version; outside = outside; names = reverse handlers.now.keys }) words.old) }
     ensures allowed { IfOk result (λ statement. StatementAllowed statement) }
     ensures fresh { IfOk result (λ statement. IsFreshAmong (reverse handlers.now.keys) statement) }
 {
-    let head = head(outside, words)?;
-    operands(alloc, head, handlers, words)
+    let head = head(version, outside, words)?;
+    operands(alloc, version, head, handlers, words)
 }
 
 /// Whether a line that stands outside handlers and blocks, or inside, may begin so.
 #[tactic(auto, unfolding(script_model::specs::Statements::permitted))]
 fn is_permitted(outside: bool, head: Head) -> bool
-    ensures { model.permitted outside (head_of head) ≡ cond result (Some (head_of head)) None }
+    ensures { (version : Version) → model.permitted outside (head_of version head) ≡ cond result (Some (head_of version head)) None }
 {
     match head {
         Head::Tick => outside,
@@ -68,10 +71,10 @@ fn is_permitted(outside: bool, head: Head) -> bool
 
 /// What a line begins by this word.
 #[tactic(auto, unfolding(script_model::specs::Statements::head_of))]
-fn permitted_head(outside: bool, word: &[u8]) -> Option<Head>
-    ensures { option_map head_of result ≡ model.head_of outside word.now }
+fn permitted_head(version: Version, outside: bool, word: &[u8]) -> Option<Head>
+    ensures { option_map (head_of version) result ≡ model.head_of version outside word.now }
 {
-    let head = tables::head(word)?;
+    let head = tables::head(version, word)?;
     if is_permitted(outside, head) {
         return Some(head);
     }
@@ -79,11 +82,11 @@ fn permitted_head(outside: bool, word: &[u8]) -> Option<Head>
 }
 
 #[tactic(auto, unfolding(script_model::specs::Forms::word_as))]
-fn head(outside: bool, words: &mut Words<'_>) -> Result<Head, LineFault>
-    ensures { Gives (λ head. (head_of head, words.new)) result (word_as (model.head_of outside) words.old) }
+fn head(version: Version, outside: bool, words: &mut Words<'_>) -> Result<Head, LineFault>
+    ensures { Gives (λ head. (head_of version head, words.new)) result (word_as (model.head_of version outside) words.old) }
 {
     let word = words.next()?;
-    match permitted_head(outside, word.text) {
+    match permitted_head(version, outside, word.text) {
         Some(head) => Ok(head),
         None => Err(LineFault::At {
             column: word.column,
@@ -95,17 +98,18 @@ fn head(outside: bool, words: &mut Words<'_>) -> Result<Head, LineFault>
 #[tactic(auto, unfolding(script_model::specs::Statements::operands_of, crate::specs::Acts::Acts))]
 fn operands(
     alloc: Global,
+    version: Version,
     head: Head,
     handlers: &IndexSet<Name>,
     words: &mut Words<'_>,
 ) -> Result<Statement, LineFault>
-    ensures value { Gives statement_of result (model.operands_of (reverse handlers.now.keys) (head_of head) words.old) }
+    ensures value { Gives statement_of result (model.operands_of (reverse handlers.now.keys) (head_of version head) words.old) }
     ensures allowed { IfOk result (λ statement. StatementAllowed statement) }
     ensures fresh { IfOk result (λ statement. IsFreshAmong (reverse handlers.now.keys) statement) }
 {
     match head {
         Head::Act(verb) => {
-            let what = action(alloc, verb, words)?;
+            let what = action(alloc, version, verb, words)?;
             Ok(Statement::Does(what))
         }
         Head::Tick => {
@@ -220,12 +224,27 @@ fn asked(shape: Shape, words: &mut Words<'_>) -> Result<Test, LineFault>
     }
 }
 
-/// `script 1`, the first line.
-#[tactic(auto, unfolding(script_model::specs::Statements::version_as))]
-pub fn version(words: &mut Words<'_>) -> Result<(), LineFault>
-    ensures { Gives (λ end. tt) result (model.version_as words.old) }
+/// `script 1` or `script 2`, the first line.
+#[tactic(auto, unfolding(script_model::specs::Statements::version_as, script_model::specs::Forms::part_as))]
+pub fn version(words: &mut Words<'_>) -> Result<Version, LineFault>
+    ensures { Gives (λ version. version) result (model.version_as words.old) }
 {
     words.just(b"script")?;
-    words.just(b"1")?;
-    words.end()
+    let version = version_word(words)?;
+    words.end()?;
+    Ok(version)
+}
+
+/// The word for a version.
+#[tactic(auto, unfolding(script_model::specs::Forms::word_as))]
+fn version_word(words: &mut Words<'_>) -> Result<Version, LineFault>
+    ensures { Gives (λ version. (version, words.new)) result (word_as (lookup versions) words.old) }
+{
+    let word = words.next()?;
+    match tables::version(word.text) {
+        Some(version) => Ok(version),
+        None => Err(LineFault::At {
+            column: word.column,
+        }),
+    }
 }

@@ -1,16 +1,18 @@
 //! Fixed words and what each stands for.
 
 ghost use Rattle.std.specs.Prelude.{◌≡◌, map, option_map};
+ghost use Rattle.text_io.specs.declared.kinds.Version.{Version};
+ghost use Rattle.text_io.specs.declared.kinds.Version.TheVariants.{Second};
 ghost use Rattle.script_model.specs.Keywords.{keyword, lookup};
-ghost use Rattle.script_model.specs.Words.{events, boxes, dimensions};
-ghost use Rattle.script_model.specs.Commands.{tests, heads};
+ghost use Rattle.script_model.specs.Words.{events, boxes, dimensions, versions};
+ghost use Rattle.script_model.specs.Commands.{tests, heads, heads_in};
 ghost use Rattle.script_syntax.specs.Seen.{dimension_of};
 ghost use Rattle.script_syntax.specs.Heads.{head_of, shape_of};
 
 use crate::heads::{Head, Shape, Verb};
 use crate::operands::Axis;
 use px_units::BoxKind;
-use text_io::EventKind;
+use text_io::{EventKind, Version};
 
 const EVENTS: [(&[u8], EventKind); 4] = [
     (b"resize", EventKind::Resize),
@@ -19,7 +21,14 @@ const EVENTS: [(&[u8], EventKind); 4] = [
     (b"change", EventKind::Change),
 ];
 
-const BOXES: [(&[u8], BoxKind); 2] = [(b"content", BoxKind::Content), (b"border", BoxKind::Border)];
+// Those before the last one are the boxes of the first version.
+const BOXES: [(&[u8], BoxKind); 3] = [
+    (b"content", BoxKind::Content),
+    (b"border", BoxKind::Border),
+    (b"device", BoxKind::Device),
+];
+
+const VERSIONS: [(&[u8], Version); 2] = [(b"1", Version::First), (b"2", Version::Second)];
 
 const AXES: [(&[u8], Axis); 2] = [(b"width", Axis::Width), (b"height", Axis::Height)];
 
@@ -31,6 +40,7 @@ const TESTS: [(&[u8], Shape); 5] = [
     (b"seen", Shape::Seen),
 ];
 
+// Those of both versions.
 const HEADS: [(&[u8], Head); 36] = [
     (b"viewport", Head::Act(Verb::Viewport)),
     (b"block", Head::Act(Verb::Block)),
@@ -91,11 +101,21 @@ pub fn event(word: &[u8]) -> Option<EventKind>
     find(&EVENTS, word)
 }
 
-/// The box that this word names.
-pub fn box_kind(word: &[u8]) -> Option<BoxKind>
-    ensures { result ≡ lookup boxes word.now }
+/// The version that this word names.
+pub fn version(word: &[u8]) -> Option<Version>
+    ensures { result ≡ lookup versions word.now }
 {
-    find(&BOXES, word)
+    find(&VERSIONS, word)
+}
+
+/// The box that this word names in scripts of this version.
+pub fn box_kind(version: Version, word: &[u8]) -> Option<BoxKind>
+    ensures { result ≡ lookup (boxes version) word.now }
+{
+    match version {
+        Version::First => find(&BOXES[..2], word),
+        Version::Second => find(&BOXES, word),
+    }
 }
 
 /// The dimension that this word names.
@@ -112,9 +132,30 @@ pub fn test(word: &[u8]) -> Option<Shape>
     find(&TESTS, word)
 }
 
-/// What this word begins as the first of a line.
-pub fn head(word: &[u8]) -> Option<Head>
-    ensures { option_map head_of result ≡ lookup heads word.now }
+/// What this word begins as the first of a line, in scripts of either version.
+fn head_of_both(word: &[u8]) -> Option<Head>
+    ensures { (version : Version) → option_map (head_of version) result ≡ lookup (heads version) word.now }
 {
     find(&HEADS, word)
+}
+
+/// What this word begins as the first of a line, in scripts of the second version.
+#[tactic(auto, using(crate::proofs::Lookups::found_first, crate::proofs::Lookups::passed_first))]
+fn head_of_second(word: &[u8]) -> Option<Head>
+    ensures { option_map (head_of Second) result ≡ lookup (heads_in Second) word.now }
+{
+    if word == b"ratio".as_slice() {
+        return Some(Head::Act(Verb::Ratio));
+    }
+    head_of_both(word)
+}
+
+/// What this word begins as the first of a line, in scripts of this version.
+pub fn head(version: Version, word: &[u8]) -> Option<Head>
+    ensures { option_map (head_of version) result ≡ lookup (heads_in version) word.now }
+{
+    match version {
+        Version::First => head_of_both(word),
+        Version::Second => head_of_second(word),
+    }
 }

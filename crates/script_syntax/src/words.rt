@@ -2,19 +2,30 @@
 
 ghost use Rattle.std.specs.Prelude.{◌≡◌, ◌≤◌, length, IfOk, IfErr};
 ghost use Rattle.script_lexer.specs.Texts.{line_seen, LineFits};
-ghost use Rattle.script_model.specs.Forms.{next_of, none_left};
+ghost use Rattle.script_model.specs.Forms.{next_of, none_left, ends_margin as ends_margin_at};
 ghost use Rattle.script_model.specs.Statements.{negation_in};
-ghost use Rattle.script_syntax.specs.Lines.{Gives, Popped, NextBefore, rest_of};
+ghost use Rattle.script_syntax.specs.Lines.{Gives, Popped, NextBefore, ScrollBegins, rest_of};
 
 use crate::faults::LineFault;
 use script_lexer::{Line, Span, Text};
 use std::marker::Model;
+use text_io::Version;
 
 /// A word with its column, from 1.
 #[derive(Clone, Copy)]
 pub struct Word<'a> {
     pub column: u32,
     pub text: &'a [u8],
+}
+
+/// Whether a margin ends before this word, in scripts of this version.
+fn ends_margin(version: Version, word: &[u8]) -> bool
+    ensures { result ≡ ends_margin_at version word.now }
+{
+    match version {
+        Version::First => word == b"threshold".as_slice(),
+        Version::Second => word == b"threshold".as_slice() || word == b"scroll".as_slice(),
+    }
 }
 
 /// The words of a line that are left. A contract sees them as the definition's row.
@@ -115,20 +126,35 @@ impl<'a> Words<'a> {
         })
     }
 
-    /// The next word, if there is one and it isn't this one.
+    /// The next word, if there is one and it is a margin's.
     #[tactic(auto, unfolding(script_model::specs::Forms::words_before, script_model::specs::Forms::words_from))]
-    pub fn next_before(&mut self, stop: &[u8]) -> Option<&'a [u8]>
-        ensures { NextBefore stop.now result self.old self.new }
+    pub fn next_of_margin(&mut self, version: Version) -> Option<&'a [u8]>
+        ensures { NextBefore (ends_margin_at version) result self.old self.new }
     {
         let [span, rest @ ..] = self.left else {
             return None;
         };
         let text = &self.bytes[span.from..span.to];
-        if text == stop {
+        if ends_margin(version, text) {
             return None;
         }
         self.left = rest;
         Some(text)
+    }
+
+    /// Whether the next word is `scroll`, which is taken then.
+    #[tactic(auto, unfolding(script_model::specs::Forms::scroll_in))]
+    pub fn begins_scroll(&mut self) -> bool
+        ensures { ScrollBegins result self.old self.new }
+    {
+        let [span, rest @ ..] = self.left else {
+            return false;
+        };
+        if &self.bytes[span.from..span.to] == b"scroll".as_slice() {
+            self.left = rest;
+            return true;
+        }
+        false
     }
 
     /// Whether the next word is `not`, which is taken then.

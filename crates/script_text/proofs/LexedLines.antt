@@ -7,7 +7,7 @@ use Rattle.std.proofs.lemmas.Bool.Decides.{nat_tests}
 use Rattle.std.proofs.lemmas.List.Folds.{list_all-append}
 use Rattle.word_model.specs.Numbers.{begins_with}
 use Rattle.text_io.specs.declared.kinds.LimitKind.TheVariants as limits
-use Rattle.text_io.specs.Limits.{limit_number}
+use Rattle.text_io.specs.Limits.{common_limit}
 use Rattle.script_model.specs.Lexing.{Word, Line, BadByte, LongLine, Whole, Lexed, line_start, ends, lex_on, lexed}
 use Rattle.script_model.specs.Lines.{is_line_byte, words_of, row_of, line_with}
 use Rattle.script_text.proofs.WordBytes.{all_bytes}
@@ -17,18 +17,18 @@ use Rattle.script_text.proofs.StepsKept.{IsWhole}
 
 -- a carriage return before a line feed belongs to no word
 abbrev pub ReturnLaw : Type 0
-ReturnLaw = (number : ℕ) (line rest : List ℕ) → list_all is_line_byte line ≡ true → length line < limit_number limits.Line
+ReturnLaw = (number : ℕ) (line rest : List ℕ) → list_all is_line_byte line ≡ true → length line < common_limit limits.Line
     → lex_on (line_start number) (line ++ (13 ∷ 10 ∷ rest)) ≡ line_with (words_of line) number line (lex_on (line_start (number + 1)) rest)
 
 -- a byte that no line may have ends the reading
 abbrev pub BadByteLaw : Type 0
-BadByteLaw = (number : ℕ) (line : List ℕ) (byte : ℕ) (rest : List ℕ) → list_all is_line_byte line ≡ true → length line < limit_number limits.Line
+BadByteLaw = (number : ℕ) (line : List ℕ) (byte : ℕ) (rest : List ℕ) → list_all is_line_byte line ≡ true → length line < common_limit limits.Line
     → is_line_byte byte ≡ false → (byte == 10) ≡ false → ((byte == 13) && begins_with 10 rest) ≡ false
     → lex_on (line_start number) (line ++ (byte ∷ rest)) ≡ ends (BadByte number (length line + 1))
 
 -- and so does a byte that a line has too many
 abbrev pub LongLineLaw : Type 0
-LongLineLaw = (number : ℕ) (line : List ℕ) (byte : ℕ) (rest : List ℕ) → list_all is_line_byte line ≡ true → length line ≡ limit_number limits.Line
+LongLineLaw = (number : ℕ) (line : List ℕ) (byte : ℕ) (rest : List ℕ) → list_all is_line_byte line ≡ true → length line ≡ common_limit limits.Line
     → (byte == 10) ≡ false → lex_on (line_start number) (line ++ (byte ∷ rest)) ≡ ends (LongLine number)
 
 pub record LineLaws : Type 0 where

@@ -7,6 +7,7 @@ use Rattle.std.proofs.lemmas.Grind.{common_steps}
 use Rattle.std.proofs.lemmas.List.{reverse-append}
 use Rattle.word_model.specs.Numbers.{decimal}
 use Rattle.text_io.specs.declared.kinds.LimitKind.TheVariants as limits
+use Rattle.text_io.specs.declared.kinds.Version.{Version}
 use Rattle.script_model.specs.Readers.{◌>>=◌, with_fault, is_empty}
 use Rattle.script_model.specs.Syntax.{Action, Condition, Command, Simple, Each, When, Block, NoMore, Then, Item, Outside, Tick, Handler}
 use Rattle.script_model.specs.Scripts.{handlers_in}
@@ -15,12 +16,12 @@ use Rattle.script_model.specs.Statements.{Statement, Does, Ticks, OpensEach, Ope
 use Rattle.script_model.specs.Reading.{Refusal, SyntaxAt, LimitAt, Opening, EachBlock, WhenBlock, HandlerBlock, Frame, State, put_in, put, block_before, is_block, opened, open_block, open_handler, closed, close_in, placed, standing, step, steps}
 use Rattle.script_text.specs.Phrases.{action_words, condition_words}
 use Rattle.script_text.specs.NumberedLines.{NumberedLine, numbered, end_line, command_lines, block_lines, item_lines, items_lines}
-use Rattle.script_text.specs.WellFormed.{IsCommand, IsBlock, IsItem, AreItems, command_depth, block_depth, item_depth, items_depth, AreNew}
+use Rattle.script_text.specs.WellFormed.{IsAction, IsCommand, IsBlock, IsItem, AreItems, command_depth, block_depth, item_depth, items_depth, AreNew}
 use Rattle.script_text.proofs.LineWords.{line_of, States}
 use Rattle.script_text.proofs.LinesSay.{action_states, each_states, when_states, end_states, tick_states, handler_states}
 
-abbrev pub state : List Frame → List Item → List (List ℕ) → State
-state frames items names = record { frames = frames; items = items; names = names }
+abbrev pub state : Version → List Frame → List Item → List (List ℕ) → State
+state version frames items names = record { version = version; frames = frames; items = items; names = names }
 
 abbrev pub blocks : List Frame → ℕ
 blocks frames = count_by (λ frame. is_block frame.opening) frames
@@ -63,95 +64,100 @@ opens line opening s h = ap (λ b. cond b (Ok (opened line opening s)) (Err (Lim
 abbrev pub frame : ℕ → Opening → List Command → Frame
 frame line opening commands = record { line = line; opening = opening; commands = commands }
 
-opened_is : (line : ℕ) (opening : Opening) (frames : List Frame) (items : List Item) (names : List (List ℕ))
-    → opened line opening (state frames items names) ≡ state (frame line opening [] ∷ frames) items names
+opened_is : (version : Version) (line : ℕ) (opening : Opening) (frames : List Frame) (items : List Item) (names : List (List ℕ))
+    → opened line opening (state version frames items names) ≡ state version (frame line opening [] ∷ frames) items names
 unfolding opened
-opened_is line opening frames items names = refl
+opened_is version line opening frames items names = refl
 
-open_each : (line : ℕ) (frames : List Frame) (items : List Item) (names : List (List ℕ)) → blocks frames < 16
-    → placed line OpensEach (state frames items names) ≡ Ok (state (frame line EachBlock [] ∷ frames) items names)
+open_each : (version : Version) (line : ℕ) (frames : List Frame) (items : List Item) (names : List (List ℕ)) → blocks frames < 16
+    → placed line OpensEach (state version frames items names) ≡ Ok (state version (frame line EachBlock [] ∷ frames) items names)
 unfolding placed
-open_each line frames items names h = opens line EachBlock (state frames items names) h ∙ ap (λ (s : State). Ok s) (opened_is line EachBlock frames items names)
+open_each version line frames items names h = opens line EachBlock (state version frames items names) h ∙ ap (λ (s : State). Ok s) (opened_is version line EachBlock frames items names)
 
-open_when : (line : ℕ) (condition : Condition) (frames : List Frame) (items : List Item) (names : List (List ℕ)) → blocks frames < 16
-    → placed line (OpensWhen condition) (state frames items names) ≡ Ok (state (frame line (WhenBlock condition) [] ∷ frames) items names)
+open_when : (version : Version) (line : ℕ) (condition : Condition) (frames : List Frame) (items : List Item) (names : List (List ℕ)) → blocks frames < 16
+    → placed line (OpensWhen condition) (state version frames items names) ≡ Ok (state version (frame line (WhenBlock condition) [] ∷ frames) items names)
 unfolding placed
-open_when line condition frames items names h =
-    opens line (WhenBlock condition) (state frames items names) h ∙ ap (λ (s : State). Ok s) (opened_is line (WhenBlock condition) frames items names)
+open_when version line condition frames items names h =
+    opens line (WhenBlock condition) (state version frames items names) h ∙ ap (λ (s : State). Ok s) (opened_is version line (WhenBlock condition) frames items names)
 
-close_each : (line last : ℕ) (block : Block) (frames : List Frame) (items : List Item) (names : List (List ℕ))
-    → placed last Ends (state (frame line EachBlock (added block []) ∷ frames) items names) ≡ Ok (put (Each line block last) (state frames items names))
+close_each : (version : Version) (line last : ℕ) (block : Block) (frames : List Frame) (items : List Item) (names : List (List ℕ))
+    → placed last Ends (state version (frame line EachBlock (added block []) ∷ frames) items names) ≡ Ok (put (Each line block last) (state version frames items names))
 unfolding placed close_in closed block_before
-close_each line last block frames items names = ap (λ (b : Block). Ok (put (Each line b last) (state frames items names))) (added_before block [])
+close_each version line last block frames items names = ap (λ (b : Block). Ok (put (Each line b last) (state version frames items names))) (added_before block [])
 
-close_when : (line last : ℕ) (condition : Condition) (block : Block) (frames : List Frame) (items : List Item) (names : List (List ℕ))
-    → placed last Ends (state (frame line (WhenBlock condition) (added block []) ∷ frames) items names) ≡ Ok (put (When line condition block last) (state frames items names))
+close_when : (version : Version) (line last : ℕ) (condition : Condition) (block : Block) (frames : List Frame) (items : List Item) (names : List (List ℕ))
+    → placed last Ends (state version (frame line (WhenBlock condition) (added block []) ∷ frames) items names) ≡ Ok (put (When line condition block last) (state version frames items names))
 unfolding placed close_in closed block_before
-close_when line last condition block frames items names = ap (λ (b : Block). Ok (put (When line condition b last) (state frames items names))) (added_before block [])
+close_when version line last condition block frames items names = ap (λ (b : Block). Ok (put (When line condition b last) (state version frames items names))) (added_before block [])
 
-close_handler : (line last : ℕ) (name : List ℕ) (block : Block) (items : List Item) (names : List (List ℕ))
-    → placed last Ends (state (frame line (HandlerBlock name) (added block []) ∷ []) items names) ≡ Ok (state [] (Handler line name block last ∷ items) names)
+close_handler : (version : Version) (line last : ℕ) (name : List ℕ) (block : Block) (items : List Item) (names : List (List ℕ))
+    → placed last Ends (state version (frame line (HandlerBlock name) (added block []) ∷ []) items names) ≡ Ok (state version [] (Handler line name block last ∷ items) names)
 unfolding placed close_in closed block_before
-close_handler line last name block items names = ap (λ (b : Block). Ok (state [] (Handler line name b last ∷ items) names)) (added_before block [])
+close_handler version line last name block items names = ap (λ (b : Block). Ok (state version [] (Handler line name b last ∷ items) names)) (added_before block [])
 
-inside : (f : Frame) (fs : List Frame) (items : List Item) (names : List (List ℕ)) → standing (state (f ∷ fs) items names) ≡ record { outside = false; names = names }
+inside : (version : Version) (f : Frame) (fs : List Frame) (items : List Item) (names : List (List ℕ)) → standing (state version (f ∷ fs) items names) ≡ record { version = version; outside = false; names = names }
 unfolding standing is_empty
-inside f fs items names = refl
+inside version f fs items names = refl
 
-outside : (items : List Item) (names : List (List ℕ)) → standing (state [] items names) ≡ record { outside = true; names = names }
+outside : (version : Version) (items : List Item) (names : List (List ℕ)) → standing (state version [] items names) ≡ record { version = version; outside = true; names = names }
 unfolding standing is_empty
-outside items names = refl
+outside version items names = refl
 
-ends_here : (f : Frame) (fs : List Frame) (items : List Item) (names : List (List ℕ)) (last : ℕ) → States (standing (state (f ∷ fs) items names)) (end_line last) Ends
-ends_here f fs items names last = subst (λ (place : Standing). States place (end_line last) Ends) (sym (inside f fs items names)) (end_states names last)
+ends_here : (version : Version) (f : Frame) (fs : List Frame) (items : List Item) (names : List (List ℕ)) (last : ℕ) → States (standing (state version (f ∷ fs) items names)) (end_line last) Ends
+ends_here version f fs items names last = subst (λ (place : Standing). States place (end_line last) Ends) (sym (inside version f fs items names)) (end_states version names last)
 
 does_step : (line : ℕ) (action : Action) (s : State) → placed line (Does action) s ≡ Ok (put (Simple line action) s)
 unfolding placed
 does_step line action s = refl
 
-pub put_inside : (f : Frame) (fs : List Frame) (items : List Item) (names : List (List ℕ)) (command : Command)
-    → put command (state (f ∷ fs) items names) ≡ state (frame f.line f.opening (command ∷ f.commands) ∷ fs) items names
+pub put_inside : (version : Version) (f : Frame) (fs : List Frame) (items : List Item) (names : List (List ℕ)) (command : Command)
+    → put command (state version (f ∷ fs) items names) ≡ state version (frame f.line f.opening (command ∷ f.commands) ∷ fs) items names
 unfolding put put_in
-put_inside f fs items names command = refl
+put_inside version f fs items names command = refl
 
-pub put_outside : (items : List Item) (names : List (List ℕ)) (command : Command) → put command (state [] items names) ≡ state [] (Outside command ∷ items) names
+pub put_outside : (version : Version) (items : List Item) (names : List (List ℕ)) (command : Command) → put command (state version [] items names) ≡ state version [] (Outside command ∷ items) names
 unfolding put put_in
-put_outside items names command = refl
+put_outside version items names command = refl
+
+action_there : (version : Version) (frames : List Frame) (items : List Item) (names : List (List ℕ)) (line : ℕ) (action : Action) → IsAction version action
+    → States (standing (state version frames items names)) (numbered line (action_words action)) (Does action)
+unfolding standing
+action_there version frames items names line action h = action_states (standing (state version frames items names)) line action h
 
 mutual
   unfolding command_lines block_lines IsCommand IsBlock command_depth block_depth added
 
-  command_read : (command : Command) → IsCommand command → (frames : List Frame) (items : List Item) (names : List (List ℕ)) → blocks frames + command_depth command ≤ 16 → (rest : List Line)
-      → steps (state frames items names) (map line_of (command_lines command) ++ rest) ≡ steps (put command (state frames items names)) rest
-  command_read (Simple line action) h frames items names deep rest =
-      one_step (state frames items names) (put (Simple line action) (state frames items names)) (numbered line (action_words action)) (Does action)
-      (action_states (standing (state frames items names)) line action h) (does_step line action (state frames items names)) rest
-  command_read (Each line block last) h frames items names deep rest =
+  command_read : (version : Version) (command : Command) → IsCommand version command → (frames : List Frame) (items : List Item) (names : List (List ℕ)) → blocks frames + command_depth command ≤ 16 → (rest : List Line)
+      → steps (state version frames items names) (map line_of (command_lines command) ++ rest) ≡ steps (put command (state version frames items names)) rest
+  command_read version (Simple line action) h frames items names deep rest =
+      one_step (state version frames items names) (put (Simple line action) (state version frames items names)) (numbered line (action_words action)) (Does action)
+      (action_there version frames items names line action h) (does_step line action (state version frames items names)) rest
+  command_read version (Each line block last) h frames items names deep rest =
       let f : List Command → Frame = λ commands. frame line EachBlock commands in
-      one_step (state frames items names) (state (f [] ∷ frames) items names) (numbered line (codes "each" ∷ [])) OpensEach
-      (each_states (standing (state frames items names)) line) (open_each line frames items names (omega arith)) (map line_of (block_lines block ++ (end_line last ∷ [])) ++ rest)
-      ∙ ap (steps (state (f [] ∷ frames) items names)) (lines_append (block_lines block) (end_line last ∷ []) rest)
-      ∙ block_read block h line EachBlock [] frames items names (omega (arith, each_counts line [] frames)) (line_of (end_line last) ∷ rest)
-      ∙ one_step (state (f (added block []) ∷ frames) items names) (put (Each line block last) (state frames items names)) (end_line last) Ends
-      (ends_here (f (added block [])) frames items names last) (close_each line last block frames items names) rest
-  command_read (When line condition block last) h frames items names deep rest =
+      one_step (state version frames items names) (state version (f [] ∷ frames) items names) (numbered line (codes "each" ∷ [])) OpensEach
+      (each_states (standing (state version frames items names)) line) (open_each version line frames items names (omega arith)) (map line_of (block_lines block ++ (end_line last ∷ [])) ++ rest)
+      ∙ ap (steps (state version (f [] ∷ frames) items names)) (lines_append (block_lines block) (end_line last ∷ []) rest)
+      ∙ block_read version block h line EachBlock [] frames items names (omega (arith, each_counts line [] frames)) (line_of (end_line last) ∷ rest)
+      ∙ one_step (state version (f (added block []) ∷ frames) items names) (put (Each line block last) (state version frames items names)) (end_line last) Ends
+      (ends_here version (f (added block [])) frames items names last) (close_each version line last block frames items names) rest
+  command_read version (When line condition block last) h frames items names deep rest =
       let f : List Command → Frame = λ commands. frame line (WhenBlock condition) commands in
-      one_step (state frames items names) (state (f [] ∷ frames) items names) (numbered line (codes "when" ∷ condition_words condition)) (OpensWhen condition)
-      (when_states (standing (state frames items names)) line condition h.0) (open_when line condition frames items names (omega arith)) (map line_of (block_lines block ++ (end_line last ∷ [])) ++ rest)
-      ∙ ap (steps (state (f [] ∷ frames) items names)) (lines_append (block_lines block) (end_line last ∷ []) rest)
-      ∙ block_read block h.1 line (WhenBlock condition) [] frames items names (omega (arith, when_counts line condition [] frames)) (line_of (end_line last) ∷ rest)
-      ∙ one_step (state (f (added block []) ∷ frames) items names) (put (When line condition block last) (state frames items names)) (end_line last) Ends
-      (ends_here (f (added block [])) frames items names last) (close_when line last condition block frames items names) rest
+      one_step (state version frames items names) (state version (f [] ∷ frames) items names) (numbered line (codes "when" ∷ condition_words condition)) (OpensWhen condition)
+      (when_states (standing (state version frames items names)) line condition h.0) (open_when version line condition frames items names (omega arith)) (map line_of (block_lines block ++ (end_line last ∷ [])) ++ rest)
+      ∙ ap (steps (state version (f [] ∷ frames) items names)) (lines_append (block_lines block) (end_line last ∷ []) rest)
+      ∙ block_read version block h.1 line (WhenBlock condition) [] frames items names (omega (arith, when_counts line condition [] frames)) (line_of (end_line last) ∷ rest)
+      ∙ one_step (state version (f (added block []) ∷ frames) items names) (put (When line condition block last) (state version frames items names)) (end_line last) Ends
+      (ends_here version (f (added block [])) frames items names last) (close_when version line last condition block frames items names) rest
 
-  block_read : (block : Block) → IsBlock block → (line : ℕ) (opening : Opening) (commands : List Command) (frames : List Frame) (items : List Item) (names : List (List ℕ))
+  block_read : (version : Version) (block : Block) → IsBlock version block → (line : ℕ) (opening : Opening) (commands : List Command) (frames : List Frame) (items : List Item) (names : List (List ℕ))
       → blocks (frame line opening commands ∷ frames) + block_depth block ≤ 16 → (rest : List Line)
-      → steps (state (frame line opening commands ∷ frames) items names) (map line_of (block_lines block) ++ rest) ≡ steps (state (frame line opening (added block commands) ∷ frames) items names) rest
-  block_read NoMore h line opening commands frames items names deep rest = refl
-  block_read (Then command others) h line opening commands frames items names deep rest =
-      ap (steps (state (frame line opening commands ∷ frames) items names)) (lines_append (command_lines command) (block_lines others) rest)
-      ∙ command_read command h.0 (frame line opening commands ∷ frames) items names (omega arith) (map line_of (block_lines others) ++ rest)
-      ∙ ap (λ (s : State). steps s (map line_of (block_lines others) ++ rest)) (put_inside (frame line opening commands) frames items names command)
-      ∙ block_read others h.1 line opening (command ∷ commands) frames items names (omega arith) rest
+      → steps (state version (frame line opening commands ∷ frames) items names) (map line_of (block_lines block) ++ rest) ≡ steps (state version (frame line opening (added block commands) ∷ frames) items names) rest
+  block_read version NoMore h line opening commands frames items names deep rest = refl
+  block_read version (Then command others) h line opening commands frames items names deep rest =
+      ap (steps (state version (frame line opening commands ∷ frames) items names)) (lines_append (command_lines command) (block_lines others) rest)
+      ∙ command_read version command h.0 (frame line opening commands ∷ frames) items names (omega arith) (map line_of (block_lines others) ++ rest)
+      ∙ ap (λ (s : State). steps s (map line_of (block_lines others) ++ rest)) (put_inside version (frame line opening commands) frames items names command)
+      ∙ block_read version others h.1 line opening (command ∷ commands) frames items names (omega arith) rest
 
 -- Items.
 
@@ -161,19 +167,19 @@ named (Outside command) names = names
 named (Tick line time) names = names
 named (Handler line name block last) names = name ∷ names
 
-outside_says : (items : List Item) (names : List (List ℕ)) (l : NumberedLine) (statement : Statement)
-    → States (record { outside = true; names = names }) l statement → States (standing (state [] items names)) l statement
-outside_says items names l statement h = subst (λ (place : Standing). States place l statement) (sym (outside items names)) h
+outside_says : (version : Version) (items : List Item) (names : List (List ℕ)) (l : NumberedLine) (statement : Statement)
+    → States (record { version = version; outside = true; names = names }) l statement → States (standing (state version [] items names)) l statement
+outside_says version items names l statement h = subst (λ (place : Standing). States place l statement) (sym (outside version items names)) h
 
-ticks_step : (line time : ℕ) (items : List Item) (names : List (List ℕ)) → placed line (Ticks time) (state [] items names) ≡ Ok (state [] (Tick line time ∷ items) names)
+ticks_step : (version : Version) (line time : ℕ) (items : List Item) (names : List (List ℕ)) → placed line (Ticks time) (state version [] items names) ≡ Ok (state version [] (Tick line time ∷ items) names)
 unfolding placed
-ticks_step line time items names = refl
+ticks_step version line time items names = refl
 
-handler_step : (line : ℕ) (name : List ℕ) (items : List Item) (names : List (List ℕ)) → length names < 4096
-    → placed line (OpensHandler name) (state [] items names) ≡ Ok (state (frame line (HandlerBlock name) [] ∷ []) items (name ∷ names))
+handler_step : (version : Version) (line : ℕ) (name : List ℕ) (items : List Item) (names : List (List ℕ)) → length names < 4096
+    → placed line (OpensHandler name) (state version [] items names) ≡ Ok (state version (frame line (HandlerBlock name) [] ∷ []) items (name ∷ names))
 unfolding placed open_handler opened
-handler_step line name items names h =
-    ap (λ b. cond b (Ok (state (frame line (HandlerBlock name) [] ∷ []) items (name ∷ names))) (Err (LimitAt limits.Handlers line))) (lt-ltb (length names) 4096 h)
+handler_step version line name items names h =
+    ap (λ b. cond b (Ok (state version (frame line (HandlerBlock name) [] ∷ []) items (name ∷ names))) (Err (LimitAt limits.Handlers line))) (lt-ltb (length names) 4096 h)
 
 -- what an item's handlers want
 abbrev MayStand : List (List ℕ) → Item → Type 0
@@ -181,23 +187,23 @@ MayStand names (Outside command) = Unit {0}
 MayStand names (Tick line time) = Unit {0}
 MayStand names (Handler line name block last) = (list_any (bytes_eq name) names ≡ false) × (length names < 4096)
 
-item_read : (item : Item) → IsItem item → item_depth item ≤ 16 → (items : List Item) (names : List (List ℕ)) → MayStand names item → (rest : List Line)
-    → steps (state [] items names) (map line_of (item_lines item) ++ rest) ≡ steps (state [] (item ∷ items) (named item names)) rest
+item_read : (version : Version) (item : Item) → IsItem version item → item_depth item ≤ 16 → (items : List Item) (names : List (List ℕ)) → MayStand names item → (rest : List Line)
+    → steps (state version [] items names) (map line_of (item_lines item) ++ rest) ≡ steps (state version [] (item ∷ items) (named item names)) rest
 unfolding item_lines IsItem item_depth named added
-item_read (Outside command) h deep items names may rest =
+item_read version (Outside command) h deep items names may rest =
     let few : 0 + command_depth command ≤ 16 = omega (arith, deep) in
-    command_read command h [] items names few rest ∙ ap (λ (s : State). steps s rest) (put_outside items names command)
-item_read (Tick line time) h deep items names may rest =
-    one_step (state [] items names) (state [] (Tick line time ∷ items) names) (numbered line (codes "tick" ∷ decimal time ∷ [])) (Ticks time)
-    (outside_says items names _ (Ticks time) (tick_states names line time h)) (ticks_step line time items names) rest
-item_read (Handler line name block last) h deep items names may rest =
+    command_read version command h [] items names few rest ∙ ap (λ (s : State). steps s rest) (put_outside version items names command)
+item_read version (Tick line time) h deep items names may rest =
+    one_step (state version [] items names) (state version [] (Tick line time ∷ items) names) (numbered line (codes "tick" ∷ decimal time ∷ [])) (Ticks time)
+    (outside_says version items names _ (Ticks time) (tick_states version names line time h)) (ticks_step version line time items names) rest
+item_read version (Handler line name block last) h deep items names may rest =
     let f : List Command → Frame = λ commands. frame line (HandlerBlock name) commands in
-    one_step (state [] items names) (state (f [] ∷ []) items (name ∷ names)) (numbered line (codes "handler" ∷ name ∷ [])) (OpensHandler name)
-    (outside_says items names _ (OpensHandler name) (handler_states names line name h.0 may.0)) (handler_step line name items names may.1) (map line_of (block_lines block ++ (end_line last ∷ [])) ++ rest)
-    ∙ ap (steps (state (f [] ∷ []) items (name ∷ names))) (lines_append (block_lines block) (end_line last ∷ []) rest)
-    ∙ block_read block h.1 line (HandlerBlock name) [] [] items (name ∷ names) (omega (arith, handler_counts line name [] [])) (line_of (end_line last) ∷ rest)
-    ∙ one_step (state (f (added block []) ∷ []) items (name ∷ names)) (state [] (Handler line name block last ∷ items) (name ∷ names)) (end_line last) Ends
-    (ends_here (f (added block [])) [] items (name ∷ names) last) (close_handler line last name block items (name ∷ names)) rest
+    one_step (state version [] items names) (state version (f [] ∷ []) items (name ∷ names)) (numbered line (codes "handler" ∷ name ∷ [])) (OpensHandler name)
+    (outside_says version items names _ (OpensHandler name) (handler_states version names line name h.0 may.0)) (handler_step version line name items names may.1) (map line_of (block_lines block ++ (end_line last ∷ [])) ++ rest)
+    ∙ ap (steps (state version (f [] ∷ []) items (name ∷ names))) (lines_append (block_lines block) (end_line last ∷ []) rest)
+    ∙ block_read version block h.1 line (HandlerBlock name) [] [] items (name ∷ names) (omega (arith, handler_counts line name [] [])) (line_of (end_line last) ∷ rest)
+    ∙ one_step (state version (f (added block []) ∷ []) items (name ∷ names)) (state version [] (Handler line name block last ∷ items) (name ∷ names)) (end_line last) Ends
+    (ends_here version (f (added block [])) [] items (name ∷ names) last) (close_handler version line last name block items (name ∷ names)) rest
 
 -- items before those that were read, the last one first
 onto : List Item → List Item → List Item
@@ -219,14 +225,14 @@ may_all (Outside command ∷ is) names new few = (tt, may_all is names new few)
 may_all (Tick line time ∷ is) names new few = (tt, may_all is names new few)
 may_all (Handler line name block last ∷ is) names new few = ((new.0, omega arith), may_all is (name ∷ names) new.1 (omega arith))
 
-items_read : (is : List Item) → AreItems is → items_depth is ≤ 16 → (items : List Item) (names : List (List ℕ)) → MayAll names is
-    → steps (state [] items names) (map line_of (items_lines is) ++ []) ≡ Ok (state [] (onto is items) (all_named is names))
+items_read : (version : Version) (is : List Item) → AreItems version is → items_depth is ≤ 16 → (items : List Item) (names : List (List ℕ)) → MayAll names is
+    → steps (state version [] items names) (map line_of (items_lines is) ++ []) ≡ Ok (state version [] (onto is items) (all_named is names))
 unfolding items_lines AreItems items_depth MayAll onto all_named steps
-items_read [] h deep items names may = refl
-items_read (i ∷ is) h deep items names may =
-    ap (steps (state [] items names)) (lines_append (item_lines i) (items_lines is) [])
-    ∙ item_read i h.0 (omega arith) items names may.0 (map line_of (items_lines is) ++ [])
-    ∙ items_read is h.1 (omega arith) (i ∷ items) (named i names) may.1
+items_read version [] h deep items names may = refl
+items_read version (i ∷ is) h deep items names may =
+    ap (steps (state version [] items names)) (lines_append (item_lines i) (items_lines is) [])
+    ∙ item_read version i h.0 (omega arith) items names may.0 (map line_of (items_lines is) ++ [])
+    ∙ items_read version is h.1 (omega arith) (i ∷ items) (named i names) may.1
 
 onto_reversed : (is items : List Item) → reverse (onto is items) ≡ reverse items ++ is
 unfolding onto
@@ -235,16 +241,16 @@ onto_reversed (i ∷ is) items =
     onto_reversed is (i ∷ items) ∙ ap (λ (xs : List Item). xs ++ is) (reverse-append (i ∷ []) items) ∙ append_assoc (reverse items) (i ∷ []) is
 
 -- what the lines of items are read as
-pub record AllRead (items : List Item) : Type 0 where
+pub record AllRead (version : Version) (items : List Item) : Type 0 where
   pub reversed : List Item
   pub names : List (List ℕ)
-  pub read : steps (state [] [] []) (map line_of (items_lines items)) ≡ Ok (state [] reversed names)
+  pub read : steps (state version [] [] []) (map line_of (items_lines items)) ≡ Ok (state version [] reversed names)
   pub same : reverse reversed ≡ items
 
-pub all_read : (items : List Item) → AreItems items → items_depth items ≤ 16 → MayAll [] items → AllRead items
-all_read items h deep may = record {
+pub all_read : (version : Version) (items : List Item) → AreItems version items → items_depth items ≤ 16 → MayAll [] items → AllRead version items
+all_read version items h deep may = record {
   reversed = onto items [];
   names = all_named items [];
-  read = ap (steps (state [] [] [])) (sym (append-nil (map line_of (items_lines items)))) ∙ items_read items h deep [] [] may;
+  read = ap (steps (state version [] [] [])) (sym (append-nil (map line_of (items_lines items)))) ∙ items_read version items h deep [] [] may;
   same = onto_reversed items [];
 }

@@ -7,6 +7,7 @@ use Rattle.std.proofs.lemmas.Bool.Decides.{nat_tests}
 use Rattle.std.proofs.lemmas.List.{take_all}
 use Rattle.std.proofs.Math.Seq.{drop-append_seam}
 use Rattle.word_model.specs.Numbers.{begins_with}
+use Rattle.text_io.specs.declared.kinds.Version.{Version}
 use Rattle.script_model.specs.Queries.{Feature, WidthFeature, HeightFeature, OrientationFeature, MediaQuery, Typed, NotFeature, AllFeatures, AnyFeatures}
 use Rattle.script_model.specs.Readers.{◌>>=◌, with_fault}
 use Rattle.script_model.specs.Lexing.{Word}
@@ -25,7 +26,7 @@ use Rattle.script_text.specs.WellFormed.{IsFeature, AreFeatures, IsQuery, AreQue
 use Rattle.script_text.proofs.WordBytes.{IsWord, as_word, is_quiet, all_bytes, name_word}
 use Rattle.script_text.proofs.WordsAgain.{name_again}
 use Rattle.script_text.proofs.PartsAgain.{row, word_read, stands}
-use Rattle.script_text.proofs.StatementsAgain.{action_behind}
+use Rattle.script_text.proofs.StatementsAgain.{IsKnown, action_behind}
 use Rattle.script_model.proofs.Runs.{skips, joins}
 use Rattle.script_text.proofs.LineWords.{word_spaced, comment_behind, IsLine, spaced_on, line_of, States}
 use Rattle.script_text.proofs.QueryBytes.{Clean, list_clean}
@@ -244,11 +245,11 @@ row_bytes name document queries clean =
     let long = words_end name document queries clean in
     take_all (after_words 1 (words_with name document (runs_from (start name document) queries)) - 1) (query_text name document queries) (omega arith)
 
-media_says : (standing : Standing) (name document : List ℕ) (list : List MediaQuery) → IsWord name → IsWord document → name_of name ≡ Some name → name_of document ≡ Some document
+media_says : (standing : Standing) (name document : List ℕ) (list : List MediaQuery) → IsKnown standing.version (MakeQueryList name document list) → IsWord name → IsWord document → name_of name ≡ Some name → name_of document ≡ Some document
     → query_list (list_text list) ≡ Ok list → Clean (list_text list)
     → statement_of standing (row_of (words_of (query_text name document (list_text list))) (query_text name document (list_text list))) ≡ Ok (Does (MakeQueryList name document list))
 unfolding row_of
-media_says standing name document list name_is document_is named documented read clean =
+media_says standing name document list known name_is document_is named documented read clean =
     let queries : List ℕ = list_text list in
     let text : List ℕ = query_text name document queries in
     let rest : List Word = runs_from (start name document) queries in
@@ -263,22 +264,23 @@ media_says standing name document list name_is document_is named documented read
     ap (λ (ws : List Word). query_as (row ws after text)) rest_is ∙ queries_read list queries read first.word first.others after text behind in
     ap (λ (ws : List Word). statement_of standing (row_of ws text)) (line_words name document queries name_is document_is clean)
     ∙ ap (λ (bytes : List ℕ). statement_of standing (row words after bytes)) (row_bytes name document queries clean)
-    ∙ action_behind standing (MakeQueryList name document list) 1 (record { column = 7; text = name } ∷ record { column = 7 + length name + 1; text = document } ∷ rest) after text
+    ∙ action_behind standing (MakeQueryList name document list) known 1 (record { column = 7; text = name } ∷ record { column = 7 + length name + 1; text = document } ∷ rest) after text
     (parts_read name document list rest after text named documented taken MakeQueryList)
 
 differ : true ≡ false → ⊥
 differ e = cc
 
-pub query_line : (action : Action) → stands (action_at (action_head action)) ≡ false → AreMeant (action_parts action) → IsLine (line_text (action_words action))
-query_line (MakeQueryList name document list) e h =
+pub query_line : (version : Version) (action : Action) → stands (action_at version (action_head version action)) ≡ false → AreMeant (action_parts version action) → IsLine (line_text (action_words action))
+query_line version (MakeQueryList name document list) e h =
     subst IsLine (sym (text_is name document (list_text list)))
     (text_line name document (list_text list) (name_word name h.0) (name_word document h.1.0) (list_read list h.1.1.0).1)
-query_line action e h = absurd (differ e)
+query_line version action e h = absurd (differ e)
 
-pub query_states : (standing : Standing) (number : ℕ) (action : Action) → stands (action_at (action_head action)) ≡ false → AreMeant (action_parts action) → States standing (numbered number (action_words action)) (Does action)
+pub query_states : (standing : Standing) (number : ℕ) (action : Action) → IsKnown standing.version action → stands (action_at standing.version (action_head standing.version action)) ≡ false
+    → AreMeant (action_parts standing.version action) → States standing (numbered number (action_words action)) (Does action)
 unfolding line_of
-query_states standing number (MakeQueryList name document list) e h =
+query_states standing number (MakeQueryList name document list) known e h =
     let again = list_read list h.1.1.0 in
     ap (λ (text : List ℕ). statement_of standing (row_of (words_of text) text)) (text_is name document (list_text list))
-    ∙ media_says standing name document list (name_word name h.0) (name_word document h.1.0) (name_again name h.0).read (name_again document h.1.0).read again.0 again.1
-query_states standing number action e h = absurd (differ e)
+    ∙ media_says standing name document list known (name_word name h.0) (name_word document h.1.0) (name_again name h.0).read (name_again document h.1.0).read again.0 again.1
+query_states standing number action known e h = absurd (differ e)

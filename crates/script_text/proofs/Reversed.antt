@@ -3,6 +3,7 @@ use Rattle.std.proofs.Common.{◌≡◌, ◌∙◌, refl, sym, ap, ℕ, ◌≤�
 use Rattle.std.specs.Prelude.{reverse, bytes_eq}
 use Rattle.std.specs.List.{list_any}
 use Rattle.std.proofs.lemmas.List.{reverse-append}
+use Rattle.text_io.specs.declared.kinds.Version.{Version}
 use Rattle.script_model.specs.Syntax.{Item, Outside, Tick, Handler}
 use Rattle.script_model.specs.Scripts.{NamedBlock, handlers_in}
 use Rattle.script_text.specs.NumberedLines.{NumberedLine, item_lines, items_lines}
@@ -17,10 +18,10 @@ items_one_more [] i = append-nil (item_lines i)
 items_one_more (j ∷ js) i =
     ap (λ (ls : List NumberedLine). item_lines j ++ ls) (items_one_more js i) ∙ sym (append_assoc (item_lines j) (items_lines js) (item_lines i))
 
-good_one_more : (is : List Item) (i : Item) → AreItems is → IsItem i → AreItems (is ++ (i ∷ []))
+good_one_more : (version : Version) (is : List Item) (i : Item) → AreItems version is → IsItem version i → AreItems version (is ++ (i ∷ []))
 unfolding AreItems
-good_one_more [] i h k = (k, tt)
-good_one_more (j ∷ js) i h k = (h.0, good_one_more js i h.1 k)
+good_one_more version [] i h k = (k, tt)
+good_one_more version (j ∷ js) i h k = (h.0, good_one_more version js i h.1 k)
 
 deep_one_more : (is : List Item) (i : Item) → items_depth (is ++ (i ∷ [])) ≡ max (items_depth is) (item_depth i)
 unfolding items_depth
@@ -79,38 +80,38 @@ differ_behind (Tick line time) names k = k
 differ_behind (Handler line name block last) names k = k.1
 
 -- What holds of kept items holds of them in their order.
-pub record IsInOrder (kept items : List Item) : Type 0 where
+pub record IsInOrder (version : Version) (kept items : List Item) : Type 0 where
   pub lines : items_lines items ≡ kept_lines kept
-  pub meant : AreItems items
+  pub meant : AreItems version items
   pub nested : items_depth items ≤ 16
   pub new : AreNew [] (handlers_in items)
   pub count : length (handlers_in items) ≡ length (kept_names kept)
 
-record IsReversed (kept items : List Item) : Type 0 where
+record IsReversed (version : Version) (kept items : List Item) : Type 0 where
   lines : items_lines items ≡ kept_lines kept
-  meant : AreItems items
+  meant : AreItems version items
   nested : items_depth items ≤ 16
   handlers : AreHandlers (handlers_in items) (kept_names kept)
 
-one_reversed : (i : Item) (kept items : List Item) → IsKept i → Differ (kept_names (i ∷ kept)) → IsReversed kept items → IsReversed (i ∷ kept) (items ++ (i ∷ []))
-one_reversed i kept items is differ are = record {
+one_reversed : (version : Version) (i : Item) (kept items : List Item) → IsKept version i → Differ (kept_names (i ∷ kept)) → IsReversed version kept items → IsReversed version (i ∷ kept) (items ++ (i ∷ []))
+one_reversed version i kept items is differ are = record {
   lines = items_one_more items i ∙ ap (λ (ls : List NumberedLine). ls ++ item_lines i) are.lines;
-  meant = good_one_more items i are.meant is.meant;
+  meant = good_one_more version items i are.meant is.meant;
   nested = omega (arith, deep_one_more items i, are.nested, is.nested);
   handlers = subst (λ hs. AreHandlers hs (kept_names (i ∷ kept))) (sym (handlers_one_more items i)) (handlers_more i (handlers_in items) (kept_names kept) are.handlers differ);
 }
 
-none_reversed : IsReversed [] []
+none_reversed : (version : Version) → IsReversed version [] []
 unfolding items_lines AreItems items_depth handlers_in
-none_reversed = record { lines = refl; meant = tt; nested = omega arith; handlers = no_handlers }
+none_reversed version = record { lines = refl; meant = tt; nested = omega arith; handlers = no_handlers }
 
-all_reversed : (kept : List Item) → AreKept kept → Differ (kept_names kept) → IsReversed kept (reverse kept)
-all_reversed [] are differ = none_reversed
-all_reversed (i ∷ is) are differ =
-    subst (IsReversed (i ∷ is)) (sym (reverse-append (i ∷ []) is))
-    (one_reversed i is (reverse is) are.0 differ (all_reversed is are.1 (differ_behind i (kept_names is) differ)))
+all_reversed : (version : Version) (kept : List Item) → AreKept version kept → Differ (kept_names kept) → IsReversed version kept (reverse kept)
+all_reversed version [] are differ = none_reversed version
+all_reversed version (i ∷ is) are differ =
+    subst (IsReversed version (i ∷ is)) (sym (reverse-append (i ∷ []) is))
+    (one_reversed version i is (reverse is) are.0 differ (all_reversed version is are.1 (differ_behind i (kept_names is) differ)))
 
-pub in_order : (kept items : List Item) → AreKept kept → Differ (kept_names kept) → reverse kept ≡ items → IsInOrder kept items
-in_order kept items are differ e =
-    let r : IsReversed kept items = subst (IsReversed kept) e (all_reversed kept are differ) in
+pub in_order : (version : Version) (kept items : List Item) → AreKept version kept → Differ (kept_names kept) → reverse kept ≡ items → IsInOrder version kept items
+in_order version kept items are differ e =
+    let r : IsReversed version kept items = subst (IsReversed version kept) e (all_reversed version kept are differ) in
     record { lines = r.lines; meant = r.meant; nested = r.nested; new = r.handlers.new; count = r.handlers.count }

@@ -2,7 +2,10 @@
 use Rattle.std.proofs.Common.{◌≡◌, ◌∙◌, refl, sym, ap, ℕ, ◌+◌, ◌≤◌, List, [], ◌∷◌, ◌++◌, length, arith, subst, append_assoc, append-nil}
 use Rattle.std.specs.Prelude.{reverse, Result, Ok, Err, codes}
 use Rattle.script_model.specs.Readers.{◌>>=◌, with_fault}
-use Rattle.script_model.specs.Syntax.{Item}
+use Rattle.text_io.specs.declared.kinds.Version.{Version}
+use Rattle.text_io.specs.declared.kinds.Version.TheVariants.{First, Second}
+use Rattle.text_io.specs.Kinds.{version_word}
+use Rattle.script_model.specs.Syntax.{Item, Script}
 use Rattle.script_model.specs.Lexing.{Line, Ending, Whole, BadByte, LongLine}
 use Rattle.script_model.specs.Lines.{words_of, row_of}
 use Rattle.script_model.specs.Statements.{Statement, statement_of, version_as}
@@ -24,10 +27,11 @@ fault_ok seen (Err e) x h = absurd cc
 -- One line.
 
 nothing_follows : (s : State) → IsKeptState s → Follows s [] s
-nothing_follows s is = record { kept = is; lines = sym (append-nil (state_lines s)) }
+nothing_follows s is = record { same = refl; kept = is; lines = sym (append-nil (state_lines s)) }
 
 follow_on : (s t u : State) (l : NumberedLine) (ls : List NumberedLine) → Follows s (l ∷ []) t → Follows t ls u → Follows s (l ∷ ls) u
 follow_on s t u l ls first others = record {
+  same = others.same ∙ first.same;
   kept = others.kept;
   lines = others.lines ∙ ap (λ (ms : List NumberedLine). ms ++ ls) first.lines ∙ append_assoc (state_lines s) (l ∷ []) ls;
 }
@@ -44,7 +48,7 @@ stepped s number line t h is =
     let said : Result Statement ℕ = statement_of (standing s) (row_of (words_of line) line) in
     let b = bind_ok (with_fault (SyntaxAt number) said) (λ statement. placed number statement s) t h in
     let read : StatementRead (standing s) line b.0 = statement_read (standing s) line b.0 (fault_ok (SyntaxAt number) said b.0 b.1) in
-    record { statement = b.0; short = read.short; follows = placed_follows number b.0 s.frames s.items s.names t read.meant b.2 is }
+    record { statement = b.0; short = read.short; follows = placed_follows s.version number b.0 s.frames s.items s.names t read.meant b.2 is }
 
 -- All lines.
 
@@ -84,80 +88,98 @@ IsWhole (BadByte line column) = ⊥
 IsWhole (LongLine line) = ⊥
 
 -- nothing is open at the end of the whole text
-pub record IsFinished (frames : List Frame) (items : List Item) (ending : Ending) (all : List Item) : Type 0 where
+pub record IsFinished (version : Version) (frames : List Frame) (items : List Item) (ending : Ending) (script : Script) : Type 0 where
   pub none_open : frames ≡ []
   pub whole : IsWhole ending
-  pub items_are : reverse items ≡ all
+  pub script_is : ◌≡◌ {A = Script} (record { version = version; items = reverse items }) script
 
-all_finished : (frames : List Frame) (items : List Item) (ending : Ending) (all : List Item) → finished frames items ending ≡ Ok all → IsFinished frames items ending all
+all_finished : (version : Version) (frames : List Frame) (items : List Item) (ending : Ending) (script : Script) → finished version frames items ending ≡ Ok script
+    → IsFinished version frames items ending script
 unfolding finished
-all_finished [] items (Whole next_line) all h = record { none_open = refl; whole = tt; items_are = cc }
-all_finished [] items (BadByte line column) all h = absurd cc
-all_finished [] items (LongLine line) all h = absurd cc
-all_finished (f ∷ fs) items ending all h = absurd cc
+all_finished version [] items (Whole next_line) script h = record { none_open = refl; whole = tt; script_is = cc }
+all_finished version [] items (BadByte line column) script h = absurd cc
+all_finished version [] items (LongLine line) script h = absurd cc
+all_finished version (f ∷ fs) items ending script h = absurd cc
 
-pub record IsReadFrom (l : Line) (ls : List Line) (ending : Ending) (items : List Item) : Type 0 where
-  pub version : version_as l.row ≡ Ok tt
+pub record IsReadFrom (l : Line) (ls : List Line) (ending : Ending) (script : Script) : Type 0 where
+  pub version : Version
+  pub version_is : version_as l.row ≡ Ok version
   pub last : State
-  pub steps_are : steps nothing_read ls ≡ Ok last
-  pub finishes : IsFinished last.frames last.items ending items
+  pub steps_are : steps (nothing_read version) ls ≡ Ok last
+  pub finishes : IsFinished last.version last.frames last.items ending script
 
-pub line_read : (l : Line) (ls : List Line) (ending : Ending) (items : List Item) → read_lines (l ∷ ls) ending ≡ Ok items → IsReadFrom l ls ending items
+pub line_read : (l : Line) (ls : List Line) (ending : Ending) (script : Script) → read_lines (l ∷ ls) ending ≡ Ok script → IsReadFrom l ls ending script
 unfolding read_lines
-line_read l ls ending items h =
-    let version = bind_ok (with_fault (SyntaxAt l.number) (version_as l.row)) (λ version. steps nothing_read ls >>= λ s. finished s.frames s.items ending) items h in
-    let last = bind_ok (steps nothing_read ls) (λ s. finished s.frames s.items ending) items version.2 in
+line_read l ls ending script h =
+    let version = bind_ok (with_fault (SyntaxAt l.number) (version_as l.row)) (λ version. steps (nothing_read version) ls >>= λ s. finished s.version s.frames s.items ending) script h in
+    let last = bind_ok (steps (nothing_read version.0) ls) (λ s. finished s.version s.frames s.items ending) script version.2 in
     record {
-      version = fault_ok (SyntaxAt l.number) (version_as l.row) tt version.1;
+      version = version.0;
+      version_is = fault_ok (SyntaxAt l.number) (version_as l.row) version.0 version.1;
       last = last.0;
       steps_are = last.1;
-      finishes = all_finished last.0.frames last.0.items ending items last.2;
+      finishes = all_finished last.0.version last.0.frames last.0.items ending script last.2;
     }
 
-pub nothing_is_read : (ending : Ending) (items : List Item) → read_lines [] ending ≡ Ok items → ⊥
+pub nothing_is_read : (ending : Ending) (script : Script) → read_lines [] ending ≡ Ok script → ⊥
 unfolding read_lines
-nothing_is_read ending items h = cc
+nothing_is_read ending script h = cc
 
 -- a text that is read is whole
-pub read_whole : (ls : List Line) (ending : Ending) (items : List Item) → read_lines ls ending ≡ Ok items → IsWhole ending
-read_whole [] ending items h = absurd (nothing_is_read ending items h)
-read_whole (l ∷ ls) ending items h = (line_read l ls ending items h).finishes.whole
+pub read_whole : (ls : List Line) (ending : Ending) (script : Script) → read_lines ls ending ≡ Ok script → IsWhole ending
+read_whole [] ending script h = absurd (nothing_is_read ending script h)
+read_whole (l ∷ ls) ending script h = (line_read l ls ending script h).finishes.whole
 
 -- The first line with words, and those behind it.
 
-pub record AreRead (number : ℕ) (ts : List TextLine) (items : List Item) : Type 0 where
+-- the line that names a version
+abbrev pub version_line : ℕ → Version → NumberedLine
+version_line number version = numbered number (codes "script" ∷ version_word version ∷ [])
+
+-- a state in which nothing is open
+abbrev pub at_end : Version → List Item → List (List ℕ) → State
+at_end version items names = record { version = version; frames = []; items = items; names = names }
+
+pub record AreRead (number : ℕ) (ts : List TextLine) (script : Script) : Type 0 where
   pub first : ℕ
   pub lines : List NumberedLine
   pub kept : List Item
   pub names : List (List ℕ)
-  pub prints : Prints number ts (numbered first (codes "script" ∷ codes "1" ∷ []) ∷ lines)
-  pub follows : Follows nothing_read lines (record { frames = []; items = kept; names = names })
-  pub items_are : reverse kept ≡ items
+  pub prints : Prints number ts (version_line first script.version ∷ lines)
+  pub follows : Follows (nothing_read script.version) lines (at_end script.version kept names)
+  pub items_are : reverse kept ≡ script.items
 
-first_text : length (line_text (codes "script" ∷ codes "1" ∷ [])) ≡ 8
+pub first_text : (version : Version) → length (line_text (codes "script" ∷ version_word version ∷ [])) ≡ 8
 unfolding line_text
-first_text = refl
+first_text First = refl
+first_text Second = refl
 
-none_kept : IsKeptState nothing_read
-none_kept = record { frames = tt; items = tt; names_are = refl; differ = tt; few = omega arith }
+none_kept : (version : Version) → IsKeptState (nothing_read version)
+none_kept version = record { frames = tt; items = tt; names_are = refl; differ = tt; few = omega arith }
 
-last_is : (s : State) → s.frames ≡ [] → s ≡ record { frames = []; items = s.items; names = s.names }
-last_is s e = ap (λ (fs : List Frame). let t : State = record { frames = fs; items = s.items; names = s.names } in t) e
+last_is : (s : State) → s.frames ≡ [] → s ≡ at_end s.version s.items s.names
+last_is s e = ap (λ (fs : List Frame). let t : State = record { version = s.version; frames = fs; items = s.items; names = s.names } in t) e
 
-pub all_read : (number : ℕ) (ts : List TextLine) (ending : Ending) (items : List Item) → AreTextLines ts → read_lines (lines_behind number ts) ending ≡ Ok items → AreRead number ts items
-all_read number [] ending items are h = absurd (nothing_is_read ending items h)
-all_read number (Wordless bytes ∷ ts) ending items are h =
-    let read = all_read (number + 1) ts ending items are.1 h in
+pub all_read : (number : ℕ) (ts : List TextLine) (ending : Ending) (script : Script) → AreTextLines ts → read_lines (lines_behind number ts) ending ≡ Ok script → AreRead number ts script
+all_read number [] ending script are h = absurd (nothing_is_read ending script h)
+all_read number (Wordless bytes ∷ ts) ending script are h =
+    let read = all_read (number + 1) ts ending script are.1 h in
     record { first = read.first; lines = read.lines; kept = read.kept; names = read.names; prints = read.prints; follows = read.follows; items_are = read.items_are }
-all_read number (Worded bytes line ∷ ts) ending items are h =
-    let read = line_read (record { number = number + 1; row = row_of (words_of line) line }) (lines_behind (number + 1) ts) ending items h in
-    let made = all_stepped nothing_read (number + 1) ts read.last are.1 read.steps_are none_kept in
+all_read number (Worded bytes line ∷ ts) ending script are h =
+    let read = line_read (record { number = number + 1; row = row_of (words_of line) line }) (lines_behind (number + 1) ts) ending script h in
+    let made = all_stepped (nothing_read read.version) (number + 1) ts read.last are.1 read.steps_are (none_kept read.version) in
+    let ended : read.last.version ≡ script.version = ap (λ (s : Script). s.version) read.finishes.script_is in
+    let begun : read.version ≡ script.version = sym made.follows.same ∙ ended in
+    let kept : List Item = read.last.items in
+    let names : List (List ℕ) = read.last.names in
     record {
       first = number + 1;
       lines = made.lines;
-      kept = read.last.items;
-      names = read.last.names;
-      prints = (refl, omega (arith, first_text, version_long line read.version, are.0.2), made.prints);
-      follows = subst (Follows nothing_read made.lines) (last_is read.last read.finishes.none_open) made.follows;
-      items_are = read.finishes.items_are;
+      kept = kept;
+      names = names;
+      prints = (refl, omega (arith, first_text script.version, version_long read.version line read.version_is, are.0.2), made.prints);
+      follows = subst (λ (v : Version). Follows (nothing_read v) made.lines (at_end script.version kept names)) begun
+          (subst (λ (v : Version). Follows (nothing_read read.version) made.lines (at_end v kept names)) ended
+          (subst (Follows (nothing_read read.version) made.lines) (last_is read.last read.finishes.none_open) made.follows));
+      items_are = ap (λ (s : Script). s.items) read.finishes.script_is;
     }

@@ -4,7 +4,7 @@ use Rattle.std.proofs.Common.{◌≡◌, ◌∙◌, refl, sym, ap, ℕ, zero, su
 use Rattle.std.specs.Prelude.{cond, map, replicate}
 use Rattle.std.specs.List.{list_all}
 use Rattle.text_io.specs.declared.kinds.LimitKind.TheVariants as limits
-use Rattle.text_io.specs.Limits.{limit_number}
+use Rattle.text_io.specs.Limits.{common_limit}
 use Rattle.script_model.specs.Lexing.{Word, Whole, Lexed, word_closed, close_word, line_before, add_line, line_start, ends, next_line, lex_on}
 use Rattle.script_model.specs.Lines.{is_line_byte, runs_from, before_comment, words_of, row_of, line_with}
 use Rattle.script_text.specs.NumberedLines.{NumberedLine}
@@ -14,12 +14,12 @@ use Rattle.script_text.proofs.LineWords.{IsLine, line_of}
 
 -- a line feed ends a line
 abbrev pub LineFeedLaw : Type 0
-LineFeedLaw = (number : ℕ) (line rest : List ℕ) → list_all is_line_byte line ≡ true → length line ≤ limit_number limits.Line
+LineFeedLaw = (number : ℕ) (line rest : List ℕ) → list_all is_line_byte line ≡ true → length line ≤ common_limit limits.Line
     → lex_on (line_start number) (line ++ (10 ∷ rest)) ≡ line_with (words_of line) number line (lex_on (line_start (number + 1)) rest)
 
 -- a last line needs none
 abbrev pub LastLineLaw : Type 0
-LastLineLaw = (number : ℕ) (line : List ℕ) → list_all is_line_byte line ≡ true → length line ≤ limit_number limits.Line → 0 < length line
+LastLineLaw = (number : ℕ) (line : List ℕ) → list_all is_line_byte line ≡ true → length line ≤ common_limit limits.Line → 0 < length line
     → lex_on (line_start number) line ≡ lex_on (line_start number) (line ++ (10 ∷ []))
 
 pub nothing_more : (number : ℕ) → lex_on (line_start number) [] ≡ ends (Whole number)
@@ -69,14 +69,14 @@ one_end : (l : NumberedLine) → record (ends (Whole (l.number + 1))) { lines = 
 unfolding ends
 one_end l = refl
 
-fed_read : LineFeedLaw → (l : NumberedLine) → IsLine (line_text l.words) → length (line_text l.words) ≤ limit_number limits.Line
+fed_read : LineFeedLaw → (l : NumberedLine) → IsLine (line_text l.words) → length (line_text l.words) ≤ common_limit limits.Line
     → lex_on (line_start l.number) (line_text l.words ++ (10 ∷ [])) ≡ record { lines = line_of l ∷ []; ending = Whole (l.number + 1) }
 fed_read law l is short =
     law l.number (line_text l.words) [] is.bytes short
     ∙ ap (line_with (words_of (line_text l.words)) l.number (line_text l.words)) (nothing_more (l.number + 1))
     ∙ one_line l (ends (Whole (l.number + 1))) is ∙ one_end l
 
-tail_read : LineFeedLaw → LastLineLaw → (fed : Bool) (l : NumberedLine) → IsLine (line_text l.words) → length (line_text l.words) ≤ limit_number limits.Line
+tail_read : LineFeedLaw → LastLineLaw → (fed : Bool) (l : NumberedLine) → IsLine (line_text l.words) → length (line_text l.words) ≤ common_limit limits.Line
     → lex_on (line_start l.number) (line_text l.words ++ cond fed (10 ∷ []) []) ≡ record { lines = line_of l ∷ []; ending = Whole (l.number + 1) }
 tail_read law last true l is short = fed_read law l is short
 tail_read law last false l is short =

@@ -4,7 +4,9 @@ use Rattle.std.specs.Prelude.{Option, option_map, bytes_eq, codes}
 use Rattle.std.specs.List.{list_all}
 use Rattle.word_model.specs.Names.{is_name}
 use Rattle.px_units.specs.declared.BoxKind.{BoxKind}
-use Rattle.px_units.specs.declared.BoxKind.TheVariants.{Content}
+use Rattle.px_units.specs.declared.BoxKind.TheVariants.{Content, Border, Device}
+use Rattle.text_io.specs.declared.kinds.Version.{Version}
+use Rattle.text_io.specs.declared.kinds.Version.TheVariants.{First, Second}
 use Rattle.text_io.specs.Kinds.{event_word}
 use Rattle.text_io.specs.declared.kinds.EventKind.{EventKind}
 use Rattle.text_io.specs.declared.kinds.EventKind.TheVariants as event
@@ -13,7 +15,7 @@ use Rattle.script_model.specs.Keywords.{Keyword, lookup}
 use Rattle.script_model.specs.Lines.{is_word_byte}
 use Rattle.script_model.specs.Words.{name_of, node_of, aim_of, or_dash, events, boxes, dimensions}
 use Rattle.script_text.specs.WordText.{operand_text, aim_text, dash_or, box_text, dimension_text}
-use Rattle.script_text.specs.WellFormed.{IsName, IsOperand, IsAim, IfSome}
+use Rattle.script_text.specs.WellFormed.{IsName, IsOperand, IsAim, IsBox, IfSome}
 use Rattle.script_text.proofs.WordBytes.{IsWord, as_word, letter_first, name_first, name_word}
 use Rattle.script_text.proofs.Tables.{are_words, table_word}
 
@@ -98,13 +100,21 @@ event_found kind = refl
 pub event_again : (kind : EventKind) → IsReadAs (lookup events) kind (event_word kind)
 event_again kind = keyword_again events refl (event_word kind) kind (event_found kind)
 
-box_found : (box : BoxKind) → lookup boxes (box_text box) ≡ Some box
+box_found : (version : Version) (box : BoxKind) → IsBox version box → lookup (boxes version) (box_text box) ≡ Some box
 unfolding lookup
-box_found Content = refl
-box_found box = refl
+box_found First Content h = refl
+box_found First Border h = refl
+box_found First Device h = absurd h
+box_found Second Content h = refl
+box_found Second Border h = refl
+box_found Second Device h = refl
 
-pub box_again : (box : BoxKind) → IsReadAs (lookup boxes) box (box_text box)
-box_again box = keyword_again boxes refl (box_text box) box (box_found box)
+box_words : (version : Version) → are_words (boxes version) ≡ true
+box_words First = refl
+box_words Second = refl
+
+pub box_again : (version : Version) (box : BoxKind) → IsBox version box → IsReadAs (lookup (boxes version)) box (box_text box)
+box_again version box h = keyword_again (boxes version) (box_words version) (box_text box) box (box_found version box h)
 
 dimension_found : (dimension : Dimension) → lookup dimensions (dimension_text dimension) ≡ Some dimension
 unfolding lookup

@@ -3,8 +3,9 @@
 use Rattle.std.specs.Prelude.{ℕ, ◌-◌, nat_lt, cond, List, [], ◌∷◌, ◌++◌, length, replicate, codes}
 use Rattle.std.specs.List.{join_with_byte}
 use Rattle.text_io.specs.declared.kinds.LimitKind.TheVariants as limits
-use Rattle.text_io.specs.Limits.{limit_number}
-use Rattle.script_model.specs.Syntax.{Item}
+use Rattle.text_io.specs.Limits.{common_limit}
+use Rattle.text_io.specs.Kinds.{version_word}
+use Rattle.script_model.specs.Syntax.{Script}
 use Rattle.script_text.specs.NumberedLines.{NumberedLine, items_lines}
 
 unfoldable pub line_text : List (List ℕ) → List ℕ
@@ -17,12 +18,12 @@ lines_text number [] = []
 lines_text number (l ∷ ls) = replicate (l.number - number) 10 ++ (line_text l.words ++ lines_text l.number ls)
 
 -- the whole text, without a line feed after the last line
-unfoldable pub script_text : List Item → List ℕ
+unfoldable pub script_text : Script → List ℕ
 unfolding lines_text items_lines
-script_text items = codes "script 1" ++ lines_text 1 (items_lines items)
+script_text script = codes "script " ++ version_word script.version ++ lines_text 1 (items_lines script.items)
 
 -- the last line too ends with a line feed, where the text then isn't longer than a script may be
-unfoldable pub printed : List Item → List ℕ
+unfoldable pub printed : Script → List ℕ
 unfolding script_text
-printed items =
-    cond (nat_lt (length (script_text items)) (limit_number limits.Script)) (script_text items ++ (10 ∷ [])) (script_text items)
+printed script =
+    cond (nat_lt (length (script_text script)) (common_limit limits.Script)) (script_text script ++ (10 ∷ [])) (script_text script)

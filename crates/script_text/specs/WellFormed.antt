@@ -1,23 +1,29 @@
--- Scripts that are well formed: names and operands are in the grammar's forms and ranges, blocks and handlers within
--- their limits, handlers have different names, line numbers rise, and the printed lines and text are within their limits.
--- That `tick` and handlers stand outside alone is in the type of items.
-use Rattle.std.specs.Prelude.{◌≡◌, ℕ, ◌<◌, ◌≤◌, ℤ, unsigned_abs, max, suc, Bool, true, false, not, ◌&&◌, List, [], ◌∷◌, length, Option, Some, None, bytes_eq, codes}
+-- Scripts that are well formed: the version has the commands, names and operands are in the grammar's forms and ranges,
+-- blocks and handlers within their limits, handlers have different names, line numbers rise, and the printed lines and text
+-- are within their limits. That `tick` and handlers stand outside alone is in the type of items.
+use Rattle.std.specs.Prelude.{◌≡◌, ℕ, ◌<◌, ◌≤◌, ℤ, unsigned_abs, max, suc, Bool, true, false, not, ◌&&◌, List, [], ◌∷◌, length, Option, Some, None, is_some, bytes_eq}
 use Rattle.std.specs.List.{list_all, list_any}
 use Rattle.word_model.specs.Names.{is_name}
 use Rattle.word_model.specs.Numbers.{begins_with}
 use Rattle.px_units.specs.Lengths.{LengthValue, Automatic, Pixels, Percentage}
 use Rattle.layout_model.specs.Styles.{Declaration, SetDisplay, SetWidth, SetHeight, SetMinWidth, SetMinHeight, SetMaxWidth, SetMaxHeight, SetMargin, SetPadding, SetBorder, SetBoxSizing, SetOverflow}
+use Rattle.px_units.specs.declared.BoxKind.{BoxKind}
+use Rattle.px_units.specs.declared.BoxKind.TheVariants.{Content, Border, Device}
+use Rattle.text_io.specs.declared.kinds.Version.{Version}
+use Rattle.text_io.specs.declared.kinds.Version.TheVariants.{First, Second}
 use Rattle.text_io.specs.declared.kinds.LimitKind.TheVariants as limits
-use Rattle.text_io.specs.Limits.{limit_number}
+use Rattle.text_io.specs.Limits.{common_limit}
 use Rattle.script_model.specs.Readers.{is_empty}
 use Rattle.script_model.specs.Queries.{Feature, WidthFeature, HeightFeature, OrientationFeature, MediaQuery, Typed, NotFeature, AllFeatures, AnyFeatures}
 use Rattle.script_model.specs.Lines.{is_word_byte}
 use Rattle.script_model.specs.MarginText.{parts_of}
-use Rattle.script_model.specs.Syntax.{Operand, Named, Target, Aim, PlainAim, WindowAim, Command, Simple, Each, When, Block, NoMore, Then, Item, Outside, Tick, Handler}
+use Rattle.script_model.specs.Syntax.{Operand, Named, Target, Aim, PlainAim, WindowAim, Command, Simple, Each, When, Block, NoMore, Then, Action, Item, Outside, Tick, Handler, Script}
 use Rattle.script_model.specs.Scripts.{NamedBlock, handlers_in}
-use Rattle.script_model.specs.Forms.{Form, NameForm, NodeForm, AimForm, HandlerForm, RootForm, LengthForm, SignedForm, WholeForm, EventForm, BoxForm, DimensionForm, DeclarationForm, JustForm, MarginForm, NumbersForm, QueryForm, Meant}
+use Rattle.script_model.specs.Forms.{Form, NameForm, NodeForm, AimForm, HandlerForm, RootForm, LengthForm, SignedForm, PercentForm, WholeForm, EventForm, BoxForm, DimensionForm, DeclarationForm, JustForm, MarginForm, NumbersForm, QueryForm, Meant, ends_margin}
+use Rattle.script_model.specs.Commands.{heads_in}
+use Rattle.script_text.specs.Entries.{entry_at}
 use Rattle.script_text.specs.Parts.{Part, PartOf}
-use Rattle.script_text.specs.Phrases.{action_parts, test_parts}
+use Rattle.script_text.specs.Phrases.{action_head, action_parts, test_parts}
 use Rattle.script_text.specs.NumberedLines.{NumberedLine, items_lines}
 use Rattle.script_text.specs.ScriptText.{line_text, script_text}
 
@@ -77,15 +83,28 @@ IsDeclaration (SetBorder side units) = IsLength units
 IsDeclaration (SetBoxSizing value) = Unit {0}
 IsDeclaration (SetOverflow value) = Unit {0}
 
--- a word of a margin: any word that begins no comment, but `threshold`
-unfoldable pub is_margin_word : List ℕ → Bool
+-- a word of a margin: any word that begins no comment, but those that end a margin
+unfoldable pub is_margin_word : Version → List ℕ → Bool
 unfolding is_empty begins_with
-is_margin_word word =
-    not (is_empty word) && list_all is_word_byte word && not (begins_with 35 word) && not (bytes_eq word (codes "threshold"))
+is_margin_word version word =
+    not (is_empty word) && list_all is_word_byte word && not (begins_with 35 word) && not (ends_margin version word)
 
 -- such words with one space between each two
-abbrev pub IsMargin : List ℕ → Type 0
-IsMargin margin = list_all is_margin_word (parts_of margin) ≡ true
+abbrev pub IsMargin : Version → List ℕ → Type 0
+IsMargin version margin = list_all (is_margin_word version) (parts_of margin) ≡ true
+
+-- scripts of the first version have no scroll margins
+abbrev pub IsScrollMargin : Version → Option (List ℕ) → Type 0
+IsScrollMargin version None = Unit {0}
+IsScrollMargin First (Some margin) = ⊥
+IsScrollMargin Second (Some margin) = IsMargin Second margin
+
+-- nor do they observe device pixels
+abbrev pub IsBox : Version → BoxKind → Type 0
+IsBox version Content = Unit {0}
+IsBox version Border = Unit {0}
+IsBox First Device = ⊥
+IsBox Second Device = Unit {0}
 
 abbrev pub IsFeature : Feature → Type 0
 IsFeature (WidthFeature compared units) = IsLength units
@@ -120,13 +139,14 @@ IsMeant HandlerForm handler = IfSome IsName handler
 IsMeant RootForm root = IfSome IsOperand root
 IsMeant LengthForm units = IsLength units
 IsMeant SignedForm units = IsLength (unsigned_abs units)
+IsMeant PercentForm hundredths = IsPercentage hundredths
 IsMeant WholeForm number = number ≤ 1000000000000
 IsMeant EventForm event = Unit {0}
-IsMeant BoxForm box = Unit {0}
+IsMeant (BoxForm version) box = IsBox version box
 IsMeant DimensionForm dimension = Unit {0}
 IsMeant DeclarationForm declaration = IsDeclaration declaration
 IsMeant (JustForm word) unit = Unit {0}
-IsMeant MarginForm margin = IsMargin margin
+IsMeant (MarginForm version) margins = IsMargin version margins.0 × IsScrollMargin version margins.1
 IsMeant NumbersForm numbers = AreNumbers numbers
 IsMeant QueryForm queries = IsQueryList queries
 
@@ -134,27 +154,33 @@ abbrev pub AreMeant : List Part → Type 0
 AreMeant [] = Unit {0}
 AreMeant (PartOf form value ∷ parts) = IsMeant form value × AreMeant parts
 
--- operands of commands, those in blocks included
+-- a command that may stand in a script of this version: the version has its word, and its operands are in the forms and
+-- ranges there
+pub record IsAction (version : Version) (action : Action) : Type 0 where
+  pub known : is_some (entry_at (heads_in version) (action_head version action)) ≡ true
+  pub operands : AreMeant (action_parts version action)
+
+-- commands, those in blocks included
 unfoldable mutual
-  pub IsCommand : Command → Type 0
-  IsCommand (Simple line action) = AreMeant (action_parts action)
-  IsCommand (Each line block last) = IsBlock block
-  IsCommand (When line condition block last) = AreMeant (test_parts (condition.asks)) × IsBlock block
+  pub IsCommand : Version → Command → Type 0
+  IsCommand version (Simple line action) = IsAction version action
+  IsCommand version (Each line block last) = IsBlock version block
+  IsCommand version (When line condition block last) = AreMeant (test_parts (condition.asks)) × IsBlock version block
 
-  pub IsBlock : Block → Type 0
-  IsBlock NoMore = Unit {0}
-  IsBlock (Then command others) = IsCommand command × IsBlock others
+  pub IsBlock : Version → Block → Type 0
+  IsBlock version NoMore = Unit {0}
+  IsBlock version (Then command others) = IsCommand version command × IsBlock version others
 
-unfoldable pub IsItem : Item → Type 0
+unfoldable pub IsItem : Version → Item → Type 0
 unfolding IsCommand IsBlock
-IsItem (Outside command) = IsCommand command
-IsItem (Tick line time) = time ≤ 1000000000000
-IsItem (Handler line name block last) = IsName name × IsBlock block
+IsItem version (Outside command) = IsCommand version command
+IsItem version (Tick line time) = time ≤ 1000000000000
+IsItem version (Handler line name block last) = IsName name × IsBlock version block
 
-unfoldable pub AreItems : List Item → Type 0
+unfoldable pub AreItems : Version → List Item → Type 0
 unfolding IsItem
-AreItems [] = Unit {0}
-AreItems (item ∷ items) = IsItem item × AreItems items
+AreItems version [] = Unit {0}
+AreItems version (item ∷ items) = IsItem version item × AreItems version items
 
 -- how many blocks stand one in the other
 unfoldable mutual
@@ -192,13 +218,13 @@ Rise number (l ∷ ls) = (number < l.number) × Rise l.number ls
 unfoldable pub AreShort : List NumberedLine → Type 0
 unfolding line_text
 AreShort [] = Unit {0}
-AreShort (l ∷ ls) = (length (line_text l.words) ≤ limit_number limits.Line) × AreShort ls
+AreShort (l ∷ ls) = (length (line_text l.words) ≤ common_limit limits.Line) × AreShort ls
 
-pub record IsWellFormed (items : List Item) : Type 0 where
-  pub operands : AreItems items
-  pub nested : items_depth items ≤ limit_number limits.Nesting
-  pub few_handlers : length (handlers_in items) ≤ limit_number limits.Handlers
-  pub names_differ : AreNew [] (handlers_in items)
-  pub numbers_rise : Rise 1 (items_lines items)
-  pub short_lines : AreShort (items_lines items)
-  pub short_text : length (script_text items) ≤ limit_number limits.Script
+pub record IsWellFormed (script : Script) : Type 0 where
+  pub operands : AreItems script.version script.items
+  pub nested : items_depth script.items ≤ common_limit limits.Nesting
+  pub few_handlers : length (handlers_in script.items) ≤ common_limit limits.Handlers
+  pub names_differ : AreNew [] (handlers_in script.items)
+  pub numbers_rise : Rise 1 (items_lines script.items)
+  pub short_lines : AreShort (items_lines script.items)
+  pub short_text : length (script_text script) ≤ common_limit limits.Script

@@ -1,7 +1,7 @@
 -- The texts of single words. The words are this project's own choice.
 use Rattle.std.specs.Prelude.{ℕ, List, ◌∷◌, Option, Some, None, codes}
 use Rattle.px_units.specs.declared.BoxKind.{BoxKind}
-use Rattle.px_units.specs.declared.BoxKind.TheVariants.{Content, Border}
+use Rattle.px_units.specs.declared.BoxKind.TheVariants.{Content, Border, Device}
 use Rattle.script_model.specs.Syntax.{Operand, Named, Target, Aim, PlainAim, WindowAim, Dimension, WidthDimension, HeightDimension}
 
 abbrev pub operand_text : Operand → List ℕ
@@ -21,6 +21,7 @@ dash_or text (Some value) = text value
 abbrev pub box_text : BoxKind → List ℕ
 box_text Content = codes "content"
 box_text Border = codes "border"
+box_text Device = codes "device"
 
 abbrev pub dimension_text : Dimension → List ℕ
 dimension_text WidthDimension = codes "width"

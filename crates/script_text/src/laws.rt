@@ -3,7 +3,7 @@
 ghost use Rattle.std.specs.Prelude.{◌≡◌, ◌↔◌, ℕ, ℤ, ◌≤◌, unsigned_abs, true, List, length, All, Some, Ok};
 ghost use Rattle.word_model.specs.Numbers.{length_of, signed_of, percent_of, number_of};
 ghost use Rattle.media_queries.specs.LengthText.{length_text};
-ghost use Rattle.script_model.specs.Syntax.{Item};
+ghost use Rattle.script_model.specs.Syntax.{Script};
 ghost use Rattle.script_model.specs.Reading.{reading};
 ghost use Rattle.script_text.specs.ByteOrder.{is_not_after};
 ghost use Rattle.script_text.specs.NumberedLines.{items_lines};
@@ -19,7 +19,7 @@ use script_model::laws::{
 
 /// The printed text of a script that is well formed reads as the same script, with the same line numbers.
 pub fn printed_script_reads_back()
-    ensures { (items : List Item) → IsWellFormed items → reading (printed items) ≡ Ok items }
+    ensures { (script : Script) → IsWellFormed script → reading (printed script) ≡ Ok script }
 {
     // the laws of the language on which this one rests
     line_feed_ends_a_line();
@@ -29,7 +29,7 @@ pub fn printed_script_reads_back()
 
 /// Whatever is read is well formed.
 pub fn what_is_read_is_well_formed()
-    ensures { (text : List ℕ) (items : List Item) → reading text ≡ Ok items → IsWellFormed items }
+    ensures { (text : List ℕ) (script : Script) → reading text ≡ Ok script → IsWellFormed script }
 {
     // the laws of the language on which this one rests
     line_feed_ends_a_line();
@@ -42,7 +42,7 @@ pub fn what_is_read_is_well_formed()
 
 /// The scripts that are well formed are those that some text is read as.
 pub fn well_formed_scripts_are_those_read()
-    ensures { (items : List Item) → IsWellFormed items ↔ ((text : List ℕ) × (reading text ≡ Ok items)) }
+    ensures { (script : Script) → IsWellFormed script ↔ ((text : List ℕ) × (reading text ≡ Ok script)) }
 {
     printed_script_reads_back();
     what_is_read_is_well_formed();
@@ -51,9 +51,9 @@ pub fn well_formed_scripts_are_those_read()
 /// The line printed for a statement is no longer than the line of its number in the text that was read, and the printed
 /// text of a script, up to its last line feed, is no longer than that text.
 pub fn printed_lines_are_no_longer()
-    ensures lines { (text : List ℕ) (items : List Item) → reading text ≡ Ok items →
-        All (λ l. length (line_text l.words) ≤ length (line_numbered l.number text)) (items_lines items) }
-    ensures text { (text : List ℕ) (items : List Item) → reading text ≡ Ok items → length (script_text items) ≤ length text }
+    ensures lines { (text : List ℕ) (script : Script) → reading text ≡ Ok script →
+        All (λ l. length (line_text l.words) ≤ length (line_numbered l.number text)) (items_lines script.items) }
+    ensures text { (text : List ℕ) (script : Script) → reading text ≡ Ok script → length (script_text script) ≤ length text }
 {
     // the laws of the language on which this one rests
     line_feed_ends_a_line();

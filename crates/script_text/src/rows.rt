@@ -3,28 +3,33 @@
 
 ghost use Rattle.std.specs.Prelude.{◌≡◌, ℕ, [], ◌∷◌, true, false, None, Some, pos, negsuc, codes};
 ghost use Rattle.px_units.specs.Lengths.{Pixels, Percentage};
+ghost use Rattle.px_units.specs.declared.BoxKind.TheVariants.{Device};
+ghost use Rattle.text_io.specs.declared.kinds.Version.TheVariants.{First, Second};
 ghost use Rattle.layout_model.specs.Styles.{SetMargin, SetMaxWidth, TopSide, AllSides};
 ghost use Rattle.media_queries.specs.LengthText.{length_text};
 ghost use Rattle.script_model.specs.Queries.{AtLeast, WidthFeature, OrientationFeature, ScreenMedia, OnlyPrefix, Typed, NotFeature};
-ghost use Rattle.script_model.specs.Syntax.{Named, Target, Outside, Tick, Handler, Then, NoMore, Simple, Each, When, Remove, Say, Seen, SetStyle, MakeIntersectionObserver, MakeQueryList};
+ghost use Rattle.script_model.specs.Syntax.{Named, Target, Outside, Tick, Handler, Then, NoMore, Simple, Each, When, SetRatio, ObserveResize, Remove, Say, Seen, SetStyle, MakeIntersectionObserver, MakeQueryList};
 ghost use Rattle.script_text.specs.NumberText.{percent_text, signed_text, number_text};
 ghost use Rattle.script_text.specs.ScriptText.{printed};
 ghost use Rattle.script_text.specs.WellFormed.{IsWellFormed};
 
 /// A script without items is its first line.
 pub fn no_items()
-    ensures { printed [] ≡ codes "script 1\n" }
+    ensures { printed (record { version = First; items = [] }) ≡ codes "script 1\n" }
 {}
 
 /// A line stands on its number, with empty lines before it.
 pub fn lines_stand_on_their_numbers()
-    ensures { printed (Tick 2 0 ∷ Tick 5 16 ∷ []) ≡ codes "script 1\ntick 0\n\n\ntick 16\n" }
+    ensures { printed (record { version = First; items = Tick 2 0 ∷ Tick 5 16 ∷ [] }) ≡ codes "script 1\ntick 0\n\n\ntick 16\n" }
 {}
 
 /// A handler, and blocks one in the other, each with its `end`.
 pub fn handler_with_blocks()
-    ensures { printed (
-        Handler 2 (codes "show") (Then (Each 3 (Then (When 4 (record { negated = true; asks = Seen }) (Then (Simple 5 (Say (codes "out"))) NoMore) 6) NoMore) 8) NoMore) 9 ∷ []) ≡
+    ensures { printed (record {
+      version = First;
+      items =
+          Handler 2 (codes "show") (Then (Each 3 (Then (When 4 (record { negated = true; asks = Seen }) (Then (Simple 5 (Say (codes "out"))) NoMore) 6) NoMore) 8) NoMore) 9 ∷ [];
+    }) ≡
         codes "script 1\nhandler show\neach\nwhen not seen\nsay out\nend\n\nend\nend\n" }
 {}
 
@@ -42,30 +47,49 @@ pub fn shortest_texts()
 
 /// A command's words stand with one space between each two.
 pub fn declarations()
-    ensures side { printed (Outside (Simple 2 (SetStyle (Named (codes "a")) (SetMargin TopSide (Percentage 1050)))) ∷ []) ≡
+    ensures side { printed (record { version = First; items = Outside (Simple 2 (SetStyle (Named (codes "a")) (SetMargin TopSide (Percentage 1050)))) ∷ [] }) ≡
         codes "script 1\nset a margin-top 10.5%\n" }
-    ensures all_sides { printed (Outside (Simple 2 (SetStyle Target (SetMargin AllSides (Pixels 96)))) ∷ []) ≡
+    ensures all_sides { printed (record { version = First; items = Outside (Simple 2 (SetStyle Target (SetMargin AllSides (Pixels 96)))) ∷ [] }) ≡
         codes "script 1\nset $target margin 1.5px\n" }
-    ensures none { printed (Outside (Simple 2 (SetStyle Target (SetMaxWidth None))) ∷ []) ≡
+    ensures none { printed (record { version = First; items = Outside (Simple 2 (SetStyle Target (SetMaxWidth None))) ∷ [] }) ≡
         codes "script 1\nset $target max-width none\n" }
 {}
 
 /// A list of queries has one space for each gap and no other one.
 pub fn queries()
-    ensures { printed (
-        Outside (Simple 2 (MakeQueryList (codes "m") (codes "top") (Typed OnlyPrefix ScreenMedia (WidthFeature AtLeast 32 ∷ []) ∷ NotFeature (OrientationFeature true) ∷ []))) ∷ []) ≡
+    ensures { printed (record {
+      version = First;
+      items =
+          Outside (Simple 2 (MakeQueryList (codes "m") (codes "top") (Typed OnlyPrefix ScreenMedia (WidthFeature AtLeast 32 ∷ []) ∷ NotFeature (OrientationFeature true) ∷ []))) ∷ [];
+    }) ≡
         codes "script 1\nmedia m top only screen and (min-width:0.5px),not (orientation:portrait)\n" }
 {}
 
-/// The words of a margin stand as they were read.
+/// The words of a margin stand as they were read, those of a scroll margin behind it.
 pub fn margins()
-    ensures { printed (
-        Outside (Simple 2 (MakeIntersectionObserver (record { name = codes "o"; document = codes "top"; handler = None; root = None; margin = codes "1.50px x 0"; thresholds = pos 0 ∷ pos 5000 ∷ [] }))) ∷ []) ≡
+    ensures alone { printed (record {
+      version = First;
+      items =
+          Outside (Simple 2 (MakeIntersectionObserver (record { name = codes "o"; document = codes "top"; handler = None; root = None; margin = codes "1.50px x 0"; scroll = None; thresholds = pos 0 ∷ pos 5000 ∷ [] }))) ∷ [];
+    }) ≡
         codes "script 1\nio o top - root - margin 1.50px x 0 threshold 0 0.5\n" }
+    ensures scrolled { printed (record {
+      version = Second;
+      items =
+          Outside (Simple 2 (MakeIntersectionObserver (record { name = codes "o"; document = codes "top"; handler = None; root = None; margin = codes "1px"; scroll = Some (codes "50%"); thresholds = [] }))) ∷ [];
+    }) ≡
+        codes "script 2\nio o top - root - margin 1px scroll 50% threshold\n" }
+{}
+
+/// What the second version has alone is printed by its words.
+pub fn second_version()
+    ensures ratio { printed (record { version = Second; items = Outside (Simple 2 (SetRatio 15000)) ∷ [] }) ≡ codes "script 2\nratio 150%\n" }
+    ensures device { printed (record { version = Second; items = Outside (Simple 2 (ObserveResize (codes "o") Target Device)) ∷ [] }) ≡
+        codes "script 2\nro-observe o $target device\n" }
 {}
 
 /// A script with a handler, a block and a tick is well formed.
 #[tactic(auto, using(crate::proofs::Example::well_formed))]
 pub fn well_formed_script()
-    ensures { IsWellFormed (Handler 2 (codes "show") (Then (Each 3 (Then (Simple 4 (Remove Target)) NoMore) 6) NoMore) 7 ∷ Tick 9 16 ∷ []) }
+    ensures { IsWellFormed (record { version = First; items = Handler 2 (codes "show") (Then (Each 3 (Then (Simple 4 (Remove Target)) NoMore) 6) NoMore) 7 ∷ Tick 9 16 ∷ [] }) }
 {}

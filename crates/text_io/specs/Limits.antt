@@ -1,28 +1,40 @@
--- How much a run may hold of each thing. The limits are this project's own choice.
+-- How much a run may hold of each thing, by the version of its script. The limits are this project's own choice.
 use Rattle.std.specs.Prelude.{ℕ}
+use Rattle.text_io.specs.declared.kinds.Version.{Version}
+use Rattle.text_io.specs.declared.kinds.Version.TheVariants.{First, Second}
 use Rattle.text_io.specs.declared.kinds.LimitKind.{LimitKind}
 use Rattle.text_io.specs.declared.kinds.LimitKind.TheVariants as limits
+
+-- the number of a version
+abbrev pub by_version : Version → ℕ → ℕ → ℕ
+by_version First first second = first
+by_version Second first second = second
 
 -- bytes of a script; bytes of a line; handlers; blocks one in the other; commands begun; nodes, documents, observers
 -- and query lists ever made; the depth of an element; and observations, listeners, timers, frame callbacks and posted
 -- tasks held at one time; bytes of a source with a recorded trace; and pages of a stream
-abbrev pub limit_number : LimitKind → ℕ
-limit_number limits.Script = 16777216
-limit_number limits.Line = 4096
-limit_number limits.Handlers = 4096
-limit_number limits.Nesting = 16
-limit_number limits.Commands = 1000000
-limit_number limits.Nodes = 20000
-limit_number limits.Depth = 256
-limit_number limits.Documents = 64
-limit_number limits.ResizeObservers = 4096
-limit_number limits.IntersectionObservers = 4096
-limit_number limits.ResizeObservations = 50000
-limit_number limits.IntersectionObservations = 50000
-limit_number limits.Listeners = 4096
-limit_number limits.Timers = 4096
-limit_number limits.FrameCallbacks = 4096
-limit_number limits.Tasks = 4096
-limit_number limits.Queries = 4096
-limit_number limits.Recorded = 67108864
-limit_number limits.Pages = 8
+abbrev pub limit_number : Version → LimitKind → ℕ
+limit_number version limits.Script = 16777216
+limit_number version limits.Line = 4096
+limit_number version limits.Handlers = 4096
+limit_number version limits.Nesting = 16
+limit_number version limits.Commands = by_version version 1000000 2000000
+limit_number version limits.Nodes = by_version version 20000 40000
+limit_number version limits.Depth = 256
+limit_number version limits.Documents = 64
+limit_number version limits.ResizeObservers = 4096
+limit_number version limits.IntersectionObservers = 4096
+limit_number version limits.ResizeObservations = by_version version 50000 100000
+limit_number version limits.IntersectionObservations = by_version version 50000 100000
+limit_number version limits.Listeners = 4096
+limit_number version limits.Timers = 4096
+limit_number version limits.FrameCallbacks = 4096
+limit_number version limits.Tasks = 4096
+limit_number version limits.Queries = 4096
+limit_number version limits.Recorded = 67108864
+limit_number version limits.Pages = 8
+
+-- a limit that is the same in each version: those that are met before the version is known, while a text is read, and those of the
+-- levels of a tree and of documents
+abbrev pub common_limit : LimitKind → ℕ
+common_limit kind = limit_number First kind

@@ -1,6 +1,27 @@
 ghost use Rattle.std.specs.Prelude.{◌≡◌};
-ghost use Rattle.text_io.specs.Kinds.{limit_word, throw_word, event_word};
-ghost use Rattle.text_io.specs.Limits.{limit_number};
+ghost use Rattle.text_io.specs.Kinds.{version_word, limit_word, throw_word, event_word};
+ghost use Rattle.text_io.specs.Limits.{by_version, limit_number, common_limit};
+
+/// A version of the script language. A script names it in its first line.
+#[derive(Clone, Copy, Debug, PartialEq, Eq, Hash)]
+pub enum Version {
+    /// The first one.
+    First,
+    /// With device pixels and scroll margins, and with higher limits.
+    Second,
+}
+
+impl Version {
+    /// The word for it in a script's first line.
+    pub fn text(&self) -> &'static str
+        ensures { result.now ≡ version_word self.now }
+    {
+        match self {
+            Version::First => "1",
+            Version::Second => "2",
+        }
+    }
+}
 
 /// What a run has a limit of. The first four are met while the script is read, the last two while a source of several texts is, the
 /// others by a command.
@@ -46,6 +67,16 @@ pub enum LimitKind {
     Pages,
 }
 
+/// The number of a version.
+fn by_version(version: Version, first: u64, second: u64) -> u64
+    ensures { result ≡ by_version version first second }
+{
+    match version {
+        Version::First => first,
+        Version::Second => second,
+    }
+}
+
 impl LimitKind {
     /// The word for it in a trace.
     pub fn text(&self) -> &'static str
@@ -74,23 +105,24 @@ impl LimitKind {
         }
     }
 
-    /// The most that a run may hold, in bytes for `Script`, `Line` and `Recorded`, in things of the kind for the others. This project's own choice.
-    pub fn number(&self) -> u64
-        ensures { result ≡ limit_number self.now }
+    /// The most that a run of a script of this version may hold, in bytes for `Script`, `Line` and `Recorded`, in things of the kind for
+    /// the others. This project's own choice.
+    pub fn number(&self, version: Version) -> u64
+        ensures { result ≡ limit_number version self.now }
     {
         match self {
             LimitKind::Script => 16_777_216,
             LimitKind::Line => 4_096,
             LimitKind::Handlers => 4_096,
             LimitKind::Nesting => 16,
-            LimitKind::Commands => 1_000_000,
-            LimitKind::Nodes => 20_000,
+            LimitKind::Commands => by_version(version, 1_000_000, 2_000_000),
+            LimitKind::Nodes => by_version(version, 20_000, 40_000),
             LimitKind::Depth => 256,
             LimitKind::Documents => 64,
             LimitKind::ResizeObservers => 4_096,
             LimitKind::IntersectionObservers => 4_096,
-            LimitKind::ResizeObservations => 50_000,
-            LimitKind::IntersectionObservations => 50_000,
+            LimitKind::ResizeObservations => by_version(version, 50_000, 100_000),
+            LimitKind::IntersectionObservations => by_version(version, 50_000, 100_000),
             LimitKind::Listeners => 4_096,
             LimitKind::Timers => 4_096,
             LimitKind::FrameCallbacks => 4_096,
@@ -99,6 +131,13 @@ impl LimitKind {
             LimitKind::Recorded => 67_108_864,
             LimitKind::Pages => 8,
         }
+    }
+
+    /// The same where no version is known: for the limits that are the same in each.
+    pub fn common(&self) -> u64
+        ensures { result ≡ common_limit self.now }
+    {
+        self.number(Version::First)
     }
 }
 

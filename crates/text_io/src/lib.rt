@@ -8,7 +8,7 @@ mod name;
 mod std_streams;
 mod streams;
 
-pub use kinds::{EventKind, LimitKind, ThrowKind};
+pub use kinds::{EventKind, LimitKind, ThrowKind, Version};
 pub use memory::{MemorySink, MemorySource};
 pub use name::Name;
 pub use std_streams::{StdSink, StdSource};

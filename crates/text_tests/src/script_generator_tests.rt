@@ -5,6 +5,7 @@ use script_print::print;
 use std::alloc::Global;
 use std::process::Abort;
 use std::test::Fail;
+use text_io::Version;
 
 /// The text of 8000: one card, and the largest margin.
 const ONE_CARD: &str = "script 1
@@ -54,6 +55,7 @@ fn one_card_is_the_text_of_the_reference_program(rt: HostRuntime) -> Result<(), 
     let script = make(rt.alloc(), 8000)?;
     let text = print(rt.alloc(), &script)?;
     assert_eq!(rt; text.as_slice(), ONE_CARD.as_bytes());
+    assert_eq!(rt; script.version(), Version::First);
     Ok(())
 }
 

@@ -31,7 +31,7 @@ tick 16
 ";
 
 /// A script in free form, and its text.
-const ROWS: [(&str, &str); 7] = [
+const ROWS: [(&str, &str); 9] = [
     (FREE, PRINTED),
     ("script 1", "script 1\n"),
     (
@@ -53,6 +53,14 @@ const ROWS: [(&str, &str); 7] = [
     (
         "script 1\nio o top show root - margin 10.0px  5% threshold 0 0.250 -1\nlisten @top scroll show\n",
         "script 1\nio o top show root - margin 10.0px 5% threshold 0 0.25 -1\nlisten @top scroll show\n",
+    ),
+    (
+        "script  2\nratio 012.50%\nro-observe r\ta device",
+        "script 2\nratio 12.5%\nro-observe r a device\n",
+    ),
+    (
+        "script 2\nio o top - root - margin scroll 1.50px   5% threshold 0.0\nio p top - root - margin 1px scroll threshold",
+        "script 2\nio o top - root - margin scroll 1.50px 5% threshold 0\nio p top - root - margin 1px scroll threshold\n",
     ),
 ];
 

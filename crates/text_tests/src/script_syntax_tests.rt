@@ -1,11 +1,11 @@
 //! Texts that are scripts, or have a first fault or limit, and the items of a script.
 
 use crate::scripts::script_of;
-use script_syntax::{Item, ParseFault, Script, What};
+use script_syntax::{Command, Item, MarginText, ParseFault, Script, What};
 use std::alloc::{AllocError, Global};
 use std::process::Abort;
 use std::test::Fail;
-use text_io::{LimitKind, Name};
+use text_io::{LimitKind, Name, Version};
 
 /// What comes of a text.
 #[derive(Clone, Copy, Debug, PartialEq, Eq)]
@@ -90,11 +90,23 @@ each
 /// A list of queries between words and a comment.
 const QUERIES: &str = "script 1\nmedia q top  all\t, print # both\n";
 
-const TEXTS: [(&str, Outcome); 25] = [
+/// What the second version has alone.
+const SECOND_VERSION: &str = "script 2
+ratio 150.25%
+ro-observe r a device
+io o top - root - margin 1px scroll 2px 5% threshold 0
+io p top - root - margin scroll threshold
+io q top - root - margin 1px threshold
+scroll top 0px 1px
+";
+
+const TEXTS: [(&str, Outcome); 36] = [
     ("", Syntax(1, 1)),
     ("# nothing\n\n", Syntax(3, 1)),
     ("script 1", Outcome::Script),
-    ("script 2\n", Syntax(1, 8)),
+    ("script 3\n", Syntax(1, 8)),
+    ("script 02\n", Syntax(1, 8)),
+    ("script 2 1\n", Syntax(1, 10)),
     ("\n script\n", Syntax(2, 8)),
     ("scrip 1\n", Syntax(1, 1)),
     ("script 1 1\n", Syntax(1, 10)),
@@ -118,6 +130,25 @@ const TEXTS: [(&str, Outcome); 25] = [
     ("script 1\nsay a\x01\nsay 1\n", Syntax(2, 6)),
     ("script 1\nsay 1\nsay a\x01\n", Syntax(2, 5)),
     (EVERY_COMMAND, Outcome::Script),
+    (SECOND_VERSION, Outcome::Script),
+    ("script 1\nratio 150%\n", Syntax(2, 1)),
+    ("script 2\nratio 150\n", Syntax(2, 7)),
+    ("script 2\nratio 10000.01%\n", Syntax(2, 7)),
+    ("script 2\nratio 100% 1\n", Syntax(2, 12)),
+    ("script 1\nro-observe r a device\n", Syntax(2, 16)),
+    // in the first version `scroll` is a word of the margin
+    (
+        "script 1\nio o top - root - margin 1px scroll 2px threshold 0\n",
+        Outcome::Script,
+    ),
+    (
+        "script 2\nio o top - root - margin 1px scroll 2px scroll 3px threshold\n",
+        Syntax(2, 41),
+    ),
+    (
+        "script 2\nio o top - root - margin 1px scroll 2px\n",
+        Syntax(2, 40),
+    ),
     (NESTED, Limit(LimitKind::Nesting, 19)),
 ];
 
@@ -179,6 +210,48 @@ fn a_script_has_its_items_and_handlers(rt: HostRuntime) -> Result<(), Fail> {
     see_name(&rt, &script, "show", Some(0));
     see_name(&rt, &script, "hide", Some(1));
     see_name(&rt, &script, "end", None);
+    Ok(())
+}
+
+#[test]
+fn a_script_has_its_version(rt: HostRuntime) -> Result<(), Fail> {
+    let first = script_of(&rt, rt.alloc(), "script 1\n")?;
+    assert_eq!(rt; first.version(), Version::First);
+    let second = script_of(&rt, rt.alloc(), SECOND_VERSION)?;
+    assert_eq!(rt; second.version(), Version::Second);
+    Ok(())
+}
+
+/// The bytes of a margin, and of a scroll margin that was given.
+fn margins_of(item: &Item) -> Option<(&[u8], Option<&[u8]>)> {
+    match item {
+        Item::Command(
+            Command {
+                what: What::Io(making),
+                ..
+            },
+        ) => Some((
+            making.margin.as_slice(),
+            making.scroll.as_ref().map(MarginText::as_slice),
+        )),
+        _ => None,
+    }
+}
+
+fn see_margins(rt: &impl Abort, script: &Script, place: usize, margin: &str, scroll: Option<&str>) {
+    let margins = script.items().get(place).and_then(margins_of);
+    assert!(rt;
+        margins == Some((margin.as_bytes(), scroll.map(str::as_bytes))),
+        "{margin}"
+    );
+}
+
+#[test]
+fn observers_have_their_margins(rt: HostRuntime) -> Result<(), Fail> {
+    let script = script_of(&rt, rt.alloc(), SECOND_VERSION)?;
+    see_margins(&rt, &script, 2, "1px", Some("2px 5%"));
+    see_margins(&rt, &script, 3, "", Some(""));
+    see_margins(&rt, &script, 4, "1px", None);
     Ok(())
 }
 

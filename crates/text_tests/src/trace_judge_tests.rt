@@ -13,7 +13,45 @@ const SCRIPT: &str =
 
 const TRACE: &str = "tick 0\nresize o r rect 0 0 800 0 border 800 0\nround top 1\n";
 
+/// A trace of version 2, whose `resize` lines end with device pixels.
+const DEVICE_TRACE: &str =
+    "tick 0\nresize o r rect 0 0 10.5 3 border 10.5 3 device 16 5\nround top 1\n";
+
 /// Recorded traces beside that one.
+const DEVICE_RECORDED: [(&str, Judgement); 5] = [
+    (DEVICE_TRACE, Judgement::Equal { lines: 3 }),
+    // another number of pixels; none told; one that isn't whole; one too few
+    (
+        "tick 0\nresize o r rect 0 0 10.5 3 border 10.5 3 device 16 4\nround top 1\n",
+        Judgement::Differs {
+            line: 2,
+            how: How::Text(52),
+        },
+    ),
+    (
+        "tick 0\nresize o r rect 0 0 10.5 3 border 10.5 3\nround top 1\n",
+        Judgement::Differs {
+            line: 2,
+            how: How::Text(41),
+        },
+    ),
+    (
+        "tick 0\nresize o r rect 0 0 10.5 3 border 10.5 3 device 15.75 5\nround top 1\n",
+        Judgement::Differs {
+            line: 2,
+            how: How::NotALine,
+        },
+    ),
+    (
+        "tick 0\nresize o r rect 0 0 10.5 3 border 10.5 3 device 16\nround top 1\n",
+        Judgement::Differs {
+            line: 2,
+            how: How::NotALine,
+        },
+    ),
+];
+
+/// Recorded traces beside the trace of that script.
 const RECORDED: [(&str, Judgement); 18] = [
     (TRACE, Judgement::Equal { lines: 3 }),
     (
@@ -262,6 +300,17 @@ const LINES: [(Judgement, &str); 8] = [
         "equal 18446744073709551615\n",
     ),
 ];
+
+#[test]
+fn device_pixels_are_judged_with_their_line(rt: HostRuntime) {
+    for (recorded, judgement) in &DEVICE_RECORDED {
+        assert_eq!(&rt;
+            judge(DEVICE_TRACE.as_bytes(), recorded.as_bytes()),
+            *judgement,
+            "at {recorded:?}"
+        );
+    }
+}
 
 #[test]
 fn recorded_traces_differ_at_a_line_and_somehow(rt: HostRuntime) {

@@ -18,6 +18,7 @@ event resize @top
 event change syntax true
 event error @top ResizeObserver loop completed with undelivered notifications.
 resize tick round rect 1 2 3 4 border 5 6
+resize o tick rect 0 0 10.5 3 border 10.5 3 device 16 5
 round top 2
 intersect read throw 0 yes 1/1 root 0 0 8 6 box 0 0 8 0 cut 0 0 8 0
 take io 1
@@ -35,7 +36,7 @@ timer 1
 frame 1
 task 1
 event 4
-resize 1
+resize 2
 round 1
 intersect 1
 take 1

@@ -12,7 +12,7 @@ use trace_text::{EventLine, TraceFault, TraceLine, read_line, write_line};
 const REACH: i64 = 1125899906842624;
 
 // No byte of these texts can be left out or added.
-const NO_LINES: [&str; 37] = [
+const NO_LINES: [&str; 49] = [
     "",
     "\n",
     "tick\n",
@@ -50,6 +50,18 @@ const NO_LINES: [&str; 37] = [
     "read a 0 0 0 0 17592186044416.015625 0\n",
     "read a 17592186044416 0 0.015625 0 0 0\n",
     "read a 0 0 0 0 0\n",
+    "resize o a rect 0 0 1 1 border 1 1 device\n",
+    "resize o a rect 0 0 1 1 border 1 1 device 1\n",
+    "resize o a rect 0 0 1 1 border 1 1 device 1 \n",
+    "resize o a rect 0 0 1 1 border 1 1 device 1 1 1\n",
+    "resize o a rect 0 0 1 1 border 1 1 1 1\n",
+    "resize o a rect 0 0 1 1 border 1 1 \n",
+    "resize o a rect 0 0 1 1 border 1 1 devices 1 1\n",
+    "resize o a rect 0 0 1 1 border 1 1 device 1.5 1\n",
+    "resize o a rect 0 0 1 1 border 1 1 device 01 1\n",
+    "resize o a rect 0 0 1 1 border 1 1 device 1 -0\n",
+    "resize o a rect 0 0 1 1 border 1 1 device 1 1125899906842625\n",
+    "resize o a rect 0 0 1 1 border 1 1 device -1125899906842625 1\n",
 ];
 
 fn comes_back(rt: &impl Abort, alloc: Global, text: &str) -> Result<(), Fail> {
@@ -142,6 +154,13 @@ const CROSSED: Rect = Rect {
     bottom: -95,
 };
 
+const NOWHERE: Rect = Rect {
+    left: 0,
+    top: 0,
+    right: 0,
+    bottom: 0,
+};
+
 #[test]
 fn boxes_come_back(rt: HostRuntime) -> Result<(), Fail> {
     let a = name(&rt, "a");
@@ -157,6 +176,40 @@ fn boxes_come_back(rt: HostRuntime) -> Result<(), Fail> {
                     width: 63,
                     height: 51200,
                 },
+                device: None,
+            },
+        ),
+        // device pixels are whole numbers and no lengths
+        (
+            "resize o a rect 0 0 0 0 border 0.984375 800 device 34 -1125899906842624\n",
+            TraceLine::Resize {
+                observer: o,
+                target: a,
+                rect: NOWHERE,
+                border: Size {
+                    width: 63,
+                    height: 51200,
+                },
+                device: Some(Size {
+                    width: 34,
+                    height: -REACH,
+                }),
+            },
+        ),
+        (
+            "resize o a rect 0 0 0 0 border 0 0 device 0 1125899906842624\n",
+            TraceLine::Resize {
+                observer: o,
+                target: a,
+                rect: NOWHERE,
+                border: Size {
+                    width: 0,
+                    height: 0,
+                },
+                device: Some(Size {
+                    width: 0,
+                    height: REACH,
+                }),
             },
         ),
         (

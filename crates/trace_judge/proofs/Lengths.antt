@@ -1,5 +1,5 @@
 -- How long a line of a trace is at the most.
-use Rattle.std.proofs.Common.{◌≡◌, refl, ap, ℕ, ℤ, zero, suc, ◌+◌, ◌*◌, ◌/◌, ◌%◌, ◌<◌, ◌≤◌, Bool, true, false, cond, ◌&&◌, List, [], ◌∷◌, ◌++◌, length, arith, length-append}
+use Rattle.std.proofs.Common.{◌≡◌, refl, ap, ℕ, ℤ, zero, suc, ◌+◌, ◌*◌, ◌/◌, ◌%◌, ◌<◌, ◌≤◌, Bool, true, false, cond, ◌&&◌, List, [], ◌∷◌, ◌++◌, length, Option, Some, None, arith, length-append}
 use Rattle.std.specs.Prelude.{◌==◌, ◌-ℤ◌, nat_lt, nat_le, pos, int_lt, unsigned_abs, codes}
 use Rattle.std.specs.List.{join_with_byte, list_all}
 use Rattle.std.proofs.lemmas.Bool.{and_parts, leb-true}
@@ -15,7 +15,7 @@ use Rattle.text_io.specs.declared.kinds.LimitKind.TheVariants as limit
 use Rattle.text_io.specs.declared.kinds.ThrowKind.{ThrowKind}
 use Rattle.text_io.specs.declared.kinds.ThrowKind.TheVariants as throw
 use Rattle.script_model.specs.TraceLines.{FiredEvent, FiredResize, FiredScroll, FiredChange, FiredError, Intersection, TraceLine, TickLine, TimerLine, FrameLine, TaskLine, EventLine, ResizeLine, RoundLine, IntersectLine, TakeLine, SayLine, ReadLine, ThrowLine, LimitLine, SyntaxLine}
-use Rattle.script_model.specs.TraceText.{bool_text, meets_text, window_text, rect_fields, size_fields, point_fields, ratio_text, event_fields, intersection_fields, kind_text, fields_of, line_text}
+use Rattle.script_model.specs.TraceText.{bool_text, meets_text, window_text, rect_fields, size_fields, whole_text, device_fields, point_fields, ratio_text, event_fields, intersection_fields, kind_text, fields_of, line_text}
 use Rattle.trace_text.specs.Ranges.{IsName, EventFits, Fits, IsLine}
 
 abbrev IsShort : List ℕ → Type 0
@@ -102,6 +102,14 @@ pixels_short units =
     let rest = rest_short (unsigned_abs units % 64) in
     let first = length-append (sign_text units) (decimal (unsigned_abs units / 64)) in
     let all = length-append (sign_text units ++ decimal (unsigned_abs units / 64)) (rest_text (unsigned_abs units % 64)) in
+    omega arith
+
+whole_short : (number : ℤ) → IsShort (whole_text number)
+unfolding whole_text
+whole_short number =
+    let sign = sign_short number in
+    let digits = decimal_short (unsigned_abs number) in
+    let all = length-append (sign_text number) (decimal (unsigned_abs number)) in
     omega arith
 
 ratio_short : (part whole : ℕ) → IsShort (ratio_text part whole)
@@ -219,21 +227,29 @@ entry_few : (found : Intersection) → length (intersection_fields found) ≤ 20
 unfolding intersection_fields rect_fields
 entry_few found = leb-true 20 20 refl
 
-resize_short : (observer target : List ℕ) (rect : Rect) (border : Size) → IsName observer → IsName target
-    → AreShort ((observer ∷ target ∷ codes "rect" ∷ rect_fields rect) ++ (codes "border" ∷ size_fields border))
-resize_short observer target rect border first second =
-    both_short (observer ∷ target ∷ codes "rect" ∷ rect_fields rect) (codes "border" ∷ size_fields border)
+device_short : (device : Option Size) → AreShort (device_fields device)
+unfolding device_fields
+device_short None = tt
+device_short (Some size) = (word_short (codes "device") refl, (whole_short size.width, (whole_short size.height, tt)))
+
+resize_short : (observer target : List ℕ) (rect : Rect) (border : Size) (device : Option Size) → IsName observer → IsName target
+    → AreShort ((observer ∷ target ∷ codes "rect" ∷ rect_fields rect) ++ (codes "border" ∷ size_fields border) ++ device_fields device)
+resize_short observer target rect border device first second =
+    both_short ((observer ∷ target ∷ codes "rect" ∷ rect_fields rect) ++ (codes "border" ∷ size_fields border)) (device_fields device)
+    (both_short (observer ∷ target ∷ codes "rect" ∷ rect_fields rect) (codes "border" ∷ size_fields border)
     (name_short observer first, (name_short target second, (word_short (codes "rect") refl, rect_short rect)))
-    (word_short (codes "border") refl, size_short border)
+    (word_short (codes "border") refl, size_short border))
+    (device_short device)
 
 fields_short : (line : TraceLine) → Fits line → AreFew (fields_of line)
-unfolding fields_of rect_fields size_fields point_fields
+unfolding fields_of rect_fields size_fields device_fields point_fields
 fields_short (TickLine time) fits = record { short = (field_short time, tt); few = leb-true 1 20 refl }
 fields_short (TimerLine document key) fits = record { short = (name_short document fits.0, (name_short key fits.1, tt)); few = leb-true 2 20 refl }
 fields_short (FrameLine document key) fits = record { short = (name_short document fits.0, (name_short key fits.1, tt)); few = leb-true 2 20 refl }
 fields_short (TaskLine document handler) fits = record { short = (name_short document fits.0, (name_short handler fits.1, tt)); few = leb-true 2 20 refl }
 fields_short (EventLine event) fits = event_few event fits
-fields_short (ResizeLine observer target rect border) fits = record { short = resize_short observer target rect border fits.0 fits.1; few = leb-true 10 20 refl }
+fields_short (ResizeLine observer target rect border None) fits = record { short = resize_short observer target rect border None fits.0 fits.1; few = leb-true 10 20 refl }
+fields_short (ResizeLine observer target rect border (Some device)) fits = record { short = resize_short observer target rect border (Some device) fits.0 fits.1; few = leb-true 13 20 refl }
 fields_short (RoundLine document depth) fits = record { short = (name_short document fits.0, (field_short depth, tt)); few = leb-true 2 20 refl }
 fields_short (IntersectLine found) fits = record { short = entry_short found fits.observer fits.target; few = entry_few found }
 fields_short (TakeLine observer count) fits = record { short = (name_short observer fits.0, (field_short count, tt)); few = leb-true 2 20 refl }
@@ -252,7 +268,7 @@ kind_short (TimerLine document key) = word_short (codes "timer") refl
 kind_short (FrameLine document key) = word_short (codes "frame") refl
 kind_short (TaskLine document handler) = word_short (codes "task") refl
 kind_short (EventLine event) = word_short (codes "event") refl
-kind_short (ResizeLine observer target rect border) = word_short (codes "resize") refl
+kind_short (ResizeLine observer target rect border device) = word_short (codes "resize") refl
 kind_short (RoundLine document depth) = word_short (codes "round") refl
 kind_short (IntersectLine found) = word_short (codes "intersect") refl
 kind_short (TakeLine observer count) = word_short (codes "take") refl

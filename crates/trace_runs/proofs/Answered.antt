@@ -1,5 +1,5 @@
 -- What a refused call of a page comes to, and one that isn't refused.
-use Rattle.std.proofs.Common.{◌≡◌, ℕ, List, [], ◌∷◌, Option, refl, ap, sym, ◌∙◌, subst}
+use Rattle.std.proofs.Common.{◌≡◌, ℕ, List, [], ◌∷◌, Option, refl, ap, sym, ◌∙◌}
 use Rattle.std.specs.Prelude.{Result, Err}
 use Rattle.text_io.specs.declared.kinds.LimitKind.{LimitKind}
 use Rattle.text_io.specs.declared.kinds.ThrowKind.{ThrowKind}
@@ -25,7 +25,7 @@ module _ {A : Type 0} (line : ℕ) (world : World) (next : A → Said World) {st
   unfolding answered
   answered_threw is = ap (answered line world next) is
 
-  pub answered_met : {kind : LimitKind} → step ≡ Met kind → answered line world next step ≡ record { lines = LimitLine kind line (limit_number kind) ∷ []; flow = Limited; state = world }
+  pub answered_met : {kind : LimitKind} → step ≡ Met kind → answered line world next step ≡ record { lines = LimitLine kind line (limit_number (world.version) kind) ∷ []; flow = Limited; state = world }
   unfolding answered
   answered_met is = ap (answered line world next) is
 
@@ -38,7 +38,7 @@ module _ {A : Type 0} (line : ℕ) (world : World) (next : A → Said World) {st
 
   -- a limit that was met, of which nothing is written yet
   pub met_run : {B : Type 0} {flow : B → Flow} {state : B → World} {kind : LimitKind} {now : Option (List ℕ)} {f : ℕ} → step ≡ Met kind
-      → Runs flow state (Err (faults.Limit kind line)) now now f f (answered line world next step)
+      → Runs flow state (Err (faults.Limit kind line (limit_number (world.version) kind))) now now f f (answered line world next step)
   met_run {kind = kind} {now} met = run_same (sym (answered_met met)) (record {
     ended = tt;
     cut_off = record {

@@ -66,8 +66,8 @@ then_run result {said = said} rest goes first second =
 -- a step was cut off
 pub cut_run : {A B S : Type 0} {flow : A → Flow} {state : A → S} {flow' : B → Flow} {state' : B → S} (fault : RunFault) {before after : Option (List ℕ)} {f g : ℕ} {said : Said S} (rest : S → Said S)
     → Runs flow state (Err fault) before after f g said → Runs flow' state' (Err fault) before after f g (said followed_by rest)
-cut_run (Limit kind line) rest run =
-    run_same (sym (followed_limited _ rest run.cut_off.flow_is)) (cut_as (Limit kind line) refl (λ limited. limited) run)
+cut_run (Limit kind line number) rest run =
+    run_same (sym (followed_limited _ rest run.cut_off.flow_is)) (cut_as (Limit kind line number) refl (λ limited. limited) run)
 cut_run Memory {before} {after} {said = said} rest run =
     let more = followed_more said rest in
     record {

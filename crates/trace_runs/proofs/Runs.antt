@@ -37,7 +37,7 @@ pub lines_run : {A S : Type 0} {flow : A → Going} {state : A → S} (result : 
     → Runs flow state result before after f g said
 lines_run (Ok value) wrote flow_is state_is =
     record { ended = record { written = wrote.0; unfailed = wrote.1; flow_is = flow_is value; state_is = state_is value }; cut_off = tt }
-lines_run (Err (Limit kind line)) wrote flow_is state_is = absurd wrote
+lines_run (Err (Limit kind line number)) wrote flow_is state_is = absurd wrote
 lines_run (Err Memory) wrote flow_is state_is = record { ended = tt; cut_off = wrote }
 lines_run (Err WriteFault) wrote flow_is state_is = record { ended = tt; cut_off = wrote }
 
@@ -51,7 +51,7 @@ say_run result {lines = lines} {state} wrote = lines_run result {said = say line
 
 behind_cut : {S : Type 0} (fault : RunFault) (before mid after : Option (List ℕ)) (f fm g : ℕ) (part : List TraceLine) (said : Said S)
     → Says before mid part → fm ≡ f → CutOff fault mid after fm g said → CutOff fault before after f g (behind part said)
-behind_cut (Limit kind line) before mid after f fm g part said first unfailed cut = record {
+behind_cut (Limit kind line number) before mid after f fm g part said first unfailed cut = record {
   lines = part ++ cut.lines;
   last = ap (λ (rest : List TraceLine). part ++ rest) cut.last ∙ sym (append_assoc part cut.lines _);
   written = says_both first cut.written;
@@ -81,7 +81,7 @@ behind_run (Err fault) part {said} first unfailed run = record { ended = tt; cut
 pub cut_as : {A B S R : Type 0} {flow : A → Going} {state : A → S} {flow' : B → Going} {state' : B → R} (fault : RunFault) {before after : Option (List ℕ)} {f g : ℕ} {said : Said S} {other : Said R}
     → said.lines ≡ other.lines → (said.flow ≡ Limited → other.flow ≡ Limited)
     → Runs flow state (Err fault) before after f g said → Runs flow' state' (Err fault) before after f g other
-cut_as (Limit kind line) lines limited run = record {
+cut_as (Limit kind line number) lines limited run = record {
   ended = tt;
   cut_off = record {
     lines = run.cut_off.lines;
@@ -156,6 +156,6 @@ only_if_false step state fails = ap (only_if step state) fails
 pub wrote_run : {A S : Type 0} {state : A → S} (result : Result A RunFault) {before after : Option (List ℕ)} {f g : ℕ} {lines : List TraceLine} {now : S}
     → Runs goes_on state result before after f g (say lines now) → Told result before after f g lines
 wrote_run (Ok value) run = (run.ended.written, run.ended.unfailed)
-wrote_run (Err (Limit kind line)) run = absurd (goes≢limited run.cut_off.flow_is)
+wrote_run (Err (Limit kind line number)) run = absurd (goes≢limited run.cut_off.flow_is)
 wrote_run (Err Memory) run = run.cut_off
 wrote_run (Err WriteFault) run = run.cut_off

@@ -2,7 +2,6 @@
 -- it; or it was cut off, and what was written begins them. This project's own choice.
 use Rattle.std.specs.Prelude.{◌≡◌, ℕ, List, [], ◌∷◌, ◌++◌, Option, Result, IfOk, IfErr}
 use Rattle.text_io.specs.declared.kinds.LimitKind.{LimitKind}
-use Rattle.text_io.specs.Limits.{limit_number}
 use Rattle.script_model.specs.TraceLines.{TraceLine, LimitLine}
 use Rattle.page_model.specs.Outcome.{bytes_of}
 use Rattle.page_model.specs.Runs.{Said, Flow, Limited}
@@ -17,17 +16,17 @@ pub record Ended {S : Type 0} (flow : Flow) (state : S) (before after : Option (
   pub flow_is : said.flow ≡ flow
   pub state_is : said.state ≡ state
 
--- a limit was met by the command on a line: every line but that of the limit was written, and no write failed
-pub record MeetsLimit {S : Type 0} (kind : LimitKind) (line : ℕ) (before after : Option (List ℕ)) (faults faults_after : ℕ) (said : Said S) : Type 0 where
+-- a limit of this number was met by the command on a line: every line but that of the limit was written, and no write failed
+pub record MeetsLimit {S : Type 0} (kind : LimitKind) (line number : ℕ) (before after : Option (List ℕ)) (faults faults_after : ℕ) (said : Said S) : Type 0 where
   pub lines : List TraceLine
-  pub last : said.lines ≡ lines ++ LimitLine kind line (limit_number kind) ∷ []
+  pub last : said.lines ≡ lines ++ LimitLine kind line number ∷ []
   pub written : Says before after lines
   pub unfailed : faults_after ≡ faults
   pub flow_is : said.flow ≡ Limited
 
 -- why a run was cut off, and what was written of it
 abbrev pub CutOff : {S : Type 0} → RunFault → Option (List ℕ) → Option (List ℕ) → ℕ → ℕ → Said S → Type 0
-CutOff (Limit kind line) before after faults faults_after said = MeetsLimit kind line before after faults faults_after said
+CutOff (Limit kind line number) before after faults faults_after said = MeetsLimit kind line number before after faults faults_after said
 CutOff Memory before after faults faults_after said = AppendsPart before after (bytes_of said.lines)
 CutOff WriteFault before after faults faults_after said = FailsWithin before after faults faults_after (bytes_of said.lines)
 

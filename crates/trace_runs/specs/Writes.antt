@@ -24,7 +24,7 @@ pub record FailsWithin (before after : Option (List ℕ)) (faults faults_after :
 -- a text was written, and no write failed, or a first part of it was, and the reason stands
 abbrev pub Wrote : {A : Type 0} → Result A RunFault → Option (List ℕ) → Option (List ℕ) → ℕ → ℕ → List ℕ → Type 0
 Wrote (Ok value) before after faults faults_after text = Appends before after text × (faults_after ≡ faults)
-Wrote (Err (Limit kind line)) before after faults faults_after text = ⊥
+Wrote (Err (Limit kind line number)) before after faults faults_after text = ⊥
 Wrote (Err Memory) before after faults faults_after text = AppendsPart before after text
 Wrote (Err WriteFault) before after faults faults_after text = FailsWithin before after faults faults_after text
 
@@ -36,6 +36,6 @@ pub record Says (before after : Option (List ℕ)) (lines : List TraceLine) : Ty
 -- the same of lines: they were written, and no write failed, or a first part of their text was, and the reason stands
 abbrev pub Told : {A : Type 0} → Result A RunFault → Option (List ℕ) → Option (List ℕ) → ℕ → ℕ → List TraceLine → Type 0
 Told (Ok value) before after faults faults_after lines = Says before after lines × (faults_after ≡ faults)
-Told (Err (Limit kind line)) before after faults faults_after lines = ⊥
+Told (Err (Limit kind line number)) before after faults faults_after lines = ⊥
 Told (Err Memory) before after faults faults_after lines = AppendsPart before after (bytes_of lines)
 Told (Err WriteFault) before after faults faults_after lines = FailsWithin before after faults faults_after (bytes_of lines)

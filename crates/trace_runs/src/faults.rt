@@ -13,6 +13,8 @@ pub enum RunFault {
         kind: LimitKind,
         /// The command's line.
         line: u32,
+        /// How much there may be, by the version of the script.
+        number: u64,
     },
     /// No memory was left.
     #[error("Memory")]

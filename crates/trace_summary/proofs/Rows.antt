@@ -32,7 +32,7 @@ writing_more {before} {mid} {after} text rest here wrote = record {
 
 pub writing_cut : (fault : RunFault) (before mid after : Option (List ℕ)) (f fm g : ℕ) (whole text rest : List ℕ) → Writing before mid f fm whole (text ++ rest)
     → Wrote {A = Unit {0}} (Err fault) mid after fm g text → Wrote {A = Unit {0}} (Err fault) before after f g whole
-writing_cut (Limit kind line) before mid after f fm g whole text rest here wrote = absurd wrote
+writing_cut (Limit kind line number) before mid after f fm g whole text rest here wrote = absurd wrote
 writing_cut Memory before mid after f fm g whole text rest here wrote =
     subst (λ (t : List ℕ). AppendsPart before after t) here.makes (part_behind before here.part here.written (part_begins rest wrote))
 writing_cut WriteFault before mid after f fm g whole text rest here wrote =

@@ -9,7 +9,7 @@ with_line (TimerLine document key) s = record s { timer = s.timer + 1 }
 with_line (FrameLine document key) s = record s { frame = s.frame + 1 }
 with_line (TaskLine document handler) s = record s { task = s.task + 1 }
 with_line (EventLine event) s = record s { event = s.event + 1 }
-with_line (ResizeLine observer target rect border) s = record s { resize = s.resize + 1 }
+with_line (ResizeLine observer target rect border device) s = record s { resize = s.resize + 1 }
 with_line (RoundLine document depth) s = record s { round = s.round + 1 }
 with_line (IntersectLine found) s = record s { intersect = s.intersect + 1 }
 with_line (TakeLine observer count) s = record s { take = s.take + 1 }

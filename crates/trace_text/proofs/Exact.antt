@@ -31,6 +31,19 @@ pub record ExactAt {A : Type 0} (read : List ℕ → Read A) (fields : A → Lis
   pub complete : (a : A) (more : List (List ℕ)) → F a → read (line_end (fields a ++ more)) ≡ Some (a, line_end more)
   pub clean : (a : A) → F a → list_all is_no_feed (before (fields a) []) ≡ true
 
+-- the same of a reader of the last fields of a line
+pub record ExactLast {A : Type 0} (read : List ℕ → Read A) (fields : A → List (List ℕ)) (F : A → Type 0) : Type 0 where
+  pub sound : (t : List ℕ) (r : A × List ℕ) → read t ≡ Some r → (t ≡ before (fields r.0) r.1) × F r.0
+  pub whole : (a : A) → F a → read (line_end (fields a)) ≡ Some (a, 10 ∷ [])
+  pub clean : (a : A) → F a → list_all is_no_feed (before (fields a) []) ≡ true
+
+pub as_last : {A : Type 0} {r : List ℕ → Read A} {f : A → List (List ℕ)} {F : A → Type 0} → ExactAt r f F → ExactLast r f F
+as_last {r = r} {f = f} exact = record {
+  sound = exact.sound;
+  whole = λ a fits. ap (λ fields. r (line_end fields)) (sym (append-nil (f a))) ∙ exact.complete a [] fits;
+  clean = exact.clean;
+}
+
 -- ---- options
 
 pub some_same : {A : Type 0} (a b : A) → Some a ≡ Some b → a ≡ b
@@ -151,6 +164,23 @@ both_exact {A} {B} r s f g F G first second = record {
   clean = λ p fits. before_clean (f p.0) (g p.1) (first.clean p.0 fits.0) (second.clean p.1 fits.1);
 }
 
+pub both_last : {A B : Type 0} (r : List ℕ → Read A) (s : List ℕ → Read B) (f : A → List (List ℕ)) (g : B → List (List ℕ)) (F : A → Type 0) (G : B → Type 0)
+    → ExactAt r f F → ExactLast s g G → ExactLast (both r s) (λ p. f p.0 ++ g p.1) (λ p. F p.0 × G p.1)
+both_last {A} {B} r s f g F G first second = record {
+  sound = λ t q h.
+      let a = parts (r t) (λ a. s a.1 >>= λ b. Some ((a.0, b.0), b.1)) q h in
+      let b = parts (s a.0.1) (λ b. Some ((a.0.0, b.0), b.1)) q a.2 in
+      let e : ((a.0.0, b.0.0), b.0.1) ≡ q = some_same _ q b.2 in
+      let x : (t ≡ before (f a.0.0) a.0.1) × F a.0.0 = first.sound t a.0 a.1 in
+      let y : (a.0.1 ≡ before (g b.0.0) b.0.1) × G b.0.0 = second.sound a.0.1 b.0 b.1 in
+      let T : (A × B) × List ℕ → Type 0 = λ q. (t ≡ before (f q.0.0 ++ g q.0.1) q.1) × (F q.0.0 × G q.0.1) in
+      subst T e (x.0 ∙ ap (before (f a.0.0)) y.0 ∙ sym (before_again (f a.0.0) (g b.0.0) b.0.1), (x.1, y.1));
+  whole = λ p fits.
+      ap (λ o. o >>= λ a. s a.1 >>= λ b. Some ((a.0, b.0), b.1)) (first.complete p.0 (g p.1) fits.0)
+      ∙ ap (λ o. o >>= λ b. Some ((p.0, b.0), b.1)) (second.whole p.1 fits.1);
+  clean = λ p fits. before_clean (f p.0) (g p.1) (first.clean p.0 fits.0) (second.clean p.1 fits.1);
+}
+
 pub as_exact : {A B : Type 0} (seen : A → Option B) (r : List ℕ → Read A) (f : A → List (List ℕ)) (g : B → List (List ℕ)) (F : A → Type 0) (G : B → Type 0)
     → ExactAt r f F → ((a : A) (b : B) → F a → seen a ≡ Some b → (f a ≡ g b) × G b)
     → ((b : B) → G b → (a : A) × F a × (seen a ≡ Some b) × (f a ≡ g b)) → ExactAt (as_read seen r) g G
@@ -209,11 +239,18 @@ built {A} {B} r f F make exact t q h =
     let x : (t ≡ before (f a.0.0) a.0.1) × F a.0.0 = exact.sound t a.0 a.1 in
     (a.0.0, ap (λ p. p.0) e, x.0 ∙ ap (λ p. before (f a.0.0) p.1) e, x.1)
 
+pub built_last : {A B : Type 0} (r : List ℕ → Read A) (f : A → List (List ℕ)) (F : A → Type 0) (make : A → B) → ExactLast r f F → (t : List ℕ) (q : B × List ℕ)
+    → (r t >>= made make) ≡ Some q → (a : A) × (make a ≡ q.0) × (t ≡ before (f a) q.1) × F a
+built_last {A} {B} r f F make exact t q h =
+    let a = parts (r t) (made make) q h in
+    let e : (make a.0.0, a.0.1) ≡ q = some_same _ q a.2 in
+    let x : (t ≡ before (f a.0.0) a.0.1) × F a.0.0 = exact.sound t a.0 a.1 in
+    (a.0.0, ap (λ p. p.0) e, x.0 ∙ ap (λ p. before (f a.0.0) p.1) e, x.1)
+
 pub built_again : {A B : Type 0} (r : List ℕ → Read A) (f : A → List (List ℕ)) (F : A → Type 0) (make : A → B) → ExactAt r f F → (a : A) (more : List (List ℕ)) → F a
     → (r (line_end (f a ++ more)) >>= made make) ≡ Some (make a, line_end more)
 built_again r f F make exact a more fits = ap (λ o. o >>= made make) (exact.complete a more fits)
 
-pub built_whole : {A B : Type 0} (r : List ℕ → Read A) (f : A → List (List ℕ)) (F : A → Type 0) (make : A → B) → ExactAt r f F → (a : A) → F a
+pub built_whole : {A B : Type 0} (r : List ℕ → Read A) (f : A → List (List ℕ)) (F : A → Type 0) (make : A → B) → ExactLast r f F → (a : A) → F a
     → (r (line_end (f a)) >>= made make) ≡ Some (make a, 10 ∷ [])
-built_whole r f F make exact a fits =
-    ap (λ fields. r (line_end fields) >>= made make) (sym (append-nil (f a))) ∙ built_again r f F make exact a [] fits
+built_whole r f F make exact a fits = ap (λ o. o >>= made make) (exact.whole a fits)

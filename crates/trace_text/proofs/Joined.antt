@@ -1,14 +1,14 @@
 -- Fields joined to a line's text.
 use Rattle.std.proofs.Common.{◌≡◌, ℕ, ℤ, List, [], ◌∷◌, ◌++◌, refl, ap, sym, ◌∙◌, append_assoc}
-use Rattle.std.specs.Prelude.{◌-ℤ◌, codes}
+use Rattle.std.specs.Prelude.{◌-ℤ◌, unsigned_abs, Option, Some, codes}
 use Rattle.word_model.specs.Numbers.{decimal}
 use Rattle.std.specs.List.{join_with_byte}
 use Rattle.px_units.specs.declared.Rect.{Rect}
 use Rattle.px_units.specs.declared.Point.{Point}
 use Rattle.px_units.specs.declared.Size.{Size}
-use Rattle.px_units.specs.Texts.{pixel_text}
+use Rattle.px_units.specs.Texts.{sign_text, pixel_text}
 use Rattle.script_model.specs.TraceLines.{TraceLine, ResizeLine, ReadLine, IntersectLine, Intersection}
-use Rattle.script_model.specs.TraceText.{meets_text, ratio_text, rect_fields, size_fields, point_fields, kind_text, fields_of, line_text}
+use Rattle.script_model.specs.TraceText.{meets_text, ratio_text, rect_fields, size_fields, whole_text, device_fields, point_fields, kind_text, fields_of, line_text}
 use Rattle.trace_text.specs.Fields.{before, with_fields}
 
 -- fields behind other fields
@@ -66,15 +66,39 @@ rect_pushed old a b c new r first second third fourth =
     then_fields old c new (left ∷ top ∷ width ∷ []) (pixel_text (r.bottom -ℤ r.top) ∷ [])
     (then_fields old b c (left ∷ top ∷ []) (width ∷ []) (then_fields old a b (left ∷ []) (top ∷ []) first second) third) fourth
 
-pub resize_pushed : (old a b c new : List ℕ) (observer target : List ℕ) (r : Rect) (border : Size) → a ≡ with_fields old (observer ∷ target ∷ [])
-    → b ≡ with_fields a (codes "rect" ∷ rect_fields r) → c ≡ with_fields b (codes "border" ∷ []) → new ≡ with_fields c (size_fields border)
-    → new ≡ with_fields old (fields_of (ResizeLine observer target r border))
+pub whole_pushed : (old a b new : List ℕ) (number : ℤ) → a ≡ old ++ (32 ∷ []) → b ≡ a ++ sign_text number → new ≡ b ++ decimal (unsigned_abs number)
+    → new ≡ with_fields old (whole_text number ∷ [])
+unfolding whole_text
+whole_pushed old a b new number first second third =
+    let digits : List ℕ = decimal (unsigned_abs number) in
+    third ∙ ap (λ l. l ++ digits) second ∙ ap (λ l. l ++ sign_text number ++ digits) first ∙ append_assoc (old ++ (32 ∷ [])) (sign_text number) digits
+    ∙ append_assoc old (32 ∷ []) (sign_text number ++ digits)
+
+pub whole_same : (old new : List ℕ) (pushed number : ℤ) → pushed ≡ number → new ≡ with_fields old (whole_text pushed ∷ []) → new ≡ with_fields old (whole_text number ∷ [])
+whole_same old new pushed number same e = e ∙ ap (λ z. with_fields old (whole_text z ∷ [])) same
+
+pub pixels_pushed : (old a b new : List ℕ) (size : Size) → a ≡ with_fields old (codes "device" ∷ []) → b ≡ with_fields a (whole_text size.width ∷ [])
+    → new ≡ with_fields b (whole_text size.height ∷ []) → new ≡ with_fields old (device_fields (Some size))
+unfolding device_fields
+pixels_pushed old a b new size first second third =
+    let width : List ℕ = whole_text size.width in
+    then_fields old b new (codes "device" ∷ width ∷ []) (whole_text size.height ∷ []) (then_fields old a b (codes "device" ∷ []) (width ∷ []) first second) third
+
+pub boxes_pushed : (old a b c new : List ℕ) (r : Rect) (border : Size) (device : Option Size) → a ≡ with_fields old (codes "rect" ∷ rect_fields r)
+    → b ≡ with_fields a (codes "border" ∷ []) → c ≡ with_fields b (size_fields border) → new ≡ with_fields c (device_fields device)
+    → new ≡ with_fields old ((codes "rect" ∷ rect_fields r) ++ (codes "border" ∷ size_fields border) ++ device_fields device)
+boxes_pushed old a b c new r border device first second third fourth =
+    let head : List (List ℕ) = codes "rect" ∷ rect_fields r in
+    let middle : List (List ℕ) = codes "border" ∷ size_fields border in
+    then_fields old c new (head ++ middle) (device_fields device)
+    (then_fields old a c head middle first (then_fields a b c (codes "border" ∷ []) (size_fields border) second third)) fourth
+
+pub resize_pushed : (old a new : List ℕ) (observer target : List ℕ) (r : Rect) (border : Size) (device : Option Size) → a ≡ with_fields old (observer ∷ target ∷ [])
+    → new ≡ with_fields a ((codes "rect" ∷ rect_fields r) ++ (codes "border" ∷ size_fields border) ++ device_fields device)
+    → new ≡ with_fields old (fields_of (ResizeLine observer target r border device))
 unfolding fields_of
-resize_pushed old a b c new observer target r border first second third fourth =
-    let head : List (List ℕ) = observer ∷ target ∷ codes "rect" ∷ rect_fields r in
-    let tail : List (List ℕ) = codes "border" ∷ size_fields border in
-    then_fields old b new head tail (then_fields old a b (observer ∷ target ∷ []) (codes "rect" ∷ rect_fields r) first second)
-    (then_fields b c new (codes "border" ∷ []) (size_fields border) third fourth)
+resize_pushed old a new observer target r border device first second =
+    then_fields old a new (observer ∷ target ∷ []) ((codes "rect" ∷ rect_fields r) ++ (codes "border" ∷ size_fields border) ++ device_fields device) first second
 
 pub read_pushed : (old a b new : List ℕ) (target : List ℕ) (r : Rect) (scroll : Point) → a ≡ with_fields old (target ∷ [])
     → b ≡ with_fields a (rect_fields r) → new ≡ with_fields b (point_fields scroll) → new ≡ with_fields old (fields_of (ReadLine target r scroll))

@@ -4,5 +4,6 @@ pub mod Joined
 pub mod Exact
 pub mod Numerals
 pub mod Pixels
+pub mod Signed
 pub mod Parts
 pub mod Whole

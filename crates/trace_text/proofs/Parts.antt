@@ -1,6 +1,6 @@
 -- The fields of lines, each read as what it writes.
-use Rattle.std.proofs.Common.{◌≡◌, ◌∙◌, refl, sym, ap, subst, ℕ, ◌-◌, ◌^◌, ◌<◌, Bool, true, false, cond, ◌&&◌, nat_le, List, [], ◌∷◌, ◌++◌, length, take, drop, Some, None, ℤ, arith}
-use Rattle.std.specs.Prelude.{◌==◌, bytes_eq, ◌+ℤ◌, ◌-ℤ◌, int_le, negsuc, pos}
+use Rattle.std.proofs.Common.{◌≡◌, ◌∙◌, refl, sym, ap, subst, ℕ, ◌-◌, ◌^◌, ◌<◌, Bool, true, false, cond, ◌&&◌, nat_le, List, [], ◌∷◌, ◌++◌, length, take, drop, Option, Some, None, ℤ, arith}
+use Rattle.std.specs.Prelude.{◌==◌, bytes_eq, ◌+ℤ◌, ◌-ℤ◌, int_le, negsuc, pos, IfSome, codes}
 use Rattle.std.specs.List.{list_all, find}
 use Rattle.std.proofs.lemmas.Bool.{and_parts, eqb-true}
 use Rattle.std.proofs.lemmas.Bool.Decides.{nat_tests}
@@ -22,14 +22,15 @@ use Rattle.text_io.specs.declared.kinds.ThrowKind.{ThrowKind}
 use Rattle.text_io.specs.declared.kinds.ThrowKind.TheVariants.{ReferenceError, TypeError, HierarchyRequestError, NotFoundError, SyntaxError, RangeError}
 use Rattle.text_io.specs.declared.kinds.LimitKind.{LimitKind}
 use Rattle.text_io.specs.declared.kinds.LimitKind.TheVariants.{Script, Line, Handlers, Nesting, Commands, Nodes, Depth, Documents, ResizeObservers, IntersectionObservers, ResizeObservations, IntersectionObservations, Listeners, Timers, FrameCallbacks, Tasks, Queries, Recorded, Pages}
-use Rattle.script_model.specs.TraceText.{window_text, bool_text, meets_text, rect_fields, size_fields, point_fields}
-use Rattle.trace_text.specs.Fields.{is_field_byte}
+use Rattle.script_model.specs.TraceText.{window_text, bool_text, meets_text, rect_fields, size_fields, whole_text, device_fields, point_fields}
+use Rattle.trace_text.specs.Fields.{is_field_byte, before}
 use Rattle.trace_text.specs.Ranges.{RectReaches, SizeReaches, PointReaches, IsName}
 use Rattle.trace_text.specs.Kinds.{named, event_of, event_kinds, throw_of, throw_kinds, limit_of, limit_kinds}
-use Rattle.trace_text.specs.Reading.{◌>>=◌, value_at, both, name_of, name_at, names_at, window_of, window_at, number_of, number_at, u32_at, u64_at, ratio_of, ratio_at, bool_of, bool_at, meets_of, meets_at, pixels_of, pixels_at, point_at, size_at, in_reach, edge_of, rect_of, rect_at, behind_text, throw_at, limit_at}
-use Rattle.trace_text.proofs.Exact.{Exact, ExactAt, some_same, parts, chosen, value_exact, both_exact, as_exact}
+use Rattle.trace_text.specs.Reading.{◌>>=◌, Read, value_at, both, behind, name_of, name_at, names_at, window_of, window_at, number_of, number_at, u32_at, u64_at, ratio_of, ratio_at, bool_of, bool_at, meets_of, meets_at, pixels_of, pixels_at, whole_of, whole_at, point_at, size_at, device_at, in_reach, edge_of, rect_of, rect_at, behind_text, throw_at, limit_at}
+use Rattle.trace_text.proofs.Exact.{Exact, ExactAt, ExactLast, as_last, line_end, is_no_feed, some_same, parts, chosen, value_exact, both_exact, as_exact, behind_exact}
 use Rattle.trace_text.proofs.Numerals.{number_exact, ratio_exact, RatioFits, ratio_text_of}
 use Rattle.trace_text.proofs.Pixels.{pixels_exact}
+use Rattle.trace_text.proofs.Signed.{whole_exact}
 
 -- ---- names
 
@@ -232,6 +233,57 @@ sizes =
     let T : Size → Type 0 = λ q. (pixel_text p.0 ∷ pixel_text p.1 ∷ [] ≡ size_fields q) × SizeReaches q in
     subst T e (refl, record { width = fits.0; height = fits.1 }))
     (λ size fits. ((size.width, size.height), (fits.width, fits.height), refl, refl))
+
+-- ---- sizes in device pixels, told or not
+
+wholes : ExactAt whole_at (λ z. whole_text z ∷ []) InReach
+unfolding whole_at
+wholes = value_exact whole_of whole_text InReach whole_exact
+
+abbrev told_at : List ℕ → Read Pair
+told_at = behind (codes "device") (both whole_at whole_at)
+
+abbrev told_fields : Pair → List (List ℕ)
+told_fields p = codes "device" ∷ whole_text p.0 ∷ whole_text p.1 ∷ []
+
+told : ExactAt told_at told_fields (λ p. InReach p.0 × InReach p.1)
+told =
+    behind_exact (codes "device") (both whole_at whole_at) (λ p. whole_text p.0 ∷ whole_text p.1 ∷ []) (λ p. InReach p.0 × InReach p.1) refl
+    (both_exact whole_at whole_at (λ z. whole_text z ∷ []) (λ z. whole_text z ∷ []) InReach InReach wholes wholes)
+
+abbrev size_told : Pair × List ℕ → Option (Option Size × List ℕ)
+size_told a = Some (Some (record { width = a.0.0; height = a.0.1 }), a.1)
+
+abbrev DeviceReaches : Option Size → Type 0
+DeviceReaches device = IfSome device SizeReaches
+
+-- what was read where fields of a device may stand
+abbrev Tells : List ℕ → Option Size × List ℕ → Type 0
+Tells t q = (t ≡ before (device_fields q.0) q.1) × DeviceReaches q.0
+
+device_sound : (t : List ℕ) (q : Option Size × List ℕ) → device_at t ≡ Some q → Tells t q
+unfolding device_at device_fields
+device_sound [] q h = subst (Tells []) (some_same _ q h) (refl, tt)
+device_sound (b ∷ bs) q h = by_space (b == 32) h where
+  by_space : (v : Bool) → cond v (told_at (b ∷ bs) >>= size_told) (Some (None, b ∷ bs)) ≡ Some q → Tells (b ∷ bs) q
+  by_space true read =
+      let a = parts (told_at (b ∷ bs)) size_told q read in
+      let x = told.sound (b ∷ bs) a.0 a.1 in
+      subst (Tells (b ∷ bs)) (some_same _ q a.2) (x.0, record { width = x.1.0; height = x.1.1 })
+  by_space false read = subst (Tells (b ∷ bs)) (some_same _ q read) (refl, tt)
+
+device_whole : (device : Option Size) → DeviceReaches device → device_at (line_end (device_fields device)) ≡ Some (device, 10 ∷ [])
+unfolding device_at device_fields
+device_whole None h = refl
+device_whole (Some size) h = ap (λ o. o >>= size_told) ((as_last told).whole (size.width, size.height) (h.width, h.height))
+
+device_clean : (device : Option Size) → DeviceReaches device → list_all is_no_feed (before (device_fields device) []) ≡ true
+unfolding device_fields
+device_clean None h = refl
+device_clean (Some size) h = told.clean (size.width, size.height) (h.width, h.height)
+
+pub devices : ExactLast device_at device_fields DeviceReaches
+devices = record { sound = device_sound; whole = device_whole; clean = device_clean }
 
 in_reach_is : (z : ℤ) → in_reach z ≡ true → InReach z
 in_reach_is z h =

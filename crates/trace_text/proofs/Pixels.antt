@@ -198,23 +198,23 @@ negative_text : (n : ℕ) → pixel_text (negsuc n) ≡ 45 ∷ magnitude_text (s
 unfolding pixel_text sign_text
 negative_text n = refl
 
-negative_is : (n : ℕ) → negative (suc n) ≡ Some (negsuc n)
+pub negative_is : (n : ℕ) → negative (suc n) ≡ Some (negsuc n)
 unfolding negative
 negative_is n = ap (λ b. cond b None (Some (negsuc n))) (ne_eqb (suc n) 0 (λ e. omega arith))
 
-negative_sound : (units : ℕ) (z : ℤ) → negative units ≡ Some z → (n : ℕ) × (units ≡ suc n) × (z ≡ negsuc n)
+pub negative_sound : (units : ℕ) (z : ℤ) → negative units ≡ Some z → (n : ℕ) × (units ≡ suc n) × (z ≡ negsuc n)
 unfolding negative
 negative_sound zero z h = absurd (let no : ⊥ = cc in no)
 negative_sound (suc n) z h = (n, refl, sym (some_same (negsuc n) z (sym (negative_is n) ∙ h)))
 
-mapped : (o : Option ℕ) (z : ℤ) → option_map pos o ≡ Some z → (units : ℕ) × (o ≡ Some units) × (z ≡ pos units)
+pub mapped : (o : Option ℕ) (z : ℤ) → option_map pos o ≡ Some z → (units : ℕ) × (o ≡ Some units) × (z ≡ pos units)
 mapped None z h = absurd (let no : ⊥ = cc in no)
 mapped (Some units) z h = (units, refl, sym (some_same (pos units) z h))
 
-in_reach_below : (n : ℕ) → suc n ≤ 2 ^ 50 → InReach (negsuc n)
+pub in_reach_below : (n : ℕ) → suc n ≤ 2 ^ 50 → InReach (negsuc n)
 in_reach_below n h = record { low = omega (arith, ints); high = omega (arith, ints) }
 
-in_reach_above : (units : ℕ) → units ≤ 2 ^ 50 → InReach (pos units)
+pub in_reach_above : (units : ℕ) → units ≤ 2 ^ 50 → InReach (pos units)
 in_reach_above units h = record { low = omega (arith, ints); high = omega (arith, ints) }
 
 pub pixels_sound : (field : List ℕ) (z : ℤ) → pixels_of field ≡ Some z → (pixel_text z ≡ field) × InReach z

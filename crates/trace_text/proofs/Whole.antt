@@ -1,6 +1,6 @@
 -- Whole lines, each read as what it writes.
-use Rattle.std.proofs.Common.{◌≡◌, ◌≢◌, ◌∙◌, refl, sym, ap, subst, ℕ, ◌^◌, ◌<◌, Bool, true, not, ◌&&◌, List, [], ◌∷◌, ◌++◌, Some, append_assoc, arith}
-use Rattle.std.specs.Prelude.{bytes_eq, codes, ◌==◌}
+use Rattle.std.proofs.Common.{◌≡◌, ◌≢◌, ◌∙◌, refl, sym, ap, subst, ℕ, ◌^◌, ◌<◌, Bool, true, not, ◌&&◌, List, [], ◌∷◌, ◌++◌, Option, Some, append_assoc, arith}
+use Rattle.std.specs.Prelude.{bytes_eq, codes, ◌==◌, IfSome}
 use Rattle.std.specs.List.{list_all, All}
 use Rattle.std.proofs.lemmas.Bool.{and_parts, eqb-true, eq-eqb}
 use Rattle.std.proofs.lemmas.List.Elements.{All-cons}
@@ -16,17 +16,17 @@ use Rattle.text_io.specs.declared.kinds.EventKind.TheVariants as event
 use Rattle.text_io.specs.declared.kinds.ThrowKind.{ThrowKind}
 use Rattle.text_io.specs.declared.kinds.LimitKind.{LimitKind}
 use Rattle.script_model.specs.TraceLines.{FiredEvent, FiredResize, FiredScroll, FiredChange, FiredError, Intersection, TraceLine, TickLine, TimerLine, FrameLine, TaskLine, EventLine, ResizeLine, RoundLine, IntersectLine, TakeLine, SayLine, ReadLine, ThrowLine, LimitLine, SyntaxLine}
-use Rattle.script_model.specs.TraceText.{window_text, bool_text, meets_text, rect_fields, size_fields, point_fields, ratio_text, loop_error, event_fields, intersection_fields, kind_text, fields_of, line_text}
+use Rattle.script_model.specs.TraceText.{window_text, bool_text, meets_text, rect_fields, size_fields, device_fields, point_fields, ratio_text, loop_error, event_fields, intersection_fields, kind_text, fields_of, line_text}
 use Rattle.trace_text.specs.declared.kinds.LineKind.{LineKind}
 use Rattle.trace_text.specs.declared.kinds.LineKind.TheVariants as kind
 use Rattle.trace_text.specs.Fields.{is_field_byte, before}
 use Rattle.trace_text.specs.Kinds.{kind_word, named, line_kinds, kind_of, event_of}
 use Rattle.trace_text.specs.Ranges.{IsName, RectReaches, SizeReaches, PointReaches, EntryReaches, EventFits, EntryFits, IsLine}
-use Rattle.trace_text.specs.Reading.{◌>>=◌, Read, field_of, behind_field, value_at, both, behind, behind_space, behind_text, name_at, names_at, window_at, u32_at, u64_at, bool_at, meets_at, ratio_at, rect_at, size_at, point_at, throw_at, limit_at, event_by, event_at, Seen, Rects, seen_at, rects_at, entry, line_by, ended, line_of}
+use Rattle.trace_text.specs.Reading.{◌>>=◌, Read, field_of, behind_field, value_at, both, behind, behind_space, behind_text, name_at, names_at, window_at, u32_at, u64_at, bool_at, meets_at, ratio_at, rect_at, size_at, device_at, point_at, throw_at, limit_at, event_by, event_at, Seen, Rects, seen_at, rects_at, entry, line_by, ended, line_of}
 use Rattle.trace_text.proofs.Joined.{line_text_before}
-use Rattle.trace_text.proofs.Exact.{ExactAt, line_end, is_no_feed, some_same, parts, chosen, field_first, field_of_first, behind_field_first, both_exact, behind_exact, made, built, built_again, built_whole, first_clean, field_clean}
+use Rattle.trace_text.proofs.Exact.{ExactAt, ExactLast, as_last, both_last, line_end, is_no_feed, some_same, parts, chosen, field_first, field_of_first, behind_field_first, both_exact, behind_exact, made, built, built_last, built_again, built_whole, first_clean, field_clean}
 use Rattle.trace_text.proofs.Numerals.{RatioFits, ratio_text_of}
-use Rattle.trace_text.proofs.Parts.{name_field, names_one, names_two, windows, u32s, u64s, ratios, bools, meetings, events, throws, limits, points, sizes, rects, Always, named_sound, text_sound, text_complete}
+use Rattle.trace_text.proofs.Parts.{name_field, names_one, names_two, windows, u32s, u64s, ratios, bools, meetings, events, throws, limits, points, sizes, devices, rects, Always, named_sound, text_sound, text_complete}
 
 -- ---- events
 
@@ -147,19 +147,19 @@ abbrev behind_fields : {A : Type 0} → List ℕ → (A → List (List ℕ)) →
 behind_fields word f a = word ∷ f a
 
 abbrev Boxes : Type 0
-Boxes = Rect × Size
+Boxes = Rect × (Size × Option Size)
 
 abbrev Resized : Type 0
 Resized = Names × Boxes
 
 abbrev boxes : Boxes → List (List ℕ)
-boxes p = behind_fields (codes "rect") rect_fields p.0 ++ behind_fields (codes "border") size_fields p.1
+boxes p = behind_fields (codes "rect") rect_fields p.0 ++ (behind_fields (codes "border") size_fields p.1.0 ++ device_fields p.1.1)
 
 abbrev BoxesReach : Boxes → Type 0
-BoxesReach p = RectReaches p.0 × SizeReaches p.1
+BoxesReach p = RectReaches p.0 × (SizeReaches p.1.0 × IfSome p.1.1 SizeReaches)
 
 abbrev boxes_at : List ℕ → Read Boxes
-boxes_at = both (behind (codes "rect") rect_at) (behind (codes "border") size_at)
+boxes_at = both (behind (codes "rect") rect_at) (both (behind (codes "border") size_at) device_at)
 
 abbrev resized : Resized → List (List ℕ)
 resized p = two_names p.0 ++ boxes p.1
@@ -167,11 +167,14 @@ resized p = two_names p.0 ++ boxes p.1
 abbrev ResizedFits : Resized → Type 0
 ResizedFits p = AreNames p.0 × BoxesReach p.1
 
-resizes : ExactAt (both names_at boxes_at) resized ResizedFits
+resizes : ExactLast (both names_at boxes_at) resized ResizedFits
 resizes =
-    both_exact names_at boxes_at two_names boxes AreNames BoxesReach names_two
-    (both_exact (behind (codes "rect") rect_at) (behind (codes "border") size_at) (behind_fields (codes "rect") rect_fields) (behind_fields (codes "border") size_fields) RectReaches SizeReaches
-    (behind_exact (codes "rect") rect_at rect_fields RectReaches refl rects) (behind_exact (codes "border") size_at size_fields SizeReaches refl sizes))
+    both_last names_at boxes_at two_names boxes AreNames BoxesReach names_two
+    (both_last (behind (codes "rect") rect_at) (both (behind (codes "border") size_at) device_at) (behind_fields (codes "rect") rect_fields)
+    (λ p. behind_fields (codes "border") size_fields p.0 ++ device_fields p.1) RectReaches (λ p. SizeReaches p.0 × IfSome p.1 SizeReaches)
+    (behind_exact (codes "rect") rect_at rect_fields RectReaches refl rects)
+    (both_last (behind (codes "border") size_at) device_at (behind_fields (codes "border") size_fields) device_fields SizeReaches (λ device. IfSome device SizeReaches)
+    (behind_exact (codes "border") size_at size_fields SizeReaches refl sizes) devices))
 
 abbrev Place : Type 0
 Place = List ℕ × (Rect × Point)
@@ -281,7 +284,7 @@ entry_fields_are p = refl
 
 -- fields that are read are those of the line made of them, which is of this kind
 record IsExact {A : Type 0} (k : LineKind) (r : List ℕ → Read A) (f : A → List (List ℕ)) (F : A → Type 0) (make : A → TraceLine) : Type 0 where
-  exact : ExactAt r f F
+  exact : ExactLast r f F
   each : (a : A) → F a → (f a ≡ fields_of (make a)) × (kind_text (make a) ≡ kind_word k) × IsLine (make a)
 
 -- fields of a line of this kind before a rest
@@ -291,7 +294,7 @@ Stands k t rest l = (t ≡ before (fields_of l) rest) × (kind_text l ≡ kind_w
 stands : {A : Type 0} (k : LineKind) (r : List ℕ → Read A) (f : A → List (List ℕ)) (F : A → Type 0) (make : A → TraceLine) → IsExact k r f F make
     → (t : List ℕ) (q : TraceLine × List ℕ) → (r t >>= made make) ≡ Some q → Stands k t q.1 q.0
 stands k r f F make line t q h =
-    let b = built r f F make line.exact t q h in
+    let b = built_last r f F make line.exact t q h in
     let e = line.each b.0 b.3 in
     let T : TraceLine → Type 0 = λ l. Stands k t q.1 l in
     subst T b.1 (b.2 ∙ ap (λ fields. before fields q.1) e.0, e.1, e.2)
@@ -307,59 +310,59 @@ clean k r f F make line a fits = ap (λ fields. list_all is_no_feed (before fiel
 
 tick_line : IsExact kind.Tick u64_at number (λ n. n < 2 ^ 64) TickLine
 unfolding fields_of
-tick_line = record { exact = u64s; each = λ n h. (refl, refl, record { fits = h; reach = tt }) }
+tick_line = record { exact = as_last u64s; each = λ n h. (refl, refl, record { fits = h; reach = tt }) }
 
 timer_line : IsExact kind.Timer names_at two_names AreNames (λ (p : Names). TimerLine p.0 p.1)
 unfolding fields_of
-timer_line = record { exact = names_two; each = λ p h. (refl, refl, record { fits = h; reach = tt }) }
+timer_line = record { exact = as_last names_two; each = λ p h. (refl, refl, record { fits = h; reach = tt }) }
 
 frame_line : IsExact kind.Frame names_at two_names AreNames (λ (p : Names). FrameLine p.0 p.1)
 unfolding fields_of
-frame_line = record { exact = names_two; each = λ p h. (refl, refl, record { fits = h; reach = tt }) }
+frame_line = record { exact = as_last names_two; each = λ p h. (refl, refl, record { fits = h; reach = tt }) }
 
 task_line : IsExact kind.Task names_at two_names AreNames (λ (p : Names). TaskLine p.0 p.1)
 unfolding fields_of
-task_line = record { exact = names_two; each = λ p h. (refl, refl, record { fits = h; reach = tt }) }
+task_line = record { exact = as_last names_two; each = λ p h. (refl, refl, record { fits = h; reach = tt }) }
 
 event_line : IsExact kind.Event event_at event_fields EventFits EventLine
 unfolding fields_of
-event_line = record { exact = events_at; each = λ e h. (refl, refl, record { fits = h; reach = tt }) }
+event_line = record { exact = as_last events_at; each = λ e h. (refl, refl, record { fits = h; reach = tt }) }
 
-resize_line : IsExact kind.Resize (both names_at boxes_at) resized ResizedFits (λ (p : Resized). ResizeLine p.0.0 p.0.1 p.1.0 p.1.1)
-unfolding fields_of
-resize_line = record { exact = resizes; each = λ p h. (refl, refl, record { fits = h.0; reach = h.1 }) }
+resize_line : IsExact kind.Resize (both names_at boxes_at) resized ResizedFits (λ (p : Resized). ResizeLine p.0.0 p.0.1 p.1.0 p.1.1.0 p.1.1.1)
+unfolding fields_of rect_fields size_fields
+resize_line = record { exact = resizes; each = λ p h. (refl, refl, record { fits = h.0; reach = (h.1.0, h.1.1.0, h.1.1.1) }) }
 
 round_line : IsExact kind.Round (both name_at u32_at) counted (λ p. IsName p.0 × (p.1 < 2 ^ 32)) (λ (p : Counted). RoundLine p.0 p.1)
 unfolding fields_of
-round_line = record { exact = rounds; each = λ p h. (refl, refl, record { fits = h; reach = tt }) }
+round_line = record { exact = as_last rounds; each = λ p h. (refl, refl, record { fits = h; reach = tt }) }
 
 intersect_line : IsExact kind.Intersect (both seen_at rects_at) entry_fields EntryAll (λ p. IntersectLine (entry p))
 unfolding fields_of
-intersect_line = record { exact = entries; each = λ p h. (entry_fields_are p, refl, entry_line p h) }
+intersect_line = record { exact = as_last entries; each = λ p h. (entry_fields_are p, refl, entry_line p h) }
 
 take_line : IsExact kind.Take (both name_at u64_at) counted (λ p. IsName p.0 × (p.1 < 2 ^ 64)) (λ (p : Counted). TakeLine p.0 p.1)
 unfolding fields_of
-take_line = record { exact = takes; each = λ p h. (refl, refl, record { fits = h; reach = tt }) }
+take_line = record { exact = as_last takes; each = λ p h. (refl, refl, record { fits = h; reach = tt }) }
 
 say_line : IsExact kind.Say name_at one_name IsName SayLine
 unfolding fields_of
-say_line = record { exact = names_one; each = λ p h. (refl, refl, record { fits = h; reach = tt }) }
+say_line = record { exact = as_last names_one; each = λ p h. (refl, refl, record { fits = h; reach = tt }) }
 
 read_line : IsExact kind.Read (both name_at (both rect_at point_at)) placed PlacedFits (λ (p : Place). ReadLine p.0 p.1.0 p.1.1)
 unfolding fields_of
-read_line = record { exact = reads; each = λ p h. (refl, refl, record { fits = h.0; reach = h.1 }) }
+read_line = record { exact = as_last reads; each = λ p h. (refl, refl, record { fits = h.0; reach = h.1 }) }
 
 throw_line : IsExact kind.Throw (both u32_at throw_at) threw ThrewFits (λ (p : Threw). ThrowLine p.0 p.1)
 unfolding fields_of
-throw_line = record { exact = throwing; each = λ p h. (refl, refl, record { fits = h.0; reach = tt }) }
+throw_line = record { exact = as_last throwing; each = λ p h. (refl, refl, record { fits = h.0; reach = tt }) }
 
 limit_line : IsExact kind.Limit (both limit_at (both u32_at u64_at)) limited LimitedFits (λ (p : Limited). LimitLine p.0 p.1.0 p.1.1)
 unfolding fields_of
-limit_line = record { exact = limiting; each = λ p h. (refl, refl, record { fits = h.1; reach = tt }) }
+limit_line = record { exact = as_last limiting; each = λ p h. (refl, refl, record { fits = h.1; reach = tt }) }
 
 syntax_line : IsExact kind.Syntax (both u32_at u32_at) two_numbers (λ p. (p.0 < 2 ^ 32) × (p.1 < 2 ^ 32)) (λ (p : Numbers). SyntaxLine p.0 p.1)
 unfolding fields_of
-syntax_line = record { exact = faults; each = λ p h. (refl, refl, record { fits = h; reach = tt }) }
+syntax_line = record { exact = as_last faults; each = λ p h. (refl, refl, record { fits = h; reach = tt }) }
 
 line_by_sound : (k : LineKind) (t : List ℕ) (q : TraceLine × List ℕ) → line_by k t ≡ Some q → Stands k t q.1 q.0
 unfolding line_by
@@ -368,7 +371,7 @@ line_by_sound kind.Timer t q h = stands kind.Timer names_at two_names AreNames (
 line_by_sound kind.Frame t q h = stands kind.Frame names_at two_names AreNames (λ (p : Names). FrameLine p.0 p.1) frame_line t q h
 line_by_sound kind.Task t q h = stands kind.Task names_at two_names AreNames (λ (p : Names). TaskLine p.0 p.1) task_line t q h
 line_by_sound kind.Event t q h = stands kind.Event event_at event_fields EventFits EventLine event_line t q h
-line_by_sound kind.Resize t q h = stands kind.Resize (both names_at boxes_at) resized ResizedFits (λ (p : Resized). ResizeLine p.0.0 p.0.1 p.1.0 p.1.1) resize_line t q h
+line_by_sound kind.Resize t q h = stands kind.Resize (both names_at boxes_at) resized ResizedFits (λ (p : Resized). ResizeLine p.0.0 p.0.1 p.1.0 p.1.1.0 p.1.1.1) resize_line t q h
 line_by_sound kind.Round t q h = stands kind.Round (both name_at u32_at) counted (λ p. IsName p.0 × (p.1 < 2 ^ 32)) (λ (p : Counted). RoundLine p.0 p.1) round_line t q h
 line_by_sound kind.Intersect t q h = stands kind.Intersect (both seen_at rects_at) entry_fields EntryAll (λ p. IntersectLine (entry p)) intersect_line t q h
 line_by_sound kind.Take t q h = stands kind.Take (both name_at u64_at) counted (λ p. IsName p.0 × (p.1 < 2 ^ 64)) (λ (p : Counted). TakeLine p.0 p.1) take_line t q h
@@ -389,7 +392,7 @@ line_written (TimerLine document key) h = (kind.Timer, refl, again kind.Timer na
 line_written (FrameLine document key) h = (kind.Frame, refl, again kind.Frame names_at two_names AreNames (λ (p : Names). FrameLine p.0 p.1) frame_line (document, key) h.fits, clean kind.Frame names_at two_names AreNames (λ (p : Names). FrameLine p.0 p.1) frame_line (document, key) h.fits)
 line_written (TaskLine document handler) h = (kind.Task, refl, again kind.Task names_at two_names AreNames (λ (p : Names). TaskLine p.0 p.1) task_line (document, handler) h.fits, clean kind.Task names_at two_names AreNames (λ (p : Names). TaskLine p.0 p.1) task_line (document, handler) h.fits)
 line_written (EventLine fired) h = (kind.Event, refl, again kind.Event event_at event_fields EventFits EventLine event_line fired h.fits, clean kind.Event event_at event_fields EventFits EventLine event_line fired h.fits)
-line_written (ResizeLine observer target rect border) h = (kind.Resize, refl, again kind.Resize (both names_at boxes_at) resized ResizedFits (λ (p : Resized). ResizeLine p.0.0 p.0.1 p.1.0 p.1.1) resize_line ((observer, target), (rect, border)) (h.fits, h.reach), clean kind.Resize (both names_at boxes_at) resized ResizedFits (λ (p : Resized). ResizeLine p.0.0 p.0.1 p.1.0 p.1.1) resize_line ((observer, target), (rect, border)) (h.fits, h.reach))
+line_written (ResizeLine observer target rect border device) h = (kind.Resize, refl, again kind.Resize (both names_at boxes_at) resized ResizedFits (λ (p : Resized). ResizeLine p.0.0 p.0.1 p.1.0 p.1.1.0 p.1.1.1) resize_line ((observer, target), (rect, (border, device))) (h.fits, (h.reach.0, (h.reach.1, h.reach.2))), clean kind.Resize (both names_at boxes_at) resized ResizedFits (λ (p : Resized). ResizeLine p.0.0 p.0.1 p.1.0 p.1.1.0 p.1.1.1) resize_line ((observer, target), (rect, (border, device))) (h.fits, (h.reach.0, (h.reach.1, h.reach.2))))
 line_written (RoundLine document depth) h = (kind.Round, refl, again kind.Round (both name_at u32_at) counted (λ p. IsName p.0 × (p.1 < 2 ^ 32)) (λ (p : Counted). RoundLine p.0 p.1) round_line (document, depth) h.fits, clean kind.Round (both name_at u32_at) counted (λ p. IsName p.0 × (p.1 < 2 ^ 32)) (λ (p : Counted). RoundLine p.0 p.1) round_line (document, depth) h.fits)
 line_written (IntersectLine found) h = (kind.Intersect, refl, again kind.Intersect (both seen_at rects_at) entry_fields EntryAll (λ p. IntersectLine (entry p)) intersect_line (entry_parts found) (entry_all found h.fits h.reach), clean kind.Intersect (both seen_at rects_at) entry_fields EntryAll (λ p. IntersectLine (entry p)) intersect_line (entry_parts found) (entry_all found h.fits h.reach))
 line_written (TakeLine observer count) h = (kind.Take, refl, again kind.Take (both name_at u64_at) counted (λ p. IsName p.0 × (p.1 < 2 ^ 64)) (λ (p : Counted). TakeLine p.0 p.1) take_line (observer, count) h.fits, clean kind.Take (both name_at u64_at) counted (λ p. IsName p.0 × (p.1 < 2 ^ 64)) (λ (p : Counted). TakeLine p.0 p.1) take_line (observer, count) h.fits)

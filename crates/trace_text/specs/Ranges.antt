@@ -1,6 +1,6 @@
 -- Which lines there are. That lengths lie between -2 ^ 50 and 2 ^ 50 units is a bound of this project; the other ranges
 -- are those of names and of the numbers' types.
-use Rattle.std.specs.Prelude.{◌≡◌, ℕ, ◌^◌, ◌<◌, true, List, ◌-ℤ◌}
+use Rattle.std.specs.Prelude.{◌≡◌, ℕ, ◌^◌, ◌<◌, true, List, ◌-ℤ◌, IfSome}
 use Rattle.word_model.specs.Names.{is_name}
 use Rattle.px_units.specs.declared.Rect.{Rect}
 use Rattle.px_units.specs.declared.Point.{Point}
@@ -34,7 +34,7 @@ HasReach (TimerLine document key) = Unit {0}
 HasReach (FrameLine document key) = Unit {0}
 HasReach (TaskLine document handler) = Unit {0}
 HasReach (EventLine event) = Unit {0}
-HasReach (ResizeLine observer target rect border) = RectReaches rect × SizeReaches border
+HasReach (ResizeLine observer target rect border device) = RectReaches rect × SizeReaches border × IfSome device SizeReaches
 HasReach (RoundLine document depth) = Unit {0}
 HasReach (IntersectLine found) = EntryReaches found
 HasReach (TakeLine observer count) = Unit {0}
@@ -67,7 +67,7 @@ Fits (TimerLine document key) = IsName document × IsName key
 Fits (FrameLine document key) = IsName document × IsName key
 Fits (TaskLine document handler) = IsName document × IsName handler
 Fits (EventLine event) = EventFits event
-Fits (ResizeLine observer target rect border) = IsName observer × IsName target
+Fits (ResizeLine observer target rect border device) = IsName observer × IsName target
 Fits (RoundLine document depth) = IsName document × (depth < 2 ^ 32)
 Fits (IntersectLine found) = EntryFits found
 Fits (TakeLine observer count) = IsName observer × (count < 2 ^ 64)

@@ -151,6 +151,16 @@ unfoldable pub pixels_at : List ℕ → Read ℤ
 unfolding field_at pixels_of
 pixels_at = value_at pixels_of
 
+-- a whole number with its sign
+unfoldable pub whole_of : List ℕ → Option ℤ
+unfolding number_of negative
+whole_of [] = None
+whole_of (b ∷ bs) = cond (b == 45) (number_of (2 ^ 50) bs >>= negative) (option_map pos (number_of (2 ^ 50) (b ∷ bs)))
+
+unfoldable pub whole_at : List ℕ → Read ℤ
+unfolding field_at whole_of
+whole_at = value_at whole_of
+
 -- what stands behind this word
 unfoldable pub behind_word : List ℕ → List ℕ → Option (List ℕ)
 unfolding field_at
@@ -166,6 +176,15 @@ point_at = as_read (λ (p : ℤ × ℤ). Some (record { left = p.0; top = p.1 })
 unfoldable pub size_at : List ℕ → Read Size
 unfolding pixels_at
 size_at = as_read (λ (p : ℤ × ℤ). Some (record { width = p.0; height = p.1 })) (both pixels_at pixels_at)
+
+-- a size in device pixels, where a field follows
+unfoldable pub device_at : List ℕ → Read (Option Size)
+unfolding whole_at behind_word
+device_at [] = Some (None, [])
+device_at (b ∷ bs) =
+    cond (b == 32)
+    (as_read (λ (p : ℤ × ℤ). Some (Some (record { width = p.0; height = p.1 }))) (behind (codes "device") (both whole_at whole_at)) (b ∷ bs))
+    (Some (None, b ∷ bs))
 
 abbrev pub in_reach : ℤ → Bool
 in_reach edge = int_le (negsuc 1125899906842623) edge && int_le edge (pos 1125899906842624)
@@ -256,15 +275,15 @@ entry p = record {
 
 -- the line of this kind whose fields come next
 unfoldable pub line_by : LineKind → List ℕ → Read TraceLine
-unfolding names_at name_at number_at event_at rect_at size_at point_at behind_word meets_at ratio_at throw_at limit_at
+unfolding names_at name_at number_at event_at rect_at size_at device_at point_at behind_word meets_at ratio_at throw_at limit_at
 line_by kind.Tick text = line_at TickLine u64_at text
 line_by kind.Timer text = line_at (λ (p : List ℕ × List ℕ). TimerLine p.0 p.1) names_at text
 line_by kind.Frame text = line_at (λ (p : List ℕ × List ℕ). FrameLine p.0 p.1) names_at text
 line_by kind.Task text = line_at (λ (p : List ℕ × List ℕ). TaskLine p.0 p.1) names_at text
 line_by kind.Event text = line_at EventLine event_at text
 line_by kind.Resize text =
-    line_at (λ (p : (List ℕ × List ℕ) × (Rect × Size)). ResizeLine p.0.0 p.0.1 p.1.0 p.1.1)
-    (both names_at (both (behind (codes "rect") rect_at) (behind (codes "border") size_at))) text
+    line_at (λ (p : (List ℕ × List ℕ) × (Rect × (Size × Option Size))). ResizeLine p.0.0 p.0.1 p.1.0 p.1.1.0 p.1.1.1)
+    (both names_at (both (behind (codes "rect") rect_at) (both (behind (codes "border") size_at) device_at))) text
 line_by kind.Round text = line_at (λ (p : List ℕ × ℕ). RoundLine p.0 p.1) (both name_at u32_at) text
 line_by kind.Intersect text = line_at (λ p. IntersectLine (entry p)) (both seen_at rects_at) text
 line_by kind.Take text = line_at (λ (p : List ℕ × ℕ). TakeLine p.0 p.1) (both name_at u64_at) text

@@ -4,7 +4,10 @@ ghost use Rattle.std.specs.Prelude.{◌≡◌, ◌-◌, ◌^◌, ◌<◌, ◌≤
 ghost use Rattle.std.specs.List.{list_all, prefix_len};
 ghost use Rattle.word_model.specs.Names.{is_digit};
 ghost use Rattle.word_model.specs.Numbers.{digits_value, begins_with, is_whole, leading_digits, behind_digits};
-ghost use Rattle.trace_text.specs.Reading.{number_of, ratio_of};
+ghost use Rattle.trace_text.specs.Reading.{number_of, ratio_of, whole_of};
+
+/// The greatest whole number with a sign.
+const MOST: u128 = 1 << 50;
 
 /// The number that these digits write, none where it is above the largest of 128 bits.
 fn value_of(digits: &[u8]) -> Option<u128>
@@ -89,5 +92,24 @@ pub fn ratio_of(field: &[u8]) -> Option<(u128, u128)>
     match behind {
         [b'/', digits @ ..] => Some((part, number_of(digits, u128::MAX)?)),
         _ => None,
+    }
+}
+
+/// The whole number from -2^50 to 2^50 whose text the field is.
+#[tactic(auto, unfolding(crate::specs::Reading::whole_of, crate::specs::Reading::negative))]
+pub fn whole_of(field: &[u8]) -> Option<i64>
+    ensures { result ≡ whole_of field.now }
+{
+    match field {
+        [b'-', digits @ ..] => {
+            let number = number_of(digits, MOST)?;
+            if number == 0 {
+                None
+            } else {
+                Some(-(number as i64))
+            }
+        }
+        [_, ..] => Some(number_of(field, MOST)? as i64),
+        [] => None,
     }
 }

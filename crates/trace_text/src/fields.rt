@@ -6,10 +6,10 @@ ghost use Rattle.px_units.specs.Rects.{InReach};
 ghost use Rattle.script_model.specs.TraceText.{loop_error};
 ghost use Rattle.trace_text.specs.Fields.{is_field_byte};
 ghost use Rattle.trace_text.specs.Kinds.{event_of};
-ghost use Rattle.trace_text.specs.Reading.{field_of, behind_field, field_at, value_at, behind_word, behind_text, behind_space, name_at, names_at, window_of, window_at, number_at, ratio_at, bool_of, bool_at, meets_of, meets_at, pixels_at, point_at, size_at, edge_of, rect_of, rect_at, behind, throw_at, limit_at};
+ghost use Rattle.trace_text.specs.Reading.{field_of, behind_field, field_at, value_at, behind_word, behind_text, behind_space, name_at, names_at, window_of, window_at, number_at, ratio_at, bool_of, bool_at, meets_of, meets_at, pixels_at, whole_at, point_at, size_at, device_at, edge_of, rect_of, rect_at, behind, throw_at, limit_at};
 ghost use Rattle.trace_text.specs.Views.{read_of, same, behind_of};
 
-use crate::decimals::{number_of, ratio_of};
+use crate::decimals::{number_of, ratio_of, whole_of};
 use crate::kinds::{event_named, limit_named, throw_named};
 use crate::lengths::pixels_of;
 use px_units::{Point, Rect, Size};
@@ -261,6 +261,32 @@ fn size_at(text: &[u8]) -> Option<(Size, &[u8])>
     let (width, rest) = pixels_at(text)?;
     let (height, rest) = pixels_at(rest)?;
     Some((Size { width, height }, rest))
+}
+
+/// A whole number with its sign.
+#[tactic(auto, unfolding(crate::specs::Reading::whole_at))]
+fn whole_at(text: &[u8]) -> Option<(i64, &[u8])>
+    ensures { read_of same result ≡ whole_at text.now }
+{
+    let (field, rest) = field_at(text)?;
+    let number = whole_of(field)?;
+    Some((number, rest))
+}
+
+/// A size in device pixels, where a field follows; none where nothing does.
+#[tactic(auto, unfolding(crate::specs::Reading::device_at))]
+pub fn device_at(text: &[u8]) -> Option<(Option<Size>, &[u8])>
+    ensures { read_of same result ≡ device_at text.now }
+{
+    match text {
+        [b' ', ..] => {
+            let rest = behind_word(b"device", text)?;
+            let (width, rest) = whole_at(rest)?;
+            let (height, rest) = whole_at(rest)?;
+            Some((Some(Size { width, height }), rest))
+        }
+        _ => Some((None, text)),
+    }
 }
 
 /// The rectangle with this corner and size, none where an edge is out of range.

@@ -42,12 +42,14 @@ pub enum TraceLine {
     /// The document and the handler of a posted task.
     Task(Name, Name),
     Event(EventLine),
-    /// A resize entry: the content rectangle, whose corner is the left and top padding, and the border box.
+    /// A resize entry: the content rectangle, whose corner is the left and top padding, the border box, and the content
+    /// box in device pixels, whole ones and no units, which is told in scripts of the second version.
     Resize {
         observer: Name,
         target: Name,
         rect: Rect,
         border: Size,
+        device: Option<Size>,
     },
     /// A broadcast of a document, and the least depth that it delivered.
     Round(Name, u32),

@@ -9,8 +9,9 @@ ghost use Rattle.trace_text.specs.Reading.{event_by, event_at, line_by, ended, l
 ghost use Rattle.trace_text.specs.Views.{read_of};
 
 use crate::fields::{
-    behind_message, bool_at, event_kind_at, limit_at, meets_at, name_at, names_at, point_at,
-    ratio_at, rect_at, rect_behind, size_behind, split_field, throw_at, u32_at, u64_at, window_at,
+    behind_message, bool_at, device_at, event_kind_at, limit_at, meets_at, name_at, names_at,
+    point_at, ratio_at, rect_at, rect_behind, size_behind, split_field, throw_at, u32_at, u64_at,
+    window_at,
 };
 use crate::kinds::LineKind;
 use crate::{EventLine, TraceFault, TraceLine};
@@ -186,11 +187,13 @@ fn resize_at(text: &[u8]) -> Option<(TraceLine, &[u8])>
     };
     let (rect, rest) = rect_behind(b"rect", rest)?;
     let (border, rest) = size_behind(b"border", rest)?;
+    let (device, rest) = device_at(rest)?;
     let line = TraceLine::Resize {
         observer,
         target,
         rect,
         border,
+        device,
     };
     Some((line, rest))
 }

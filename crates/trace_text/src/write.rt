@@ -1,11 +1,11 @@
 //! The texts of lines.
 
-ghost use Rattle.std.specs.Prelude.{◌≡◌, List, [], ◌∷◌, ◌++◌, OnOk, OnErr, codes};
+ghost use Rattle.std.specs.Prelude.{◌≡◌, List, [], ◌∷◌, ◌++◌, OnOk, OnErr, Some, IfSome, codes};
 ghost use Rattle.word_model.specs.Numbers.{decimal};
-ghost use Rattle.px_units.specs.Texts.{pixel_text};
+ghost use Rattle.px_units.specs.Texts.{sign_text, pixel_text};
 ghost use Rattle.text_io.specs.Kinds.{limit_word, throw_word};
 ghost use Rattle.script_model.specs.TraceLines.{ResizeLine, ReadLine};
-ghost use Rattle.script_model.specs.TraceText.{window_text, bool_text, meets_text, rect_fields, size_fields, point_fields, ratio_text, event_fields, fields_of, line_text};
+ghost use Rattle.script_model.specs.TraceText.{window_text, bool_text, meets_text, rect_fields, size_fields, whole_text, device_fields, point_fields, ratio_text, event_fields, fields_of, line_text};
 ghost use Rattle.trace_text.specs.Seen.{seen_line, seen_event};
 ghost use Rattle.trace_text.specs.Ranges.{HasReach, RectReaches, SizeReaches, PointReaches};
 ghost use Rattle.trace_text.specs.Fields.{with_fields};
@@ -68,6 +68,27 @@ fn push_length(out: &mut Vec<u8>, units: i64) -> Result<(), AllocError>
 {
     out.push(b' ')?;
     push_px(out, Px(units))
+}
+
+/// The minus sign of a negative number.
+#[tactic(auto, unfolding(px_units::specs::Texts::sign_text))]
+fn push_sign(out: &mut Vec<u8>, number: i64) -> Result<(), AllocError>
+    ensures { OnOk result (out.new.items ≡ out.old.items ++ sign_text number) }
+{
+    if number < 0 {
+        out.push(b'-')?;
+    }
+    Ok(())
+}
+
+/// A whole number, with a minus sign if it is negative.
+#[tactic(auto, using(crate::proofs::Joined::whole_pushed))]
+fn push_whole(out: &mut Vec<u8>, number: i64) -> Result<(), AllocError>
+    ensures { OnOk result (out.new.items ≡ with_fields out.old.items (whole_text number ∷ [])) }
+{
+    out.push(b' ')?;
+    push_sign(out, number)?;
+    push_decimal(out, u128::from(number.unsigned_abs()))
 }
 
 /// An area seen and the whole of it, in square units.
@@ -191,21 +212,61 @@ fn push_limit(out: &mut Vec<u8>, kind: LimitKind, number: u32, most: u64) -> Res
     push_numbers(out, u64::from(number), most)
 }
 
+/// A size in device pixels.
+fn push_pixels(out: &mut Vec<u8>, size: &Size) -> Result<(), AllocError>
+    requires { SizeReaches size.now }
+    ensures { OnOk result (out.new.items ≡ with_fields out.old.items (device_fields (Some size.now))) }
+{
+    push_field(out, b"device")?;
+    push_whole(out, size.width)?;
+    push_whole(out, size.height)
+}
+
+/// A size in device pixels, if it is told.
+#[tactic(auto, unfolding(script_model::specs::TraceText::device_fields))]
+fn push_device(out: &mut Vec<u8>, device: &Option<Size>) -> Result<(), AllocError>
+    requires { IfSome device.now SizeReaches }
+    ensures { OnOk result (out.new.items ≡ with_fields out.old.items (device_fields device.now)) }
+{
+    match device {
+        Some(size) => push_pixels(out, size),
+        None => Ok(()),
+    }
+}
+
+/// A content rectangle, and the border box and the device pixels behind it.
+fn push_boxes(
+    out: &mut Vec<u8>,
+    rect: &Rect,
+    border: &Size,
+    device: &Option<Size>,
+) -> Result<(), AllocError>
+    requires rect { RectReaches rect.now }
+    requires border { SizeReaches border.now }
+    requires device { IfSome device.now SizeReaches }
+    ensures { OnOk result (out.new.items ≡ with_fields out.old.items ((codes "rect" ∷ rect_fields rect.now) ++ (codes "border" ∷ size_fields border.now) ++ device_fields device.now)) }
+{
+    push_rect_behind(out, b"rect", rect)?;
+    push_field(out, b"border")?;
+    push_size(out, border)?;
+    push_device(out, device)
+}
+
 fn push_resize(
     out: &mut Vec<u8>,
     observer: &Name,
     target: &Name,
     rect: &Rect,
     border: &Size,
+    device: &Option<Size>,
 ) -> Result<(), AllocError>
     requires rect { RectReaches rect.now }
     requires border { SizeReaches border.now }
-    ensures { OnOk result (out.new.items ≡ with_fields out.old.items (fields_of (ResizeLine observer.now target.now rect.now border.now))) }
+    requires device { IfSome device.now SizeReaches }
+    ensures { OnOk result (out.new.items ≡ with_fields out.old.items (fields_of (ResizeLine observer.now target.now rect.now border.now device.now))) }
 {
     push_names(out, observer, target)?;
-    push_rect_behind(out, b"rect", rect)?;
-    push_field(out, b"border")?;
-    push_size(out, border)
+    push_boxes(out, rect, border, device)
 }
 
 fn push_read(
@@ -270,7 +331,8 @@ fn push_fields(out: &mut Vec<u8>, line: &TraceLine) -> Result<(), AllocError>
             target,
             rect,
             border,
-        } => push_resize(out, observer, target, rect, border),
+            device,
+        } => push_resize(out, observer, target, rect, border, device),
         TraceLine::Round(document, depth) => push_counted(out, document, u64::from(*depth)),
         TraceLine::Intersect {
             observer,

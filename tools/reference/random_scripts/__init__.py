@@ -5,6 +5,7 @@ seed has a row of candidates, of which the first that ends soon is taken.
 """
 import random
 
+from .. import styles
 from . import faults, scenes, sources
 from .builder import Builder
 
@@ -22,6 +23,7 @@ class Kind:
 
 _MIXED = {'set': 6, 'append': 3, 'read': 2}
 _POSITIONS = (scenes.positions,)
+_OF_VERSION_2 = (scenes.device_pixels, scenes.margins_of_scrolling) + _POSITIONS
 
 
 def _nearly(chance, lines, version):
@@ -54,10 +56,10 @@ KINDS = {
                                                    'viewport': 2},
                       (scenes.scrolls_that_wait,) + _POSITIONS),
     'loops': Kind('resize loops', {'ro': 4, 'ro-observe': 10, 'ro-unobserve': 3, 'set': 6, 'grow': 6},
-                  (scenes.depths_that_fall, scenes.observers_of_one_another)),
+                  (scenes.depths_that_fall, scenes.observers_of_one_another, scenes.device_pixels)),
     'crossings': Kind('intersections', {'io': 5, 'io-observe': 10, 'io-unobserve': 3, 'io-take': 3, 'set': 6, 'scroll': 4,
                                         'append': 3, 'remove': 2},
-                      (scenes.queues_between, scenes.frames_in_frames)),
+                      (scenes.queues_between, scenes.frames_in_frames, scenes.margins_of_scrolling)),
     'mixed': Kind('all of these', _MIXED),
     'deep': Kind('chains of elements up to the limit of depth',
                  {'append': 6, 'before': 3, 'read': 4, 'set': 4, 'ro-observe': 4}),
@@ -79,29 +81,31 @@ _SCENES = (scenes.sizes, scenes.keys_that_come_back, scenes.documents_that_die, 
            scenes.queues_between)
 
 
-def candidates(kind, seed, version, trace_of):
-    """(words, bytes) of one seed after another; `trace_of` gives a script's trace, or None where it runs too long."""
+def candidates(kind, seed, version, trace_of, without=()):
+    """(words, bytes) of one seed after another; `trace_of` gives a script's trace, or None where it runs too long. Where these
+    properties are positions and insets, there are none. Of a stream of version 2 some pages are of version 1."""
+    positions = version == 2 and not set(styles.POSITIONED) & set(without)
     for attempt in range(ATTEMPTS):
         chance = random.Random('%s/%s/%d/%d' % (kind, seed, version, attempt))
         made = ALL_KINDS[kind]
         words = made.words(chance) if made.words else []
         if kind == 'streams':
             count = chance.choice([1, 2, 2, 3, 3, 5, 8, 9])
-            yield words, sources.stream(chance, [_page(chance, made, version) for _ in range(count)])
+            yield words, sources.stream(chance, [_page(chance, made, chance.randint(1, version), positions) for _ in range(count)])
         elif kind == 'judgements':
-            script = _page(chance, made, version)
+            script = _page(chance, made, version, positions)
             trace = trace_of(script)
             if trace is not None:
                 yield words, sources.recorded(chance, script, trace)
         elif made.make:
-            yield words, made.make(chance, _lines(chance, made, version), version)
+            yield words, made.make(chance, _lines(chance, made, version, positions), version)
         else:
-            yield words, _text(_lines(chance, made, version, chain=kind == 'deep'))
+            yield words, _text(_lines(chance, made, version, positions, chain=kind == 'deep'))
 
 
-def _page(chance, kind, version):
+def _page(chance, kind, version, positions):
     """One script of a source that holds more, once in a while nearly one."""
-    lines = _lines(chance, kind, version, size=SIZE // 2)
+    lines = _lines(chance, kind, version, positions and version == 2, size=SIZE // 2)
     return faults.nearly_a_script(chance, lines) if chance.random() < 0.08 else _text(lines)
 
 
@@ -109,8 +113,8 @@ def _text(lines):
     return ('\n'.join(lines) + '\n').encode()
 
 
-def _lines(chance, kind, version, size=SIZE, chain=False):
-    build = Builder(chance, version, kind.weights, size)
+def _lines(chance, kind, version, positions, size=SIZE, chain=False):
+    build = Builder(chance, version, positions, kind.weights, size)
     _first_tree(build, chain)
     plan = _planned_scenes(build, kind)
     if plan and build.happens(0.5):
@@ -156,8 +160,8 @@ def _planned_scenes(build, kind):
     """None, or some, of which those that suit the kind are the most."""
     if build.happens(0.3):
         return []
-    liked = [scene for scene in kind.liked if build.version == 2 or scene is not scenes.positions]
-    known = list(_SCENES) + (list(_POSITIONS) if build.version == 2 else []) + liked * 4
+    lacking = () if build.positions else _POSITIONS if build.version == 2 else _OF_VERSION_2
+    known = [scene for scene in _SCENES + _OF_VERSION_2 + kind.liked * 4 if scene not in lacking]
     return [build.chance.choice(known) for _ in range(build.one_of(1, 1, 2, 3))]
 
 

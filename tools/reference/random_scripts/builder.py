@@ -10,10 +10,11 @@ KEYS = ['k0', 'k1', 'k2', 'k3']
 
 
 class Builder(Choices):
-    """`weights` are those of the kind's commands; a command that it doesn't name has weight 1."""
+    """`weights` are those of the kind's commands; a command that it doesn't name has weight 1. `positions` says whether there are
+    positions and insets."""
 
-    def __init__(self, chance, version, weights, size):
-        Choices.__init__(self, chance, version)
+    def __init__(self, chance, version, positions, weights, size):
+        Choices.__init__(self, chance, version, positions)
         self.size = size
         self.lines = []
         self.documents, self.blocks, self.images, self.frames = ['top'], [], [], []

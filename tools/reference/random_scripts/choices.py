@@ -24,12 +24,12 @@ _NO_THRESHOLDS = ['1.0001', '-0.5', '-0']
 
 _STYLE_WEIGHTS = {'width': 8, 'height': 12, 'min-width': 2, 'min-height': 2, 'max-width': 2, 'max-height': 2, 'margin': 2,
                   'padding': 2, 'border': 2, 'side': 6, 'box-sizing': 3, 'overflow': 6, 'display': 3}
-_STYLE_WEIGHTS_OF_VERSION_2 = dict(_STYLE_WEIGHTS, position=8, inset=8)
+_STYLE_WEIGHTS_WITH_POSITIONS = dict(_STYLE_WEIGHTS, position=8, inset=8)
 
 
 class Choices:
-    def __init__(self, chance, version):
-        self.chance, self.version = chance, version
+    def __init__(self, chance, version, positions):
+        self.chance, self.version, self.positions = chance, version, positions
 
     def happens(self, probability):
         return self.chance.random() < probability
@@ -66,7 +66,7 @@ class Choices:
 
     def style(self, node):
         """A line that sets a property."""
-        weights = _STYLE_WEIGHTS if self.version == 1 else _STYLE_WEIGHTS_OF_VERSION_2
+        weights = _STYLE_WEIGHTS_WITH_POSITIONS if self.positions else _STYLE_WEIGHTS
         property_ = self.chance.choices(list(weights), list(weights.values()))[0]
         if property_ == 'side':
             property_ = '%s-%s' % (self.one_of('margin', 'padding', 'border'), self.chance.choice(SIDES))

@@ -400,6 +400,52 @@ def frames_in_frames(build):
     build.line('read ' + target)
 
 
+def device_pixels(build):
+    """Boxes that are observed in device pixels, at ratios of which some round to the same numbers; of version 2."""
+    nodes = [build.fresh('b') for _ in range(3)]
+    for node in nodes:
+        _put(build, node, 'top', 'r', 'width ' + build.one_of('0.5px', '10.5px', '33.33px', '100px'),
+             'height ' + build.one_of('0.02px', '0.49px', '1px', '20.25px'), 'padding ' + build.one_of('0px', '1px'))
+    watch = build.fresh('o')
+    build.line('ro %s top %s' % (watch, build.handler_or_none()))
+    build.resize_observers.append(watch)
+    build.line(*['ro-observe %s %s %s' % (watch, node, build.one_of('device', 'device', 'content', 'border')) for node in nodes])
+    for _ in range(build.chance.randrange(2, 5)):
+        build.line(*_several(build, 0, 2, lambda: build.one_of(
+            'ratio ' + build.one_of('0%', '0.01%', '50%', '99.99%', '100%', '100.01%', '133.33%', '150%', '200%', '10000%'),
+            'set %s width %s' % (build.chance.choice(nodes), build.one_of('10.5px', '10.51px', '33.34px', '0.5px')),
+            'ro-observe %s %s device' % (watch, build.chance.choice(nodes)))))
+        build.write_tick()
+
+
+def margins_of_scrolling(build):
+    """Targets behind the edges of scroll containers and of boxes that clip alone, for observers with scroll margins; of version 2."""
+    outer, middle, inner = [build.fresh('b') for _ in range(3)]
+    _put(build, outer, 'top', 'r', 'height 100px', 'width 200px', 'overflow ' + build.one_of('hidden', 'scroll', 'auto'),
+         'padding ' + build.one_of('0px', '10px'), 'border ' + build.one_of('0px', '3px'))
+    _put(build, middle, 'top', outer, 'height ' + build.one_of('60px', '120px'),
+         'overflow ' + build.one_of('visible', 'clip', 'hidden', 'scroll'))
+    _put(build, inner, 'top', middle, 'height ' + build.one_of('55px', '130px'))
+    nodes = [middle, inner]
+    for _ in range(2):
+        nodes.append(build.fresh('b'))
+        _put(build, nodes[-1], 'top', build.one_of(inner, middle, outer), 'height 10px')
+    watches = [build.fresh('w') for _ in range(build.chance.randrange(1, 4))]
+    for watch in watches:
+        build.intersection_observers.append(watch)
+        scroll = ' scroll ' + build.margin() if build.happens(0.8) else ''
+        text = 'io %s top %s root %s margin %s%s threshold %s' % (
+            watch, build.handler_or_none(), build.one_of('-', '-', outer, middle, 'top'), build.margin(), scroll, build.thresholds())
+        build.line(' '.join(text.split()))
+        build.line(*['io-observe %s %s' % (watch, node) for node in nodes])
+    for _ in range(build.chance.randrange(2, 5)):
+        build.write_tick()
+        build.line(build.one_of('scroll %s 0px %s' % (outer, build.signed_length()), 'scroll-by %s 0px 10px' % middle,
+                                'set %s overflow %s' % (build.one_of(outer, middle), build.one_of('visible', 'clip', 'hidden')),
+                                'set %s width %s' % (outer, build.one_of('200px', '50px')), build.style(inner)))
+    build.write_tick()
+
+
 def positions(build):
     """Holders, insets and scroll containers; of version 2."""
     outer, middle, inner = [build.fresh('b') for _ in range(3)]

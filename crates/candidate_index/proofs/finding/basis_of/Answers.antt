@@ -1,4 +1,4 @@
-use Rattle.std.proofs.Common.{◌≡◌, ◌∙◌, ℕ, ◌+◌, ap, sym, subst}
+use Rattle.std.proofs.Common.{◌≡◌, ◌∙◌, ℕ, false, ◌+◌, ap, sym, subst}
 use Rattle.page_model.specs.World.{Root}
 use Rattle.page_model.specs.Chains.{moved_out}
 use Rattle.page_model.specs.Lookups.{intersection_observer_at}
@@ -26,6 +26,14 @@ sight_of-requires g c =
     let root : (observer_of it serial).root ≡ seen_root c.root_of-root.result = ap (λ w. (intersection_observer_at it w).root) watcher ∙ sym c.root_of-root.ensures in
     let P : Root → ℕ → Type 0 = λ r t. IfChained (standings r t) (HasClip scene c.args.clips.now serial r t) in
     subst (λ r. P r c.target_of-target.result.0) root (subst (λ t. P (observer_of it serial).root t) target c.requires.ready)
+
+pub limits_of-requires : goal.limits_of-requires
+limits_of-requires g c =
+    let it = c.args.watchers.now.part in
+    let serial = c.args.registration.0 in
+    let watcher = looked_up (λ (p : Place). p.watcher) (standing_of serial it) (record { watcher = 0; target = 0 }) c.watcher_of-watcher.result.0 c.watcher_of-watcher.ensures.value in
+    let root : (observer_of it serial).root ≡ seen_root c.root_of-root.result = ap (λ w. (intersection_observer_at it w).root) watcher ∙ sym c.root_of-root.ensures in
+    subst (λ (r : Root). (g.S.Geometry.scene c.args.scene.now).moved (spot_of_root r) ≡ false) root c.requires.unmoved
 
 pub returns-clause-basis : goal.returns-clause-basis
 returns-clause-basis g c =

@@ -6,12 +6,12 @@ use Rattle.frame_update.proofs.events.bubble.Goals as goal
 
 pub returns-in_default : goal.returns-in_default
 returns-in_default g c = record {
-  says = run_same (sym (other_event (handlers_in c.args.script.now) c.args.event c.args.page.now.world c.args.target c.in_default.not-Scroll-1)) (silent_run refl);
+  says = run_same (sym (other_event (handlers_in c.args.script.now.items) c.args.event c.args.page.now.world c.args.target c.in_default.not-Scroll-1)) (silent_run refl);
   ready = c.requires.ready;
 }
 
 pub returns-in_default-2 : goal.returns-in_default-2
 returns-in_default-2 g c = record {
-  says = run_same (sym (other_target (handlers_in c.args.script.now) c.args.event c.args.page.now.world c.args.target c.in_default.not-Document-0)) (silent_run refl);
+  says = run_same (sym (other_target (handlers_in c.args.script.now.items) c.args.event c.args.page.now.world c.args.target c.in_default.not-Document-0)) (silent_run refl);
   ready = c.requires.ready;
 }

@@ -13,10 +13,10 @@ use Rattle.frame_update.proofs.events.invoke.Given as goal
 abbrev pub invariant-loop-handler : goal.invariant-loop-handler
 invariant-loop-handler g l =
     Following (g.K.Sink.taken l.fn.sink) (g.K.Sink.taken l.sink) (g.K.Sink.faults l.fn.sink) (g.K.Sink.faults l.sink)
-    (invoke (handlers_in l.script) (seen_target l.fn.target) l.fn.event l.fn.page.world)
-    (for_each (notify_listener (handlers_in l.script)) l.dispatch l.page.world)
+    (invoke (handlers_in l.script.items) (seen_target l.fn.target) l.fn.event l.fn.page.world)
+    (for_each (notify_listener (handlers_in l.script.items)) l.dispatch l.page.world)
     × AllByRecursion (IsAt (seen_target l.fn.target)) l.dispatch
-    × IsReady l.script l.page.world
+    × IsReady l.script.items l.page.world
 
 abbrev pub decreases-loop-handler : goal.decreases-loop-handler
 decreases-loop-handler g l = length l.dispatch

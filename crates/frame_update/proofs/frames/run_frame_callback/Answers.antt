@@ -19,4 +19,4 @@ returns-clause-says g c =
     told_run _ c.args.document (Some c.args.handler.0) c.args.page.now.world (ap (λ name. FrameLine name c.args.key) c.label-name.ensures) c.run_handler.result c.in_ok-write_one.ensures c.run_handler.ensures
 
 pub returns-clause-ready : goal.returns-clause-ready
-returns-clause-ready g c = called_ready c.args.script.now c.args.document (Some c.args.handler.0) _ _ c.run_handler.result c.run_handler.ensures c.requires.ready
+returns-clause-ready g c = called_ready c.args.script.now.items c.args.document (Some c.args.handler.0) _ _ c.run_handler.result c.run_handler.ensures c.requires.ready

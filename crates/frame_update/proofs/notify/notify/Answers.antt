@@ -14,20 +14,20 @@ use Rattle.frame_update.proofs.notify.notify.Goals as goal
 
 pub returns-then-not-is_active-clause-says : goal.returns-then-not-is_active-clause-says
 returns-then-not-is_active-clause-says g c =
-    run_same (sym (notify_dropped (handlers_in c.args.script.now) c.args.document c.args.page.now.world (sym c.if-not-is_active.ensures))) (silent_run refl)
+    run_same (sym (notify_dropped (handlers_in c.args.script.now.items) c.args.document c.args.page.now.world (sym c.if-not-is_active.ensures))) (silent_run refl)
 
 pub loop-watcher-init : goal.loop-watcher-init
 loop-watcher-init g c = record {
   following =
       rest_same
-      (notify_listed (handlers_in c.args.script.now) c.args.document c.args.page.now.world c.deref-watcher-items.result.now c.notify_list.new.self.world (sym c.if-not-is_active.ensures)
+      (notify_listed (handlers_in c.args.script.now.items) c.args.document c.args.page.now.world c.deref-watcher-items.result.now c.notify_list.new.self.world (sym c.if-not-is_active.ensures)
       (ap watcher_numbers c.deref-watcher-items.ensures.value ∙ c.in-Ok.ensures.list) (ap (λ (page : PageView). page.world) c.in-Ok.ensures.cleared))
       begin;
   there =
       listed_there c.args.document c.deref-watcher-items.result.now _ c.args.page.now.world c.notify_list.new.self.world c.deref-watcher-items.ensures.value
       (ap (λ (page : PageView). page.world) c.in-Ok.ensures.cleared) c.in-Ok.ensures.made;
   ready =
-      ready_cleared c.args.script.now c.args.document c.args.page.now.world c.requires.ready c.notify_list.new.self.world (ap (λ (page : PageView). page.world) c.in-Ok.ensures.cleared);
+      ready_cleared c.args.script.now.items c.args.document c.args.page.now.world c.requires.ready c.notify_list.new.self.world (ap (λ (page : PageView). page.world) c.in-Ok.ensures.cleared);
 }
 
 pub returns-in_err-notify_watcher-clause-says : goal.returns-in_err-notify_watcher-clause-says
@@ -35,7 +35,7 @@ returns-in_err-notify_watcher-clause-says g c =
     stopped_run c.from_residual.result c.in_err-notify_watcher.field-0.0 c.from_residual.ensures
     (end_cut c.in_err-notify_watcher.field-0.0 _
     (rest_same
-    (each_more (λ (item : WatcherId). notify_watcher (handlers_in c.args.script.now) (item.0)) c.deref-watcher-items.result.now c.loop-watcher.watcher-index _ c.loop-watcher.page.world
+    (each_more (λ (item : WatcherId). notify_watcher (handlers_in c.args.script.now.items) (item.0)) c.deref-watcher-items.result.now c.loop-watcher.watcher-index _ c.loop-watcher.page.world
     c.loop-watcher-test.true (get_or_default c.deref-watcher-items.result.now c.loop-watcher.watcher-index _ _ c.loop-watcher-test.true))
     c.loop-watcher.invariant.following)
     c.in_err-notify_watcher.ensures.says)
@@ -45,13 +45,13 @@ loop-watcher-preserved g c = record {
   following =
       go_on _ refl
       (rest_same
-      (each_more (λ (item : WatcherId). notify_watcher (handlers_in c.args.script.now) (item.0)) c.deref-watcher-items.result.now c.loop-watcher.watcher-index _ c.loop-watcher.page.world
+      (each_more (λ (item : WatcherId). notify_watcher (handlers_in c.args.script.now.items) (item.0)) c.deref-watcher-items.result.now c.loop-watcher.watcher-index _ c.loop-watcher.page.world
       c.loop-watcher-test.true (get_or_default c.deref-watcher-items.result.now c.loop-watcher.watcher-index _ _ c.loop-watcher-test.true))
       c.loop-watcher.invariant.following)
       c.in_ok-notify_watcher.ensures.says;
   there =
       still_there c.loop-watcher.page.world c.notify_watcher.new.page.world c.deref-watcher-items.result.now
-      (turn_made (handlers_in c.args.script.now) _ c.loop-watcher.page.world c.notify_watcher.new.page.world c.in_ok-notify_watcher.ensures.says.ended.state_is)
+      (turn_made (handlers_in c.args.script.now.items) _ c.loop-watcher.page.world c.notify_watcher.new.page.world c.in_ok-notify_watcher.ensures.says.ended.state_is)
       c.loop-watcher.invariant.there;
   ready = c.in_ok-notify_watcher.ensures.ready;
 }
@@ -60,6 +60,6 @@ pub returns-clause-says : goal.returns-clause-says
 returns-clause-says g c =
     done refl
     (rest_same
-    (each_none (λ (item : WatcherId). notify_watcher (handlers_in c.args.script.now) (item.0)) c.deref-watcher-items.result.now c.loop-watcher.watcher-index c.loop-watcher.page.world
+    (each_none (λ (item : WatcherId). notify_watcher (handlers_in c.args.script.now.items) (item.0)) c.deref-watcher-items.result.now c.loop-watcher.watcher-index c.loop-watcher.page.world
     c.loop-watcher-test.false)
     c.loop-watcher.invariant.following)

@@ -8,7 +8,7 @@ use Rattle.frame_update.proofs.Broadcasts.{broadcast_begins, broadcast_cut, broa
 use Rattle.frame_update.proofs.rounds.broadcast.Goals as goal
 
 pub loop-alloc-init : goal.loop-alloc-init
-loop-alloc-init g c = broadcast_begins c.args.script.now c.args.document _ _ c.args.page.now.world c.requires.ready
+loop-alloc-init g c = broadcast_begins c.args.script.now.items c.args.document _ _ c.args.page.now.world c.requires.ready
 
 pub returns-in_default-clause-says : goal.returns-in_default-clause-says
 returns-in_default-clause-says g c = end_memory c.loop-alloc.invariant.following
@@ -26,7 +26,7 @@ call_observer-requires-clause-ready g c =
     let it = c.in-Ok.ensures in
     handed_ready c.args.document c.loop-alloc.place c.loop-alloc.page.world c.next_delivery.new.self.world c.in-Some.delivery
     (handed_out _ _ _ _ c.in-Ok.next c.in-Some.delivery c.in-Some.is it.turn it.entries (ap (λ (page : PageView). page.world) it.reported) it.made it.some)
-    c.args.script.now c.loop-alloc.invariant.ready
+    c.args.script.now.items c.loop-alloc.invariant.ready
 
 pub call_observer-requires-clause-observer : goal.call_observer-requires-clause-observer
 call_observer-requires-clause-observer g c =
@@ -39,7 +39,7 @@ call_observer-requires-clause-entries g c =
     let it = c.in-Ok.ensures in
     handed_entries c.args.document c.loop-alloc.place c.loop-alloc.page.world c.next_delivery.new.self.world c.in-Some.delivery
     (handed_out _ _ _ _ c.in-Ok.next c.in-Some.delivery c.in-Some.is it.turn it.entries (ap (λ (page : PageView). page.world) it.reported) it.made it.some)
-    c.args.script.now c.loop-alloc.invariant.ready
+    c.args.script.now.items c.loop-alloc.invariant.ready
 
 pub loop-alloc-smaller : goal.loop-alloc-smaller
 loop-alloc-smaller g c =

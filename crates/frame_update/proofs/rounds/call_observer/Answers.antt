@@ -19,12 +19,12 @@ end_delivery-requires g c = called_within _ _ _ _ _ _ c.in_ok-run_handler.ensure
 pub returns-clause-ready : goal.returns-clause-ready
 returns-clause-ready g c =
     let called =
-    ready_called c.args.script.now c.args.document _ _ c.args.page.now.world c.run_handler.new.page.world
+    ready_called c.args.script.now.items c.args.document _ _ c.args.page.now.world c.run_handler.new.page.world
     (are_handed c.args.page.now.world c.args.delivery.observer.0 c.args.delivery.entries c.requires.observer c.requires.entries c.requires.lengths).targets
     c.in_ok-run_handler.ensures.ended.state_is c.requires.ready in
     elim c.if-is_active.branch [
       | then-is_active w ↦
-          subst (λ (page : PageView). IsReady c.args.script.now page.world) (sym (w.page-is ∙ w.end_delivery.ensures))
-          (ready_next c.args.script.now _ _ (inactive-next c.run_handler.new.page.world c.args.delivery.observer.0) called)
-      | else-is_active w ↦ subst (λ (page : PageView). IsReady c.args.script.now page.world) (sym w.page-is) called
+          subst (λ (page : PageView). IsReady c.args.script.now.items page.world) (sym (w.page-is ∙ w.end_delivery.ensures))
+          (ready_next c.args.script.now.items _ _ (inactive-next c.run_handler.new.page.world c.args.delivery.observer.0) called)
+      | else-is_active w ↦ subst (λ (page : PageView). IsReady c.args.script.now.items page.world) (sym w.page-is) called
     ]

@@ -10,9 +10,9 @@ use Rattle.frame_update.proofs.steps.media_steps.Given as goal
 abbrev pub invariant-loop-alloc : goal.invariant-loop-alloc
 invariant-loop-alloc g l =
     Following (g.K.Sink.taken l.fn.sink) (g.K.Sink.taken l.sink) (g.K.Sink.faults l.fn.sink) (g.K.Sink.faults l.sink)
-    (media_steps (handlers_in l.script) l.document l.fn.page.world)
-    (turns_from (handlers_in l.script) l.document l.place l.page.world)
-    × IsReady l.script l.page.world
+    (media_steps (handlers_in l.script.items) l.document l.fn.page.world)
+    (turns_from (handlers_in l.script.items) l.document l.place l.page.world)
+    × IsReady l.script.items l.page.world
 
 abbrev pub decreases-loop-alloc : goal.decreases-loop-alloc
 decreases-loop-alloc g l = 4096 - l.place

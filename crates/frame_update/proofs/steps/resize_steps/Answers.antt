@@ -7,13 +7,13 @@ use Rattle.frame_update.proofs.steps.resize_steps.Goals as goal
 pub returns-then-not-viewport_changed-clause-says : goal.returns-then-not-viewport_changed-clause-says
 returns-then-not-viewport_changed-clause-says g c =
     run_same
-    (noted_again c.args.document c.args.page.now.world c.viewport_changed.new.self.world c.if-not-viewport_changed.ensures.noted (handlers_in c.args.script.now)
+    (noted_again c.args.document c.args.page.now.world c.viewport_changed.new.self.world c.if-not-viewport_changed.ensures.noted (handlers_in c.args.script.now.items)
     c.if-not-viewport_changed.ensures.value)
     (silent_run refl)
 
 pub returns-then-not-viewport_changed-clause-ready : goal.returns-then-not-viewport_changed-clause-ready
 returns-then-not-viewport_changed-clause-ready g c =
-    noted_ready c.args.document c.args.page.now.world c.viewport_changed.new.self.world c.if-not-viewport_changed.ensures.noted c.requires.active c.args.script.now c.requires.ready
+    noted_ready c.args.document c.args.page.now.world c.viewport_changed.new.self.world c.if-not-viewport_changed.ensures.noted c.requires.active c.args.script.now.items c.requires.ready
 
 pub label-requires : goal.label-requires
 label-requires g c = noted_there c.args.document c.args.page.now.world c.viewport_changed.new.self.world c.if-not-viewport_changed.ensures.noted c.requires.active
@@ -21,13 +21,13 @@ label-requires g c = noted_there c.args.document c.args.page.now.world c.viewpor
 pub fire-requires : goal.fire-requires
 fire-requires g c = record {
   ready =
-      noted_ready c.args.document c.args.page.now.world c.viewport_changed.new.self.world c.if-not-viewport_changed.ensures.noted c.requires.active c.args.script.now
+      noted_ready c.args.document c.args.page.now.world c.viewport_changed.new.self.world c.if-not-viewport_changed.ensures.noted c.requires.active c.args.script.now.items
       c.requires.ready;
 }
 
 pub returns-clause-says : goal.returns-clause-says
 returns-clause-says g c =
     run_same
-    (noted_anew c.args.document c.args.page.now.world c.viewport_changed.new.self.world c.if-not-viewport_changed.ensures.noted (handlers_in c.args.script.now) c.label.result c.label.ensures
+    (noted_anew c.args.document c.args.page.now.world c.viewport_changed.new.self.world c.if-not-viewport_changed.ensures.noted (handlers_in c.args.script.now.items) c.label.result c.label.ensures
     c.if-not-viewport_changed.ensures.value)
     c.fire.ensures.says

@@ -13,6 +13,6 @@ returns-then-not-is_active-clause-says g c =
     run_same
     (sym
     (only_if_false
-    (λ now. fire (handlers_in c.args.script.now) (FiredScroll (scrolled_text (now.names) (seen_target c.args.target))) (event_target_of (seen_target c.args.target)) events.Scroll now)
+    (λ now. fire (handlers_in c.args.script.now.items) (FiredScroll (scrolled_text (now.names) (seen_target c.args.target))) (event_target_of (seen_target c.args.target)) events.Scroll now)
     c.args.page.now.world (sym c.if-not-is_active.ensures)))
     (silent_run refl)

@@ -14,38 +14,38 @@ pub loop-task-init : goal.loop-task-init
 loop-task-init g c = record {
   following =
       rest_same
-      (c.runs_of_tasks_come_to_rest.ensures.runs (handlers_in c.args.script.now) c.args.page.now.world c.requires.ready.limits most_steps
+      (c.runs_of_tasks_come_to_rest.ensures.runs (handlers_in c.args.script.now.items) c.args.page.now.world c.requires.ready.limits most_steps
       (c.runs_of_tasks_come_to_rest.ensures.begins c.args.page.now.world c.requires.ready.limits)) begin;
   ready = c.requires.ready;
 }
 
 pub run_task-requires : goal.run_task-requires
 run_task-requires g c = record {
-  ready = subst (IsReady c.args.script.now) (put_back (handlers_in c.args.script.now) c.loop-task.page.world (seen_task c.in-Some.task) c.pop_task.new.self.world c.in-Some.ensures.value (ap (λ (page : PageView). page.world) c.pop_task.ensures.left)) c.loop-task.invariant.ready;
+  ready = subst (IsReady c.args.script.now.items) (put_back (handlers_in c.args.script.now.items) c.loop-task.page.world (seen_task c.in-Some.task) c.pop_task.new.self.world c.in-Some.ensures.value (ap (λ (page : PageView). page.world) c.pop_task.ensures.left)) c.loop-task.invariant.ready;
 }
 
 pub loop-task-smaller : goal.loop-task-smaller
-loop-task-smaller g c = fewer_tasks (handlers_in c.args.script.now) c.loop-task.page.world (seen_task c.in-Some.task) c.pop_task.new.self.world c.in-Some.ensures.value (ap (λ (page : PageView). page.world) c.pop_task.ensures.left) (c.runs_of_tasks_come_to_rest.ensures.falls (handlers_in c.args.script.now) c.loop-task.page.world c.loop-task.invariant.ready.limits (task_waits (handlers_in c.args.script.now) c.loop-task.page.world (seen_task c.in-Some.task) c.pop_task.new.self.world c.in-Some.ensures.value (ap (λ (page : PageView). page.world) c.pop_task.ensures.left))) c.in_ok-run_task.ensures.says
+loop-task-smaller g c = fewer_tasks (handlers_in c.args.script.now.items) c.loop-task.page.world (seen_task c.in-Some.task) c.pop_task.new.self.world c.in-Some.ensures.value (ap (λ (page : PageView). page.world) c.pop_task.ensures.left) (c.runs_of_tasks_come_to_rest.ensures.falls (handlers_in c.args.script.now.items) c.loop-task.page.world c.loop-task.invariant.ready.limits (task_waits (handlers_in c.args.script.now.items) c.loop-task.page.world (seen_task c.in-Some.task) c.pop_task.new.self.world c.in-Some.ensures.value (ap (λ (page : PageView). page.world) c.pop_task.ensures.left))) c.in_ok-run_task.ensures.says
 
 pub loop-task-preserved : goal.loop-task-preserved
 loop-task-preserved g c = record {
-  following = tasks_go_on (handlers_in c.args.script.now) c.loop-task.page.world (seen_task c.in-Some.task) c.pop_task.new.self.world c.in-Some.ensures.value (ap (λ (page : PageView). page.world) c.pop_task.ensures.left) c.loop-task.invariant.following (c.runs_of_tasks_come_to_rest.ensures.unrolled (handlers_in c.args.script.now) c.loop-task.page.world c.loop-task.invariant.ready.limits most_steps (c.runs_of_tasks_come_to_rest.ensures.begins c.loop-task.page.world c.loop-task.invariant.ready.limits) (task_waits (handlers_in c.args.script.now) c.loop-task.page.world (seen_task c.in-Some.task) c.pop_task.new.self.world c.in-Some.ensures.value (ap (λ (page : PageView). page.world) c.pop_task.ensures.left))) c.in_ok-run_task.field-0 c.in_ok-run_task.ensures.says;
+  following = tasks_go_on (handlers_in c.args.script.now.items) c.loop-task.page.world (seen_task c.in-Some.task) c.pop_task.new.self.world c.in-Some.ensures.value (ap (λ (page : PageView). page.world) c.pop_task.ensures.left) c.loop-task.invariant.following (c.runs_of_tasks_come_to_rest.ensures.unrolled (handlers_in c.args.script.now.items) c.loop-task.page.world c.loop-task.invariant.ready.limits most_steps (c.runs_of_tasks_come_to_rest.ensures.begins c.loop-task.page.world c.loop-task.invariant.ready.limits) (task_waits (handlers_in c.args.script.now.items) c.loop-task.page.world (seen_task c.in-Some.task) c.pop_task.new.self.world c.in-Some.ensures.value (ap (λ (page : PageView). page.world) c.pop_task.ensures.left))) c.in_ok-run_task.field-0 c.in_ok-run_task.ensures.says;
   ready = c.in_ok-run_task.ensures.ready;
 }
 
 pub returns-in_err-run_task-clause-says : goal.returns-in_err-run_task-clause-says
 returns-in_err-run_task-clause-says g c =
     stopped_run c.from_residual.result c.in_err-run_task.field-0.0 c.from_residual.ensures
-    (tasks_cut (handlers_in c.args.script.now) c.loop-task.page.world (seen_task c.in-Some.task) c.pop_task.new.self.world c.in-Some.ensures.value (ap (λ (page : PageView). page.world) c.pop_task.ensures.left) c.loop-task.invariant.following (c.runs_of_tasks_come_to_rest.ensures.unrolled (handlers_in c.args.script.now) c.loop-task.page.world c.loop-task.invariant.ready.limits most_steps (c.runs_of_tasks_come_to_rest.ensures.begins c.loop-task.page.world c.loop-task.invariant.ready.limits) (task_waits (handlers_in c.args.script.now) c.loop-task.page.world (seen_task c.in-Some.task) c.pop_task.new.self.world c.in-Some.ensures.value (ap (λ (page : PageView). page.world) c.pop_task.ensures.left))) c.in_err-run_task.field-0.0 c.in_err-run_task.ensures.says)
+    (tasks_cut (handlers_in c.args.script.now.items) c.loop-task.page.world (seen_task c.in-Some.task) c.pop_task.new.self.world c.in-Some.ensures.value (ap (λ (page : PageView). page.world) c.pop_task.ensures.left) c.loop-task.invariant.following (c.runs_of_tasks_come_to_rest.ensures.unrolled (handlers_in c.args.script.now.items) c.loop-task.page.world c.loop-task.invariant.ready.limits most_steps (c.runs_of_tasks_come_to_rest.ensures.begins c.loop-task.page.world c.loop-task.invariant.ready.limits) (task_waits (handlers_in c.args.script.now.items) c.loop-task.page.world (seen_task c.in-Some.task) c.pop_task.new.self.world c.in-Some.ensures.value (ap (λ (page : PageView). page.world) c.pop_task.ensures.left))) c.in_err-run_task.field-0.0 c.in_err-run_task.ensures.says)
 
 pub returns-clause-says : goal.returns-clause-says
 returns-clause-says g c =
     done refl
     (rest_same
-    (c.runs_of_tasks_come_to_rest.ensures.ended (handlers_in c.args.script.now) c.loop-task.page.world most_steps (none_waits (handlers_in c.args.script.now) c.loop-task.page.world c.pop_task.new.self.world c.in_default.ensures.value (ap (λ (page : PageView). page.world) c.pop_task.ensures.left))
-    ∙ ap silent (same_page (handlers_in c.args.script.now) c.loop-task.page.world c.pop_task.new.self.world c.in_default.ensures.value (ap (λ (page : PageView). page.world) c.pop_task.ensures.left)))
+    (c.runs_of_tasks_come_to_rest.ensures.ended (handlers_in c.args.script.now.items) c.loop-task.page.world most_steps (none_waits (handlers_in c.args.script.now.items) c.loop-task.page.world c.pop_task.new.self.world c.in_default.ensures.value (ap (λ (page : PageView). page.world) c.pop_task.ensures.left))
+    ∙ ap silent (same_page (handlers_in c.args.script.now.items) c.loop-task.page.world c.pop_task.new.self.world c.in_default.ensures.value (ap (λ (page : PageView). page.world) c.pop_task.ensures.left)))
     c.loop-task.invariant.following)
 
 pub returns-clause-ready : goal.returns-clause-ready
 returns-clause-ready g c =
-    ready_next _ _ _ (none_is_next (handlers_in c.args.script.now) c.loop-task.page.world c.pop_task.new.self.world c.in_default.ensures.value (ap (λ (page : PageView). page.world) c.pop_task.ensures.left)) c.loop-task.invariant.ready
+    ready_next _ _ _ (none_is_next (handlers_in c.args.script.now.items) c.loop-task.page.world c.pop_task.new.self.world c.in_default.ensures.value (ap (λ (page : PageView). page.world) c.pop_task.ensures.left)) c.loop-task.invariant.ready

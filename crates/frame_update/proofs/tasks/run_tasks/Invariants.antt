@@ -10,9 +10,9 @@ use Rattle.frame_update.proofs.tasks.run_tasks.Given as goal
 abbrev pub invariant-loop-task : goal.invariant-loop-task
 invariant-loop-task g l = record {
   following :
-      Following (g.K.Sink.taken l.fn.sink) (g.K.Sink.taken l.sink) (g.K.Sink.faults l.fn.sink) (g.K.Sink.faults l.sink) (run_tasks (handlers_in l.script) l.fn.page.world)
-      (tasks_up_to most_steps (handlers_in l.script) l.page.world);
-  ready : IsReady l.script l.page.world;
+      Following (g.K.Sink.taken l.fn.sink) (g.K.Sink.taken l.sink) (g.K.Sink.faults l.fn.sink) (g.K.Sink.faults l.sink) (run_tasks (handlers_in l.script.items) l.fn.page.world)
+      (tasks_up_to most_steps (handlers_in l.script.items) l.page.world);
+  ready : IsReady l.script.items l.page.world;
 }
 
 abbrev pub decreases-loop-task : goal.decreases-loop-task

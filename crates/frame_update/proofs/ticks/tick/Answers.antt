@@ -8,28 +8,28 @@ use Rattle.frame_update.proofs.ticks.tick.Goals as goal
 
 pub returns-in-Err-clause-says : goal.returns-in-Err-clause-says
 returns-in-Err-clause-says g c =
-    run_same (unbegun_is (handlers_in c.args.script.now) c.args.line c.args.time c.args.page.now.world)
+    run_same (unbegun_is (handlers_in c.args.script.now.items) c.args.line c.args.time c.args.page.now.world)
     (refused_run c.in-Err.fault c.args.line c.refuse.result _ _ _ _ c.args.page.now.world c.begin_command.new.self.world (begun_in c.args.page.now.world)
-    (begun_run (handlers_in c.args.script.now) c.args.line c.args.time c.args.page.now.world) c.in-Err.ensures.counted c.refuse.ensures)
+    (begun_run (handlers_in c.args.script.now.items) c.args.line c.args.time c.args.page.now.world) c.version.ensures c.in-Err.ensures.counted c.refuse.ensures)
 
 pub returns-in-Err-clause-ready : goal.returns-in-Err-clause-ready
-returns-in-Err-clause-ready g c = ready_same c.args.script.now c.refuse.result c.args.page.now c.begin_command.new.self c.in-Err.ensures.same c.requires.ready
+returns-in-Err-clause-ready g c = ready_same c.args.script.now.items c.refuse.result c.args.page.now c.begin_command.new.self c.in-Err.ensures.same c.requires.ready
 
 pub returns-in-Err-set_time-clause-says : goal.returns-in-Err-set_time-clause-says
 returns-in-Err-set_time-clause-says g c =
-    run_same (begun_is (handlers_in c.args.script.now) c.args.line c.args.time c.args.page.now.world c.begin_command.new.self.world c.in_default.ensures.counted)
+    run_same (begun_is (handlers_in c.args.script.now.items) c.args.line c.args.time c.args.page.now.world c.begin_command.new.self.world c.in_default.ensures.counted)
     (refused_run c.in-Err-set_time.fault c.args.line c.refuse-in-Err-set_time.result _ _ _ _ c.begin_command.new.self.world c.set_time.new.self.world
-    (time_set c.args.time c.begin_command.new.self.world) (tick (handlers_in c.args.script.now)) c.in-Err-set_time.ensures.set c.refuse-in-Err-set_time.ensures)
+    (time_set c.args.time c.begin_command.new.self.world) (tick (handlers_in c.args.script.now.items)) c.version-in-Err-set_time.ensures c.in-Err-set_time.ensures.set c.refuse-in-Err-set_time.ensures)
 
 pub returns-in-Err-set_time-clause-ready : goal.returns-in-Err-set_time-clause-ready
 returns-in-Err-set_time-clause-ready g c =
-    ready_same c.args.script.now c.refuse-in-Err-set_time.result c.begin_command.new.self c.set_time.new.self c.in-Err-set_time.ensures.same
-    (begun_ready c.args.script.now c.args.page.now.world c.begin_command.new.self.world c.in_default.ensures.counted c.requires.ready)
+    ready_same c.args.script.now.items c.refuse-in-Err-set_time.result c.begin_command.new.self c.set_time.new.self c.in-Err-set_time.ensures.same
+    (begun_ready c.args.script.now.items c.args.page.now.world c.begin_command.new.self.world c.in_default.ensures.counted c.requires.ready)
 
 pub run_parts-requires-clause-ready : goal.run_parts-requires-clause-ready
 run_parts-requires-clause-ready g c =
-    timed_ready c.args.script.now c.args.time c.begin_command.new.self.world c.set_time.new.self.world c.in_default-set_time.ensures.set
-    (begun_ready c.args.script.now c.args.page.now.world c.begin_command.new.self.world c.in_default.ensures.counted c.requires.ready)
+    timed_ready c.args.script.now.items c.args.time c.begin_command.new.self.world c.set_time.new.self.world c.in_default-set_time.ensures.set
+    (begun_ready c.args.script.now.items c.args.page.now.world c.begin_command.new.self.world c.in_default.ensures.counted c.requires.ready)
 
 pub run_parts-requires-clause-time : goal.run_parts-requires-clause-time
 run_parts-requires-clause-time g c = clock_is c.args.time c.begin_command.new.self.world c.set_time.new.self.world c.in_default-set_time.ensures.set
@@ -37,21 +37,21 @@ run_parts-requires-clause-time g c = clock_is c.args.time c.begin_command.new.se
 pub returns-clause-says : goal.returns-clause-says
 returns-clause-says g c =
     run_same
-    (timed_is (handlers_in c.args.script.now) c.args.line c.args.time c.args.page.now.world c.begin_command.new.self.world c.in_default.ensures.counted c.set_time.new.self.world
+    (timed_is (handlers_in c.args.script.now.items) c.args.line c.args.time c.args.page.now.world c.begin_command.new.self.world c.in_default.ensures.counted c.set_time.new.self.world
     c.in_default-set_time.ensures.set)
     (caught_run c.run_parts.result c.run_parts.ensures.says)
 
 pub returns-in-Err-clause-loops : goal.returns-in-Err-clause-loops
 returns-in-Err-clause-loops g c =
-    loops_exact (handlers_in c.args.script.now) c.args.time c.args.page.now.world (c.loops_go_deeper.ensures (handlers_in c.args.script.now))
-    (c.loops_have_few_rounds.ensures (handlers_in c.args.script.now)) (c.loop_errors_are_exact.ensures (handlers_in c.args.script.now)) c.requires.ready.limits
+    loops_exact (handlers_in c.args.script.now.items) c.args.time c.args.page.now.world (c.loops_go_deeper.ensures (handlers_in c.args.script.now.items))
+    (c.loops_have_few_rounds.ensures (handlers_in c.args.script.now.items)) (c.loop_errors_are_exact.ensures (handlers_in c.args.script.now.items)) c.requires.ready.limits
 
 pub returns-in-Err-set_time-clause-loops : goal.returns-in-Err-set_time-clause-loops
 returns-in-Err-set_time-clause-loops g c =
-    loops_exact (handlers_in c.args.script.now) c.args.time c.args.page.now.world (c.loops_go_deeper.ensures (handlers_in c.args.script.now))
-    (c.loops_have_few_rounds.ensures (handlers_in c.args.script.now)) (c.loop_errors_are_exact.ensures (handlers_in c.args.script.now)) c.requires.ready.limits
+    loops_exact (handlers_in c.args.script.now.items) c.args.time c.args.page.now.world (c.loops_go_deeper.ensures (handlers_in c.args.script.now.items))
+    (c.loops_have_few_rounds.ensures (handlers_in c.args.script.now.items)) (c.loop_errors_are_exact.ensures (handlers_in c.args.script.now.items)) c.requires.ready.limits
 
 pub returns-clause-loops : goal.returns-clause-loops
 returns-clause-loops g c =
-    loops_exact (handlers_in c.args.script.now) c.args.time c.args.page.now.world (c.loops_go_deeper.ensures (handlers_in c.args.script.now))
-    (c.loops_have_few_rounds.ensures (handlers_in c.args.script.now)) (c.loop_errors_are_exact.ensures (handlers_in c.args.script.now)) c.requires.ready.limits
+    loops_exact (handlers_in c.args.script.now.items) c.args.time c.args.page.now.world (c.loops_go_deeper.ensures (handlers_in c.args.script.now.items))
+    (c.loops_have_few_rounds.ensures (handlers_in c.args.script.now.items)) (c.loop_errors_are_exact.ensures (handlers_in c.args.script.now.items)) c.requires.ready.limits

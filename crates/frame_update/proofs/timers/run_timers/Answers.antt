@@ -13,14 +13,14 @@ use Rattle.frame_update.proofs.timers.run_timers.Goals as goal
 pub loop-timer-init : goal.loop-timer-init
 loop-timer-init g c = record {
   following = rest_same
-      (timers_all (handlers_in c.args.script.now) c.args.page.now.world ∙ ap (λ batch. timers_left (handlers_in c.args.script.now) batch c.args.page.now.world) (sym c.in-Ok.ensures)) begin;
+      (timers_all (handlers_in c.args.script.now.items) c.args.page.now.world ∙ ap (λ batch. timers_left (handlers_in c.args.script.now.items) batch c.args.page.now.world) (sym c.in-Ok.ensures)) begin;
   ready = c.requires.ready;
 }
 
 pub run_timer-requires : goal.run_timer-requires
 run_timer-requires g c = record {
   ready = ready_next _ _ _
-      (timer_is_next (handlers_in c.args.script.now) c.loop-timer.due c.loop-timer.page.world c.next_timer.new.self.world (ap (λ (page : PageView). page.world) c.next_timer.ensures.removed))
+      (timer_is_next (handlers_in c.args.script.now.items) c.loop-timer.due c.loop-timer.page.world c.next_timer.new.self.world (ap (λ (page : PageView). page.world) c.next_timer.ensures.removed))
       c.loop-timer.invariant.ready;
 }
 
@@ -30,7 +30,7 @@ loop-timer-smaller g c =
 
 pub loop-timer-preserved : goal.loop-timer-preserved
 loop-timer-preserved g c = record {
-  following = timers_go_on (handlers_in c.args.script.now) c.loop-timer.due c.loop-timer.page.world c.loop-timer.invariant.following
+  following = timers_go_on (handlers_in c.args.script.now.items) c.loop-timer.due c.loop-timer.page.world c.loop-timer.invariant.following
       c.in-Some.timer.0 c.in-Some.timer.1 c.in-Some.timer.2.0 c.next_timer.new.self.world c.run_timer.new.page.world
       c.in-Some.ensures.value (ap (λ (page : PageView). page.world) c.next_timer.ensures.removed) c.in_ok-run_timer.field-0 _ c.next_timer.ensures.left c.in_ok-run_timer.ensures.says;
   ready = c.in_ok-run_timer.ensures.ready;
@@ -39,7 +39,7 @@ loop-timer-preserved g c = record {
 pub returns-in_err-run_timer-clause-says : goal.returns-in_err-run_timer-clause-says
 returns-in_err-run_timer-clause-says g c =
     stopped_run c.from_residual.result c.in_err-run_timer.field-0.0 c.from_residual.ensures
-    (timers_cut (handlers_in c.args.script.now) c.loop-timer.due c.loop-timer.page.world c.loop-timer.invariant.following
+    (timers_cut (handlers_in c.args.script.now.items) c.loop-timer.due c.loop-timer.page.world c.loop-timer.invariant.following
     c.in-Some.timer.0 c.in-Some.timer.1 c.in-Some.timer.2.0 c.next_timer.new.self.world c.run_timer.new.page.world
     c.in-Some.ensures.value (ap (λ (page : PageView). page.world) c.next_timer.ensures.removed) c.in_err-run_timer.field-0.0 c.in_err-run_timer.ensures.says)
 
@@ -47,12 +47,12 @@ pub returns-clause-says : goal.returns-clause-says
 returns-clause-says g c =
     done refl
     (rest_same
-    (timers_none (handlers_in c.args.script.now) c.loop-timer.due c.loop-timer.page.world c.next_timer.new.self.world c.in_default-next_timer.ensures.value
+    (timers_none (handlers_in c.args.script.now.items) c.loop-timer.due c.loop-timer.page.world c.next_timer.new.self.world c.in_default-next_timer.ensures.value
     (ap (λ (page : PageView). page.world) c.next_timer.ensures.removed))
     c.loop-timer.invariant.following)
 
 pub returns-clause-ready : goal.returns-clause-ready
 returns-clause-ready g c =
     ready_next _ _ _
-    (timer_is_next (handlers_in c.args.script.now) c.loop-timer.due c.loop-timer.page.world c.next_timer.new.self.world (ap (λ (page : PageView). page.world) c.next_timer.ensures.removed))
+    (timer_is_next (handlers_in c.args.script.now.items) c.loop-timer.due c.loop-timer.page.world c.next_timer.new.self.world (ap (λ (page : PageView). page.world) c.next_timer.ensures.removed))
     c.loop-timer.invariant.ready

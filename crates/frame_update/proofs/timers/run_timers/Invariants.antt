@@ -10,9 +10,9 @@ use Rattle.frame_update.proofs.timers.run_timers.Given as goal
 abbrev pub invariant-loop-timer : goal.invariant-loop-timer
 invariant-loop-timer g l = record {
   following :
-      Following (g.K.Sink.taken l.fn.sink) (g.K.Sink.taken l.sink) (g.K.Sink.faults l.fn.sink) (g.K.Sink.faults l.sink) (run_timers (handlers_in l.script) l.fn.page.world)
-      (timers_left (handlers_in l.script) l.due l.page.world);
-  ready : IsReady l.script l.page.world;
+      Following (g.K.Sink.taken l.fn.sink) (g.K.Sink.taken l.sink) (g.K.Sink.faults l.fn.sink) (g.K.Sink.faults l.sink) (run_timers (handlers_in l.script.items) l.fn.page.world)
+      (timers_left (handlers_in l.script.items) l.due l.page.world);
+  ready : IsReady l.script.items l.page.world;
 }
 
 abbrev pub decreases-loop-timer : goal.decreases-loop-timer

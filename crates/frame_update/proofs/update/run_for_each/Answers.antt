@@ -13,7 +13,7 @@ loop-document-init g c = record { following = begin; ready = c.requires.ready }
 pub loop-document-preserved : goal.loop-document-preserved
 loop-document-preserved g c = record {
   following =
-      each_go_on (λ (document : ℕ). while_active document (part_of (handlers_in c.args.script.now) c.args.part document)) c.args.documents.now c.loop-document.document-index c.loop-document.page.world c.loop-document.invariant.following
+      each_go_on (λ (document : ℕ). while_active document (part_of (handlers_in c.args.script.now.items) c.args.part document)) c.args.documents.now c.loop-document.document-index c.loop-document.page.world c.loop-document.invariant.following
       0 c.loop-document-test.true c.in_ok-run_while_active.field-0 c.in_ok-run_while_active.ensures.says;
   ready = c.in_ok-run_while_active.ensures.ready;
 }
@@ -21,10 +21,10 @@ loop-document-preserved g c = record {
 pub returns-in_err-run_while_active-clause-says : goal.returns-in_err-run_while_active-clause-says
 returns-in_err-run_while_active-clause-says g c =
     stopped_run c.from_residual.result c.in_err-run_while_active.field-0.0 c.from_residual.ensures
-    (each_cut (λ (document : ℕ). while_active document (part_of (handlers_in c.args.script.now) c.args.part document)) c.args.documents.now c.loop-document.document-index c.loop-document.page.world c.loop-document.invariant.following
+    (each_cut (λ (document : ℕ). while_active document (part_of (handlers_in c.args.script.now.items) c.args.part document)) c.args.documents.now c.loop-document.document-index c.loop-document.page.world c.loop-document.invariant.following
     0 c.loop-document-test.true c.in_err-run_while_active.field-0.0 c.in_err-run_while_active.ensures.says)
 
 pub returns-clause-says : goal.returns-clause-says
 returns-clause-says g c =
-    each_done (λ (document : ℕ). while_active document (part_of (handlers_in c.args.script.now) c.args.part document)) c.args.documents.now c.loop-document.document-index c.loop-document.page.world c.loop-document.invariant.following
+    each_done (λ (document : ℕ). while_active document (part_of (handlers_in c.args.script.now.items) c.args.part document)) c.args.documents.now c.loop-document.document-index c.loop-document.page.world c.loop-document.invariant.following
     (tt {0}) (omega arith)

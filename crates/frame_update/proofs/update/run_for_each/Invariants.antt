@@ -10,7 +10,7 @@ abbrev pub invariant-loop-document : goal.invariant-loop-document
 invariant-loop-document g l = record {
   following :
       Following (g.K.Sink.taken l.fn.sink) (g.K.Sink.taken l.sink) (g.K.Sink.faults l.fn.sink) (g.K.Sink.faults l.sink)
-      (over (handlers_in l.script) l.documents l.part l.fn.page.world)
-      (over (handlers_in l.script) (drop l.document-index l.documents) l.part l.page.world);
-  ready : IsReady l.script l.page.world;
+      (over (handlers_in l.script.items) l.documents l.part l.fn.page.world)
+      (over (handlers_in l.script.items) (drop l.document-index l.documents) l.part l.page.world);
+  ready : IsReady l.script.items l.page.world;
 }

@@ -12,7 +12,7 @@ abbrev pub invariant-loop-part : goal.invariant-loop-part
 invariant-loop-part g l = record {
   following :
       Following (g.K.Sink.taken l.fn.sink) (g.K.Sink.taken l.sink) (g.K.Sink.faults l.fn.sink) (g.K.Sink.faults l.sink)
-      (update_rendering (handlers_in l.script) l.fn.page.world)
-      (for_each (over (handlers_in l.script) l.documents.items) (drop l.part-index all_parts) l.page.world);
-  ready : IsReady l.script l.page.world;
+      (update_rendering (handlers_in l.script.items) l.fn.page.world)
+      (for_each (over (handlers_in l.script.items) l.documents.items) (drop l.part-index all_parts) l.page.world);
+  ready : IsReady l.script.items l.page.world;
 }

@@ -19,7 +19,7 @@ use Rattle.handlers.proofs.commands.+blocks.Goals as goal
 pub run_command-returns-in-Err : goal.run_command-returns-in-Err
 run_command-returns-in-Err g t c =
     let it = command_begins _ _ c.args.command.now.line c.args.command.now.what _ _ in
-    run_same it.1 (unbegun_run c.in-Err.fault _ c.refuse.result _ _ _ _ _ _ it.0 c.in-Err.ensures.counted c.refuse.ensures)
+    run_same it.1 (unbegun_run c.in-Err.fault _ c.refuse.result _ _ _ _ _ _ it.0 c.version.ensures c.in-Err.ensures.counted c.refuse.ensures)
 
 pub run_command-run_each-requires : goal.run_command-run_each-requires
 run_command-run_each-requires g t c =
@@ -76,13 +76,13 @@ run_each-returns g t c =
 pub run_when-returns-in-Ok-true : goal.run_when-returns-in-Ok-true
 run_when-returns-in-Ok-true g t c =
     run_same
-    (held_is _ _ _ (run_block (handlers_in c.args.script.now) (presents (entries_of c.args.entries.now)) c.args.block.now (present_at (presents (entries_of c.args.entries.now)) c.args.subject)) _ (found_same _ _ c.subject_at-present.ensures (rw c.in-Ok-true.field-0-test at c.in-Ok-true.ensures.answer)) (ap (λ (page : PageView). page.world) c.in-Ok-true.ensures.same))
+    (held_is _ _ _ (run_block (handlers_in c.args.script.now.items) (presents (entries_of c.args.entries.now)) c.args.block.now (present_at (presents (entries_of c.args.entries.now)) c.args.subject)) _ (found_same _ _ c.subject_at-present.ensures (rw c.in-Ok-true.field-0-test at c.in-Ok-true.ensures.answer)) (ap (λ (page : PageView). page.world) c.in-Ok-true.ensures.same))
     c.run_block.ensures
 
 pub run_when-returns-in-Ok-false : goal.run_when-returns-in-Ok-false
 run_when-returns-in-Ok-false g t c =
     run_same
-    (unheld_is _ _ _ (run_block (handlers_in c.args.script.now) (presents (entries_of c.args.entries.now)) c.args.block.now (present_at (presents (entries_of c.args.entries.now)) c.args.subject)) _ (found_same _ _ c.subject_at-present.ensures (rw c.in-Ok-false.field-0-test at c.in-Ok-false.ensures.answer)) (ap (λ (page : PageView). page.world) c.in-Ok-false.ensures.same))
+    (unheld_is _ _ _ (run_block (handlers_in c.args.script.now.items) (presents (entries_of c.args.entries.now)) c.args.block.now (present_at (presents (entries_of c.args.entries.now)) c.args.subject)) _ (found_same _ _ c.subject_at-present.ensures (rw c.in-Ok-false.field-0-test at c.in-Ok-false.ensures.answer)) (ap (λ (page : PageView). page.world) c.in-Ok-false.ensures.same))
     (silent_run refl)
 
 pub run_when-returns-in-Err : goal.run_when-returns-in-Err

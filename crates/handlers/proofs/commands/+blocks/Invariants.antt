@@ -23,8 +23,8 @@ decreases-run_block g l = 3 * block_size l.block.now + 1
 abbrev pub invariant-run_each-loop-place : goal.invariant-run_each-loop-place
 invariant-run_each-loop-place g l = record {
   following : Following (g.K.Sink.taken l.fn.sink) (g.K.Sink.taken l.sink) (g.K.Sink.faults l.fn.sink) (g.K.Sink.faults l.sink)
-      (for_each (run_block (handlers_in l.script) (presents (entries_of l.entries)) l.block) (presents (entries_of l.entries)) l.fn.page.world)
-      (for_each (run_block (handlers_in l.script) (presents (entries_of l.entries)) l.block) (drop l.place (presents (entries_of l.entries))) l.page.world);
+      (for_each (run_block (handlers_in l.script.items) (presents (entries_of l.entries)) l.block) (presents (entries_of l.entries)) l.fn.page.world)
+      (for_each (run_block (handlers_in l.script.items) (presents (entries_of l.entries)) l.block) (drop l.place (presents (entries_of l.entries))) l.page.world);
   targets : AreIn l.page.world (presents (entries_of l.entries));
 }
 
@@ -32,7 +32,7 @@ invariant-run_each-loop-place g l = record {
 abbrev pub invariant-run_block-loop-command : goal.invariant-run_block-loop-command
 invariant-run_block-loop-command g l = record {
   following : Following (g.K.Sink.taken l.fn.sink) (g.K.Sink.taken l.sink) (g.K.Sink.faults l.fn.sink) (g.K.Sink.faults l.sink)
-      (run_block (handlers_in l.script) (presents (entries_of l.entries)) l.block (present_at (presents (entries_of l.entries)) l.subject) l.fn.page.world)
-      (run_block (handlers_in l.script) (presents (entries_of l.entries)) (block_of (drop l.command-index l.command-items)) (present_at (presents (entries_of l.entries)) l.subject) l.page.world);
+      (run_block (handlers_in l.script.items) (presents (entries_of l.entries)) l.block (present_at (presents (entries_of l.entries)) l.subject) l.fn.page.world)
+      (run_block (handlers_in l.script.items) (presents (entries_of l.entries)) (block_of (drop l.command-index l.command-items)) (present_at (presents (entries_of l.entries)) l.subject) l.page.world);
   targets : AreIn l.page.world (presents (entries_of l.entries));
 }

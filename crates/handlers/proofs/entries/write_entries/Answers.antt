@@ -5,7 +5,7 @@ use Rattle.handlers.proofs.Telling.{handed_written}
 use Rattle.handlers.proofs.entries.write_entries.Goals as goal
 
 pub returns-in-Nothing : goal.returns-in-Nothing
-returns-in-Nothing g c = (nothing_told c.args.page.now.world.names c.args.entries.now _ c.in-Nothing.is, refl)
+returns-in-Nothing g c = (nothing_told c.args.page.now.world.version c.args.page.now.world.names c.args.entries.now _ c.in-Nothing.is, refl)
 
 pub write_cuts-requires-clause-written : goal.write_cuts-requires-clause-written
 write_cuts-requires-clause-written g c =

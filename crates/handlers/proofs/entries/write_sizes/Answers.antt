@@ -23,13 +23,13 @@ resize_line-line-requires-clause-target g c =
 
 pub resize_line-line-requires-clause-reach : goal.resize_line-line-requires-clause-reach
 resize_line-line-requires-clause-reach g c =
-    at_mapped HasReach (resize_line c.args.page.now.world.names c.args.observer.0) seen_entry c.args.entries.now c.loop-entry.entry-index _ c.requires.reach (omega arith)
+    at_mapped HasReach (resize_line c.args.page.now.world.version c.args.page.now.world.names c.args.observer.0) seen_entry c.args.entries.now c.loop-entry.entry-index _ c.requires.reach (omega arith)
     (get_or_default c.args.entries.now c.loop-entry.entry-index _ _ (omega arith))
 
 pub write_one-requires : goal.write_one-requires
 write_one-requires g c =
     subst HasReach (sym c.resize_line-line.ensures)
-    (at_mapped HasReach (resize_line c.args.page.now.world.names c.args.observer.0) seen_entry c.args.entries.now c.loop-entry.entry-index _ c.requires.reach (omega arith)
+    (at_mapped HasReach (resize_line c.args.page.now.world.version c.args.page.now.world.names c.args.observer.0) seen_entry c.args.entries.now c.loop-entry.entry-index _ c.requires.reach (omega arith)
     (get_or_default c.args.entries.now c.loop-entry.entry-index _ _ (omega arith)))
 
 pub returns-in-Err : goal.returns-in-Err

@@ -16,7 +16,7 @@ returns-in-Ok g c =
 
 pub returns : goal.returns
 returns g c =
-    refused_run c.in-Err.fault _ c.refuse.result _ _ _ _ _ _ _ _
+    refused_run c.in-Err.fault _ c.refuse.result _ _ _ _ _ _ _ _ c.version.ensures
     (same_failed c.in-Err.fault _ _
     (c.commands_read_the_target_alone.ensures _ _ _ _ _ (target_same c.args.subject.target c.args.subject.meets))
     (applied_failed c.in-Err.fault _ _ _ c.in-Err.ensures.applied)) c.refuse.ensures

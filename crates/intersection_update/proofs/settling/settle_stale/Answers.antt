@@ -3,6 +3,7 @@ use Rattle.std.specs.List.{All}
 use Rattle.std.specs.FinMap.{FinMap}
 use Rattle.std.specs.Ordering.{nat_cmp}
 use Rattle.page_model.specs.World.{IntersectionObservers}
+use Rattle.page_model.specs.Lookups.{scroll_margins_at}
 use Rattle.clip_chain.specs.Worlds.{scene_of}
 use Rattle.intersection_observer.specs.declared.registration.RegistrationId.{RegistrationId}
 use Rattle.intersection_observer.specs.Watchers.{HeldWatchers, watcher_at}
@@ -13,8 +14,10 @@ use Rattle.kept_clips.specs.Scenes.{AgreesAt}
 use Rattle.kept_clips.specs.Seen.{Seen, scene_seen}
 use Rattle.candidate_index.specs.declared.index.Kept.{Kept}
 use Rattle.candidate_index.specs.Registrations.{place_of, serials_at, target_of}
+use Rattle.candidate_index.specs.Asked.{asked_for}
 use Rattle.candidate_index.specs.Held.{kept_of}
 use Rattle.kept_findings.specs.Walks.{IsWalked, spots_between, found_in}
+use Rattle.kept_findings.specs.Views.{seen_by, seen_for}
 use Rattle.kept_findings.proofs.Rooms.{room_looked, room_same}
 use Rattle.kept_findings.proofs.Walking.{is_between}
 use Rattle.page_geometry.specs.Scenes.{standings_of, telling_of}
@@ -55,7 +58,7 @@ loop-registration-init g c =
       queued = sym (not_queued (length (watcher_at was c.args.watcher.0).queue));
       longer = omega arith;
       kept = kept_same elements was was refl;
-      registered = c.stale_registrations.ensures.registered (c.look.ensures.registered c.requires.registered);
+      registered = c.stale_registrations.ensures.registered (c.look.ensures.registered c.args.scroll_margins.now c.requires.registered);
       room = room_same elements documents c.look.new.self c.stale_registrations.new.self c.stale_registrations.ensures.seen c.stale_registrations.ensures.touches
           (room_looked elements documents (scene_of c.args.shown.now) c.args.findings.now c.look.new.self c.look.ensures.looked c.requires.room);
       known = c.stale_registrations.ensures.known;
@@ -63,6 +66,7 @@ loop-registration-init g c =
           c.look.ensures.looked c.look.ensures.known c.look.ensures.noted c.look.ensures.left c.stale_registrations.ensures.seen c.stale_registrations.ensures.touches;
       paid = λ chained.
           let scene = scene_of c.args.shown.now in
+          let view = seen_by was.part c.args.scroll_margins.now c.args.watcher.0 scene in
           let standings = standings_of c.args.shown.now in
           let between = spots_between scene standings chained was.part in
           let serials = serials_at was.part c.args.watcher.0 in
@@ -70,40 +74,47 @@ loop-registration-init g c =
           let last : HeldClips = c.stale_registrations.new.self.clips in
           let first : HeldClips = c.look.new.self.clips in
           let old : HeldClips = c.args.findings.now.clips in
-          paid_from scene standings was.part between first (record old { touches = last.touches }) last serials c.deref-registration-items.result.now c.args.steps.now c.stale_registrations.new.steps 0
+          paid_from view standings was.part between first (record old { touches = last.touches }) last serials c.deref-registration-items.result.now c.args.steps.now c.stale_registrations.new.steps 0
           (with_touches old first (last.touches) c.look.ensures.looked.pairs c.stale_registrations.ensures.touches)
-          (paid_first scene standings was.part between first last serials c.deref-registration-items.result.now c.args.steps.now c.stale_registrations.new.steps
+          (paid_first view standings was.part between first last serials c.deref-registration-items.result.now c.args.steps.now c.stale_registrations.new.steps
           c.clips.ensures.numbered
           (c.in_ok-stale.ensures.clips between (λ k none below. leads (get_or serials k none))) c.stale_registrations.ensures.touches
           (c.in_ok-stale.ensures.ticks between (λ k none below. leads (get_or serials k none))));
       so_far = λ chained.
-          subst (λ (kept : FinMap nat_cmp (Option Kept)). SoFar c.args.shown.now chained was.part c.args.watcher.0 c.args.findings.now.kept kept c.deref-registration-items.result.now 0)
-          (sym (c.stale_registrations.ensures.kept ∙ c.look.ensures.kept)) (none_so_far c.args.shown.now chained was.part c.args.watcher.0 c.args.findings.now.kept c.deref-registration-items.result.now);
+          subst (λ (kept : FinMap nat_cmp (Option Kept)). SoFar c.args.shown.now c.args.scroll_margins.now chained was.part c.args.watcher.0 c.args.findings.now.kept kept c.deref-registration-items.result.now 0)
+          (sym (c.stale_registrations.ensures.kept ∙ c.look.ensures.kept)) (none_so_far c.args.shown.now c.args.scroll_margins.now chained was.part c.args.watcher.0 c.args.findings.now.kept c.deref-registration-items.result.now);
       computed =
           let chained = chained_of c.args.shown.now c.document_count.ensures.page in
           let scene = scene_of c.args.shown.now in
           let standings = standings_of c.args.shown.now in
           let between = spots_between scene standings chained was.part in
           let serials = serials_at was.part c.args.watcher.0 in
-          computed_all scene standings was.part between serials c.args.findings.now.clips c.look.new.self.clips c.stale_registrations.new.self.clips
+          computed_all (seen_by was.part c.args.scroll_margins.now c.args.watcher.0 scene) standings was.part between serials c.args.findings.now.clips c.look.new.self.clips c.stale_registrations.new.self.clips
           (computed_same c.args.findings.now.clips c.look.new.self.clips c.look.ensures.looked.pairs)
           (c.in_ok-stale.ensures.clips between (λ k none below. is_between scene standings chained was.part (get_or serials k none)));
       walked = subst (λ (seen : Seen). All (IsWalked (scene_of c.args.shown.now) (standings_of c.args.shown.now) was.part seen) (serials_at was.part c.args.watcher.0)) (sym c.stale_registrations.ensures.seen) c.look.ensures.walked;
     }
 
+pub stale_registrations-requires-clause-held : goal.stale_registrations-requires-clause-held
+stale_registrations-requires-clause-held g c = (c.look.ensures.registered c.args.scroll_margins.now c.requires.registered).held
+
+pub settle-requires-clause-margins : goal.settle-requires-clause-margins
+settle-requires-clause-margins g c = c.requires.margins ∙ sym c.loop-registration.invariant.kept.carried.count
+
 pub settle-requires-clause-stands : goal.settle-requires-clause-stands
 settle-requires-clause-stands g c =
     let shown = c.args.shown.now in
+    let margins = c.args.scroll_margins.now in
     let page = c.document_count.ensures.page in
     let chained = chained_of shown page in
     let was = c.args.watchers.now.part in
     let names = c.deref-registration-items.result.now in
     let k = c.loop-registration.registration-index in
     let none : RegistrationId = record { 0 = 0 } in
-    let same = numbers_are shown chained c.args.time c.args.watcher.0 was c.args.findings.now names c.in_ok-stale.stale.items c.look.new.self c.deref-registration-items.ensures.value c.look.ensures.kept c.in_ok-stale.ensures.stale in
+    let same = numbers_are shown margins chained c.args.time c.args.watcher.0 was c.args.findings.now names c.in_ok-stale.stale.items c.look.new.self c.deref-registration-items.ensures.value c.look.ensures.kept c.in_ok-stale.ensures.stale in
     let below : k < length names = omega arith in
-    stands shown chained c.args.time c.args.watcher.0 was c.args.findings.now page c.registrations.ensures.serials k (get_or names k none).0 c.loop-registration.watchers.part
-    (next_of shown chained c.args.time c.args.watcher.0 was c.args.findings.now page c.registrations.ensures.serials names none k same below) c.loop-registration.invariant.kept.carried
+    stands shown margins chained c.args.time c.args.watcher.0 was c.args.findings.now page c.registrations.ensures.serials k (get_or names k none).0 c.loop-registration.watchers.part
+    (next_of shown margins chained c.args.time c.args.watcher.0 was c.args.findings.now page c.registrations.ensures.serials names none k same below) c.loop-registration.invariant.kept.carried
 
 pub settle-requires-clause-chained : goal.settle-requires-clause-chained
 settle-requires-clause-chained g c = chained_of c.args.shown.now c.document_count.ensures.page
@@ -111,25 +122,27 @@ settle-requires-clause-chained g c = chained_of c.args.shown.now c.document_coun
 pub settle-requires-clause-walked : goal.settle-requires-clause-walked
 settle-requires-clause-walked g c =
     let shown = c.args.shown.now in
+    let margins = c.args.scroll_margins.now in
     let page = c.document_count.ensures.page in
     let chained = chained_of shown page in
     let was = c.args.watchers.now.part in
     let names = c.deref-registration-items.result.now in
     let k = c.loop-registration.registration-index in
     let none : RegistrationId = record { 0 = 0 } in
-    let same = numbers_are shown chained c.args.time c.args.watcher.0 was c.args.findings.now names c.in_ok-stale.stale.items c.look.new.self c.deref-registration-items.ensures.value c.look.ensures.kept c.in_ok-stale.ensures.stale in
+    let same = numbers_are shown margins chained c.args.time c.args.watcher.0 was c.args.findings.now names c.in_ok-stale.stale.items c.look.new.self c.deref-registration-items.ensures.value c.look.ensures.kept c.in_ok-stale.ensures.stale in
     let below : k < length names = omega arith in
     let serial = (get_or names k none).0 in
     let seen = c.loop-registration.findings.seen in
     along_still was c.loop-registration.watchers.part c.loop-registration.invariant.kept.carried serial (scene_of shown) (standings_of shown) (AgreesAt (scene_seen seen) (scene_of shown))
     (at_standing (IsWalked (scene_of shown) (standings_of shown) was seen) was c.args.watcher.0 serial
-    (stands shown chained c.args.time c.args.watcher.0 was c.args.findings.now page c.registrations.ensures.serials k serial was
-    (next_of shown chained c.args.time c.args.watcher.0 was c.args.findings.now page c.registrations.ensures.serials names none k same below) (carried_same was))
+    (stands shown margins chained c.args.time c.args.watcher.0 was c.args.findings.now page c.registrations.ensures.serials k serial was
+    (next_of shown margins chained c.args.time c.args.watcher.0 was c.args.findings.now page c.registrations.ensures.serials names none k same below) (carried_same was))
     c.loop-registration.invariant.walked)
 
 pub returns-in_err-queued-clause-stopped : goal.returns-in_err-queued-clause-stopped
 returns-in_err-queued-clause-stopped g c =
     let shown = c.args.shown.now in
+    let margins = c.args.scroll_margins.now in
     let page = c.document_count.ensures.page in
     let was = c.args.watchers.now.part in
     let watcher = c.args.watcher.0 in
@@ -139,16 +152,17 @@ returns-in_err-queued-clause-stopped g c =
     let serial = (get_or names k none).0 in
     let below : k < length names = omega arith in
     let chained = chained_of shown page in
-    let same = numbers_are shown chained c.args.time watcher was c.args.findings.now names c.in_ok-stale.stale.items c.look.new.self c.deref-registration-items.ensures.value c.look.ensures.kept c.in_ok-stale.ensures.stale in
-    let at = next_of shown chained c.args.time watcher was c.args.findings.now page c.registrations.ensures.serials names none k same below in
-    let stops = stopped_at shown chained c.args.time watcher was c.args.findings.now page c.registrations.ensures.serials c.requires.registered k serial c.settle.new.watchers.part at
-    (subst (λ n. k < n) (sym (as_many shown chained c.args.time watcher was c.args.findings.now names same)) below)
+    let same = numbers_are shown margins chained c.args.time watcher was c.args.findings.now names c.in_ok-stale.stale.items c.look.new.self c.deref-registration-items.ensures.value c.look.ensures.kept c.in_ok-stale.ensures.stale in
+    let at = next_of shown margins chained c.args.time watcher was c.args.findings.now page c.registrations.ensures.serials names none k same below in
+    let stops = stopped_at shown margins chained c.args.time watcher was c.args.findings.now page c.registrations.ensures.serials c.requires.registered k serial c.settle.new.watchers.part at
+    (subst (λ n. k < n) (sym (as_many shown margins chained c.args.time watcher was c.args.findings.now names same)) below)
     (ap (λ (it : HeldWatchers). it.part) c.in_err-queued.ensures.same ∙ c.loop-registration.invariant.settled chained) in
     on_err c.from_residual-in_err-queued.result stops.begun
 
 pub returns-in_err-queued-clause-same : goal.returns-in_err-queued-clause-same
 returns-in_err-queued-clause-same g c =
     let shown = c.args.shown.now in
+    let margins = c.args.scroll_margins.now in
     let page = c.document_count.ensures.page in
     let was = c.args.watchers.now.part in
     let watcher = c.args.watcher.0 in
@@ -158,14 +172,15 @@ returns-in_err-queued-clause-same g c =
     let serial = (get_or names k none).0 in
     let below : k < length names = omega arith in
     λ chained.
-    let same = numbers_are shown chained c.args.time watcher was c.args.findings.now names c.in_ok-stale.stale.items c.look.new.self c.deref-registration-items.ensures.value c.look.ensures.kept c.in_ok-stale.ensures.stale in
-    let stands_there = stands shown chained c.args.time watcher was c.args.findings.now page c.registrations.ensures.serials k serial was (next_of shown chained c.args.time watcher was c.args.findings.now page c.registrations.ensures.serials names none k same below) (carried_same was) in
-    same_more shown chained was watcher serial c.args.findings.now.kept c.loop-registration.findings.kept c.settle.new.self.kept names k (c.loop-registration.invariant.so_far chained)
-    (stale_at shown chained was watcher c.args.findings.now.kept names k none same below) (watcher_is was watcher serial stands_there) c.settle.ensures.others
+    let same = numbers_are shown margins chained c.args.time watcher was c.args.findings.now names c.in_ok-stale.stale.items c.look.new.self c.deref-registration-items.ensures.value c.look.ensures.kept c.in_ok-stale.ensures.stale in
+    let stands_there = stands shown margins chained c.args.time watcher was c.args.findings.now page c.registrations.ensures.serials k serial was (next_of shown margins chained c.args.time watcher was c.args.findings.now page c.registrations.ensures.serials names none k same below) (carried_same was) in
+    same_more shown margins chained was watcher serial c.args.findings.now.kept c.loop-registration.findings.kept c.settle.new.self.kept names k (c.loop-registration.invariant.so_far chained)
+    (stale_at shown margins chained was watcher c.args.findings.now.kept names k none same below) (watcher_is was watcher serial stands_there) c.settle.ensures.others
 
 pub returns-in_err-queued-clause-others : goal.returns-in_err-queued-clause-others
 returns-in_err-queued-clause-others g c =
     let shown = c.args.shown.now in
+    let margins = c.args.scroll_margins.now in
     let page = c.document_count.ensures.page in
     let was = c.args.watchers.now.part in
     let watcher = c.args.watcher.0 in
@@ -175,10 +190,10 @@ returns-in_err-queued-clause-others g c =
     let serial = (get_or names k none).0 in
     let below : k < length names = omega arith in
     let chained = chained_of shown page in
-    let same = numbers_are shown chained c.args.time watcher was c.args.findings.now names c.in_ok-stale.stale.items c.look.new.self c.deref-registration-items.ensures.value c.look.ensures.kept c.in_ok-stale.ensures.stale in
-    let stands_there = stands shown chained c.args.time watcher was c.args.findings.now page c.registrations.ensures.serials k serial was (next_of shown chained c.args.time watcher was c.args.findings.now page c.registrations.ensures.serials names none k same below) (carried_same was) in
-    others_more shown chained was watcher serial c.args.findings.now.kept c.loop-registration.findings.kept c.settle.new.self.kept names k (c.loop-registration.invariant.so_far chained)
-    (stale_at shown chained was watcher c.args.findings.now.kept names k none same below) (watcher_is was watcher serial stands_there) c.settle.ensures.others
+    let same = numbers_are shown margins chained c.args.time watcher was c.args.findings.now names c.in_ok-stale.stale.items c.look.new.self c.deref-registration-items.ensures.value c.look.ensures.kept c.in_ok-stale.ensures.stale in
+    let stands_there = stands shown margins chained c.args.time watcher was c.args.findings.now page c.registrations.ensures.serials k serial was (next_of shown margins chained c.args.time watcher was c.args.findings.now page c.registrations.ensures.serials names none k same below) (carried_same was) in
+    others_more shown margins chained was watcher serial c.args.findings.now.kept c.loop-registration.findings.kept c.settle.new.self.kept names k (c.loop-registration.invariant.so_far chained)
+    (stale_at shown margins chained was watcher c.args.findings.now.kept names k none same below) (watcher_is was watcher serial stands_there) c.settle.ensures.others
 
 pub returns-in_err-stale-clause-computed : goal.returns-in_err-stale-clause-computed
 returns-in_err-stale-clause-computed g c =
@@ -187,14 +202,19 @@ returns-in_err-stale-clause-computed g c =
 pub returns-in_err-queued-clause-computed : goal.returns-in_err-queued-clause-computed
 returns-in_err-queued-clause-computed g c =
     let shown = c.args.shown.now in
+    let margins = c.args.scroll_margins.now in
     let chained = chained_of shown c.document_count.ensures.page in
     let names = c.deref-registration-items.result.now in
     let none : RegistrationId = record { 0 = 0 } in
     let serial = (get_or names c.loop-registration.registration-index none).0 in
     let now = c.loop-registration.watchers.part in
     let between = spots_between (scene_of shown) (standings_of shown) chained now in
-    computed_asked (scene_of shown) (standings_of shown) now between serial c.args.findings.now.clips c.loop-registration.findings.clips c.settle.new.self.clips c.loop-registration.invariant.computed
+    computed_asked (seen_for now margins serial (scene_of shown)) (standings_of shown) now between serial c.args.findings.now.clips c.loop-registration.findings.clips c.settle.new.self.clips c.loop-registration.invariant.computed
     (c.settle.ensures.clips between (is_between (scene_of shown) (standings_of shown) chained now serial))
+
+pub returns-in_err-queued-clause-room : goal.returns-in_err-queued-clause-room
+returns-in_err-queued-clause-room g c =
+    room_same (length c.args.shown.now.tree.elements) (length c.args.shown.now.tree.documents) c.loop-registration.findings c.settle.new.self c.settle.ensures.seen c.settle.ensures.touches c.loop-registration.invariant.room
 
 pub returns-in_err-queued-clause-looked : goal.returns-in_err-queued-clause-looked
 returns-in_err-queued-clause-looked g c =
@@ -204,6 +224,7 @@ returns-in_err-queued-clause-looked g c =
 pub returns-in_err-queued-clause-refused : goal.returns-in_err-queued-clause-refused
 returns-in_err-queued-clause-refused g c =
     let shown = c.args.shown.now in
+    let margins = c.args.scroll_margins.now in
     let page = c.document_count.ensures.page in
     let was = c.args.watchers.now.part in
     let watcher = c.args.watcher.0 in
@@ -213,17 +234,17 @@ returns-in_err-queued-clause-refused g c =
     let serial = (get_or names k none).0 in
     let below : k < length names = omega arith in
     λ chained.
-    let same = numbers_are shown chained c.args.time watcher was c.args.findings.now names c.in_ok-stale.stale.items c.look.new.self c.deref-registration-items.ensures.value c.look.ensures.kept c.in_ok-stale.ensures.stale in
-    let at = next_of shown chained c.args.time watcher was c.args.findings.now page c.registrations.ensures.serials names none k same below in
-    let stands_there = stands shown chained c.args.time watcher was c.args.findings.now page c.registrations.ensures.serials k serial was at (carried_same was) in
-    let stops = stopped_at shown chained c.args.time watcher was c.args.findings.now page c.registrations.ensures.serials c.requires.registered k serial c.settle.new.watchers.part at
-    (subst (λ n. k < n) (sym (as_many shown chained c.args.time watcher was c.args.findings.now names same)) below)
+    let same = numbers_are shown margins chained c.args.time watcher was c.args.findings.now names c.in_ok-stale.stale.items c.look.new.self c.deref-registration-items.ensures.value c.look.ensures.kept c.in_ok-stale.ensures.stale in
+    let at = next_of shown margins chained c.args.time watcher was c.args.findings.now page c.registrations.ensures.serials names none k same below in
+    let stands_there = stands shown margins chained c.args.time watcher was c.args.findings.now page c.registrations.ensures.serials k serial was at (carried_same was) in
+    let stops = stopped_at shown margins chained c.args.time watcher was c.args.findings.now page c.registrations.ensures.serials c.requires.registered k serial c.settle.new.watchers.part at
+    (subst (λ n. k < n) (sym (as_many shown margins chained c.args.time watcher was c.args.findings.now names same)) below)
     (ap (λ (it : HeldWatchers). it.part) c.in_err-queued.ensures.same ∙ c.loop-registration.invariant.settled chained) in
     on_err c.from_residual-in_err-queued.result
     (record {
       begun = stops.begun;
-      rest = kept_but_one shown chained was watcher serial c.args.findings.now.kept c.loop-registration.findings.kept c.settle.new.self.kept names k (c.loop-registration.invariant.so_far chained)
-          (stale_at shown chained was watcher c.args.findings.now.kept names k none same below) (watcher_is was watcher serial stands_there) c.settle.ensures.others
+      rest = kept_but_one shown margins chained was watcher serial c.args.findings.now.kept c.loop-registration.findings.kept c.settle.new.self.kept names k (c.loop-registration.invariant.so_far chained)
+          (stale_at shown margins chained was watcher c.args.findings.now.kept names k none same below) (watcher_is was watcher serial stands_there) c.settle.ensures.others
           stops.begun.place stops.here c.in_err-queued.ensures.expired;
     })
 
@@ -249,6 +270,7 @@ returns-in_err-stale-clause-refused g c = λ chained.
 pub loop-registration-preserved : goal.loop-registration-preserved
 loop-registration-preserved g c =
     let shown = c.args.shown.now in
+    let margins = c.args.scroll_margins.now in
     let page = c.document_count.ensures.page in
     let was : HeldWatchers = c.args.watchers.now in
     let now : HeldWatchers = c.loop-registration.watchers in
@@ -261,19 +283,19 @@ loop-registration-preserved g c =
     let so_far = c.loop-registration.invariant in
     let below : k < length names = omega arith in
     let chained = chained_of shown page in
-    let same = numbers_are shown chained c.args.time watcher was.part c.args.findings.now names c.in_ok-stale.stale.items c.look.new.self c.deref-registration-items.ensures.value c.look.ensures.kept c.in_ok-stale.ensures.stale in
-    let at = next_of shown chained c.args.time watcher was.part c.args.findings.now page c.registrations.ensures.serials names none k same below in
-    let found = found_in (scene_of shown) (standings_of shown) chained (telling_of shown) (watcher_at now watcher) (target_of now.part serial) in
+    let same = numbers_are shown margins chained c.args.time watcher was.part c.args.findings.now names c.in_ok-stale.stale.items c.look.new.self c.deref-registration-items.ensures.value c.look.ensures.kept c.in_ok-stale.ensures.stale in
+    let at = next_of shown margins chained c.args.time watcher was.part c.args.findings.now page c.registrations.ensures.serials names none k same below in
+    let found = found_in (scene_of shown) (standings_of shown) chained (telling_of shown) (scroll_margins_at margins watcher) (watcher_at now watcher) (target_of now.part serial) in
     let settled : next ≡ record now { part = with_settled serial c.args.time found (now.part) } = c.in_ok-queued.ensures.settled chained in
-    let there = stands shown chained c.args.time watcher was.part c.args.findings.now page c.registrations.ensures.serials k serial now.part at so_far.kept.carried in
+    let there = stands shown margins chained c.args.time watcher was.part c.args.findings.now page c.registrations.ensures.serials k serial now.part at so_far.kept.carried in
     let made : watcher < length now.part.made = omega (arith, so_far.kept.carried.count, c.requires.watcher) in
     let longer = longer_once now next serial c.args.time watcher found settled in
     let queued = c.in_ok-queued.ensures.queued chained ∙ queued_is now next serial c.args.time watcher (target_of now.part serial) found there made settled in
     record {
       settled = λ any.
-          let listed = numbers_are shown any c.args.time watcher was.part c.args.findings.now names c.in_ok-stale.stale.items c.look.new.self c.deref-registration-items.ensures.value c.look.ensures.kept c.in_ok-stale.ensures.stale in
-          next_settled shown any c.args.time watcher was.part c.args.findings.now page c.registrations.ensures.serials k serial now.part next.part
-          (next_of shown any c.args.time watcher was.part c.args.findings.now page c.registrations.ensures.serials names none k listed below) (so_far.settled any)
+          let listed = numbers_are shown margins any c.args.time watcher was.part c.args.findings.now names c.in_ok-stale.stale.items c.look.new.self c.deref-registration-items.ensures.value c.look.ensures.kept c.in_ok-stale.ensures.stale in
+          next_settled shown margins any c.args.time watcher was.part c.args.findings.now page c.registrations.ensures.serials k serial now.part next.part
+          (next_of shown margins any c.args.time watcher was.part c.args.findings.now page c.registrations.ensures.serials names none k listed below) (so_far.settled any)
           (ap (λ (it : HeldWatchers). it.part) (c.in_ok-queued.ensures.settled any));
       queued = either_queued c.loop-registration.queued c.in_ok-queued.field-0 (length (watcher_at was watcher).queue) (length (watcher_at now watcher).queue) (length (watcher_at next watcher).queue)
           so_far.queued queued so_far.longer longer;
@@ -285,38 +307,40 @@ loop-registration-preserved g c =
       looked = looked_still shown was.part watcher c.registrations.ensures.serials c.args.findings.now c.loop-registration.findings c.settle.new.self so_far.looked c.settle.ensures.seen c.settle.ensures.touches;
       paid = λ any.
           let scene = scene_of shown in
+          let view = seen_by was.part margins watcher scene in
           let standings = standings_of shown in
           let between = spots_between scene standings any was.part in
           let serials = serials_at was.part watcher in
           let old : HeldClips = c.args.findings.now.clips in
           let last : HeldClips = c.loop-registration.findings.clips in
           let new : HeldClips = c.settle.new.self.clips in
-          let listed = numbers_are shown any c.args.time watcher was.part c.args.findings.now names c.in_ok-stale.stale.items c.look.new.self c.deref-registration-items.ensures.value c.look.ensures.kept c.in_ok-stale.ensures.stale in
-          let stands_there = stands shown any c.args.time watcher was.part c.args.findings.now page c.registrations.ensures.serials k serial was.part
-          (next_of shown any c.args.time watcher was.part c.args.findings.now page c.registrations.ensures.serials names none k listed below) (carried_same was.part) in
+          let listed = numbers_are shown margins any c.args.time watcher was.part c.args.findings.now names c.in_ok-stale.stale.items c.look.new.self c.deref-registration-items.ensures.value c.look.ensures.kept c.in_ok-stale.ensures.stale in
+          let stands_there = stands shown margins any c.args.time watcher was.part c.args.findings.now page c.registrations.ensures.serials k serial was.part
+          (next_of shown margins any c.args.time watcher was.part c.args.findings.now page c.registrations.ensures.serials names none k listed below) (carried_same was.part) in
           let leads = is_between scene standings any now.part serial in
-          let asked = c.settle.ensures.clips (spots_between scene standings any now.part) leads ∙ asked_still was.part now.part so_far.kept.carried serial scene standings any last in
+          let asked = c.settle.ensures.clips (spots_between scene standings any now.part) leads ∙ asked_still was.part now.part so_far.kept.carried serial scene standings any margins last
+          ∙ ap (λ w. asked_for (seen_by was.part margins w scene) standings was.part between serial last) (watcher_is was.part watcher serial stands_there) in
           let ticks = c.settle.ensures.ticks (spots_between scene standings any now.part) leads ∙ ap (λ n. c.loop-registration.steps + n + 1) (steps_still was.part now.part so_far.kept.carried serial scene standings any last) in
-          paid_from scene standings was.part between (record old { touches = last.touches }) (record old { touches = new.touches }) new serials names c.args.steps.now c.settle.new.steps (k + 1)
+          paid_from view standings was.part between (record old { touches = last.touches }) (record old { touches = new.touches }) new serials names c.args.steps.now c.settle.new.steps (k + 1)
           (ap (λ (t : Touched). record old { touches = t }) (sym c.settle.ensures.touches))
-          (paid_more scene standings was.part between (record old { touches = last.touches }) last new serials names c.args.steps.now c.loop-registration.steps c.settle.new.steps k (so_far.paid any) below
-          (λ early. at_standing (λ s. cost scene standings was.part between s last ≡ 0) was.part watcher serial stands_there ((so_far.paid any).none early))
+          (paid_more view standings was.part between (record old { touches = last.touches }) last new serials names c.args.steps.now c.loop-registration.steps c.settle.new.steps k (so_far.paid any) below
+          (λ early. at_standing (λ s. cost view standings was.part between s last ≡ 0) was.part watcher serial stands_there ((so_far.paid any).none early))
           (λ other apart. at_standing (λ s. ¬ other ≡ s) was.part watcher serial stands_there apart)
           asked ticks);
       so_far = λ any.
-          let listed = numbers_are shown any c.args.time watcher was.part c.args.findings.now names c.in_ok-stale.stale.items c.look.new.self c.deref-registration-items.ensures.value c.look.ensures.kept c.in_ok-stale.ensures.stale in
-          let stands_there = stands shown any c.args.time watcher was.part c.args.findings.now page c.registrations.ensures.serials k serial was.part
-          (next_of shown any c.args.time watcher was.part c.args.findings.now page c.registrations.ensures.serials names none k listed below) (carried_same was.part) in
-          one_more shown any was.part watcher serial c.args.findings.now.kept c.loop-registration.findings.kept c.settle.new.self.kept names k (so_far.so_far any)
-          (stale_at shown any was.part watcher c.args.findings.now.kept names k none listed below) (watcher_is was.part watcher serial stands_there) c.settle.ensures.others
+          let listed = numbers_are shown margins any c.args.time watcher was.part c.args.findings.now names c.in_ok-stale.stale.items c.look.new.self c.deref-registration-items.ensures.value c.look.ensures.kept c.in_ok-stale.ensures.stale in
+          let stands_there = stands shown margins any c.args.time watcher was.part c.args.findings.now page c.registrations.ensures.serials k serial was.part
+          (next_of shown margins any c.args.time watcher was.part c.args.findings.now page c.registrations.ensures.serials names none k listed below) (carried_same was.part) in
+          one_more shown margins any was.part watcher serial c.args.findings.now.kept c.loop-registration.findings.kept c.settle.new.self.kept names k (so_far.so_far any)
+          (stale_at shown margins any was.part watcher c.args.findings.now.kept names k none listed below) (watcher_is was.part watcher serial stands_there) c.settle.ensures.others
           refl
-          (sym (stale_still was.part now.part so_far.kept.carried serial (scene_of shown) (standings_of shown) any c.settle.new.self.kept)
+          (sym (stale_still was.part now.part so_far.kept.carried serial (scene_of shown) (standings_of shown) any margins c.settle.new.self.kept)
           ∙ c.in_ok-queued.ensures.fresh (spots_between (scene_of shown) (standings_of shown) any now.part) (is_between (scene_of shown) (standings_of shown) any now.part serial));
       computed =
           let scene = scene_of shown in
           let standings = standings_of shown in
           let between = spots_between scene standings chained now.part in
-          computed_asked scene standings now.part between serial c.args.findings.now.clips c.loop-registration.findings.clips c.settle.new.self.clips so_far.computed
+          computed_asked (seen_for now.part margins serial scene) standings now.part between serial c.args.findings.now.clips c.loop-registration.findings.clips c.settle.new.self.clips so_far.computed
           (c.settle.ensures.clips between (is_between scene standings chained now.part serial));
       walked = subst (λ (seen : Seen). All (IsWalked (scene_of shown) (standings_of shown) was.part seen) (serials_at was.part watcher)) (sym c.settle.ensures.seen) so_far.walked;
     }
@@ -324,19 +348,20 @@ loop-registration-preserved g c =
 pub returns-clause-settled : goal.returns-clause-settled
 returns-clause-settled g c =
     let shown = c.args.shown.now in
+    let margins = c.args.scroll_margins.now in
     let page = c.document_count.ensures.page in
     let chained = chained_of shown page in
     let was : HeldWatchers = c.args.watchers.now in
     let watcher = c.args.watcher.0 in
     let names = c.deref-registration-items.result.now in
     let k = c.loop-registration.registration-index in
-    let same = numbers_are shown chained c.args.time watcher was.part c.args.findings.now names c.in_ok-stale.stale.items c.look.new.self c.deref-registration-items.ensures.value c.look.ensures.kept c.in_ok-stale.ensures.stale in
+    let same = numbers_are shown margins chained c.args.time watcher was.part c.args.findings.now names c.in_ok-stale.stale.items c.look.new.self c.deref-registration-items.ensures.value c.look.ensures.kept c.in_ok-stale.ensures.stale in
     let past : length names ≤ k = omega arith in
     sym c.loop-registration.invariant.kept.rest
     ∙ ap (λ (part : IntersectionObservers). record was { part = part })
     (c.loop-registration.invariant.settled chained
-    ∙ stale_settled shown chained c.args.time watcher was.part c.args.findings.now page c.registrations.ensures.serials c.requires.registered k
-    (subst (λ n. n ≤ k) (sym (as_many shown chained c.args.time watcher was.part c.args.findings.now names same)) past))
+    ∙ stale_settled shown margins chained c.args.time watcher was.part c.args.findings.now page c.registrations.ensures.serials c.requires.registered k
+    (subst (λ n. n ≤ k) (sym (as_many shown margins chained c.args.time watcher was.part c.args.findings.now names same)) past))
 
 pub returns-clause-others : goal.returns-clause-others
 returns-clause-others g c = (c.loop-registration.invariant.so_far (chained_of c.args.shown.now c.document_count.ensures.page)).others
@@ -344,14 +369,15 @@ returns-clause-others g c = (c.loop-registration.invariant.so_far (chained_of c.
 pub returns-clause-fresh : goal.returns-clause-fresh
 returns-clause-fresh g c =
     let shown = c.args.shown.now in
+    let margins = c.args.scroll_margins.now in
     let was = c.args.watchers.now.part in
     let watcher = c.args.watcher.0 in
     let names = c.deref-registration-items.result.now in
     let k = c.loop-registration.registration-index in
     let past : length names ≤ k = omega arith in
     λ chained.
-    none_stale shown chained was watcher c.args.findings.now.kept c.loop-registration.findings.kept names k (c.loop-registration.invariant.so_far chained) past
-    (numbers_are shown chained c.args.time watcher was c.args.findings.now names c.in_ok-stale.stale.items c.look.new.self c.deref-registration-items.ensures.value c.look.ensures.kept c.in_ok-stale.ensures.stale)
+    none_stale shown margins chained was watcher c.args.findings.now.kept c.loop-registration.findings.kept names k (c.loop-registration.invariant.so_far chained) past
+    (numbers_are shown margins chained c.args.time watcher was c.args.findings.now names c.in_ok-stale.stale.items c.look.new.self c.deref-registration-items.ensures.value c.look.ensures.kept c.in_ok-stale.ensures.stale)
 
 pub returns-clause-same : goal.returns-clause-same
 returns-clause-same g c = λ chained. (c.loop-registration.invariant.so_far chained).same
@@ -374,6 +400,7 @@ returns-clause-pairs g c =
 pub returns-clause-paid : goal.returns-clause-paid
 returns-clause-paid g c =
     let shown = c.args.shown.now in
+    let margins = c.args.scroll_margins.now in
     let was = c.args.watchers.now.part in
     let watcher = c.args.watcher.0 in
     let names = c.deref-registration-items.result.now in
@@ -381,6 +408,6 @@ returns-clause-paid g c =
     let few : k ≤ length names = omega arith in
     let old : HeldClips = c.args.findings.now.clips in
     λ chained.
-    paid_all (scene_of shown) (standings_of shown) was (spots_between (scene_of shown) (standings_of shown) chained was) (record old { touches = c.loop-registration.findings.clips.touches }) c.loop-registration.findings.clips
-    (serials_at was watcher) names (is_stale_in shown chained was c.args.findings.now.kept) c.args.steps.now c.loop-registration.steps k (c.loop-registration.invariant.paid chained) few
-    (numbers_are shown chained c.args.time watcher was c.args.findings.now names c.in_ok-stale.stale.items c.look.new.self c.deref-registration-items.ensures.value c.look.ensures.kept c.in_ok-stale.ensures.stale)
+    paid_all (seen_by was margins watcher (scene_of shown)) (standings_of shown) was (spots_between (scene_of shown) (standings_of shown) chained was) (record old { touches = c.loop-registration.findings.clips.touches }) c.loop-registration.findings.clips
+    (serials_at was watcher) names (is_stale_in shown margins chained was c.args.findings.now.kept) c.args.steps.now c.loop-registration.steps k (c.loop-registration.invariant.paid chained) few
+    (numbers_are shown margins chained c.args.time watcher was c.args.findings.now names c.in_ok-stale.stale.items c.look.new.self c.deref-registration-items.ensures.value c.look.ensures.kept c.in_ok-stale.ensures.stale)

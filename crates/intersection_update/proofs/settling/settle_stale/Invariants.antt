@@ -5,6 +5,7 @@ use Rattle.clip_chain.specs.Worlds.{scene_of}
 use Rattle.intersection_observer.specs.Watchers.{watcher_at}
 use Rattle.candidate_index.specs.Registrations.{serials_at}
 use Rattle.kept_findings.specs.Walks.{IsWalked, spots_between}
+use Rattle.kept_findings.specs.Views.{seen_by}
 use Rattle.kept_findings.specs.Registered.{AreRegistered}
 use Rattle.kept_findings.specs.Rooms.{HaveRoom}
 use Rattle.page_geometry.specs.Scenes.{standings_of}
@@ -20,16 +21,16 @@ invariant-loop-registration g l =
     let was = l.fn.watchers in
     let watcher = l.watcher.0 in
     record {
-      settled : (chained : HaveChains l.shown) → l.watchers.part ≡ first_stale l.shown chained l.time watcher was.part l.fn.findings l.registration-index;
+      settled : (chained : HaveChains l.shown) → l.watchers.part ≡ first_stale l.shown l.scroll_margins chained l.time watcher was.part l.fn.findings l.registration-index;
       queued : l.queued ≡ has_queued was.part l.watchers.part watcher;
       longer : length (watcher_at was watcher).queue ≤ length (watcher_at l.watchers watcher).queue;
       kept : AreKept (length l.shown.tree.elements) was l.watchers;
-      registered : AreRegistered l.watchers.part l.findings;
+      registered : AreRegistered l.watchers.part l.scroll_margins l.findings;
       room : HaveRoom (length l.shown.tree.elements) (length l.shown.tree.documents) l.findings;
       known : HaveLooked l.shown l.findings.seen l.looks;
       looked : AreLookedAlong l.shown was.part watcher l.fn.findings l.findings;
-      so_far : (chained : HaveChains l.shown) → SoFar l.shown chained was.part watcher l.fn.findings.kept l.findings.kept l.registration-items l.registration-index;
-      paid : (chained : HaveChains l.shown) → Paid (scene_of l.shown) (standings_of l.shown) was.part (spots_between (scene_of l.shown) (standings_of l.shown) chained was.part)
+      so_far : (chained : HaveChains l.shown) → SoFar l.shown l.scroll_margins chained was.part watcher l.fn.findings.kept l.findings.kept l.registration-items l.registration-index;
+      paid : (chained : HaveChains l.shown) → Paid (seen_by was.part l.scroll_margins watcher (scene_of l.shown)) (standings_of l.shown) was.part (spots_between (scene_of l.shown) (standings_of l.shown) chained was.part)
           (record (l.fn.findings.clips) { touches = l.findings.clips.touches }) l.findings.clips (serials_at was.part watcher) l.registration-items l.fn.steps l.steps l.registration-index;
       computed : KeepsComputed l.fn.findings.clips l.findings.clips;
       walked : All (IsWalked (scene_of l.shown) (standings_of l.shown) was.part l.findings.seen) (serials_at was.part watcher);

@@ -4,8 +4,8 @@ use Rattle.kept_findings.proofs.Observed.{registered_observed, registered_unobse
 use Rattle.kept_findings.proofs.laws.registrations_stay_registered.Goals as goal
 
 pub returns-clause-made : goal.returns-clause-made
-returns-clause-made c = λ it document handler root margins thresholds kept registered.
-    registered_made it (record { document = document; handler = handler; root = root; margins = margins; thresholds = thresholds; registrations = []; queue = [] }) kept refl registered
+returns-clause-made c = λ it document handler root margins thresholds scroll_margins now kept same registered.
+    registered_made it scroll_margins now (record { document = document; handler = handler; root = root; margins = margins; thresholds = thresholds; registrations = []; queue = [] }) kept refl same registered
 
 pub returns-clause-observed : goal.returns-clause-observed
 returns-clause-observed c = registered_observed

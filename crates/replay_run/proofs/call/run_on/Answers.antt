@@ -3,7 +3,7 @@ use Rattle.replay_run.proofs.Playing.{opening_ready}
 use Rattle.replay_run.proofs.call.run_on.Goals as goal
 
 pub play-requires : goal.play-requires
-play-requires g c = record { ready = opening_ready _ _ c.requires.opening }
+play-requires g c = record { ready = opening_ready _ _ _ c.requires.opening }
 
 pub returns-in-Ok-clause-answers : goal.returns-in-Ok-clause-answers
 returns-in-Ok-clause-answers g c = done_answers _ _ c.requires.opening _ _ c.in-Ok.ensures.ended
@@ -15,7 +15,7 @@ pub returns-in-Err-Limit-clause-answers : goal.returns-in-Err-Limit-clause-answe
 returns-in-Err-Limit-clause-answers g c =
     let cut = rw c.in-Err-Limit.field-0-is at c.in-Err-Limit.ensures in
     rw c.status_of.ensures.status
-    (limit_said _ _ c.requires.opening _ _ _ _ _ _ cut.cut_off c.write_limit.result _ _ c.write_limit.ensures)
+    (limit_said _ _ c.requires.opening _ _ _ _ _ _ _ cut.cut_off c.write_limit-wrote.result _ _ c.write_limit-wrote.ensures)
 
 pub returns-in-Err-Memory-clause-answers : goal.returns-in-Err-Memory-clause-answers
 returns-in-Err-Memory-clause-answers g c =

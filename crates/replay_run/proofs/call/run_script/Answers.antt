@@ -1,6 +1,6 @@
 use Rattle.std.proofs.Common.{◌≡◌, ◌∙◌, ap, refl, sym}
 use Rattle.std.specs.Prelude.{Ok}
-use Rattle.page_model.specs.Outcome.{outcome_read}
+use Rattle.page_model.specs.Outcome.{opening_world, outcome_read}
 use Rattle.page_state.specs.Views.{PageView}
 use Rattle.trace_runs.proofs.Writes.{no_part}
 use Rattle.replay_run.specs.Statuses.{is_done}
@@ -9,7 +9,7 @@ use Rattle.replay_run.proofs.Endings.{memory_answers}
 use Rattle.replay_run.proofs.call.run_script.Goals as goal
 
 pub run_on-status-requires : goal.run_on-status-requires
-run_on-status-requires g c = record { opening = ap (λ (page : PageView). page.world) c.in-Ok.ensures.opened }
+run_on-status-requires g c = record { opening = ap (λ (page : PageView). page.world) c.in-Ok.ensures.opened ∙ ap opening_world c.version.ensures }
 
 pub returns-in-Ok-clause-answers : goal.returns-in-Ok-clause-answers
 returns-in-Ok-clause-answers g c = rw c.with_page.ensures.status c.run_on-status.ensures.answers

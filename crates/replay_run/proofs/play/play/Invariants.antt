@@ -12,7 +12,7 @@ use Rattle.replay_run.proofs.play.play.Given as goal
 abbrev pub invariant-loop-item : goal.invariant-loop-item
 invariant-loop-item g l = record {
   following : Following (g.K.Sink.taken l.fn.sink) (g.K.Sink.taken l.sink) (g.K.Sink.faults l.fn.sink) (g.K.Sink.faults l.sink)
-      (run_items l.script l.fn.page.world)
-      (for_each (λ (item : Item). run_item (handlers_in l.script) (item_of item)) (drop l.item-index l.item-items) l.page.world);
-  ready : IsReady l.script l.page.world;
+      (run_items l.script.items l.fn.page.world)
+      (for_each (λ (item : Item). run_item (handlers_in l.script.items) (item_of item)) (drop l.item-index l.item-items) l.page.world);
+  ready : IsReady l.script.items l.page.world;
 }

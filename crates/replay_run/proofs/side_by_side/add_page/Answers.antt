@@ -5,4 +5,4 @@ use Rattle.replay_run.proofs.side_by_side.add_page.Goals as goal
 
 pub returns-clause-ready : goal.returns-clause-ready
 returns-clause-ready c =
-    ready_more c.push_page.result _ _ _ c.push_page.ensures.ok (ready_opening c.args.progress c.args.script c.in-Ok.page.world (ap (λ (page : PageView). page.world) c.in-Ok.ensures.opened))
+    ready_more c.push_page.result _ _ _ c.push_page.ensures.ok (ready_opening c.args.progress c.args.script.items c.version.result c.in-Ok.page.world (ap (λ (page : PageView). page.world) c.in-Ok.ensures.opened))

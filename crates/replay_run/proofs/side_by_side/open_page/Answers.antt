@@ -3,7 +3,7 @@ use Rattle.std.specs.Io.KnownBytes.{Appends}
 use Rattle.script_model.specs.Reading.{SyntaxAt, LimitAt, reading}
 use Rattle.script_model.specs.TraceLines.{LimitLine}
 use Rattle.trace_runs.specs.Writes.{Wrote}
-use Rattle.replay_run.specs.StreamRuns.{named_text}
+use Rattle.stream_runs.specs.StreamRuns.{named_text}
 use Rattle.trace_runs.proofs.Writes.{nothing}
 use Rattle.replay_run.proofs.SideBySide.{then_wrote, refused_none, refused_one}
 use Rattle.replay_run.proofs.side_by_side.open_page.Goals as goal
@@ -24,5 +24,5 @@ returns-in-Err-ScriptLimit-clause-wrote g c =
     let read = rw c.in-Err-ScriptLimit.field-0-is at c.in-Err-ScriptLimit.ensures in
     subst (λ (text : List ℕ). Wrote c.refuse_page-in-Err-ScriptLimit.result (g.K.Sink.taken c.args.sink.now) (g.K.Sink.taken c.refuse_page-in-Err-ScriptLimit.new.sink) (g.K.Sink.faults c.args.sink.now)
     (g.K.Sink.faults c.refuse_page-in-Err-ScriptLimit.new.sink) text)
-    (ap (λ (number : ℕ). named_text c.args.name (LimitLine c.in-Err-ScriptLimit.kind c.in-Err-ScriptLimit.line number ∷ [])) c.number.ensures
+    (ap (λ (number : ℕ). named_text c.args.name (LimitLine c.in-Err-ScriptLimit.kind c.in-Err-ScriptLimit.line number ∷ [])) c.common.ensures
     ∙ refused_one c.args.name (reading c.args.text) (LimitAt c.in-Err-ScriptLimit.kind c.in-Err-ScriptLimit.line) read) c.refuse_page-in-Err-ScriptLimit.ensures.wrote

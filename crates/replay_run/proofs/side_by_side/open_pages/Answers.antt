@@ -4,8 +4,8 @@ use Rattle.std.specs.Io.KnownBytes.{Appends}
 use Rattle.script_model.specs.Reading.{Reading}
 use Rattle.trace_runs.specs.declared.faults.RunFault.TheVariants.{Memory}
 use Rattle.trace_runs.specs.Writes.{Wrote}
-use Rattle.replay_run.specs.PageRuns.{opened}
-use Rattle.replay_run.specs.StreamRuns.{refused_text}
+use Rattle.stream_runs.specs.PageRuns.{opened}
+use Rattle.stream_runs.specs.StreamRuns.{refused_text}
 use Rattle.replay_run.specs.StreamPages.{seen_page}
 use Rattle.page_stream.specs.Pages.{pages_of}
 use Rattle.replay_run.proofs.SideBySide.{opening_none, opening_more, opening_cut, opening_end, memory_cut}

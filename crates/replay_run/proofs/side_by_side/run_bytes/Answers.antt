@@ -2,7 +2,7 @@ use Rattle.std.proofs.Common.{◌≡◌, ◌∙◌, refl, ap, sym}
 use Rattle.std.specs.Prelude.{Err}
 use Rattle.script_model.specs.Reading.{SyntaxAt}
 use Rattle.replay_run.specs.Replies.{run_reply}
-use Rattle.replay_run.specs.StreamRuns.{stream_run}
+use Rattle.stream_runs.specs.StreamRuns.{stream_run}
 use Rattle.replay_run.specs.declared.words.Job.TheVariants.{Replay}
 use Rattle.replay_run.proofs.PagesAsked.{pages_run, pages_none, pages_many, reply_told, syntax_reply}
 use Rattle.replay_run.proofs.side_by_side.run_bytes.Goals as goal

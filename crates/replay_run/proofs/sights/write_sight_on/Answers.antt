@@ -3,7 +3,7 @@ use Rattle.replay_run.proofs.Stopping.{told_tells, limit_tells}
 use Rattle.replay_run.proofs.sights.write_sight_on.Goals as goal
 
 pub play_to_tick-requires : goal.play_to_tick-requires
-play_to_tick-requires g c = opening_ready _ _ c.requires
+play_to_tick-requires g c = opening_ready _ _ _ c.requires
 
 pub returns-in-Ok : goal.returns-in-Ok
 returns-in-Ok g c =
@@ -13,6 +13,7 @@ returns-in-Ok g c =
 pub returns-in-Err-Limit : goal.returns-in-Err-Limit
 returns-in-Err-Limit g c =
     let cut = rw c.in-Err-Limit.field-0-is at c.in-Err-Limit.ensures in
-    let told = rw c.in-Err-Limit.field-0-is at c.meet_limit.ensures.tells in
-    limit_tells c.args.sight c.args.number c.args.script.now c.args.page.now.world c.requires c.meet_limit.result _ _ _ _ _ _ _ _ _ _
-    cut.says.cut_off told
+    let told = rw c.in-Err-Limit.field-0-is at c.write_limit-wrote.ensures in
+    rw c.status_of.ensures.status
+    (limit_tells c.args.sight c.args.number c.args.script.now c.args.page.now.world c.requires c.write_limit-wrote.result _ _ _ _ _ _ _ _ _ _ _
+    cut.says.cut_off told)

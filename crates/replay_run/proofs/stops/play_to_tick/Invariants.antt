@@ -12,8 +12,8 @@ use Rattle.replay_run.proofs.stops.play_to_tick.Given as goal
 abbrev pub invariant-loop-item : goal.invariant-loop-item
 invariant-loop-item g l = record {
   following : Following (g.K.Sink.taken l.fn.sink) (g.K.Sink.taken l.sink) (g.K.Sink.faults l.fn.sink) (g.K.Sink.faults l.sink)
-      (for_each (run_item (handlers_in l.script)) (to_tick l.number l.script) l.fn.page.world)
-      (for_each (run_item (handlers_in l.script)) (to_tick l.left (map item_of (drop l.item-index l.item-items))) l.page.world);
-  ready : IsReady l.script l.page.world;
-  counted : l.left + tick_count l.script ≡ l.number + tick_count (map item_of (drop l.item-index l.item-items));
+      (for_each (run_item (handlers_in l.script.items)) (to_tick l.number l.script.items) l.fn.page.world)
+      (for_each (run_item (handlers_in l.script.items)) (to_tick l.left (map item_of (drop l.item-index l.item-items))) l.page.world);
+  ready : IsReady l.script.items l.page.world;
+  counted : l.left + tick_count l.script.items ≡ l.number + tick_count (map item_of (drop l.item-index l.item-items));
 }

@@ -2,8 +2,8 @@ use Rattle.std.proofs.Common.{◌≡◌, ◌∙◌, refl, sym, ap, subst, ℕ, L
 use Rattle.std.proofs.Common.{rules}
 use Rattle.std.specs.Io.KnownBytes.{Appends}
 use Rattle.trace_runs.proofs.Writes.{nothing}
-use Rattle.replay_run.specs.PageRuns.{Turn, PageRun, turn_at}
-use Rattle.replay_run.specs.StreamRuns.{named_text}
+use Rattle.stream_runs.specs.PageRuns.{Turn, PageRun, turn_at}
+use Rattle.stream_runs.specs.StreamRuns.{named_text}
 use Rattle.replay_run.specs.StreamPages.{begins, seen_standing}
 use Rattle.replay_run.proofs.Turning.{turn_passed}
 use Rattle.replay_run.proofs.NamedLines.{named_nothing}
@@ -11,8 +11,8 @@ use Rattle.replay_run.proofs.stream_page.take_turn.Goals as goal
 
 pub returns-then-not-next_begins-clause-wrote : goal.returns-then-not-next_begins-clause-wrote
 returns-then-not-next_begins-clause-wrote g c =
-    let not_there : begins c.args.line c.args.page.now.progress c.args.page.now.script c.args.page.now.next ≡ false = sym c.next_begins.ensures ∙ c.if-not-next_begins.true in
-    let passes = turn_passed c.args.line c.args.page.now.progress c.args.page.now.script c.args.page.now.next c.args.page.now.page.world not_there in (
+    let not_there : begins c.args.line c.args.page.now.progress c.args.page.now.script.items c.args.page.now.next ≡ false = sym c.next_begins.ensures ∙ c.if-not-next_begins.true in
+    let passes = turn_passed c.args.line c.args.page.now.progress c.args.page.now.script.items c.args.page.now.next c.args.page.now.page.world not_there in (
       subst (λ (text : List ℕ). Appends (g.K.Sink.taken c.args.sink.now) (g.K.Sink.taken c.args.sink.now) text)
           (sym (named_nothing c.args.page.now.name) ∙ ap (λ (turn : Turn). named_text c.args.page.now.name turn.lines) (sym passes)) (nothing (g.K.Sink.taken c.args.sink.now)),
       refl,
@@ -20,7 +20,7 @@ returns-then-not-next_begins-clause-wrote g c =
 
 pub returns-then-not-next_begins-clause-page : goal.returns-then-not-next_begins-clause-page
 returns-then-not-next_begins-clause-page g c =
-    let not_there : begins c.args.line c.args.page.now.progress c.args.page.now.script c.args.page.now.next ≡ false = sym c.next_begins.ensures ∙ c.if-not-next_begins.true in
-    let passes = turn_passed c.args.line c.args.page.now.progress c.args.page.now.script c.args.page.now.next c.args.page.now.page.world not_there in
+    let not_there : begins c.args.line c.args.page.now.progress c.args.page.now.script.items c.args.page.now.next ≡ false = sym c.next_begins.ensures ∙ c.if-not-next_begins.true in
+    let passes = turn_passed c.args.line c.args.page.now.progress c.args.page.now.script.items c.args.page.now.next c.args.page.now.page.world not_there in
     let named : Turn → PageRun = λ turn. record { name = c.args.page.now.name; standing = turn.standing } in
     ap named (sym passes)

@@ -1,13 +1,13 @@
 use Rattle.std.proofs.Common.{◌≡◌, ◌∙◌, ap, sym}
 use Rattle.std.specs.Prelude.{Ok}
-use Rattle.page_model.specs.Outcome.{outcome_read}
+use Rattle.page_model.specs.Outcome.{opening_world, outcome_read}
 use Rattle.page_state.specs.Views.{PageView}
 use Rattle.replay_run.specs.Statuses.{is_done}
 use Rattle.replay_run.proofs.Asking.{if_done}
 use Rattle.replay_run.proofs.summary.summarize.Goals as goal
 
 pub summarize_on-status-requires : goal.summarize_on-status-requires
-summarize_on-status-requires g c = record { opening = ap (λ (page : PageView). page.world) c.in-Ok.ensures.opened }
+summarize_on-status-requires g c = record { opening = ap (λ (page : PageView). page.world) c.in-Ok.ensures.opened ∙ ap opening_world c.version.ensures }
 
 pub returns-in-Ok-clause-tells : goal.returns-in-Ok-clause-tells
 returns-in-Ok-clause-tells g c = rw c.with_page.ensures.status c.summarize_on-status.ensures.tells

@@ -7,7 +7,7 @@ use Rattle.replay_run.proofs.Summaries.{done_summary, limit_summary}
 use Rattle.replay_run.proofs.summary.summarize_on.Goals as goal
 
 pub play-requires : goal.play-requires
-play-requires g c = record { ready = opening_ready _ _ c.requires.opening }
+play-requires g c = record { ready = opening_ready _ _ _ c.requires.opening }
 
 pub returns-in-Ok-clause-tells : goal.returns-in-Ok-clause-tells
 returns-in-Ok-clause-tells g c =
@@ -21,5 +21,5 @@ returns-in-Ok-clause-world g c = λ done. done_world _ _ c.requires.opening _ _ 
 pub returns-in-Err-Limit-clause-tells : goal.returns-in-Err-Limit-clause-tells
 returns-in-Err-Limit-clause-tells g c =
     let cut = rw c.in-Err-Limit.field-0-is at c.in-Err-Limit.ensures in
-    limit_summary _ _ c.requires.opening c.new-gathered.result.taken _ _ _ _ _ c.summarize_to_limit.result _ _ _ _ (ap (λ (sink : Gathered). sink.taken) c.new-gathered.ensures) cut.cut_off
+    limit_summary _ _ c.requires.opening c.new-gathered.result.taken _ _ _ _ _ _ c.summarize_to_limit.result _ _ _ _ (ap (λ (sink : Gathered). sink.taken) c.new-gathered.ensures) cut.cut_off
     c.summarize_to_limit.ensures.tells

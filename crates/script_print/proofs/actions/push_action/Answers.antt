@@ -13,6 +13,9 @@ known result On old new now given is pushed = subst (λ it. On result (new ≡ o
 pub returns-in-Viewport : goal.returns-in-Viewport
 returns-in-Viewport c = known c.viewport.result OnOk _ _ _ _ c.in-Viewport.is c.viewport.ensures
 
+pub returns-in-Ratio : goal.returns-in-Ratio
+returns-in-Ratio c = known c.ratio.result OnOk _ _ _ _ c.in-Ratio.is c.ratio.ensures
+
 pub returns-in-Block : goal.returns-in-Block
 returns-in-Block c = known c.block.result OnOk _ _ _ _ c.in-Block.is c.block.ensures
 

@@ -1,4 +1,4 @@
-use Rattle.std.proofs.Common.{None, sym, subst, Result, Ok, Err}
+use Rattle.std.proofs.Common.{None, sym, subst}
 use Rattle.std.specs.FinMap.{insert}
 use Rattle.kept_clips.proofs.Pairs.{either}
 use Rattle.candidate_index.specs.Held.{AreFound}

@@ -1,6 +1,6 @@
 use Rattle.std.proofs.Common.{◌≡◌, ◌∙◌, ◌+◌, ◌<◌, ◌∷◌, length, get_or, drop, arith}
 use Rattle.intersection_observer.specs.Seen.{serial_numbers}
-use Rattle.candidate_index.specs.Registrations.{serials_at, IsReady, IsBetween}
+use Rattle.candidate_index.specs.Registrations.{serials_at, IsReady, IsBetween, IsRootUnmoved}
 use Rattle.candidate_index.specs.Asked.{all_asked, all_steps}
 use Rattle.candidate_index.specs.Held.{is_stale_now}
 use Rattle.candidate_index.proofs.Looking.{rest_is, at_all, stale_step, clips_step, ticks_step, nothing_left}
@@ -16,6 +16,14 @@ look-requires-clause-ready g c =
     let below : k < length rs = omega arith in
     c.loop-registration.invariant.ready (get_or rs k (record { 0 = 0 })).0
     (at_all (IsReady scene standings it c.args.clips.now) (serials_at it c.args.watcher.0) rs k (record { 0 = 0 }) c.registrations-registrations.ensures.value below c.requires.ready)
+
+pub look-requires-clause-unmoved : goal.look-requires-clause-unmoved
+look-requires-clause-unmoved g c =
+    let it = c.args.watchers.now.part in
+    let rs = c.registrations-registrations.result.now in
+    let k = c.loop-registration.registration-index in
+    let below : k < length rs = omega arith in
+    at_all (IsRootUnmoved (g.S.Geometry.scene c.args.scene.now) it) (serials_at it c.args.watcher.0) rs k (record { 0 = 0 }) c.registrations-registrations.ensures.value below c.requires.unmoved
 
 pub loop-registration-preserved : goal.loop-registration-preserved
 loop-registration-preserved g c =

@@ -5,9 +5,11 @@ use Rattle.kept_clips.specs.Held.{spots_at}
 use Rattle.kept_clips.specs.Scenes.{AgreesAt}
 use Rattle.kept_clips.specs.Seen.{scene_seen}
 use Rattle.kept_clips.proofs.Looking.{looked_nowhere, looked_then}
-use Rattle.candidate_index.specs.Registrations.{serials_at}
+use Rattle.candidate_index.specs.Registrations.{place_of, serials_at}
 use Rattle.kept_findings.specs.Looks.{IsNoted}
 use Rattle.kept_findings.specs.Walks.{AlongChain, IsNot, MayBeWalked}
+use Rattle.kept_findings.specs.Views.{seen_for}
+use Rattle.kept_findings.proofs.Viewing.{seen_spotwise}
 use Rattle.kept_findings.proofs.Noting.{agrees_noted, left_then}
 use Rattle.kept_findings.proofs.Settled.{registered_alike}
 use Rattle.kept_findings.proofs.Walking.{all_serials, at_serial, along_weaker, room_after}
@@ -82,7 +84,10 @@ returns-clause-walked g c = λ k d below.
     (get_or (serials_at it c.args.watcher.0) k d) (returns-clause-noted g c k d below)
 
 pub returns-clause-registered : goal.returns-clause-registered
-returns-clause-registered g c = λ registered.
+returns-clause-registered g c = λ margins registered.
+    let it = c.args.watchers.now.part in
     let before = c.args.self.now in
     let now = c.loop-registration.self in
-    registered_alike c.args.watchers.now.part before now (λ serial. ap (λ pairs. spots_at (record before.clips { pairs = pairs }) serial) c.loop-registration.invariant.looked.pairs) c.loop-registration.invariant.kept registered
+    let looked = c.loop-registration.invariant.looked in
+    registered_alike it margins before now (λ serial. ap (λ pairs. spots_at (record before.clips { pairs = pairs }) serial) looked.pairs) c.loop-registration.invariant.kept
+    (λ serial exact. looked.exact (seen_for it margins serial) (seen_spotwise it margins (place_of it serial).watcher) serial exact) registered

@@ -8,6 +8,7 @@ use Rattle.candidate_index.specs.Registrations.{basis_for}
 use Rattle.candidate_index.specs.Held.{kept_of}
 use Rattle.kept_findings.specs.Held.{HeldFindings}
 use Rattle.kept_findings.specs.Walks.{spots_between}
+use Rattle.kept_findings.specs.Views.{seen_for}
 use Rattle.kept_findings.specs.Registered.{AreRegistered}
 use Rattle.kept_findings.proofs.Walking.{is_between}
 use Rattle.kept_findings.proofs.Settled.{kept_own, kept_other}
@@ -20,8 +21,10 @@ returns-in-Ok-clause-fresh g c = λ between leads.
     let standings = g.S.Scene.standings c.args.scene.now in
     let it = c.args.watchers.now.part in
     let serial = c.args.registration.0 in
+    let margins = c.args.scroll_margins.now in
+    let view = seen_for it margins serial scene in
     let kept = c.tell-told.ensures.kept in
-    fresh_found scene standings it serial c.args.self.now.kept c.tell-told.new.self.kept (record { basis = basis_for scene standings it serial (between serial); finding = kept.0 }) (kept.1.2 between leads) between refl
+    fresh_found view standings it serial c.args.self.now.kept c.tell-told.new.self.kept (record { basis = basis_for view standings it serial (between serial); finding = kept.0 }) (kept.1.2 between leads) between refl
 
 pub returns-in-Ok-clause-others : goal.returns-in-Ok-clause-others
 returns-in-Ok-clause-others g c = λ other apart.
@@ -29,9 +32,11 @@ returns-in-Ok-clause-others g c = λ other apart.
     let standings = g.S.Scene.standings c.args.scene.now in
     let it = c.args.watchers.now.part in
     let serial = c.args.registration.0 in
+    let margins = c.args.scroll_margins.now in
+    let view = seen_for it margins serial scene in
     let between = spots_between scene standings c.requires.chained it in
     let kept = c.tell-told.ensures.kept in
-    others_found scene standings it serial c.args.self.now.kept c.tell-told.new.self.kept (record { basis = basis_for scene standings it serial (between serial); finding = kept.0 })
+    others_found view standings it serial c.args.self.now.kept c.tell-told.new.self.kept (record { basis = basis_for view standings it serial (between serial); finding = kept.0 })
     (kept.1.2 between (is_between scene standings c.requires.chained it serial)) other apart
 
 pub returns-in-Ok-clause-registered : goal.returns-in-Ok-clause-registered
@@ -40,11 +45,13 @@ returns-in-Ok-clause-registered g c =
     let standings = g.S.Scene.standings c.args.scene.now in
     let it = c.args.watchers.now.part in
     let serial = c.args.registration.0 in
+    let margins = c.args.scroll_margins.now in
+    let view = seen_for it margins serial scene in
     let between = spots_between scene standings c.requires.chained it in
     let kept = c.tell-told.ensures.kept in
-    let last : Kept = record { basis = basis_for scene standings it serial (between serial); finding = kept.0 } in
-    subst (λ (watchers : HeldWatchers). AreRegistered watchers.part c.tell-told.new.self) (sym c.in-Ok.ensures.settled)
-    (registered_found it c.args.self.now c.tell-told.new.self serial c.args.time last (seen_finding c.tell-told.result) c.requires.registered c.tell-told.ensures.held
+    let last : Kept = record { basis = basis_for view standings it serial (between serial); finding = kept.0 } in
+    subst (λ (watchers : HeldWatchers). AreRegistered watchers.part margins c.tell-told.new.self) (sym c.in-Ok.ensures.settled)
+    (registered_found it margins c.args.self.now c.tell-told.new.self serial c.args.time last (seen_finding c.tell-told.result) c.requires.registered c.tell-told.ensures.held
     (kept.1.2 between (is_between scene standings c.requires.chained it serial)) c.requires.serials kept.1.0 kept.1.1)
 
 pub returns-in-Err-clause-expired : goal.returns-in-Err-clause-expired
@@ -57,11 +64,13 @@ returns-in-Err-clause-others g c = λ other apart.
     let standings = g.S.Scene.standings c.args.scene.now in
     let it = c.args.watchers.now.part in
     let serial = c.args.registration.0 in
+    let margins = c.args.scroll_margins.now in
+    let view = seen_for it margins serial scene in
     let between = spots_between scene standings c.requires.chained it in
     let kept = c.tell-told.ensures.kept in
     ap (λ (held : HeldFindings). kept_of held.kept other) c.expire.ensures
     ∙ kept_other c.tell-told.new.self.kept serial other None apart
-    ∙ others_found scene standings it serial c.args.self.now.kept c.tell-told.new.self.kept (record { basis = basis_for scene standings it serial (between serial); finding = kept.0 })
+    ∙ others_found view standings it serial c.args.self.now.kept c.tell-told.new.self.kept (record { basis = basis_for view standings it serial (between serial); finding = kept.0 })
     (kept.1.2 between (is_between scene standings c.requires.chained it serial)) other apart
 
 pub returns-in-Err-clause-registered : goal.returns-in-Err-clause-registered
@@ -70,11 +79,13 @@ returns-in-Err-clause-registered g c =
     let standings = g.S.Scene.standings c.args.scene.now in
     let it = c.args.watchers.now.part in
     let serial = c.args.registration.0 in
+    let margins = c.args.scroll_margins.now in
+    let view = seen_for it margins serial scene in
     let between = spots_between scene standings c.requires.chained it in
     let kept = c.tell-told.ensures.kept in
-    let last : Kept = record { basis = basis_for scene standings it serial (between serial); finding = kept.0 } in
+    let last : Kept = record { basis = basis_for view standings it serial (between serial); finding = kept.0 } in
     let there = c.tell-told.ensures.held.added serial ∙ ap (λ (o : Option Place). is_some o) c.requires.stands in
-    subst (λ (watchers : HeldWatchers). AreRegistered watchers.part c.expire.new.self) (sym c.in-Err.ensures.same)
-    (subst (AreRegistered it) (sym c.expire.ensures)
-    (registered_refused it c.args.self.now c.tell-told.new.self serial c.args.time last (seen_finding c.tell-told.result) c.requires.registered c.tell-told.ensures.held
+    subst (λ (watchers : HeldWatchers). AreRegistered watchers.part margins c.expire.new.self) (sym c.in-Err.ensures.same)
+    (subst (AreRegistered it margins) (sym c.expire.ensures)
+    (registered_refused it margins c.args.self.now c.tell-told.new.self serial c.args.time last (seen_finding c.tell-told.result) c.requires.registered c.tell-told.ensures.held
     (kept.1.2 between (is_between scene standings c.requires.chained it serial)) there))

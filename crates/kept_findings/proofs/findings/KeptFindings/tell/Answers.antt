@@ -12,7 +12,7 @@ returns-clause-told g c = λ chained.
     let standings = g.S.Scene.standings c.args.scene.now in
     let it = c.args.watchers.now.part in
     let serial = c.args.registration.0 in
-    told_is scene standings chained (g.S.Tells.telling c.args.scene.now) it serial c.args.watcher.0 c.target_of.result.0 (target_of it serial) (seen_root c.root_of.result)
+    told_is scene standings chained (g.S.Tells.telling c.args.scene.now) it c.args.scroll_margins.now serial c.args.watcher.0 c.target_of.result.0 (target_of it serial) (seen_root c.root_of.result)
     (seen_finding c.recompute-found.result) (seen_finding c.told.result) c.requires.stands (sym c.root_of.ensures) (target_known it serial c.target_of.result.0 c.target_of.ensures)
     (c.recompute-found.ensures.finding (spots_between scene standings chained it) (is_between scene standings chained it serial)) c.told.ensures.value
 

@@ -1,10 +1,14 @@
-use Rattle.std.proofs.Common.{◌∙◌}
-use Rattle.page_boxes.proofs.Shown.{size_by_kind, size_found, size_none}
+use Rattle.std.proofs.Common.{ap, ◌∙◌}
+use Rattle.page_model.specs.World.{Screen}
+use Rattle.page_model.specs.PageBoxes.{size_by}
+use Rattle.block_layout.specs.Seen.{as_size}
+use Rattle.page_boxes.proofs.Shown.{size_found, size_none}
 use Rattle.page_geometry.proofs.shown.Shown.size_of.Goals as goal
 
 pub returns-in-Some-clause-value : goal.returns-in-Some-clause-value
 returns-in-Some-clause-value c =
-    size_by_kind c.in-Some.own c.size.result c.args.kind c.size.ensures.content c.size.ensures.border
+    c.size_on.ensures.value
+    ∙ ap (λ (screen : Screen). as_size (size_by screen.ratio c.args.kind c.in-Some.own)) c.screen.ensures.value
     ∙ size_found c.args.self.now.tree c.args.self.now.screen (c.args.node.0) c.args.kind c.in-Some.own c.in-Some.ensures
 
 pub returns-in-None-clause-value : goal.returns-in-None-clause-value

@@ -1,7 +1,8 @@
 use Rattle.std.proofs.Common.{Some, option_map, ap, sym, ◌∙◌, refl}
 use Rattle.element_tree.specs.Links.{number}
 use Rattle.layout_model.specs.Boxes.{content_size}
-use Rattle.page_model.specs.PageBoxes.{framed_size, view_of}
+use Rattle.page_model.specs.World.{Screen}
+use Rattle.page_model.specs.PageBoxes.{pair_of, framed_size, view_of}
 use Rattle.block_layout.specs.Seen.{as_size}
 use Rattle.page_boxes.specs.Pages.{seen_pair}
 use Rattle.page_boxes.proofs.Pages.{framed_by_box, viewport_found, size_natural}
@@ -11,10 +12,10 @@ pub returns-in_default-clause-value : goal.returns-in_default-clause-value
 returns-in_default-clause-value c =
     let it = c.args.self.now in
     let held : _ = sym c.frame_of.ensures ∙ ap (option_map number) c.in_default.is in
-    size_natural c.screen_size.result c.screen_size.ensures.range
+    size_natural c.screen.result.size c.screen.ensures.range.size
     ∙ ap as_size
-    (viewport_found it.tree it.screen c.args.document (Some (seen_pair c.screen_size.result))
-    (ap Some c.screen_size.ensures.value ∙ ap (framed_size it.tree it.screen (view_of it.tree it.screen)) (sym held)))
+    (viewport_found it.tree it.screen c.args.document (Some (seen_pair c.screen.result.size))
+    (ap (λ (screen : Screen). Some (pair_of screen.size)) c.screen.ensures.value ∙ ap (framed_size it.tree it.screen (view_of it.tree it.screen)) (sym held)))
 
 pub returns-in-Some-box_of-clause-value : goal.returns-in-Some-box_of-clause-value
 returns-in-Some-box_of-clause-value c =

@@ -19,5 +19,5 @@ returns-clause-exact c = λ chained serial fresh.
     found_now (shown_of c.args.self.now.world)
     (subst IsPageTree (c.page-page.ensures.tree ∙ ap (λ (v : PageView). v.world.tree) c.self.view_is)
     (record { framed = c.document_count.ensures.framed; few = c.document_count.ensures.bound; deep = c.holds.ensures.deep }))
-    chained c.args.self.now.world.intersection_observers serial c.args.self.now.found
-    (subst (λ (v : PageView). AreRegistered v.world.intersection_observers v.found) c.self.view_is c.self.invariant.registered) fresh
+    c.args.self.now.world.scroll_margins chained c.args.self.now.world.intersection_observers serial c.args.self.now.found
+    (subst (λ (v : PageView). AreRegistered v.world.intersection_observers v.world.scroll_margins v.found) c.self.view_is c.self.invariant.registered) fresh

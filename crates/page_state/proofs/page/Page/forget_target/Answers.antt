@@ -38,7 +38,7 @@ returns-in_default-clause-fewer c =
 pub forget-requires : goal.forget-requires
 forget-requires c =
     let there : c.args.watcher.0 < length c.self.inside.watchers.part.made = subst (λ (v : PageView). c.args.watcher.0 < length v.world.intersection_observers.made) (sym c.self.view_is) c.requires in
-    pair_there c.self.inside.watchers.part c.args.watcher.0 c.args.target.0 c.self.inside.findings c.registrations.ensures.serials there c.self.invariant.registered c.in-Some.taken.0
+    pair_there c.self.inside.watchers.part c.self.inside.scroll_margins.items c.args.watcher.0 c.args.target.0 c.self.inside.findings c.registrations.ensures.serials there c.self.invariant.registered c.in-Some.taken.0
     (sym c.unobserve.ensures.answer ∙ ap (option_map (λ (it : RegistrationId). it.0)) c.in-Some.is)
 
 pub invariant_of-self-2 : goal.invariant_of-self-2
@@ -48,10 +48,10 @@ invariant_of-self-2 c =
     let watched : AreWatchers elements c.unobserve.new.self.part.made =
     subst (λ (it : HeldWatchers). AreWatchers elements it.part.made) (sym c.unobserve.ensures.unobserved)
     (kept_unregistered elements c.args.watcher.0 c.args.target.0 c.self.inside.watchers.part c.self.invariant.watched) in
-    let registered : AreRegistered c.unobserve.new.self.part c.forget.new.self =
-    subst (λ (it : HeldWatchers). AreRegistered it.part c.forget.new.self) (sym c.unobserve.ensures.unobserved)
-    (subst (AreRegistered (without_registration c.args.watcher.0 c.args.target.0 (c.self.inside.watchers.part))) (sym c.forget.ensures)
-    (forgotten c.self.inside.watchers.part c.args.watcher.0 c.args.target.0 c.self.inside.findings c.registrations.ensures.serials there c.self.invariant.registered c.in-Some.taken.0
+    let registered : AreRegistered c.unobserve.new.self.part c.self.inside.scroll_margins.items c.forget.new.self =
+    subst (λ (it : HeldWatchers). AreRegistered it.part c.self.inside.scroll_margins.items c.forget.new.self) (sym c.unobserve.ensures.unobserved)
+    (subst (AreRegistered (without_registration c.args.watcher.0 c.args.target.0 (c.self.inside.watchers.part)) c.self.inside.scroll_margins.items) (sym c.forget.ensures)
+    (forgotten c.self.inside.watchers.part c.self.inside.scroll_margins.items c.args.watcher.0 c.args.target.0 c.self.inside.findings c.registrations.ensures.serials there c.self.invariant.registered c.in-Some.taken.0
     (sym c.unobserve.ensures.answer ∙ ap (option_map (λ (it : RegistrationId). it.0)) c.in-Some.is))) in
     let room : HaveRoom elements (length c.self.inside.laid.elements.tree.documents) c.forget.new.self =
     subst (HaveRoom elements (length c.self.inside.laid.elements.tree.documents)) (sym c.forget.ensures)
@@ -64,7 +64,7 @@ returns-clause-findings c =
     subst (λ (v : PageView). KeepsFindings v.world.intersection_observers c.unobserve.new.self.part v.found c.forget.new.self) c.self.view_is
     (subst (λ (it : HeldWatchers). KeepsFindings c.self.inside.watchers.part it.part c.self.inside.findings c.forget.new.self) (sym c.unobserve.ensures.unobserved)
     (subst (KeepsFindings c.self.inside.watchers.part (without_registration c.args.watcher.0 c.args.target.0 (c.self.inside.watchers.part)) c.self.inside.findings) (sym c.forget.ensures)
-    (forgotten_keeps c.self.inside.watchers.part c.args.watcher.0 c.args.target.0 c.self.inside.findings c.registrations.ensures.serials there c.self.invariant.registered c.in-Some.taken.0
+    (forgotten_keeps c.self.inside.watchers.part c.self.inside.scroll_margins.items c.args.watcher.0 c.args.target.0 c.self.inside.findings c.registrations.ensures.serials there c.self.invariant.registered c.in-Some.taken.0
     (sym c.unobserve.ensures.answer ∙ ap (option_map (λ (it : RegistrationId). it.0)) c.in-Some.is))))
 
 pub returns-clause-fewer : goal.returns-clause-fewer
@@ -72,6 +72,6 @@ returns-clause-fewer c =
     let there : c.args.watcher.0 < length c.self.inside.watchers.part.made = subst (λ (v : PageView). c.args.watcher.0 < length v.world.intersection_observers.made) (sym c.self.view_is) c.requires in
     λ serial stands.
     subst (λ (v : PageView). IsStanding serial v.world.intersection_observers) c.self.view_is
-    (forgotten_fewer c.self.inside.watchers.part c.args.watcher.0 c.args.target.0 c.self.inside.findings c.registrations.ensures.serials there c.self.invariant.registered c.in-Some.taken.0
+    (forgotten_fewer c.self.inside.watchers.part c.self.inside.scroll_margins.items c.args.watcher.0 c.args.target.0 c.self.inside.findings c.registrations.ensures.serials there c.self.invariant.registered c.in-Some.taken.0
     (sym c.unobserve.ensures.answer ∙ ap (option_map (λ (it : RegistrationId). it.0)) c.in-Some.is)
     serial (subst (λ (it : HeldWatchers). IsStanding serial it.part) c.unobserve.ensures.unobserved stands))

@@ -14,6 +14,7 @@ invariant_of-self-in_err-insert c =
 pub invariant_of-self-2 : goal.invariant_of-self-2
 invariant_of-self-2 c =
     enlarged c.self.inside c.self.invariant c.make.new.self c.insert.new.self c.add.new.self c.add.ensures.roomier c.args.name
+    (ap (λ (it : PageElements). it.version) c.in_ok-_node.ensures.made ∙ ap (λ (it : PageElements). it.version) c.in_ok-node.ensures.same)
     (ap (λ (it : PageElements). it.names) c.in_ok-_node.ensures.made ∙ ap (λ (it : PageElements). it.names ++ c.args.name ∷ []) c.in_ok-node.ensures.same)
     (c.in_ok-_node.ensures.count ∙ ap (λ (it : PageElements). length it.tree.elements + 1) c.in_ok-node.ensures.same)
     c.in_ok-node.node.0 c.in_ok-node.ensures.node c.in_ok-insert.ensures.given

@@ -33,6 +33,7 @@ invariant_of-self-2 c =
     let p = c.self.inside in
     let before = c.in_ok-node.ensures.same in
     framed_page p c.self.invariant c.make_frame.new.self c.insert-2.new.self c.add-2.new.self (roomier_then c.add.ensures.roomier c.add-2.ensures.roomier) c.args.name
+    (ap (λ (it : PageElements). it.version) c.in_ok-_made.ensures.made ∙ ap (λ (it : PageElements). it.version) before)
     (ap (λ (it : PageElements). it.names) c.in_ok-_made.ensures.made ∙ ap (λ (it : PageElements). it.names ++ c.args.name ∷ []) before)
     (c.in_ok-_made.ensures.count ∙ ap (λ (it : PageElements). length it.tree.elements + 1) before)
     c.in_ok-node.node.0 c.document_count-framed.result c.args.inside c.in_ok-node.ensures.node

@@ -22,7 +22,7 @@ forget-requires c =
 pub invariant_of-self-in-Err-observe : goal.invariant_of-self-in-Err-observe
 invariant_of-self-in-Err-observe c =
     let back : c.forget.new.self ≡ c.self.inside.findings =
-    registered_back c.self.inside.watchers c.in_ok-watcher.watcher.0 c.in_ok-node.node.0 c.in-Ok-Some.registration.0 (seen_root c.root_of-root.result) c.self.inside.findings c.register.new.self
+    registered_back c.self.inside.watchers c.self.inside.scroll_margins.items c.in_ok-watcher.watcher.0 c.in_ok-node.node.0 c.in-Ok-Some.registration.0 (seen_root c.root_of-root.result) c.self.inside.findings c.register.new.self
     c.next_registration.ensures.serials c.self.invariant.registered (registers_some c.in-Ok-Some.field-0-is c.in-Ok-Some.ensures.answer).2 c.in_ok-register.ensures.registered c.forget.new.self c.forget.ensures in
     subst (λ (it : HeldWatchers). IsPage (record (c.self.inside) { watchers = it; findings = c.forget.new.self })) (sym c.in-Err-observe.ensures.same)
     (subst (λ (it : HeldFindings). IsPage (record (c.self.inside) { findings = it })) (sym back) c.self.invariant)
@@ -30,7 +30,7 @@ invariant_of-self-in-Err-observe c =
 pub returns-in-Err-observe-clause-findings : goal.returns-in-Err-observe-clause-findings
 returns-in-Err-observe-clause-findings c =
     let back : c.forget.new.self ≡ c.self.inside.findings =
-    registered_back c.self.inside.watchers c.in_ok-watcher.watcher.0 c.in_ok-node.node.0 c.in-Ok-Some.registration.0 (seen_root c.root_of-root.result) c.self.inside.findings c.register.new.self
+    registered_back c.self.inside.watchers c.self.inside.scroll_margins.items c.in_ok-watcher.watcher.0 c.in_ok-node.node.0 c.in-Ok-Some.registration.0 (seen_root c.root_of-root.result) c.self.inside.findings c.register.new.self
     c.next_registration.ensures.serials c.self.invariant.registered (registers_some c.in-Ok-Some.field-0-is c.in-Ok-Some.ensures.answer).2 c.in_ok-register.ensures.registered c.forget.new.self c.forget.ensures in
     same_findings _ _ (back ∙ ap (λ (v : PageView). v.found) c.self.view_is)
 
@@ -43,8 +43,8 @@ invariant_of-self-in_default c =
     let there : c.in_ok-node.node.0 < elements = subst (λ (v : PageView). c.in_ok-node.node.0 < length v.world.tree.elements) (sym c.self.view_is) c.in_ok-node.ensures.there in
     let watched : AreWatchers elements c.observe.new.self.part.made =
     observed_so c.observe.result elements c.in_ok-watcher.watcher.0 c.in_ok-node.node.0 c.self.inside.watchers c.observe.new.self c.observe.ensures.observed c.observe.ensures.same there c.self.invariant.watched in
-    let registered : AreRegistered c.observe.new.self.part c.register.new.self =
-    registered_one c.self.inside.watchers c.in_ok-watcher.watcher.0 c.in_ok-node.node.0 c.in-Ok-Some.registration.0 (seen_root c.root_of-root.result) c.self.inside.findings c.register.new.self
+    let registered : AreRegistered c.observe.new.self.part c.self.inside.scroll_margins.items c.register.new.self =
+    registered_one c.self.inside.watchers c.self.inside.scroll_margins.items c.in_ok-watcher.watcher.0 c.in_ok-node.node.0 c.in-Ok-Some.registration.0 (seen_root c.root_of-root.result) c.self.inside.findings c.register.new.self
     c.next_registration.ensures.serials c.self.invariant.registered (registers_some c.in-Ok-Some.field-0-is c.in-Ok-Some.ensures.answer).2 c.in_ok-register.ensures.registered
     c.observe.new.self made (registers_some c.in-Ok-Some.field-0-is c.in-Ok-Some.ensures.answer).0 c.root_of-root.ensures c.in_default.ensures.observed in
     let room : HaveRoom elements documents c.register.new.self =
@@ -55,5 +55,5 @@ invariant_of-self-in_default c =
 pub returns-clause-findings : goal.returns-clause-findings
 returns-clause-findings c =
     subst (λ (v : PageView). KeepsFindings v.world.intersection_observers c.observe.new.self.part v.found c.register.new.self) c.self.view_is
-    (registered_keeps c.self.inside.watchers c.in_ok-watcher.watcher.0 c.in_ok-node.node.0 c.in-Ok-Some.registration.0 (seen_root c.root_of-root.result) c.self.inside.findings c.register.new.self
+    (registered_keeps c.self.inside.watchers c.self.inside.scroll_margins.items c.in_ok-watcher.watcher.0 c.in_ok-node.node.0 c.in-Ok-Some.registration.0 (seen_root c.root_of-root.result) c.self.inside.findings c.register.new.self
     c.next_registration.ensures.serials c.self.invariant.registered (registers_some c.in-Ok-Some.field-0-is c.in-Ok-Some.ensures.answer).2 c.in_ok-register.ensures.registered c.observe.new.self.part)

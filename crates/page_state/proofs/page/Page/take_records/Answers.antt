@@ -15,9 +15,9 @@ invariant_of-self c =
     let watched : AreWatchers elements c.take_records.new.self.part.made =
     subst (λ (it : HeldWatchers). AreWatchers elements it.part.made) (sym c.take_records.ensures.emptied)
     (kept_taken elements c.args.watcher.0 c.self.inside.watchers.part c.self.invariant.watched) in
-    let registered : AreRegistered c.take_records.new.self.part c.self.inside.findings =
-    subst (λ (it : HeldWatchers). AreRegistered it.part c.self.inside.findings) (sym c.take_records.ensures.emptied)
-    (registered_taken c.self.inside.watchers.part c.args.watcher.0 c.self.inside.findings c.self.invariant.registered) in
+    let registered : AreRegistered c.take_records.new.self.part c.self.inside.scroll_margins.items c.self.inside.findings =
+    subst (λ (it : HeldWatchers). AreRegistered it.part c.self.inside.scroll_margins.items c.self.inside.findings) (sym c.take_records.ensures.emptied)
+    (registered_taken c.self.inside.watchers.part c.self.inside.scroll_margins.items c.args.watcher.0 c.self.inside.findings c.self.invariant.registered) in
     search rules
 
 pub returns-clause-written : goal.returns-clause-written

@@ -29,7 +29,7 @@ invariant_of-self c =
 pub returns-clause-done : goal.returns-clause-done
 returns-clause-done c = load_done (c.args.self.now.tree) (c.args.node.0) (unsigned_abs (c.args.size.width)) (unsigned_abs (c.args.size.height))
     c.kind.result c.in-Image.field-0 (c.kind.ensures.value) c.in-Image.is
-    ((seen_page (with_nodes (change_at (with_payload c.set_natural_size.new.self) (c.args.node.0)) c.self.inside.tree) c.self.inside.documents).tree)
+    ((seen_page c.self.inside.version (with_nodes (change_at (with_payload c.set_natural_size.new.self) (c.args.node.0)) c.self.inside.tree) c.self.inside.documents).tree)
     (written_done c.args.self.now c.self.inside.tree c.self.inside.documents c.self.view_is c.self.invariant
     (c.args.node.0) c.payload_mut.result.now c.set_natural_size.new.self c.payload_mut.ensures.value (sized_in c.args.size) c.set_natural_size.ensures)
 

@@ -1,5 +1,5 @@
-use Rattle.std.proofs.Common.{ap, ◌∙◌, length, List}
-use Rattle.script_model.specs.Syntax.{Item}
+use Rattle.std.proofs.Common.{ap, ◌∙◌, length}
+use Rattle.script_model.specs.Syntax.{Script}
 use Rattle.script_model.specs.Scripts.{handlers_in}
 use Rattle.script_syntax.proofs.Handlers.{handler_count}
 use Rattle.script_syntax.proofs.script.Script.handlers.Goals as goal
@@ -7,4 +7,4 @@ use Rattle.script_syntax.proofs.script.Script.handlers.Goals as goal
 pub returns : goal.returns
 returns c =
     c.len.ensures ∙ c.self.inside.index.places.ok.0 ∙ handler_count _ _ _ c.self.invariant.2
-    ∙ ap (λ (items : List Item). length (handlers_in items)) c.self.view_is
+    ∙ ap (λ (script : Script). length (handlers_in script.items)) c.self.view_is

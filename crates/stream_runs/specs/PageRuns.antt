@@ -26,7 +26,7 @@ pub record PageRun : Type 0 where
 
 -- a page before its first command; of a script that is refused none is run
 abbrev pub opened_with : Reading → Standing
-opened_with (Ok items) = Going (handlers_in items) items opening_world
+opened_with (Ok script) = Going (handlers_in (script.items)) (script.items) (opening_world (script.version))
 opened_with (Err refusal) = Over (refused_ending refusal)
 
 abbrev pub opened : PageScript → PageRun
@@ -39,7 +39,7 @@ ending_at (Over ending) = ending
 
 -- what is said of a script that is refused
 abbrev pub refused_lines : Reading → List TraceLine
-refused_lines (Ok items) = []
+refused_lines (Ok script) = []
 refused_lines (Err refusal) = refusal_line refusal ∷ []
 
 abbrev pub command_line : Command → ℕ

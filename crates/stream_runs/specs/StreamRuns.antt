@@ -1,19 +1,16 @@
 -- Several pages of one stream side by side. First each page whose script is refused has its one line. Then the commands outside handlers
 -- and blocks are run in the order in which their first lines stand in the stream, each in the world of its own page. Each line that is
 -- written has the page's name and a space before it. This form is this project's own choice.
-use Rattle.std.specs.Prelude.{ℕ, ◌+◌, Bool, true, false, cond, nat_eq, List, [], ◌∷◌, ◌++◌, length, map, filter, flat_map, fold, drop, slice_get, slice_set, Option, Some, None}
-use Rattle.std.specs.List.{list_any, concat, starts_with}
+use Rattle.std.specs.Prelude.{ℕ, ◌+◌, nat_eq, List, [], ◌∷◌, ◌++◌, length, map, filter, flat_map, fold, drop, slice_get, slice_set, Option, Some, None}
+use Rattle.std.specs.List.{concat, starts_with}
 use Rattle.script_model.specs.Reading.{reading}
 use Rattle.script_model.specs.TraceLines.{TraceLine}
 use Rattle.script_model.specs.TraceText.{line_text}
-use Rattle.page_model.specs.Outcome.{Ending, Ended, Faulty, LimitMet}
 use Rattle.trace_judge.specs.Lines.{lines_of}
 use Rattle.page_stream.specs.declared.stream.Part.{Part}
 use Rattle.page_stream.specs.Pages.{pages_of}
 use Rattle.page_stream.specs.Parts.{parts_of, script_of}
-use Rattle.replay_run.specs.PageRuns.{PageScript, PageRun, ending_at, opened, refused_lines, Turn, turn_at}
-use Rattle.replay_run.specs.declared.status.Status.{Status}
-use Rattle.replay_run.specs.declared.status.Status.TheVariants.{Done, Syntax, Limit}
+use Rattle.stream_runs.specs.PageRuns.{PageScript, PageRun, opened, refused_lines, Turn, turn_at}
 
 -- these pages, the first of which has this place, with their scripts
 unfoldable pub scripts_from : ℕ → List (List ℕ) → List ℕ → List PageScript
@@ -67,22 +64,6 @@ parts_run pages parts = fold stream_step (record { text = []; pages = pages }) p
 unfoldable pub stream_run : List ℕ → StreamRun
 unfolding stream_step stream_opened scripts_of parts_of
 stream_run source = fold stream_step (stream_opened (scripts_of source)) (parts_of source)
-
-abbrev pub is_faulty : Ending → Bool
-is_faulty Ended = false
-is_faulty Faulty = true
-is_faulty LimitMet = false
-
-abbrev pub met_limit : Ending → Bool
-met_limit Ended = false
-met_limit Faulty = false
-met_limit LimitMet = true
-
--- a fault of some page's script comes before a limit that some page met
-abbrev pub stream_status : List PageRun → Status
-stream_status pages =
-    cond (list_any (λ page. is_faulty (ending_at page.standing)) pages) Syntax
-    (cond (list_any (λ page. met_limit (ending_at page.standing)) pages) Limit Done)
 
 -- the lines of a stream's text with this page's name, the name and the space cut off
 unfoldable pub text_of_page : List ℕ → List ℕ → List ℕ

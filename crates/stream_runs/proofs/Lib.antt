@@ -1,0 +1,10 @@
+pub mod Lines
+pub mod Alone
+pub mod PageLines
+pub mod ScriptLines
+pub mod Names
+pub mod PageTexts
+pub mod PageTurns
+pub mod SideBySide
+pub mod Opening
+pub mod Isolation

@@ -1,0 +1,5 @@
+use Rattle.stream_runs.proofs.Isolation.{said_alone}
+use Rattle.stream_runs.proofs.laws.each_page_is_as_if_it_ran_alone.Goals as goal
+
+pub returns : goal.returns
+returns c = λ source says place name at. said_alone c.what_is_read_is_well_formed.ensures c.printed_lines_are_no_longer.ensures.lines source says place name at

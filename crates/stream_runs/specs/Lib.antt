@@ -1,0 +1,3 @@
+pub mod PageRuns
+pub mod StreamRuns
+pub mod Alone

@@ -1,0 +1,41 @@
+//! Laws of streams of pages, each the clause of a function that does nothing.
+
+ghost use Rattle.std.specs.Prelude.{◌≡◌, ℕ, List, Some, slice_get, option_map};
+ghost use Rattle.page_model.specs.Outcome.{outcome, trace};
+ghost use Rattle.page_stream.specs.Parts.{script_of};
+ghost use Rattle.stream_runs.specs.PageRuns.{ending_at};
+ghost use Rattle.stream_runs.specs.StreamRuns.{stream_run, text_of_page};
+ghost use Rattle.stream_runs.specs.Alone.{IsPage, SayLines};
+
+use script_text::laws::{printed_lines_are_no_longer, what_is_read_is_well_formed};
+
+/// The lines of a page in what is written of a stream, its name and the space cut off, are the trace of its script alone: no
+/// other page of the stream changes a byte of them. This is said of streams whose pages say lines that end in their only line
+/// feed, so that the text can be told apart by lines.
+pub fn each_page_is_as_if_it_ran_alone()
+    ensures { (source : List ℕ) → SayLines source → (place : ℕ) (name : List ℕ) → IsPage source place name
+        → text_of_page name (stream_run source).text ≡ trace (script_of place source) }
+{
+    // the laws of scripts on which this one rests
+    what_is_read_is_well_formed();
+    printed_lines_are_no_longer();
+}
+
+/// A page of a stream ends as its script does alone: after its last command, with a fault of its text or with a limit.
+pub fn each_page_ends_as_if_it_ran_alone()
+    ensures { (source : List ℕ) (place : ℕ) (name : List ℕ) → IsPage source place name
+        → option_map (λ page. ending_at page.standing) (slice_get (stream_run source).pages place) ≡ Some (outcome (script_of place source)).ending }
+{
+    // the laws of scripts on which this one rests
+    what_is_read_is_well_formed();
+    printed_lines_are_no_longer();
+}
+
+/// Two streams that have a page with the same script write the same of it, whatever the other pages are, however the lines are
+/// mixed, and whichever place the page has in each.
+pub fn what_is_written_of_a_page_is_told_by_its_script()
+    ensures { (one other : List ℕ) → SayLines one → SayLines other → (place there : ℕ) (name : List ℕ) → IsPage one place name → IsPage other there name
+        → script_of place one ≡ script_of there other → text_of_page name (stream_run one).text ≡ text_of_page name (stream_run other).text }
+{
+    each_page_is_as_if_it_ran_alone();
+}
