@@ -1,2 +1,3 @@
+pub mod Insets
 pub mod Sizes
 pub mod Tables

@@ -2,9 +2,9 @@
 
 ghost use Rattle.std.specs.Prelude.{◌≡◌, ◌≤◌, option_map, unsigned_abs, IfSome};
 ghost use Rattle.word_model.specs.Numbers.{length_of};
-ghost use Rattle.px_units.specs.Lengths.{Pixels, Percentage, seen_length};
-ghost use Rattle.script_model.specs.Properties.{size_of, auto_or_size_of, none_or_size_of};
-ghost use Rattle.style_values.specs.Ranges.{IsUnits, IsSize, IsAutoOrSize, IsNoneOrSize};
+ghost use Rattle.px_units.specs.Lengths.{Pixels, Percentage, seen_length, seen_inset};
+ghost use Rattle.script_model.specs.Properties.{size_of, auto_or_size_of, none_or_size_of, inset_of};
+ghost use Rattle.style_values.specs.Ranges.{IsUnits, IsSize, IsAutoOrSize, IsNoneOrSize, IsInset};
 
 use px_units::{Length, Percent, Px};
 
@@ -68,4 +68,19 @@ pub fn none_or_size(word: &[u8]) -> Option<Option<Length>>
         return Some(None);
     }
     Some(Some(size(word)?))
+}
+
+/// `auto`, or a length or a percentage with an optional `-`. None for any other word.
+#[tactic(auto, using(crate::proofs::Insets::inset_of_is))]
+pub fn inset(word: &[u8]) -> Option<Length>
+    ensures value { option_map seen_inset result ≡ inset_of word.now }
+    ensures range { IfSome result (λ length. IsInset length) }
+{
+    if word == b"auto".as_slice() {
+        return Some(Length::Auto);
+    }
+    if let Some(units) = word_model::signed_length(word) {
+        return Some(Length::Px(Px(units)));
+    }
+    Some(Length::Percent(Percent(word_model::signed_percent(word)? as i32)))
 }

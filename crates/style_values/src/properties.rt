@@ -1,13 +1,14 @@
 //! The properties and what each reads.
 
 ghost use Rattle.std.specs.Prelude.{◌≡◌, option_map, IfSome};
+ghost use Rattle.text_io.specs.declared.kinds.Version.TheVariants.{Second};
 ghost use Rattle.script_model.specs.Properties.{property_of};
 ghost use Rattle.style_values.specs.Properties.{reader_of};
 ghost use Rattle.style_values.specs.Ranges.{IsAllowed};
 ghost use Rattle.style_values.specs.Seen.{seen_declaration};
 
-use crate::keywords::{box_sizing, display, find, overflow};
-use crate::lengths::{auto_or_size, border, none_or_size, size};
+use crate::keywords::{box_sizing, display, find, overflow, position};
+use crate::lengths::{auto_or_size, border, inset, none_or_size, size};
 use crate::{Declaration, Sides};
 
 /// A property, with the sides that it is of.
@@ -25,9 +26,19 @@ pub enum Property {
     Border(Sides),
     BoxSizing,
     Overflow,
+    Position,
+    Top,
+    Right,
+    Bottom,
+    Left,
 }
 
-const PROPERTIES: [(&[u8], Property); 24] = [
+const PROPERTIES: [(&[u8], Property); 29] = [
+    (b"position", Property::Position),
+    (b"top", Property::Top),
+    (b"right", Property::Right),
+    (b"bottom", Property::Bottom),
+    (b"left", Property::Left),
     (b"display", Property::Display),
     (b"width", Property::Width),
     (b"height", Property::Height),
@@ -54,9 +65,9 @@ const PROPERTIES: [(&[u8], Property); 24] = [
     (b"overflow", Property::Overflow),
 ];
 
-/// The property of this name.
+/// The property of this name, of those that a version of the script language has.
 pub fn property_named(name: &[u8]) -> Option<Property>
-    ensures { option_map reader_of result ≡ property_of name.now }
+    ensures { option_map reader_of result ≡ property_of Second name.now }
 {
     find(&PROPERTIES, name)
 }
@@ -79,5 +90,10 @@ pub fn read_value(property: Property, word: &[u8]) -> Option<Declaration>
         Property::Border(sides) => border(word).map(|value| Declaration::Border(sides, value)),
         Property::BoxSizing => box_sizing(word).map(Declaration::BoxSizing),
         Property::Overflow => overflow(word).map(Declaration::Overflow),
+        Property::Position => position(word).map(Declaration::Position),
+        Property::Top => inset(word).map(Declaration::Top),
+        Property::Right => inset(word).map(Declaration::Right),
+        Property::Bottom => inset(word).map(Declaration::Bottom),
+        Property::Left => inset(word).map(Declaration::Left),
     }
 }
