@@ -1,0 +1,67 @@
+//! What holds a box.
+
+ghost use Rattle.std.specs.Prelude.{◌≡◌, ◌<◌, ℕ, length, option_map, find};
+ghost use Rattle.layout_model.specs.Nodes.{Node, ancestors_of, position_of, is_positioned, holder};
+ghost use Rattle.element_tree.specs.Links.{number};
+ghost use Rattle.style_values.specs.Seen.{seen_position};
+ghost use Rattle.positioned_layout.specs.Seen.{seen_holder};
+ghost use Rattle.positioned_layout.specs.Trees.{AreNodesOf};
+
+use crate::{Holder, Placed};
+use element_tree::{NodeId, Tree};
+use style_values::Position;
+
+// How a node is positioned: a root element counts as static.
+pub(crate) fn position<P: Placed>(tree: &Tree<P>, node: NodeId) -> Position
+    requires { node.0 < length tree.now.nodes }
+    ensures { (at : ℕ → Node) → AreNodesOf P.placed tree.now.nodes at → seen_position result ≡ position_of (at node.0) }
+{
+    match tree.parent(node) {
+        Some(_) => tree.payload(node).style().position,
+        None => Position::Static,
+    }
+}
+
+// Whether a node is positioned.
+pub(crate) fn is_positioned<P: Placed>(tree: &Tree<P>, node: NodeId) -> bool
+    requires { node.0 < length tree.now.nodes }
+    ensures { (at : ℕ → Node) → AreNodesOf P.placed tree.now.nodes at → result ≡ is_positioned (at node.0) }
+{
+    match position(tree, node) {
+        Position::Static => false,
+        Position::Relative | Position::Absolute | Position::Fixed => true,
+    }
+}
+
+// The nearest ancestor that is positioned.
+fn positioned_ancestor<P: Placed>(tree: &Tree<P>, node: NodeId) -> Option<NodeId>
+    requires { node.0 < length tree.now.nodes }
+    ensures { (at : ℕ → Node) → AreNodesOf P.placed tree.now.nodes at →
+        option_map number result ≡ find (λ a. is_positioned (at a)) (ancestors_of at node.0) }
+{
+    let mut up = tree.parent(node);
+    while let Some(ancestor) = up {
+        if is_positioned(tree, ancestor) {
+            return Some(ancestor);
+        }
+        up = tree.parent(ancestor);
+    }
+    None
+}
+
+/// What holds a node's box: in flow its parent's box; for an absolute one that of its nearest positioned ancestor, or the page where
+/// there is none; for a fixed one the screen; for a root element, which counts as static, the page. No memory.
+pub fn holder<P: Placed>(tree: &Tree<P>, node: NodeId) -> Holder
+    requires { node.0 < length tree.now.nodes }
+    ensures { (at : ℕ → Node) → AreNodesOf P.placed tree.now.nodes at → seen_holder result ≡ holder at node.0 }
+{
+    let held = match position(tree, node) {
+        Position::Static | Position::Relative => tree.parent(node),
+        Position::Absolute => positioned_ancestor(tree, node),
+        Position::Fixed => return Holder::Screen,
+    };
+    match held {
+        Some(element) => Holder::Node(element),
+        None => Holder::Page,
+    }
+}
