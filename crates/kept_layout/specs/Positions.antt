@@ -5,8 +5,8 @@ use Rattle.px_units.specs.declared.Point.{Point}
 use Rattle.layout_model.specs.Nodes.{Node, path_of, ancestors_of}
 use Rattle.layout_model.specs.Clips.{is_scroll_container}
 use Rattle.layout_model.specs.Points.{plus, moved, moved_back, sum_points}
-use Rattle.layout_model.specs.Reach.{View}
-use Rattle.layout_model.specs.Places.{offset_of}
+use Rattle.layout_model.specs.Views.{View}
+use Rattle.layout_model.specs.FlatPlaces.{offset_of}
 
 -- from 0 to the largest length on both axes
 pub record IsOffset (point : Point) : Type 0 where

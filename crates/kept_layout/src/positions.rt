@@ -4,8 +4,8 @@ ghost use Rattle.std.specs.Prelude.{◌≡◌, ◌+◌, ◌*◌, ◌^◌, ◌<�
 ghost use Rattle.px_units.specs.Lengths.{cap};
 ghost use Rattle.layout_model.specs.Nodes.{path_of, ancestors_of};
 ghost use Rattle.layout_model.specs.Points.{plus, moved, moved_back, sum_points};
-ghost use Rattle.layout_model.specs.Reach.{View};
-ghost use Rattle.layout_model.specs.Places.{offset_of};
+ghost use Rattle.layout_model.specs.Views.{View};
+ghost use Rattle.layout_model.specs.FlatPlaces.{offset_of};
 ghost use Rattle.element_tree.specs.Forest.{IsForest};
 ghost use Rattle.block_layout.specs.Seen.{as_point};
 ghost use Rattle.block_layout.specs.Trees.{layout_tree};
