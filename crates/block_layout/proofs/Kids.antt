@@ -7,7 +7,7 @@ use Rattle.layout_model.specs.Styles.{Style}
 use Rattle.layout_model.specs.Items.{Kind, BlockKind, ImageKind, FrameKind}
 use Rattle.layout_model.specs.Nodes.{Node, IsLinked, IsShallow}
 use Rattle.layout_model.specs.Boxes.{Inputs, Box, inner_children, kids_of, counted, shown_height, margin_height, total, computed, child_inputs, box_at, box_in}
-use Rattle.layout_model.specs.Reach.{open_kids}
+use Rattle.block_layout.specs.Far.{open_kids}
 use Rattle.layout_model.proofs.Trees.{box_of_children}
 use Rattle.element_tree.specs.declared.node.NodeId.{NodeId}
 use Rattle.element_tree.specs.Forest.{Knot, IsForest, has, children_of, siblings_of, next_of, first_of, rest_from, depth}

@@ -8,7 +8,10 @@ use Rattle.layout_model.specs.Items.{Item, Kind, BlockKind, ImageKind, FrameKind
 use Rattle.layout_model.specs.Nodes.{Node, levels, IsLinked, IsShallow}
 use Rattle.layout_model.specs.Boxes.{Inputs, Box, kids_of, inner_children, counted, shown_height, margin_height, inner_corner, total, computed, child_inputs, box_at, box_in, inputs_in, if_shown, inputs_if_block}
 use Rattle.layout_model.specs.Points.{plus, capped, larger}
-use Rattle.layout_model.specs.Reach.{View, view_inputs, view_size, inputs_in_view, offset_at, margin_corner, reach_of_view, far_root, far_kids, far_if_shown, far_down}
+use Rattle.layout_model.specs.Views.{View, view_inputs, view_size, inputs_in_view}
+use Rattle.layout_model.specs.FlatPlaces.{margin_corner}
+use Rattle.layout_model.specs.Reach.{reach_of_view}
+use Rattle.block_layout.specs.Far.{offset_at, far_root, far_kids, far_if_shown, far_down}
 use Rattle.layout_model.proofs.Inputs.{inputs_child, inputs_top}
 use Rattle.layout_model.proofs.Trees.{box_of_children}
 use Rattle.element_tree.specs.Forest.{Knot, IsForest, has, children_of}

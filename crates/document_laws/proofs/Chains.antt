@@ -5,7 +5,7 @@ use Rattle.std.proofs.lemmas.Bool.{false≢true}
 use Rattle.layout_model.specs.Items.{Item, Kind, BlockKind, ImageKind, FrameKind}
 use Rattle.layout_model.specs.Nodes.{Node}
 use Rattle.layout_model.specs.Boxes.{Inputs, child_inputs, inputs_if_block, if_shown, inputs_in}
-use Rattle.layout_model.specs.Reach.{View, view_inputs, inputs_in_view}
+use Rattle.layout_model.specs.Views.{View, view_inputs, inputs_in_view}
 use Rattle.layout_model.proofs.Inputs.{inputs_child, inputs_top}
 use Rattle.layout_model.proofs.Paths.{depth_least}
 use Rattle.page_model.specs.World.{Screen, Tree}

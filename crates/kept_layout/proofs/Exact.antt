@@ -6,7 +6,7 @@ use Rattle.px_units.specs.Lengths.{cap}
 use Rattle.layout_model.specs.Items.{Item, Kind, BlockKind, ImageKind, FrameKind}
 use Rattle.layout_model.specs.Nodes.{Node, levels, depth_of, IsLinked, IsShallow}
 use Rattle.layout_model.specs.Boxes.{Inputs, kids_of, inner_children, counted, total, computed, child_inputs, box_at, box_in, inputs_in, if_shown, inputs_if_block}
-use Rattle.layout_model.specs.Places.{before, height_above}
+use Rattle.layout_model.specs.FlatPlaces.{before, height_above}
 use Rattle.layout_model.proofs.Inputs.{inputs_child, inputs_top}
 use Rattle.layout_model.proofs.Paths.{depth_least}
 use Rattle.layout_model.proofs.Trees.{box_of_children}

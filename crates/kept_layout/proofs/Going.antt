@@ -3,7 +3,7 @@ use Rattle.std.proofs.Common.{◌≡◌, ◌≢◌, ◌≤◌, ◌<◌, ◌+◌,
 use Rattle.px_units.specs.Lengths.{cap}
 use Rattle.layout_model.specs.Nodes.{Node, depth_of, is_in_path}
 use Rattle.layout_model.specs.Boxes.{Inputs, Box, kids_of, computed, child_inputs, margin_height}
-use Rattle.layout_model.specs.Places.{before}
+use Rattle.layout_model.specs.FlatPlaces.{before}
 use Rattle.element_tree.specs.Forest.{has}
 use Rattle.block_layout.specs.Filling.{GoesDown}
 use Rattle.block_layout.specs.Seen.{seen_inputs}

@@ -7,8 +7,8 @@ use Rattle.layout_model.specs.Items.{Item, Kind}
 use Rattle.layout_model.specs.Nodes.{Node, levels, depth_of}
 use Rattle.layout_model.specs.Boxes.{Inputs, Box, child_inputs, box_in, inputs_in, if_shown, inputs_if_block}
 use Rattle.layout_model.specs.Points.{capped}
-use Rattle.layout_model.specs.Reach.{View, view_inputs, inputs_in_view}
-use Rattle.layout_model.specs.Places.{offset_of, height_above}
+use Rattle.layout_model.specs.Views.{View, view_inputs, inputs_in_view}
+use Rattle.layout_model.specs.FlatPlaces.{offset_of, height_above}
 use Rattle.layout_model.proofs.Inputs.{inputs_child, none_shown, none_below}
 use Rattle.layout_model.proofs.Offsets.{offset_found, offset_top}
 use Rattle.element_tree.specs.Forest.{Knot, IsForest, parent_of}

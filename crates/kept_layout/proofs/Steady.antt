@@ -6,7 +6,7 @@ use Rattle.px_units.specs.Lengths.{cap}
 use Rattle.layout_model.specs.Items.{Item, Kind, BlockKind, ImageKind, FrameKind}
 use Rattle.layout_model.specs.Nodes.{Node}
 use Rattle.layout_model.specs.Boxes.{Inputs, kids_of, counted, total, computed, child_inputs, inner_children}
-use Rattle.layout_model.specs.Places.{before}
+use Rattle.layout_model.specs.FlatPlaces.{before}
 use Rattle.element_tree.specs.Forest.{has}
 use Rattle.block_layout.specs.Seen.{seen_inputs}
 use Rattle.kept_layout.specs.declared.slots.Slot.{Slot}

@@ -5,7 +5,7 @@ use Rattle.std.specs.Prelude.{sum_by}
 use Rattle.px_units.specs.Lengths.{cap}
 use Rattle.layout_model.specs.Nodes.{Node}
 use Rattle.layout_model.specs.Boxes.{Inputs, Box, kids_of, counted, total, computed, child_inputs, margin_height}
-use Rattle.layout_model.specs.Places.{before}
+use Rattle.layout_model.specs.FlatPlaces.{before}
 use Rattle.element_tree.specs.Forest.{has}
 use Rattle.block_layout.specs.Seen.{seen_inputs}
 use Rattle.block_layout.specs.declared.Inputs.{Inputs as InputsCode}

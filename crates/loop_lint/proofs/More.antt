@@ -8,7 +8,7 @@ use Rattle.px_units.specs.Lengths.{cap}
 use Rattle.layout_model.specs.Items.{Kind, BlockKind, ImageKind, FrameKind}
 use Rattle.layout_model.specs.Nodes.{Node, path_above, path_up, path_of, levels}
 use Rattle.layout_model.specs.Boxes.{Inputs, Box, computed, child_inputs, inner_children, kids_of, shown_height, counted, margin_height, total, box_at, box_down, box_in, content_size, inputs_if_block, if_shown, inputs_along, inputs_in}
-use Rattle.layout_model.specs.Reach.{View, view_inputs, inputs_in_view}
+use Rattle.layout_model.specs.Views.{View, view_inputs, inputs_in_view}
 use Rattle.page_model.specs.World.{Screen, Element, Document, DocumentState, Fresh, Active, Dead, Tree}
 use Rattle.page_model.specs.Lookups.{entry_or, element_at, document_at, no_element, no_document}
 use Rattle.page_model.specs.Documents.{node_of, nodes_of, is_active, is_active_state, frame_levels}

@@ -6,7 +6,7 @@ use Rattle.layout_model.specs.Items.{Item, Kind, BlockKind, ImageKind, FrameKind
 use Rattle.layout_model.specs.Nodes.{Node, levels, depth_of}
 use Rattle.layout_model.specs.Boxes.{Inputs, inputs_in, if_shown, inputs_if_block}
 use Rattle.layout_model.specs.Clips.{is_block}
-use Rattle.layout_model.specs.Reach.{View, view_inputs, inputs_in_view}
+use Rattle.layout_model.specs.Views.{View, view_inputs, inputs_in_view}
 use Rattle.layout_model.proofs.Inputs.{inputs_child, inputs_top, none_shown, none_below}
 use Rattle.page_model.specs.Documents.{is_number}
 

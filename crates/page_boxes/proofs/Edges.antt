@@ -10,8 +10,9 @@ use Rattle.layout_model.specs.Nodes.{Node, IsLinked, IsShallow}
 use Rattle.layout_model.specs.Boxes.{Inputs, Box, if_shown, inputs_if_block, kids_of, inner_children, child_inputs, box_in, border_size, padding_size, padding_corner}
 use Rattle.layout_model.specs.Clips.{is_block, is_visible, is_clip, is_scroll_container}
 use Rattle.layout_model.specs.Points.{plus, minus, capped, IsWithin}
-use Rattle.layout_model.specs.Reach.{View, view_size, view_inputs, inputs_in_view, margin_corner, reach_of, reach_of_view, range_of, range_of_view}
-use Rattle.layout_model.specs.Places.{offset_of, offset_from, offset_in}
+use Rattle.layout_model.specs.Views.{View, view_size, view_inputs, inputs_in_view}
+use Rattle.layout_model.specs.FlatPlaces.{margin_corner, offset_of, offset_from, offset_in}
+use Rattle.layout_model.specs.Reach.{reach_of, reach_of_view, range_of, range_of_view}
 use Rattle.layout_model.specs.Unclipped.{Unclipped, Child}
 use Rattle.layout_model.proofs.Reaches.{edge_far, own_under, reach_found, view_found}
 use Rattle.layout_model.proofs.Trees.{contains_next}

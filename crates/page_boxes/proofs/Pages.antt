@@ -6,7 +6,7 @@ use Rattle.std.specs.Prelude.{is_some, not, ◌&&◌, pos, unsigned_abs}
 use Rattle.px_units.specs.declared.Size.{Size}
 use Rattle.px_units.specs.declared.Point.{Point}
 use Rattle.layout_model.specs.Boxes.{Inputs, box_in, content_size}
-use Rattle.layout_model.specs.Reach.{View, inputs_in_view}
+use Rattle.layout_model.specs.Views.{View, inputs_in_view}
 use Rattle.page_model.specs.World.{Screen, Element, Tree}
 use Rattle.page_model.specs.Lookups.{element_at, no_element, document_at, no_extent}
 use Rattle.page_model.specs.Documents.{nodes_of, is_number}

@@ -5,7 +5,7 @@ use Rattle.layout_model.specs.Items.{Kind, BlockKind, ImageKind, FrameKind}
 use Rattle.layout_model.specs.Nodes.{Node, levels, depth_of}
 use Rattle.layout_model.specs.Boxes.{Inputs, Box, child_inputs, if_shown, inputs_if_block}
 use Rattle.layout_model.specs.Clips.{is_block}
-use Rattle.layout_model.specs.Reach.{View, inputs_in_view}
+use Rattle.layout_model.specs.Views.{View, inputs_in_view}
 use Rattle.page_boxes.proofs.Boxed.{inputs_below, boxed_below}
 
 pub all_three : (hidden : Bool) (kind : Kind) (boxed : Bool) → (not hidden && is_block kind && boxed) ≡ true → (hidden ≡ false) × (kind ≡ BlockKind) × (boxed ≡ true)

@@ -9,7 +9,8 @@ use Rattle.layout_model.specs.Nodes.{Node}
 use Rattle.layout_model.specs.Boxes.{Inputs, Box, box_in, padding_size}
 use Rattle.layout_model.specs.Clips.{is_block, is_visible, is_clip, is_scroll_container}
 use Rattle.layout_model.specs.Points.{minus, capped, larger, IsWithin}
-use Rattle.layout_model.specs.Reach.{View, view_size, view_inputs, inputs_in_view, reach_at, reach_of, reach_of_view, far_root, range_at, range_of, range_of_view}
+use Rattle.layout_model.specs.Views.{View, view_size, view_inputs, inputs_in_view}
+use Rattle.layout_model.specs.Reach.{reach_at, reach_of, reach_of_view, far_root, range_at, range_of, range_of_view}
 use Rattle.element_tree.specs.declared.node.NodeId.{NodeId}
 use Rattle.element_tree.specs.Links.{node_ids}
 use Rattle.element_tree.specs.Forest.{Knot, parent_of}

@@ -4,7 +4,7 @@ use Rattle.std.proofs.lemmas.Bool.Decides.{nat_tests}
 use Rattle.std.specs.Prelude.{◌||◌, is_some}
 use Rattle.layout_model.specs.Nodes.{Node, is_among, is_in_path}
 use Rattle.layout_model.specs.Boxes.{Inputs, inputs_in, if_shown, inputs_if_block}
-use Rattle.layout_model.specs.Reach.{View, view_inputs, inputs_in_view}
+use Rattle.layout_model.specs.Views.{View, view_inputs, inputs_in_view}
 use Rattle.layout_model.proofs.Paths.{path_top}
 use Rattle.page_model.specs.World.{Element, Screen, Tree}
 use Rattle.page_model.specs.Lookups.{element_at, document_at}

@@ -4,7 +4,7 @@ use Rattle.std.proofs.lemmas.Bool.Decides.{nat_tests}
 use Rattle.std.specs.Prelude.{◌||◌, ◌==◌, ◌&&◌, not, is_some}
 use Rattle.layout_model.specs.Nodes.{Node, path_above, path_up, path_of, is_among, is_in_path, last_of}
 use Rattle.layout_model.specs.Boxes.{Inputs, inputs_in, inputs_along}
-use Rattle.layout_model.specs.Reach.{View, view_inputs, inputs_in_view}
+use Rattle.layout_model.specs.Views.{View, view_inputs, inputs_in_view}
 use Rattle.page_boxes.proofs.Boxed.{found_in, found_is, some_handed, some_top}
 use Rattle.page_boxes.proofs.Parents.{all_three}
 

@@ -7,8 +7,10 @@ use Rattle.layout_model.specs.Nodes.{Node, path_of, ancestors_of}
 use Rattle.layout_model.specs.Boxes.{Box, content_corner}
 use Rattle.layout_model.specs.Clips.{is_scroll_container}
 use Rattle.layout_model.specs.Points.{plus, moved, moved_back, sum_points}
-use Rattle.layout_model.specs.Reach.{View, inputs_in_view, in_force, force_if, range_of, range_of_view, reach_of, reach_of_view, offset_in_force, view_in_force}
-use Rattle.layout_model.specs.Places.{offset_of, place_in}
+use Rattle.layout_model.specs.Views.{View, inputs_in_view}
+use Rattle.layout_model.specs.FlatPlaces.{offset_of}
+use Rattle.layout_model.specs.Reach.{in_force, force_if, range_of, range_of_view, reach_of, reach_of_view, offset_in_force, view_in_force}
+use Rattle.layout_model.specs.Places.{place_in}
 use Rattle.page_model.specs.World.{Screen, Scrolls, Tree}
 use Rattle.page_model.specs.Lookups.{element_at}
 use Rattle.page_model.specs.Documents.{nodes_of}

@@ -6,7 +6,7 @@ use Rattle.layout_model.specs.Styles.{Style}
 use Rattle.layout_model.specs.Items.{Kind}
 use Rattle.layout_model.specs.Nodes.{Node, IsLinked, IsShallow, path_above, path_up, is_among, is_in_path}
 use Rattle.layout_model.specs.Boxes.{Inputs, Box, box_in, inner_children}
-use Rattle.layout_model.specs.Reach.{inputs_in_view}
+use Rattle.layout_model.specs.Views.{inputs_in_view}
 use Rattle.page_model.specs.World.{Screen, Tree}
 use Rattle.page_model.specs.Lookups.{element_at}
 use Rattle.page_model.specs.Documents.{nodes_of}

@@ -3,7 +3,8 @@
 
 ghost use Rattle.std.specs.Prelude.{◌≡◌, ◌<◌, ℕ, true, Some, None, IfSome, length, is_some};
 ghost use Rattle.layout_model.specs.Points.{IsWithin};
-ghost use Rattle.layout_model.specs.Reach.{View, inputs_in_view, offset_in_force, range_of_view};
+ghost use Rattle.layout_model.specs.Views.{View, inputs_in_view};
+ghost use Rattle.layout_model.specs.Reach.{offset_in_force, range_of_view};
 ghost use Rattle.page_model.specs.Lookups.{no_extent};
 ghost use Rattle.page_model.specs.Scrolls.{position_of, lesser_extent};
 ghost use Rattle.page_model.specs.PageBoxes.{extent_of, view_with, stored_in};

@@ -3,8 +3,9 @@
 ghost use Rattle.std.specs.Prelude.{◌≡◌, ◌*◌, ◌<◌, ◌≤◌, ℕ, true, pos, length, is_some, unsigned_abs};
 ghost use Rattle.layout_model.specs.Nodes.{ancestors_of};
 ghost use Rattle.layout_model.specs.Points.{plus, moved, moved_back, sum_points};
+ghost use Rattle.layout_model.specs.Views.{View, inputs_in_view};
+ghost use Rattle.layout_model.specs.Reach.{offset_in_force, view_in_force};
 ghost use Rattle.layout_model.specs.Places.{place_in};
-ghost use Rattle.layout_model.specs.Reach.{View, inputs_in_view, offset_in_force, view_in_force};
 ghost use Rattle.block_layout.specs.Seen.{as_point};
 ghost use Rattle.block_layout.specs.Trees.{layout_tree};
 ghost use Rattle.page_model.specs.PageBoxes.{point_of, stored_in};

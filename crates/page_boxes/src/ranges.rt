@@ -4,7 +4,8 @@ ghost use Rattle.std.specs.Prelude.{◌≡◌, ◌<◌, ◌-◌, ◌&&◌, pos, 
 ghost use Rattle.px_units.specs.Lengths.{cap};
 ghost use Rattle.layout_model.specs.Clips.{is_visible, is_clip, is_scroll_container};
 ghost use Rattle.layout_model.specs.Points.{minus, capped};
-ghost use Rattle.layout_model.specs.Reach.{View, inputs_in_view, range_of as range_in, range_of_view};
+ghost use Rattle.layout_model.specs.Views.{View, inputs_in_view};
+ghost use Rattle.layout_model.specs.Reach.{range_of as range_in, range_of_view};
 ghost use Rattle.style_values.specs.Seen.{seen_style};
 ghost use Rattle.page_model.specs.World.{Screen as WorldScreen};
 ghost use Rattle.page_model.specs.PageBoxes.{view_with, is_scroller};

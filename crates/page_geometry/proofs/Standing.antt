@@ -3,7 +3,7 @@ use Rattle.std.proofs.Common.{◌≡◌, ℕ, Bool, true, false, Option, Some, N
 use Rattle.std.specs.Prelude.{◌&&◌, not, is_some, option_map}
 use Rattle.layout_model.specs.Boxes.{Inputs, box_in, content_size}
 use Rattle.layout_model.specs.Clips.{is_block}
-use Rattle.layout_model.specs.Reach.{inputs_in_view}
+use Rattle.layout_model.specs.Views.{inputs_in_view}
 use Rattle.page_model.specs.World.{Screen, Tree}
 use Rattle.page_model.specs.Lookups.{element_at, document_at}
 use Rattle.page_model.specs.Documents.{nodes_of, is_active, is_root_element}

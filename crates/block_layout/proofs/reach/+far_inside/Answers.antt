@@ -2,7 +2,7 @@ use Rattle.std.proofs.Common.{◌≡◌, ◌+◌, suc, length, ap, sym, ◌∙�
 use Rattle.px_units.specs.Lengths.{cap}
 use Rattle.layout_model.specs.Boxes.{Inputs, kids_of, box_in, border_size, child_inputs, margin_height}
 use Rattle.layout_model.specs.Points.{larger, plus}
-use Rattle.layout_model.specs.Reach.{open_kids}
+use Rattle.block_layout.specs.Far.{open_kids}
 use Rattle.element_tree.proofs.Facts.{child_in_range}
 use Rattle.element_tree.proofs.Levels.{kid_depth, low_enough}
 use Rattle.block_layout.specs.Around.{seen_extent}

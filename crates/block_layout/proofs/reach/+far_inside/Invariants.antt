@@ -1,7 +1,8 @@
 use Rattle.std.proofs.Common.{◌≡◌, ◌≤◌, ◌-◌, Some, length}
 use Rattle.layout_model.specs.Boxes.{Inputs, kids_of, box_in, child_inputs}
 use Rattle.layout_model.specs.Points.{larger}
-use Rattle.layout_model.specs.Reach.{View, inputs_in_view, open_kids}
+use Rattle.layout_model.specs.Views.{View, inputs_in_view}
+use Rattle.block_layout.specs.Far.{open_kids}
 use Rattle.element_tree.specs.Forest.{depth, most_levels}
 use Rattle.block_layout.specs.Around.{seen_extent}
 use Rattle.block_layout.specs.Far.{far_in}

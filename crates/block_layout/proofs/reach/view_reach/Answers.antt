@@ -2,7 +2,9 @@ use Rattle.std.proofs.Common.{◌≡◌, ◌≤◌, ap, sym, ◌∙◌, arith}
 use Rattle.layout_model.specs.Boxes.{Inputs, box_in, kids_of, border_size}
 use Rattle.layout_model.specs.Nodes.{levels}
 use Rattle.layout_model.specs.Points.{larger, plus, capped}
-use Rattle.layout_model.specs.Reach.{view_inputs, margin_corner, far_down, open_kids}
+use Rattle.layout_model.specs.Views.{view_inputs}
+use Rattle.layout_model.specs.FlatPlaces.{margin_corner}
+use Rattle.block_layout.specs.Far.{far_down, open_kids}
 use Rattle.element_tree.proofs.Depths.{depth_positive}
 use Rattle.block_layout.specs.Around.{seen_extent}
 use Rattle.block_layout.specs.Far.{far_in}

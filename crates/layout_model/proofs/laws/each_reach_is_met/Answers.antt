@@ -1,6 +1,8 @@
 use Rattle.std.proofs.Common.{ap, refl, ◌+◌}
 use Rattle.layout_model.specs.Boxes.{box_in, padding_width, padding_height, border_width, border_height}
-use Rattle.layout_model.specs.Reach.{view_inputs, margin_corner, reach_of, reach_of_view}
+use Rattle.layout_model.specs.Views.{view_inputs}
+use Rattle.layout_model.specs.FlatPlaces.{margin_corner}
+use Rattle.layout_model.specs.Reach.{reach_of, reach_of_view}
 use Rattle.layout_model.proofs.Reaches.{root_open}
 use Rattle.layout_model.proofs.Attained.{reach_met, reach_is, view_met, view_is, view_none}
 use Rattle.layout_model.proofs.laws.each_reach_is_met.Goals as goal

@@ -1,7 +1,9 @@
 use Rattle.std.proofs.Common.{arith}
 use Rattle.layout_model.specs.Boxes.{box_in, border_size}
 use Rattle.layout_model.specs.Points.{plus}
-use Rattle.layout_model.specs.Reach.{reach_of, inputs_in_view, view_inputs, margin_corner}
+use Rattle.layout_model.specs.Views.{inputs_in_view, view_inputs}
+use Rattle.layout_model.specs.FlatPlaces.{margin_corner}
+use Rattle.layout_model.specs.Reach.{reach_of}
 use Rattle.layout_model.proofs.Paths.{depth_least}
 use Rattle.layout_model.proofs.Reaches.{edge_far, own_under, inside_under, then_under, reach_found, view_found, root_open}
 use Rattle.layout_model.proofs.laws.no_box_passes_the_reach.Goals as goal

@@ -1,6 +1,7 @@
 use Rattle.layout_model.specs.Nodes.{path_of, ancestors_of}
+use Rattle.layout_model.specs.FlatPlaces.{offset_of}
 use Rattle.layout_model.specs.Reach.{offset_in_force, view_in_force}
-use Rattle.layout_model.specs.Places.{place_in, offset_of}
+use Rattle.layout_model.specs.Places.{place_in}
 use Rattle.layout_model.proofs.Paths.{path_child, path_self, path_top, ancestors_child, ancestors_top}
 use Rattle.layout_model.proofs.Sums.{step, top}
 use Rattle.layout_model.proofs.laws.places_add_up.Goals as goal

@@ -1,4 +1,5 @@
-use Rattle.layout_model.specs.Reach.{reach_of, reach_of_view, inputs_in_view}
+use Rattle.layout_model.specs.Views.{inputs_in_view}
+use Rattle.layout_model.specs.Reach.{reach_of, reach_of_view}
 use Rattle.layout_model.proofs.Caps.{cap_wider, reach_within}
 use Rattle.layout_model.proofs.laws.reaches_cover_the_padding_box.Goals as goal
 

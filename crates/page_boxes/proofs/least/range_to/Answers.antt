@@ -1,5 +1,5 @@
 use Rattle.std.proofs.Common.{◌∙◌, ap, sym}
-use Rattle.layout_model.specs.Reach.{inputs_in_view}
+use Rattle.layout_model.specs.Views.{inputs_in_view}
 use Rattle.element_tree.specs.Forest.{has}
 use Rattle.element_tree.proofs.Levels.{kid_parent}
 use Rattle.block_layout.specs.Trees.{layout_tree}

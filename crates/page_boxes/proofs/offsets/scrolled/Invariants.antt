@@ -2,7 +2,8 @@ use Rattle.std.proofs.Common.{◌≡◌, ◌≤◌, ◌+◌, ◌*◌, true}
 use Rattle.std.specs.Prelude.{is_some}
 use Rattle.layout_model.specs.Nodes.{ancestors_of}
 use Rattle.layout_model.specs.Points.{plus, sum_points}
-use Rattle.layout_model.specs.Reach.{View, inputs_in_view, offset_in_force}
+use Rattle.layout_model.specs.Views.{View, inputs_in_view}
+use Rattle.layout_model.specs.Reach.{offset_in_force}
 use Rattle.page_model.specs.PageBoxes.{stored_in}
 use Rattle.element_tree.specs.Forest.{depth}
 use Rattle.block_layout.specs.Trees.{layout_tree}

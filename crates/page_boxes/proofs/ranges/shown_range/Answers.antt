@@ -1,5 +1,5 @@
 use Rattle.std.proofs.Common.{ap, sym}
-use Rattle.layout_model.specs.Reach.{View, view_size}
+use Rattle.layout_model.specs.Views.{View, view_size}
 use Rattle.block_layout.specs.Trees.{layout_tree}
 use Rattle.page_boxes.proofs.Reaching.{holds_boxes, range_viewed}
 use Rattle.page_boxes.proofs.ranges.shown_range.Goals as goal

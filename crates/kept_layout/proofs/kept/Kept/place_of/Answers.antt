@@ -1,7 +1,7 @@
 use Rattle.std.proofs.Common.{pos, ap, ◌∙◌}
 use Rattle.layout_model.specs.Nodes.{path_of, ancestors_of}
 use Rattle.layout_model.specs.Points.{plus, moved, moved_back, sum_points}
-use Rattle.layout_model.specs.Places.{offset_of}
+use Rattle.layout_model.specs.FlatPlaces.{offset_of}
 use Rattle.block_layout.specs.Trees.{layout_tree}
 use Rattle.kept_layout.specs.Positions.{scrolled_in, point_of}
 use Rattle.kept_layout.proofs.kept.Kept.place_of.Goals as goal

@@ -1,6 +1,6 @@
 use Rattle.std.proofs.Common.{◌≡◌, Some, sym, ◌∙◌, arith}
 use Rattle.layout_model.specs.Nodes.{path_of, ancestors_of}
-use Rattle.layout_model.specs.Places.{offset_of}
+use Rattle.layout_model.specs.FlatPlaces.{offset_of}
 use Rattle.layout_model.proofs.Paths.{path_self, ancestors_child, ancestors_top}
 use Rattle.element_tree.specs.Forest.{parent_of}
 use Rattle.element_tree.proofs.Depths.{some_of_ids, none_of_ids, depth_positive}

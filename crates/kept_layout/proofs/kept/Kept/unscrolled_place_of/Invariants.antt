@@ -1,8 +1,8 @@
 use Rattle.std.proofs.Common.{◌≡◌, ◌≤◌, ◌+◌, ◌*◌}
 use Rattle.layout_model.specs.Nodes.{path_of, ancestors_of}
 use Rattle.layout_model.specs.Points.{plus, sum_points}
-use Rattle.layout_model.specs.Reach.{View}
-use Rattle.layout_model.specs.Places.{offset_of}
+use Rattle.layout_model.specs.Views.{View}
+use Rattle.layout_model.specs.FlatPlaces.{offset_of}
 use Rattle.element_tree.specs.Forest.{depth}
 use Rattle.block_layout.specs.Trees.{layout_tree}
 use Rattle.kept_layout.specs.Fresh.{IsFreshPath}

@@ -1,6 +1,7 @@
 use Rattle.std.proofs.Common.{ap, sym, subst, ◌∙◌, arith}
 use Rattle.std.specs.Prelude.{is_some}
-use Rattle.layout_model.specs.Reach.{inputs_in_view, offset_in_force}
+use Rattle.layout_model.specs.Views.{inputs_in_view}
+use Rattle.layout_model.specs.Reach.{offset_in_force}
 use Rattle.page_model.specs.Lookups.{element_at}
 use Rattle.page_model.specs.PageBoxes.{view_at, stored_in}
 use Rattle.block_layout.specs.Seen.{as_point}

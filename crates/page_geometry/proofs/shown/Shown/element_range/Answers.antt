@@ -1,7 +1,8 @@
 use Rattle.std.proofs.Common.{ap, sym, subst, ◌∙◌, arith, cond}
 use Rattle.std.specs.Prelude.{is_some}
 use Rattle.layout_model.specs.Clips.{is_scroll_container}
-use Rattle.layout_model.specs.Reach.{inputs_in_view, range_of}
+use Rattle.layout_model.specs.Views.{inputs_in_view}
+use Rattle.layout_model.specs.Reach.{range_of}
 use Rattle.page_model.specs.PageBoxes.{view_at}
 use Rattle.page_model.specs.Lookups.{element_at}
 use Rattle.block_layout.specs.Seen.{as_size}

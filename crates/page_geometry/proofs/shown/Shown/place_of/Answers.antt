@@ -1,7 +1,8 @@
 use Rattle.std.proofs.Common.{ap, sym, subst, ◌∙◌}
 use Rattle.std.specs.Prelude.{is_some}
+use Rattle.layout_model.specs.Views.{inputs_in_view}
+use Rattle.layout_model.specs.Reach.{view_in_force}
 use Rattle.layout_model.specs.Places.{place_in}
-use Rattle.layout_model.specs.Reach.{inputs_in_view, view_in_force}
 use Rattle.page_model.specs.World.{ScrolledDocument}
 use Rattle.page_model.specs.Lookups.{element_at}
 use Rattle.page_model.specs.Scrolls.{position_of}
