@@ -148,14 +148,14 @@ pub fn automatic_blocks_fill_their_width()
         item.style.width ≡ Automatic → item.style.min_width ≡ Pixels 0 → item.style.max_width ≡ None →
         (used_insets item.style.inset inputs).left ≡ Some left → (used_insets item.style.inset inputs).right ≡ Some right →
         let own = computed item inputs inside in
-        left +ℤ pos (own.margin.left + border_width own + own.margin.right) +ℤ right ≤ℤ pos (inputs.width + own.width) →
+        (left +ℤ pos (own.margin.left + border_width own + own.margin.right) +ℤ right) ≤ℤ pos (inputs.width + own.width) →
         (computed item inputs inside).width < 2147483647 →
         left +ℤ pos (own.margin.left + border_width own + own.margin.right) +ℤ right ≡ pos inputs.width }
     ensures high { (item : Item) (inputs : Inputs) (inside height : ℕ) (top bottom : ℤ) → item.kind ≡ BlockKind → inputs.flow ≡ false →
         item.style.height ≡ Automatic → item.style.min_height ≡ Pixels 0 → item.style.max_height ≡ None → inputs.height ≡ Some height →
         (used_insets item.style.inset inputs).top ≡ Some top → (used_insets item.style.inset inputs).bottom ≡ Some bottom →
         let own = computed item inputs inside in
-        top +ℤ pos (own.margin.top + border_height own + own.margin.bottom) +ℤ bottom ≤ℤ pos (height + own.height) →
+        (top +ℤ pos (own.margin.top + border_height own + own.margin.bottom) +ℤ bottom) ≤ℤ pos (height + own.height) →
         (computed item inputs inside).height < 2147483647 →
         top +ℤ pos (own.margin.top + border_height own + own.margin.bottom) +ℤ bottom ≡ pos height }
 {}
@@ -249,22 +249,22 @@ pub fn reaches_cover_the_padding_box()
 pub fn no_box_passes_the_reach()
     ensures across { (at : ℕ → Node) → IsLinked at → IsShallow at → (view : View) (inputs below : Inputs) (n d : ℕ) →
         inputs_in_view at view n ≡ Some inputs → inputs_in_view at view d ≡ Some below → clipped_by at d ≡ Some n →
-        (flat_place at view d).0 +ℤ pos (border_width (box_in at below d)) -ℤ (moved (flat_place at view n) (border_corner (at n).item)).0 ≤ℤ pos 2147483647 →
-        (flat_place at view d).0 +ℤ pos (border_width (box_in at below d)) -ℤ (moved (flat_place at view n) (border_corner (at n).item)).0
+        ((flat_place at view d).0 +ℤ pos (border_width (box_in at below d)) -ℤ (moved (flat_place at view n) (border_corner (at n).item)).0) ≤ℤ pos 2147483647 →
+        ((flat_place at view d).0 +ℤ pos (border_width (box_in at below d)) -ℤ (moved (flat_place at view n) (border_corner (at n).item)).0)
         ≤ℤ pos (reach_of at view n).0 }
     ensures down { (at : ℕ → Node) → IsLinked at → IsShallow at → (view : View) (inputs below : Inputs) (n d : ℕ) →
         inputs_in_view at view n ≡ Some inputs → inputs_in_view at view d ≡ Some below → clipped_by at d ≡ Some n →
-        (flat_place at view d).1 +ℤ pos (border_height (box_in at below d)) -ℤ (moved (flat_place at view n) (border_corner (at n).item)).1 ≤ℤ pos 2147483647 →
-        (flat_place at view d).1 +ℤ pos (border_height (box_in at below d)) -ℤ (moved (flat_place at view n) (border_corner (at n).item)).1
+        ((flat_place at view d).1 +ℤ pos (border_height (box_in at below d)) -ℤ (moved (flat_place at view n) (border_corner (at n).item)).1) ≤ℤ pos 2147483647 →
+        ((flat_place at view d).1 +ℤ pos (border_height (box_in at below d)) -ℤ (moved (flat_place at view n) (border_corner (at n).item)).1)
         ≤ℤ pos (reach_of at view n).1 }
     ensures view_across { (at : ℕ → Node) → IsLinked at → IsShallow at → (view : View) (below : Inputs) (d : ℕ) →
         inputs_in_view at view d ≡ Some below → clipped_by at d ≡ None → is_on_screen at d ≡ false →
-        (flat_place at view d).0 +ℤ pos (border_width (box_in at below d)) ≤ℤ pos 2147483647 →
-        (flat_place at view d).0 +ℤ pos (border_width (box_in at below d)) ≤ℤ pos (reach_of_view at view).0 }
+        ((flat_place at view d).0 +ℤ pos (border_width (box_in at below d))) ≤ℤ pos 2147483647 →
+        ((flat_place at view d).0 +ℤ pos (border_width (box_in at below d))) ≤ℤ pos (reach_of_view at view).0 }
     ensures view_down { (at : ℕ → Node) → IsLinked at → IsShallow at → (view : View) (below : Inputs) (d : ℕ) →
         inputs_in_view at view d ≡ Some below → clipped_by at d ≡ None → is_on_screen at d ≡ false →
-        (flat_place at view d).1 +ℤ pos (border_height (box_in at below d)) ≤ℤ pos 2147483647 →
-        (flat_place at view d).1 +ℤ pos (border_height (box_in at below d)) ≤ℤ pos (reach_of_view at view).1 }
+        ((flat_place at view d).1 +ℤ pos (border_height (box_in at below d))) ≤ℤ pos 2147483647 →
+        ((flat_place at view d).1 +ℤ pos (border_height (box_in at below d))) ≤ℤ pos (reach_of_view at view).1 }
 {}
 
 /// How far something reaches is met: by the padding box, or the viewport's own size, or by one of these border boxes, or it is the
