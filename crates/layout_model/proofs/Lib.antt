@@ -1,6 +1,8 @@
 mod Rows
 pub mod Paths
 mod Handed
+pub mod Ancestors
+pub mod Holders
 pub mod Inputs
 mod Caps
 mod Sums

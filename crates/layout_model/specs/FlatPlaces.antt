@@ -1,6 +1,6 @@
 -- Where border boxes stand in their document while nothing is scrolled (CSS 2.2, 9.4 and 10; CSS Positioned Layout 3, 2 and 3). All
 -- numbers are units of 1/64 pixel, x to the right and y downwards.
-use Rattle.std.specs.Prelude.{ℕ, zero, suc, ◌+◌, cond, ◌==◌, Option, Some, None, List, [], ◌∷◌, sum_by, ℤ, pos, neg_ℤ, ◌+ℤ◌, ◌-ℤ◌, unwrap_or}
+use Rattle.std.specs.Prelude.{ℕ, zero, suc, cond, ◌==◌, Option, Some, None, List, [], ◌∷◌, sum_by, ℤ, pos, neg_ℤ, ◌+ℤ◌, ◌-ℤ◌, unwrap_or}
 use Rattle.px_units.specs.Lengths.{cap, clamped}
 use Rattle.layout_model.specs.Styles.{Sides, Position, StaticPosition, RelativePosition, AbsolutePosition, FixedPosition}
 use Rattle.layout_model.specs.Items.{Item}
