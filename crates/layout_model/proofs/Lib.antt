@@ -8,6 +8,8 @@ mod Caps
 mod Sums
 pub mod Offsets
 pub mod Trees
+pub mod Farthest
+pub mod Orders
 pub mod Reaches
 pub mod Attained
 mod Limits

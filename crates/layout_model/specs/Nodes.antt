@@ -140,6 +140,10 @@ is_on_screen at n = is_screen (holder at (top_of (held at) n))
 abbrev pub IsLinked : (ℕ → Node) → Type 0
 IsLinked at = (p c : ℕ) → Contains ((at p).children) c → (at c).parent ≡ Some p
 
+-- each node with a parent stands among that one's children
+abbrev pub IsListed : (ℕ → Node) → Type 0
+IsListed at = (c p : ℕ) → (at c).parent ≡ Some p → Contains ((at p).children) c
+
 -- no tree has more levels than are looked at
 abbrev pub IsShallow : (ℕ → Node) → Type 0
 IsShallow at = (n : ℕ) → depth_of at n ≤ levels

@@ -4,7 +4,7 @@ ghost use Rattle.std.specs.Prelude.{◌==◌, ◌||◌, ◌&&◌, ◌≡◌, ◌
 ghost use Rattle.px_units.specs.Lengths.{LengthValue, cap, clamped, Automatic, Pixels, Percentage};
 ghost use Rattle.layout_model.specs.Styles.{ContentBox, BorderBox, StaticPosition, RelativePosition, AbsolutePosition, FixedPosition};
 ghost use Rattle.layout_model.specs.Items.{Item, BlockKind};
-ghost use Rattle.layout_model.specs.Nodes.{Node, levels, depth_of, ancestors_of, is_in_path, top_of, position_of, is_positioned, is_in_flow, HeldByElement, HeldByPage, HeldByScreen, holder, held_by, held, is_on_screen, IsLinked, IsShallow};
+ghost use Rattle.layout_model.specs.Nodes.{Node, levels, depth_of, ancestors_of, is_in_path, top_of, position_of, is_positioned, is_in_flow, HeldByElement, HeldByPage, HeldByScreen, holder, held_by, held, is_on_screen, IsLinked, IsListed, IsShallow};
 ghost use Rattle.layout_model.specs.Clips.{is_block};
 ghost use Rattle.layout_model.specs.Boxes.{Inputs, against, used_insets, is_stretched, computed, child_inputs, inputs_held, inputs_in, box_in, kids_of, total, padding_width, padding_height, padding_size, border_width, border_height};
 ghost use Rattle.layout_model.specs.Views.{View, view_size, inputs_in_view};
@@ -245,23 +245,23 @@ pub fn reaches_cover_the_padding_box()
 {}
 
 /// A scroll container reaches at least as far as each box that it is the nearest clipping one to hold, and a viewport as far as each
-/// box that none clips and the page holds. All are in the tree that is shown.
+/// box that none clips and the page holds, where each node with a parent is among its children.
 pub fn no_box_passes_the_reach()
-    ensures across { (at : ℕ → Node) → IsLinked at → IsShallow at → (view : View) (inputs below : Inputs) (n d : ℕ) →
+    ensures across { (at : ℕ → Node) → IsListed at → IsShallow at → (view : View) (inputs below : Inputs) (n d : ℕ) →
         inputs_in_view at view n ≡ Some inputs → inputs_in_view at view d ≡ Some below → clipped_by at d ≡ Some n →
         ((flat_place at view d).0 +ℤ pos (border_width (box_in at below d)) -ℤ (moved (flat_place at view n) (border_corner (at n).item)).0) ≤ℤ pos 2147483647 →
         ((flat_place at view d).0 +ℤ pos (border_width (box_in at below d)) -ℤ (moved (flat_place at view n) (border_corner (at n).item)).0)
         ≤ℤ pos (reach_of at view n).0 }
-    ensures down { (at : ℕ → Node) → IsLinked at → IsShallow at → (view : View) (inputs below : Inputs) (n d : ℕ) →
+    ensures down { (at : ℕ → Node) → IsListed at → IsShallow at → (view : View) (inputs below : Inputs) (n d : ℕ) →
         inputs_in_view at view n ≡ Some inputs → inputs_in_view at view d ≡ Some below → clipped_by at d ≡ Some n →
         ((flat_place at view d).1 +ℤ pos (border_height (box_in at below d)) -ℤ (moved (flat_place at view n) (border_corner (at n).item)).1) ≤ℤ pos 2147483647 →
         ((flat_place at view d).1 +ℤ pos (border_height (box_in at below d)) -ℤ (moved (flat_place at view n) (border_corner (at n).item)).1)
         ≤ℤ pos (reach_of at view n).1 }
-    ensures view_across { (at : ℕ → Node) → IsLinked at → IsShallow at → (view : View) (below : Inputs) (d : ℕ) →
+    ensures view_across { (at : ℕ → Node) → IsListed at → IsShallow at → (view : View) (below : Inputs) (d : ℕ) →
         inputs_in_view at view d ≡ Some below → clipped_by at d ≡ None → is_on_screen at d ≡ false →
         ((flat_place at view d).0 +ℤ pos (border_width (box_in at below d))) ≤ℤ pos 2147483647 →
         ((flat_place at view d).0 +ℤ pos (border_width (box_in at below d))) ≤ℤ pos (reach_of_view at view).0 }
-    ensures view_down { (at : ℕ → Node) → IsLinked at → IsShallow at → (view : View) (below : Inputs) (d : ℕ) →
+    ensures view_down { (at : ℕ → Node) → IsListed at → IsShallow at → (view : View) (below : Inputs) (d : ℕ) →
         inputs_in_view at view d ≡ Some below → clipped_by at d ≡ None → is_on_screen at d ≡ false →
         ((flat_place at view d).1 +ℤ pos (border_height (box_in at below d))) ≤ℤ pos 2147483647 →
         ((flat_place at view d).1 +ℤ pos (border_height (box_in at below d))) ≤ℤ pos (reach_of_view at view).1 }
