@@ -34,6 +34,10 @@ pub in_self : (at : ℕ → Node) (n : ℕ) → is_in_path at n n ≡ true
 unfolding is_in_path path_of path_up
 in_self at n = among_first n (path_above (path_up 65535 at) ((at n).parent))
 
+pub top_of_top : (at : ℕ → Node) (n : ℕ) → (at n).parent ≡ None → top_of at n ≡ n
+unfolding top_of last_of
+top_of_top at n is = ap (last_of n) (path_top at n is)
+
 module _ (at : ℕ → Node) (shallow : IsShallow at) where
   pub in_top : (a n : ℕ) → (at n).parent ≡ None → is_in_path at a n ≡ (nat_eq a n || false)
   unfolding is_in_path is_among

@@ -1,11 +1,11 @@
 -- What holds a box is the page, the screen, or a proper ancestor's box: so holders go up as parents do, by no more levels.
-use Rattle.std.proofs.Common.{◌≡◌, ◌≤◌, ◌<◌, ◌+◌, ℕ, zero, suc, true, false, cond, Option, Some, None, refl, ap, ◌∙◌, ◌⊎◌, inl, inr, arith}
+use Rattle.std.proofs.Common.{◌≡◌, ◌≤◌, ◌<◌, ◌+◌, ℕ, zero, suc, true, false, cond, Option, Some, None, [], ◌∷◌, refl, ap, ◌∙◌, ◌⊎◌, inl, inr, arith}
 use Rattle.std.specs.Prelude.{find, is_some}
 use Rattle.std.proofs.lemmas.Bool.{false≢true}
 use Rattle.layout_model.specs.Styles.{Position, StaticPosition, RelativePosition, AbsolutePosition, FixedPosition}
-use Rattle.layout_model.specs.Nodes.{Node, levels, ancestors_of, depth_of, is_among, is_in_path, top_of, position_of, is_positioned, is_flow, is_in_flow, Holder, HeldByElement, HeldByPage, HeldByScreen, held_by, holder_by, holder, element_of, held, IsShallow}
-use Rattle.layout_model.proofs.Paths.{path_self, depth_child, depth_least, depth_top, ancestors_child}
-use Rattle.layout_model.proofs.Ancestors.{found_among, in_self, proper_in_path, proper_depth, in_path_top}
+use Rattle.layout_model.specs.Nodes.{Node, levels, ancestors_of, depth_of, is_among, is_in_path, top_of, position_of, is_positioned, is_flow, is_in_flow, Holder, HeldByElement, HeldByPage, HeldByScreen, held_by, holder_by, holder, element_of, is_screen, held, holders_of, is_on_screen, IsShallow}
+use Rattle.layout_model.proofs.Paths.{path_self, depth_child, depth_least, depth_top, ancestors_child, ancestors_top}
+use Rattle.layout_model.proofs.Ancestors.{found_among, in_self, top_of_top, proper_parent, proper_in_path, proper_depth, down_path, in_path_trans, in_path_depth, in_path_top, top_child}
 
 pub top_static : (at : ℕ → Node) (n : ℕ) → (at n).parent ≡ None → position_of (at n) ≡ StaticPosition
 top_static at n top = ap (λ found. cond (is_some found) ((at n).item.style.position) StaticPosition) top
@@ -73,6 +73,11 @@ pub holder_proper : (at : ℕ → Node) (n h : ℕ) → holder at n ≡ HeldByEl
 unfolding holder
 holder_proper at n h is = by_position at n h (position_of (at n)) is
 
+pub element_is : (by : Holder) (h : ℕ) → element_of by ≡ Some h → by ≡ HeldByElement h
+element_is (HeldByElement m) h is = cc
+element_is HeldByPage h is = absurd cc
+element_is HeldByScreen h is = absurd cc
+
 pub holder_cases : (at : ℕ → Node) (n : ℕ) → (element_of (holder at n) ≡ None) ⊎ ((h : ℕ) × (holder at n ≡ HeldByElement h))
 holder_cases at n = by_holder (holder at n) refl
   where
@@ -80,6 +85,15 @@ holder_cases at n = by_holder (holder at n) refl
     by_holder (HeldByElement h) is = inr (h, is)
     by_holder HeldByPage is = inl (ap element_of is)
     by_holder HeldByScreen is = inl (ap element_of is)
+
+-- of what no element holds
+pub holders_of_unheld : (at : ℕ → Node) (n : ℕ) → element_of (holder at n) ≡ None → holders_of at n ≡ []
+unfolding holders_of
+holders_of_unheld at n none = ancestors_top (held at) n none
+
+pub on_screen_unheld : (at : ℕ → Node) (n : ℕ) → element_of (holder at n) ≡ None → is_on_screen at n ≡ is_screen (holder at n)
+unfolding is_on_screen
+on_screen_unheld at n none = ap (λ top. is_screen (holder at top)) (top_of_top (held at) n none)
 
 module _ (at : ℕ → Node) (shallow : IsShallow at) where
   pub holder_above : (n h : ℕ) → holder at n ≡ HeldByElement h → is_in_path at h n ≡ true
@@ -110,3 +124,30 @@ module _ (at : ℕ → Node) (shallow : IsShallow at) where
 
   pub held_shallow : IsShallow (held at)
   held_shallow n = omega (arith, held_depth n, shallow n)
+
+  -- what holds a box, and what holds that one in turn
+  pub holders_of_held : (n h : ℕ) → holder at n ≡ HeldByElement h → holders_of at n ≡ h ∷ holders_of at h
+  unfolding holders_of
+  holders_of_held n h is = ancestors_child (held at) n h (ap element_of is) ∙ path_self (held at) h (held_shallow h)
+
+  pub on_screen_held : (n h : ℕ) → holder at n ≡ HeldByElement h → is_on_screen at n ≡ is_on_screen at h
+  unfolding is_on_screen
+  on_screen_held n h is = ap (λ top. is_screen (holder at top)) (top_child (held at) held_shallow n h (ap element_of is))
+
+  pub held_in_path : (a n : ℕ) → is_in_path (held at) a n ≡ true → is_in_path at a n ≡ true
+  held_in_path a n inside = down_path (held at) held_shallow (λ m. is_in_path at a m ≡ true) step a n inside (in_self at a)
+    where
+      step : (c p : ℕ) → (held at c).parent ≡ Some p → is_in_path at a p ≡ true → is_in_path at a c ≡ true
+      step c p is inside = in_path_trans at shallow a p c inside (holder_above c p (element_is (holder at c) p is))
+
+  -- each of the elements that hold a box is an ancestor
+  pub holders_above : (h n : ℕ) → is_among h (holders_of at n) ≡ true → is_in_path at h n ≡ true
+  unfolding holders_of
+  holders_above h n inside = held_in_path h n (proper_in_path (held at) held_shallow h n inside)
+
+  pub holders_less : (h n : ℕ) → is_among h (holders_of at n) ≡ true → depth_of at h < depth_of at n
+  unfolding holders_of
+  holders_less h n inside =
+      let up = proper_parent (held at) held_shallow h n inside in
+      let over : is_in_path at h up.0 ≡ true = held_in_path h up.0 up.2 in
+      omega (arith, in_path_depth at shallow h up.0 over, holder_less n up.0 (element_is (holder at n) up.0 up.1))

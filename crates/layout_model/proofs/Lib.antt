@@ -7,6 +7,7 @@ pub mod Inputs
 mod Caps
 mod Sums
 pub mod Offsets
+pub mod FlatPlaces
 pub mod Trees
 pub mod Farthest
 pub mod Orders
