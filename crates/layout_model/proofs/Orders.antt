@@ -5,13 +5,11 @@ use Rattle.std.specs.Prelude.{not, ◌&&◌, ◌==◌, flat_map, Contains}
 use Rattle.layout_model.specs.Nodes.{Node, levels, path_above, path_up, path_of, depth_of, order_down, tree_order, IsShallow, IsListed}
 use Rattle.layout_model.specs.Boxes.{has_box_along, has_box_in, is_box_under}
 use Rattle.layout_model.specs.Clips.{is_block}
+use Rattle.layout_model.proofs.Trees.{contains_next}
 
 both_true : (a b : Bool) → (a && b) ≡ true → b ≡ true
 both_true true b is = is
 both_true false b is = cc
-
-contains_next : (x : ℕ) (xs : List ℕ) (c : ℕ) → Contains xs c → Contains (x ∷ xs) c
-contains_next x xs c at = (suc (at.0), omega arith, at.2)
 
 module _ (at : ℕ → Node) where
   among_kids : (f : ℕ → List ℕ) (kids : List ℕ) (k c : ℕ) → Contains kids k → Contains (f k) c → Contains (flat_map f kids) c
