@@ -39,7 +39,8 @@ pub fn inputs_do_not_depend_on_children()
         item.style.height ≡ Percentage hundredths → inputs.height ≡ Some basis →
         (child_inputs item inputs).height ≡ Some ((computed item inputs inside).height) }
     ensures indefinite { (item : Item) (inputs : Inputs) (hundredths : ℕ) →
-        item.style.height ≡ Percentage hundredths → inputs.height ≡ None → (child_inputs item inputs).height ≡ None }
+        item.style.height ≡ Percentage hundredths → inputs.height ≡ None →
+        is_stretched inputs (used_insets item.style.inset inputs) ≡ false → (child_inputs item inputs).height ≡ None }
     ensures automatic { (item : Item) (inputs : Inputs) → item.style.height ≡ Automatic →
         is_stretched inputs (used_insets item.style.inset inputs) ≡ false → (child_inputs item inputs).height ≡ None }
     ensures stretched { (item : Item) (inputs : Inputs) (inside : ℕ) → item.kind ≡ BlockKind → item.style.height ≡ Automatic →

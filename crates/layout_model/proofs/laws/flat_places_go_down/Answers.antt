@@ -1,8 +1,8 @@
-use Rattle.std.proofs.Common.{◌≡◌, ℕ, ℤ, ap, ◌∙◌, inl, inr, arith}
+use Rattle.std.proofs.Common.{◌≡◌, ℤ, ap, ◌∙◌, inl, inr, arith}
 use Rattle.std.specs.Prelude.{pos, ◌+ℤ◌, ◌-ℤ◌}
 use Rattle.std.proofs.lemmas.Int.{ints}
 use Rattle.px_units.specs.Lengths.{clamped}
-use Rattle.layout_model.specs.Nodes.{Holder, HeldByPage, HeldByScreen, holder}
+use Rattle.layout_model.specs.Nodes.{holder}
 use Rattle.layout_model.specs.Boxes.{box_in, border_width}
 use Rattle.layout_model.specs.FlatPlaces.{corner_of, above_of, offset_of, flat_place, flat_up}
 use Rattle.layout_model.proofs.Inputs.{under_view}
