@@ -1,13 +1,13 @@
 -- Who has a box, from a node's parent, and which inputs it has, from what holds it: the inputs of holders rest on no bound on levels.
-use Rattle.std.proofs.Common.{◌≡◌, ◌≤◌, ℕ, zero, suc, Bool, true, false, cond, Option, Some, None, refl, ap, sym, ◌∙◌, arith}
+use Rattle.std.proofs.Common.{◌≡◌, ◌≤◌, ℕ, zero, suc, Bool, true, false, cond, Option, Some, None, refl, ap, sym, subst, ◌∙◌, inl, inr, arith, eqb-true}
 use Rattle.std.specs.Prelude.{◌==◌, ◌&&◌, not, is_some, option_and_then}
 use Rattle.std.proofs.lemmas.Bool.{false≢true}
 use Rattle.layout_model.specs.Clips.{is_block}
 use Rattle.layout_model.specs.Nodes.{Node, levels, path_of, path_up, depth_of, is_in_path, is_flow, is_in_flow, Holder, HeldByElement, HeldByPage, HeldByScreen, holder, IsShallow}
 use Rattle.layout_model.specs.Boxes.{Inputs, child_inputs, box_in, inputs_held, inputs_by_element, inputs_by, inputs_up, inputs_at, has_box_along, has_box_in, inputs_in}
 use Rattle.layout_model.specs.Views.{View, view_inputs, inputs_under, inputs_in_view}
-use Rattle.layout_model.proofs.Paths.{path_child, path_top, depth_least}
-use Rattle.layout_model.proofs.Ancestors.{up_path}
+use Rattle.layout_model.proofs.Paths.{path_child, path_top, depth_child, depth_least}
+use Rattle.layout_model.proofs.Ancestors.{option_cases, in_self, above_in, up_path}
 use Rattle.layout_model.proofs.Holders.{holder_of_child, holder_of_top, top_static, holder_above, holder_less}
 
 pub box_child : (at : ℕ → Node) (root c p : ℕ) → (at c).parent ≡ Some p → depth_of at p ≤ levels → has_box_in at root c ≡ (not ((at c).item.style.hidden) && (is_block ((at p).item.kind) && has_box_in at root p))
@@ -85,18 +85,43 @@ pub inputs_of_top : (at : ℕ → Node) (viewport : Inputs) (n : ℕ) → (at n)
 inputs_of_top at viewport n top =
     inputs_on_page at viewport n (holder_of_top at n top) ∙ ap (λ position. record viewport { flow = is_flow position }) (top_static at n top)
 
+all_three : (hidden block box : Bool) → (not hidden && (block && box)) ≡ true → (hidden ≡ false) × (block ≡ true) × (box ≡ true)
+all_three true block box is = absurd (false≢true is)
+all_three false false box is = absurd (false≢true is)
+all_three false true box is = (refl, refl, is)
+
+shown_root : (hidden : Bool) (n root : ℕ) → (not hidden && n == root) ≡ true → (hidden ≡ false) × (n ≡ root)
+shown_root true n root is = absurd (false≢true is)
+shown_root false n root is = (refl, eqb-true n root is)
+
+-- a child with a box is displayed, in a block with one
+pub boxed_child : (at : ℕ → Node) (root c p : ℕ) → (at c).parent ≡ Some p → depth_of at p ≤ levels → has_box_in at root c ≡ true → ((at c).item.style.hidden ≡ false) × (is_block ((at p).item.kind) ≡ true) × (has_box_in at root p ≡ true)
+boxed_child at root c p is short boxed = all_three ((at c).item.style.hidden) (is_block ((at p).item.kind)) (has_box_in at root p) (sym (box_child at root c p is short) ∙ boxed)
+
+-- a box without a parent is the displayed root element's
+pub boxed_top : (at : ℕ → Node) (root n : ℕ) → (at n).parent ≡ None → has_box_in at root n ≡ true → ((at n).item.style.hidden ≡ false) × (n ≡ root)
+boxed_top at root n top boxed = shown_root ((at n).item.style.hidden) n root (sym (box_top at root n top) ∙ boxed)
+
 module _ (at : ℕ → Node) (shallow : IsShallow at) where
   -- a box in a node's means that the node has one, and so does what holds it
   pub box_above : (root a n : ℕ) → is_in_path at a n ≡ true → has_box_in at root n ≡ true → has_box_in at root a ≡ true
-  box_above root a n inside boxed = up_path at shallow (λ m. has_box_in at root m ≡ true) up a n inside boxed
-    where
-      both : (hidden block box : Bool) → (not hidden && (block && box)) ≡ true → box ≡ true
-      both true block box is = absurd (false≢true is)
-      both false false box is = absurd (false≢true is)
-      both false true box is = is
+  box_above root a n inside boxed =
+      up_path at shallow (λ m. has_box_in at root m ≡ true) (λ c p is boxed. (boxed_child at root c p is (shallow p) boxed).2) a n inside boxed
 
-      up : (c p : ℕ) → (at c).parent ≡ Some p → has_box_in at root c ≡ true → has_box_in at root p ≡ true
-      up c p is boxed = both ((at c).item.style.hidden) (is_block ((at p).item.kind)) (has_box_in at root p) (sym (box_child at root c p is (shallow p)) ∙ boxed)
+  rooted_within : (high root n : ℕ) → depth_of at n ≤ high → has_box_in at root n ≡ true → (is_in_path at root n ≡ true) × ((at root).parent ≡ None)
+  rooted_within zero root n low boxed = absurd (omega (arith, depth_least at n))
+  rooted_within (suc high) root n low boxed =
+      elim (option_cases ((at n).parent)) [
+        | inl top ↦ let same = (boxed_top at root n top boxed).1 in
+            (subst (λ m. is_in_path at m n ≡ true) same (in_self at n), subst (λ m. (at m).parent ≡ None) same top)
+        | inr p ↦
+            let over = rooted_within high root p.0 (omega (arith, depth_child at n p.0 p.1 (shallow p.0))) ((boxed_child at root n p.0 p.1 (shallow p.0) boxed).2) in
+            (above_in at shallow root n p.0 p.1 over.0, over.1)
+      ]
+
+  -- each box is the root element's or in it
+  pub boxed_in_root : (root n : ℕ) → has_box_in at root n ≡ true → (is_in_path at root n ≡ true) × ((at root).parent ≡ None)
+  boxed_in_root root n boxed = rooted_within (depth_of at n) root n (omega arith) boxed
 
   pub box_of_holder : (root n h : ℕ) → holder at n ≡ HeldByElement h → has_box_in at root n ≡ true → has_box_in at root h ≡ true
   box_of_holder root n h is boxed = box_above root h n (holder_above at shallow n h is) boxed

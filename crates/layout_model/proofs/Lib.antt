@@ -8,6 +8,8 @@ mod Caps
 mod Sums
 pub mod Offsets
 pub mod FlatPlaces
+pub mod Unpositioned
+pub mod Clipped
 pub mod Trees
 pub mod Farthest
 pub mod Orders
