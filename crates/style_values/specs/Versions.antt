@@ -1,5 +1,6 @@
 -- Which version of the script language first has the property of a declaration. That only the second one has positions is this
 -- project's own.
+use Rattle.std.specs.Prelude.{Bool, true, false, Option, Some, None}
 use Rattle.layout_model.specs.Styles.{Declaration, SetDisplay, SetWidth, SetHeight, SetMinWidth, SetMinHeight, SetMaxWidth, SetMaxHeight, SetMargin, SetPadding, SetBorder, SetBoxSizing, SetOverflow, SetPosition, SetTop, SetRight, SetBottom, SetLeft}
 use Rattle.text_io.specs.declared.kinds.Version.{Version}
 use Rattle.text_io.specs.declared.kinds.Version.TheVariants.{First, Second}
@@ -22,3 +23,10 @@ version_of (SetTop value) = Second
 version_of (SetRight value) = Second
 version_of (SetBottom value) = Second
 version_of (SetLeft value) = Second
+
+-- whether a version has what this is the first version of: where there is none, no version has it
+abbrev pub reads : Version → Option Version → Bool
+reads version None = false
+reads First (Some First) = true
+reads First (Some Second) = false
+reads Second (Some _) = true

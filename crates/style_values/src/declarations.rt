@@ -28,7 +28,7 @@ impl Declaration {
 
     /// The first version of the script language that has the property.
     pub fn version(&self) -> Version
-        ensures { result ≡ version_of (seen_declaration self) }
+        ensures { result ≡ version_of (seen_declaration self.now) }
     {
         match self {
             Declaration::Position(_)
