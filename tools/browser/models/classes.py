@@ -22,14 +22,13 @@ FIREFOX = ALL_THREE | {HIDDEN_READS_NOTHING, DEAD_READS_THROW, SCROLLS_ARE_CUT, 
 WEBKIT = ALL_THREE | {SCROLLS_ARE_CUT, FRAMES_IN_TIME, CROSSED_IS_TURNED} | set('''depth-at-gathering crossed-root entries-before-tasks
     queries-of-empty-page resize-observers-by-use'''.split())
 CLASSES = {'chromium': CHROMIUM, 'firefox': FIREFOX, 'webkit': WEBKIT}
-FIRST_VERSION = grammar.Language((1,))
 NUMBER = re.compile(r'-?\d+(?:\.\d+)?(?:/\d+)?')
 NEAR = 0.15     # pixels, by which sums of sixtieths may differ
 
 
 def run(text, classes, told=(), order=None):
     """The model's run of a script."""
-    model = Model(grammar.parse(text.encode('latin-1'), FIRST_VERSION), classes, told, order)
+    model = Model(grammar.parse(text.encode('latin-1')), classes, told, order)
     model.run()
     return model
 
@@ -37,7 +36,7 @@ def run(text, classes, told=(), order=None):
 def by_rules(text):
     """The rules' trace."""
     lines = []
-    Page(grammar.parse(text.encode('latin-1'), FIRST_VERSION), lambda line, script_line, about: lines.append(line)).run()
+    Page(grammar.parse(text.encode('latin-1')), lambda line, script_line, about: lines.append(line)).run()
     return lines
 
 
