@@ -12,3 +12,4 @@ pub mod Moved
 pub mod Scrollers
 pub mod Climbed
 pub mod Shifted
+pub mod Measuring
