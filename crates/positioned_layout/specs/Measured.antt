@@ -53,3 +53,7 @@ AreMeasuresOf at view measured = (n : ℕ) → IsComeTo at view n → IsMeasureO
 -- those of a node and its ancestors, on which its place rests: what holds a box is an ancestor
 abbrev pub AreMeasuresUp : (ℕ → Node) → View → ℕ → (ℕ → Option Measured) → Type 0
 AreMeasuresUp at view n measured = (m : ℕ) → is_in_path at m n ≡ true → IsMeasureOf at view m (measured m)
+
+-- the same of a node whose box there is
+abbrev pub IsMeasuredAt : (ℕ → Node) → View → ℕ → Measured → Type 0
+IsMeasuredAt at view n measured = measured ≡ measured_with at view n (inputs_under at view n) (box_in at (inputs_under at view n) n)

@@ -1,5 +1,5 @@
 -- What this crate's types stand for in the definitions of layout.
-use Rattle.std.specs.Prelude.{ℕ, ℤ, pos, ◌≤ℤ◌, IfSome, option_map, unsigned_abs}
+use Rattle.std.specs.Prelude.{ℕ, ◌+◌, ◌*◌, ℤ, pos, neg_ℤ, ◌≤ℤ◌, IfSome, option_map, unsigned_abs}
 use Rattle.px_units.specs.declared.Point.{Point}
 use Rattle.px_units.specs.declared.Size.{Size}
 use Rattle.layout_model.specs.Nodes.{Holder as HolderModel, HeldByElement, HeldByPage, HeldByScreen}
@@ -71,3 +71,36 @@ pub record IsMeasure (measure : Measure) : Type 0 where
   pub above : IsSpan measure.above
   pub padding : IsSpanOfSize measure.padding
   pub border : IsSpanOfSize measure.border
+
+-- as far from 0 as the largest length at most
+abbrev pub IsReach : ℤ → Type 0
+IsReach units = (neg_ℤ (pos 2147483647) ≤ℤ units) × (units ≤ℤ pos 2147483647)
+
+-- as far from 0 as so many boxes, one placed by the other, can be
+abbrev pub IsNear : ℕ → ℤ → Type 0
+IsNear boxes units = (neg_ℤ (pos (2199023255552 * boxes)) ≤ℤ units) × (units ≤ℤ pos (2199023255552 * boxes))
+
+abbrev pub IsNearPoint : ℕ → Point → Type 0
+IsNearPoint boxes point = IsNear boxes point.left × IsNear boxes point.top
+
+-- and a border further
+abbrev pub IsCorner : ℕ → ℤ → Type 0
+IsCorner boxes units =
+    (neg_ℤ (pos (2199023255552 * boxes + 1099511627776)) ≤ℤ units) × (units ≤ℤ pos (2199023255552 * boxes + 1099511627776))
+
+abbrev pub IsCornerPoint : ℕ → Point → Type 0
+IsCornerPoint boxes point = IsCorner boxes point.left × IsCorner boxes point.top
+
+pub record IsSide (side : Side) : Type 0 where
+  pub containing : IsSpan side.containing
+  pub near : IfSome side.near IsReach
+  pub far : IfSome side.far IsReach
+  pub near_margin : IsSpan side.near_margin
+  pub far_margin : IsSpan side.far_margin
+  pub border : IsSpan side.border
+
+-- an element that holds a box
+abbrev pub IfElement : Holder → (ℕ → Type 0) → Type 0
+IfElement (holder.Node node) fact = fact node.0
+IfElement holder.Page fact = Unit {0}
+IfElement holder.Screen fact = Unit {0}

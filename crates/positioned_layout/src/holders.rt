@@ -1,10 +1,11 @@
 //! What holds a box.
 
-ghost use Rattle.std.specs.Prelude.{◌≡◌, ◌<◌, ℕ, length, option_map, find};
+ghost use Rattle.std.specs.Prelude.{◌≡◌, ◌<◌, ℕ, length, option_map, find, IfSome};
 ghost use Rattle.layout_model.specs.Nodes.{Node, ancestors_of, position_of, is_positioned, holder};
+ghost use Rattle.element_tree.specs.Forest.{IsForest, depth};
 ghost use Rattle.element_tree.specs.Links.{number};
 ghost use Rattle.style_values.specs.Seen.{seen_position};
-ghost use Rattle.positioned_layout.specs.Seen.{seen_holder};
+ghost use Rattle.positioned_layout.specs.Seen.{seen_holder, IfElement};
 ghost use Rattle.positioned_layout.specs.Trees.{AreNodesOf};
 
 use crate::{Holder, Placed};
@@ -14,7 +15,8 @@ use style_values::Position;
 // How a node is positioned: a root element counts as static.
 pub(crate) fn position<P: Placed>(tree: &Tree<P>, node: NodeId) -> Position
     requires { node.0 < length tree.now.nodes }
-    ensures { (at : ℕ → Node) → AreNodesOf P.placed tree.now.nodes at → seen_position result ≡ position_of (at node.0) }
+    ensures value { (at : ℕ → Node) → AreNodesOf P.placed tree.now.nodes at → seen_position result ≡ position_of (at node.0) }
+    ensures forest { IsForest tree.now.most_depth tree.now.nodes }
 {
     match tree.parent(node) {
         Some(_) => tree.payload(node).style().position,
@@ -34,10 +36,11 @@ pub(crate) fn is_positioned<P: Placed>(tree: &Tree<P>, node: NodeId) -> bool
 }
 
 // The nearest ancestor that is positioned.
-fn positioned_ancestor<P: Placed>(tree: &Tree<P>, node: NodeId) -> Option<NodeId>
+pub(crate) fn positioned_ancestor<P: Placed>(tree: &Tree<P>, node: NodeId) -> Option<NodeId>
     requires { node.0 < length tree.now.nodes }
-    ensures { (at : ℕ → Node) → AreNodesOf P.placed tree.now.nodes at →
+    ensures value { (at : ℕ → Node) → AreNodesOf P.placed tree.now.nodes at →
         option_map number result ≡ find (λ a. is_positioned (at a)) (ancestors_of at node.0) }
+    ensures above { IfSome result (λ ancestor. (ancestor.0 < length tree.now.nodes) × (depth tree.now.nodes ancestor.0 < depth tree.now.nodes node.0)) }
 {
     let mut up = tree.parent(node);
     while let Some(ancestor) = up {
@@ -50,10 +53,13 @@ fn positioned_ancestor<P: Placed>(tree: &Tree<P>, node: NodeId) -> Option<NodeId
 }
 
 /// What holds a node's box: in flow its parent's box; for an absolute one that of its nearest positioned ancestor, or the page where
-/// there is none; for a fixed one the screen; for a root element, which counts as static, the page. No memory.
-pub fn holder<P: Placed>(tree: &Tree<P>, node: NodeId) -> Holder
+/// there is none; for a fixed one the screen; for a root element, which counts as static, the page. An element that holds it is nearer
+/// to the root. No memory.
+pub fn holder_of<P: Placed>(tree: &Tree<P>, node: NodeId) -> Holder
     requires { node.0 < length tree.now.nodes }
-    ensures { (at : ℕ → Node) → AreNodesOf P.placed tree.now.nodes at → seen_holder result ≡ holder at node.0 }
+    ensures value { (at : ℕ → Node) → AreNodesOf P.placed tree.now.nodes at → seen_holder result ≡ holder at node.0 }
+    ensures above { IfElement result (λ element. (element < length tree.now.nodes) × (depth tree.now.nodes element < depth tree.now.nodes node.0)) }
+    ensures forest { IsForest tree.now.most_depth tree.now.nodes }
 {
     let held = match position(tree, node) {
         Position::Static | Position::Relative => tree.parent(node),

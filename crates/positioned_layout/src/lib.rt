@@ -6,13 +6,13 @@
 mod holders;
 mod insets;
 mod places;
-mod reach;
+mod reaches;
 
 use element_tree::NodeId;
-pub use holders::holder;
+pub use holders::holder_of;
 pub use places::flat_place;
 use px_units::{Point, Size};
-pub use reach::reach;
+pub use reaches::reach;
 use style_values::Style;
 
 /// What a tree carries for placing: elements with a style.
