@@ -1,9 +1,9 @@
 -- The words of a declaration: its property and its value (CSS 2.2, 8 to 11; CSS Box Sizing 3, 3.3; CSS Positioned Layout 3, 2 and 3).
-use Rattle.std.specs.Prelude.{ℕ, unsigned_abs, Bool, true, false, List, [], ◌++◌, Option, Some, None, codes}
+use Rattle.std.specs.Prelude.{ℕ, Bool, true, false, List, [], ◌++◌, Option, Some, None, codes}
 use Rattle.px_units.specs.Lengths.{LengthValue, Automatic, Pixels, Percentage, InsetValue, AutomaticInset, InsetPixels, InsetPercentage}
 use Rattle.layout_model.specs.Styles.{Declaration, SetDisplay, SetWidth, SetHeight, SetMinWidth, SetMinHeight, SetMaxWidth, SetMaxHeight, SetMargin, SetPadding, SetBorder, SetBoxSizing, SetOverflow, SetPosition, SetTop, SetRight, SetBottom, SetLeft, Side, TopSide, RightSide, BottomSide, LeftSide, AllSides, BoxSizing, ContentBox, BorderBox, Overflow, OverflowVisible, OverflowHidden, OverflowClip, OverflowScroll, OverflowAuto, Position, StaticPosition, RelativePosition, AbsolutePosition, FixedPosition}
 use Rattle.media_queries.specs.LengthText.{length_text}
-use Rattle.script_text.specs.NumberText.{percent_text, signed_text, with_minus}
+use Rattle.script_text.specs.NumberText.{percent_text, signed_text, signed_percent_text}
 
 -- what follows the name of a property that has sides
 abbrev pub side_text : Side → List ℕ
@@ -45,10 +45,10 @@ position_text AbsolutePosition = codes "absolute"
 position_text FixedPosition = codes "fixed"
 
 unfoldable pub inset_text : InsetValue → List ℕ
-unfolding signed_text percent_text
+unfolding signed_text signed_percent_text
 inset_text AutomaticInset = codes "auto"
 inset_text (InsetPixels units) = signed_text units
-inset_text (InsetPercentage hundredths) = with_minus hundredths (percent_text (unsigned_abs hundredths))
+inset_text (InsetPercentage hundredths) = signed_percent_text hundredths
 
 -- the name of a property, and a value
 pub record DeclarationPhrase : Type 0 where
