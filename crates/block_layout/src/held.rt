@@ -194,13 +194,13 @@ fn fill_below<P: Styled, L: Ledger>(
     steps: &mut Steps<L>,
 ) -> u64
     requires { node.0 < length tree.now.nodes }
-    ensures value { result ≡ height_of (box_with (layout_tree P.style P.kind tree.now.nodes) (option_map seen_inputs inputs) node.0) }
+    ensures value { IsUnpositioned (layout_tree P.style P.kind tree.now.nodes) node.0 → result ≡ height_of (box_with (layout_tree P.style P.kind tree.now.nodes) (option_map seen_inputs inputs) node.0) }
     ensures bound { result ≤ 2 ^ 34 }
-    ensures under { (wanted : ℕ → Option InputsModel) → GoesDown (layout_tree P.style P.kind tree.now.nodes) (depth_of (layout_tree P.style P.kind tree.now.nodes) node.0) wanted →
+    ensures under { IsUnpositioned (layout_tree P.style P.kind tree.now.nodes) node.0 → (wanted : ℕ → Option InputsModel) → GoesDown (layout_tree P.style P.kind tree.now.nodes) (depth_of (layout_tree P.style P.kind tree.now.nodes) node.0) wanted →
         wanted node.0 ≡ option_map seen_inputs inputs → (n : ℕ) → is_in_path (layout_tree P.style P.kind tree.now.nodes) node.0 n ≡ true → n < length places.old →
         held_in places.new n ≡ box_with (layout_tree P.style P.kind tree.now.nodes) (wanted n) n }
     ensures others { (n : ℕ) → is_in_path (layout_tree P.style P.kind tree.now.nodes) node.0 n ≡ false → held_in places.new n ≡ held_in places.old n }
-    ensures ticks { steps.new ≡ steps.old + steps_of (option_map seen_inputs inputs) (box_count (layout_tree P.style P.kind tree.now.nodes) node.0) }
+    ensures ticks { IsUnpositioned (layout_tree P.style P.kind tree.now.nodes) node.0 → steps.new ≡ steps.old + steps_of (option_map seen_inputs inputs) (box_count (layout_tree P.style P.kind tree.now.nodes) node.0) }
 {
     let within = inputs_within(tree, node, inputs);
     let mut inside = 0;

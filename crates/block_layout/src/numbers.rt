@@ -33,10 +33,9 @@ pub(crate) fn against(length: Length, basis: Option<u64>) -> Option<u64>
     }
 }
 
-// An inset against a basis that may be indefinite: there a percentage gives none, as `auto` does (CSS Positioned Layout 3, 3.1). Its
-// style's range bounds a length in pixels.
+// An inset against a basis that may be indefinite: there a percentage gives none, as `auto` does (CSS Positioned Layout 3, 3.1).
 pub(crate) fn inset(length: Length, basis: Option<u64>) -> Option<i64>
-    ensures value { result ≡ inset_against (seen_inset length) basis }
+    ensures { result ≡ inset_against (seen_inset length) basis }
 {
     match length {
         Length::Auto => None,
@@ -52,8 +51,9 @@ pub(crate) fn inset(length: Length, basis: Option<u64>) -> Option<i64>
 fn signed_part(hundredths: i32, basis: u64) -> i64
     ensures { result ≡ clamped (signed_part hundredths basis) }
 {
-    let part = part(hundredths.unsigned_abs(), basis) as i64;
-    if hundredths < 0 { -part } else { part }
+    let largest = i128::from(LARGEST);
+    let part = i128::from(basis) * i128::from(hundredths) / 10_000;
+    part.max(-largest).min(largest) as i64
 }
 
 // A margin or padding: also a vertical one is relative to the containing width (8.3, 8.4).

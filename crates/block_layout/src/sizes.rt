@@ -11,7 +11,7 @@ ghost use Rattle.block_layout.specs.Seen.{seen_kind, seen_item, as_size, as_poin
 use crate::ItemKind;
 use crate::boxes::Given;
 use crate::numbers::{Axis, inset, used_side};
-use layout_model::capped;
+use layout_model::{LARGEST, capped};
 use px_units::{Point, Size};
 use style_values::Style;
 
@@ -117,14 +117,13 @@ pub(crate) fn around_content(style: &Style, width: u64) -> Around
     }
 }
 
-// What insets on both sides leave of a containing block, less what is around the content. Each number is below 2^34.
+// What insets on both sides leave of a containing block, less what is around the content, cut to the largest length.
 fn left_between(containing: u64, one: Option<i64>, other: Option<i64>, around: u64) -> u64
-    requires containing { containing < 2 ^ 40 }
-    requires around { around < 2 ^ 40 }
-    ensures value { result ≡ left_between containing one other around }
+    ensures { result ≡ cap (left_between containing one other around) }
 {
-    let left = containing as i64 - one.unwrap_or(0) - other.unwrap_or(0) - around as i64;
-    left.max(0) as u64
+    let insets = i128::from(one.unwrap_or(0)) + i128::from(other.unwrap_or(0));
+    let left = i128::from(containing) - insets - i128::from(around);
+    left.max(0).min(i128::from(LARGEST)) as u64
 }
 
 // The insets of both sides of an axis.
@@ -135,7 +134,8 @@ struct Insets {
 }
 
 fn horizontal(style: &Style, inputs: Given) -> Insets
-    ensures { (result.one, result.other) ≡ ((used_insets (seen_style style.now).inset (seen_given inputs)).left, (used_insets (seen_style style.now).inset (seen_given inputs)).right) }
+    ensures one { result.one ≡ (used_insets (seen_style style.now).inset (seen_given inputs)).left }
+    ensures other { result.other ≡ (used_insets (seen_style style.now).inset (seen_given inputs)).right }
 {
     Insets {
         one: inset(style.left, Some(inputs.width)),
@@ -144,7 +144,8 @@ fn horizontal(style: &Style, inputs: Given) -> Insets
 }
 
 fn vertical(style: &Style, inputs: Given) -> Insets
-    ensures { (result.one, result.other) ≡ ((used_insets (seen_style style.now).inset (seen_given inputs)).top, (used_insets (seen_style style.now).inset (seen_given inputs)).bottom) }
+    ensures one { result.one ≡ (used_insets (seen_style style.now).inset (seen_given inputs)).top }
+    ensures other { result.other ≡ (used_insets (seen_style style.now).inset (seen_given inputs)).bottom }
 {
     Insets {
         one: inset(style.top, inputs.height),
@@ -160,9 +161,9 @@ pub(crate) fn is_stretched(style: &Style, inputs: Given) -> bool
     !inputs.flow && insets.one.is_some() && insets.other.is_some()
 }
 
+// The width of `auto`, as far as the largest length.
 fn automatic_width(style: &Style, kind: ItemKind, inputs: Given, around: u64) -> u64
-    requires { around < 2 ^ 40 }
-    ensures { result ≡ automatic_width (seen_kind kind) (seen_given inputs) (used_insets (seen_style style.now).inset (seen_given inputs)) around }
+    ensures { cap result ≡ cap (automatic_width (seen_kind kind) (seen_given inputs) (used_insets (seen_style style.now).inset (seen_given inputs)) around) }
 {
     match kind {
         ItemKind::Block if inputs.flow => inputs.width.saturating_sub(around),
@@ -175,9 +176,9 @@ fn automatic_width(style: &Style, kind: ItemKind, inputs: Given, around: u64) ->
     }
 }
 
+// The height of `auto`, as far as the largest length.
 fn automatic_height(style: &Style, kind: ItemKind, inputs: Given, inside: u64, around: u64) -> u64
-    requires { around < 2 ^ 40 }
-    ensures { result ≡ automatic_height (seen_kind kind) (seen_given inputs) (used_insets (seen_style style.now).inset (seen_given inputs)) inside around }
+    ensures { cap result ≡ cap (automatic_height (seen_kind kind) (seen_given inputs) (used_insets (seen_style style.now).inset (seen_given inputs)) inside around) }
 {
     match kind {
         ItemKind::Block if is_stretched(style, inputs) => {
