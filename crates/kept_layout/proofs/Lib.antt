@@ -13,3 +13,6 @@ pub mod Scrollers
 pub mod Climbed
 pub mod Shifted
 pub mod Measuring
+pub mod Spans
+pub mod Missing
+pub mod Held

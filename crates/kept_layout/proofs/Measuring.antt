@@ -1,22 +1,26 @@
 -- Boxes that are held as they are now are measured as they are.
-use Rattle.std.proofs.Common.{◌≡◌, ◌≤◌, ℕ, Bool, true, false, cond, Option, Some, None, option_map, refl, ap, sym, subst, ◌∙◌, inl, inr, arith}
+use Rattle.std.proofs.Common.{◌≡◌, ◌≤◌, ℕ, List, Bool, true, false, cond, Option, Some, None, option_map, refl, ap, sym, subst, ◌∙◌, inl, inr, arith}
 use Rattle.std.proofs.lemmas.Bool.{false≢true}
 use Rattle.std.proofs.lemmas.Bool.Decides.{nat_tests}
 use Rattle.std.specs.Prelude.{◌==◌, ◌&&◌, not, is_some}
 use Rattle.px_units.specs.Lengths.{cap}
-use Rattle.layout_model.specs.Items.{Item}
+use Rattle.layout_model.specs.Styles.{Style}
+use Rattle.layout_model.specs.Items.{Item, Kind}
 use Rattle.layout_model.specs.Nodes.{Node, is_in_path, is_in_flow, Holder, HeldByElement, HeldByPage, HeldByScreen, holder, IsShallow}
-use Rattle.layout_model.specs.Boxes.{Inputs, Box, computed, child_inputs, box_in, inputs_held, inputs_by_element, inputs_by, inputs_at, has_box_in, has_definite_height}
+use Rattle.layout_model.specs.Boxes.{Inputs, Box, computed, child_inputs, box_in, inputs_held, inputs_by, inputs_at, has_box_in, has_definite_height}
 use Rattle.layout_model.specs.Clips.{is_block, clips}
-use Rattle.layout_model.specs.Views.{View, view_inputs, inputs_under, inputs_in_view}
+use Rattle.layout_model.specs.Views.{View, view_inputs, inputs_in_view}
 use Rattle.layout_model.specs.FlatPlaces.{height_above}
 use Rattle.layout_model.proofs.Ancestors.{option_cases, in_path_of_parent}
 use Rattle.layout_model.proofs.Inputs.{box_child, box_top, boxed_child, boxed_top, box_above, inputs_boxed, inputs_of_boxed, is_some_inputs, in_view, view_root, under_view, inputs_once}
+use Rattle.element_tree.specs.Forest.{Knot}
 use Rattle.block_layout.specs.Seen.{seen_inputs}
-use Rattle.positioned_layout.specs.Measured.{Measured, above_in, measured_with, IsMeasureOf, is_come_to, IsComeTo, AreMeasuresOf, AreMeasuresUp}
+use Rattle.block_layout.specs.Trees.{layout_tree}
+use Rattle.positioned_layout.specs.Measured.{above_in, measured_with, is_come_to, IsComeTo, AreMeasuresOf, AreMeasuresUp}
 use Rattle.kept_layout.specs.declared.slots.Slot.{Slot}
 use Rattle.kept_layout.specs.declared.slots.Found.{Found}
 use Rattle.kept_layout.specs.Fresh.{IsFresh, IsFreshPath}
+use Rattle.kept_layout.specs.Slots.{slot_in}
 use Rattle.kept_layout.specs.Measures.{IsSized, is_inside, above_kept, takes_part, measured_of, measured_found, measured_in}
 
 -- inputs that no cap changes
@@ -164,7 +168,7 @@ module _ (at : ℕ → Node) (shallow : IsShallow at) (view : View) where
   measures_all sized slot all n come = measure_by sized slot n all come (inputs_in_view at view n) refl
 
   -- on the path of a node with a box each node has one
-  boxed_up : (n : ℕ) → is_some (inputs_in_view at view n) ≡ true → (m : ℕ) → is_in_path at m n ≡ true → (inputs : Inputs) × (inputs_in_view at view m ≡ Some inputs)
+  pub boxed_up : (n : ℕ) → is_some (inputs_in_view at view n) ≡ true → (m : ℕ) → is_in_path at m n ≡ true → (inputs : Inputs) × (inputs_in_view at view m ≡ Some inputs)
   boxed_up n boxed m inside =
       elim (option_cases (inputs_in_view at view n)) [
         | inl none ↦ absurd (false≢true (sym (ap is_some none) ∙ boxed))
@@ -182,3 +186,9 @@ module _ (at : ℕ → Node) (shallow : IsShallow at) (view : View) where
       measured_fresh sized slot m own.0 own.1 (fresh.path m own.0 inside own.1)
       (λ p outer up found. fresh.path p outer (in_path_of_parent at shallow p m n up inside) found)
       ∙ ap (option_map (λ inputs. measured_with at view m inputs (box_in at inputs m))) (sym own.1)
+
+-- what is measured of equal things is equal
+pub same_measures : {P : Type 0} (style : P → Style) (kind : P → Kind) (nodes others : List (Knot P)) (slots kept : List Slot) → nodes ≡ others → slots ≡ kept
+    → measured_in (layout_tree style kind nodes) (slot_in slots) ≡ measured_in (layout_tree style kind others) (slot_in kept)
+same_measures style kind nodes others slots kept first second =
+    ap (λ ns. measured_in (layout_tree style kind ns) (slot_in slots)) first ∙ ap (λ ss. measured_in (layout_tree style kind others) (slot_in ss)) second
