@@ -130,10 +130,10 @@ impl Kept {
             slot_in self.new n ≡ slot_in self.old n }
         ensures slots { length self.new ≡ length self.old }
         ensures ticks { let at = layout_tree P.style P.kind tree.now.nodes in
-            HasSlots at root.0 (length self.old) →
+            IsReady at root.0 self.old →
             steps.new ≤ steps.old + due_count (inputs_in at root.0 (seen_inputs inputs)) (slot_in self.old) (length self.old) }
         ensures paid { let at = layout_tree P.style P.kind tree.now.nodes in
-            HasSlots at root.0 (length self.old) →
+            IsReady at root.0 self.old →
             (wanted : ℕ → Option InputsModel) → ((n : ℕ) → is_in_path at root.0 n ≡ true → wanted n ≡ inputs_in at root.0 (seen_inputs inputs) n) →
             steps.new + due_count wanted (slot_in self.new) (length self.old) ≤ steps.old + due_count wanted (slot_in self.old) (length self.old) }
     {

@@ -4,14 +4,14 @@ ghost use Rattle.std.specs.Prelude.{◌≡◌, ◌≢◌, ◌+◌, ◌<◌, ◌�
 ghost use Rattle.px_units.specs.Lengths.{cap};
 ghost use Rattle.layout_model.specs.Nodes.{is_in_path};
 ghost use Rattle.layout_model.specs.Boxes.{Inputs as InputsModel, box_in, inputs_in};
-ghost use Rattle.element_tree.specs.Forest.{parent_of};
+ghost use Rattle.element_tree.specs.Forest.{IsForest, parent_of};
 ghost use Rattle.block_layout.specs.Seen.{seen_inputs};
 ghost use Rattle.block_layout.specs.Trees.{layout_tree};
 ghost use Rattle.kept_layout.specs.Due.{is_due, due_count};
 ghost use Rattle.kept_layout.specs.Fresh.{IsFresh};
 ghost use Rattle.kept_layout.specs.Slots.{slot_in, held_in, marked_if};
 ghost use Rattle.kept_layout.specs.Sound.{HasSlots, IsSound, IsSoundBut};
-ghost use Rattle.kept_layout.specs.Walks.{IsRefreshed, IsRefreshedInside, IsOutsideOf};
+ghost use Rattle.kept_layout.specs.Walks.{IsRefreshed, IsEntered, IsBroughtTo, IsRefreshedInside};
 
 use crate::slots::{
     Found, Slot, has_outside, height_held, hold, inputs_held, is_due, set_above, set_mark,
@@ -102,6 +102,38 @@ pub(crate) struct Outside {
     fixed: Inputs,
 }
 
+// Computes a displayed child that is out of flow, with what is in flow in it. One in flow was computed with its parent.
+fn refresh_moved<P: Styled, L: Ledger>(
+    slots: &mut [Slot],
+    tree: &Tree<P>,
+    node: NodeId,
+    outside: Outside,
+    steps: &mut Steps<L>,
+)
+    requires { node.0 < length tree.now.nodes }
+    ensures { IsEntered (layout_tree P.style P.kind tree.now.nodes) node.0 outside (length slots.old) (slot_in slots.old) (slot_in slots.new) steps.old steps.new }
+{
+    match position(tree, node) {
+        Position::Absolute => refresh_below(slots, tree, node, outside.absolute, steps),
+        Position::Fixed => refresh_below(slots, tree, node, outside.fixed, steps),
+        Position::Static | Position::Relative => {}
+    }
+}
+
+// What is brought on to a child whose box is held: a positioned one holds absolute boxes itself.
+fn brought_to<P: Styled>(slots: &[Slot], tree: &Tree<P>, node: NodeId, outside: Outside) -> Outside
+    requires { node.0 < length tree.now.nodes }
+    ensures { IsBroughtTo (layout_tree P.style P.kind tree.now.nodes) node.0 outside result (slot_in slots.now) }
+{
+    match position(tree, node) {
+        Position::Static => outside,
+        Position::Relative | Position::Absolute | Position::Fixed => Outside {
+            absolute: inputs_held(slots, node, outside.fixed),
+            fixed: outside.fixed,
+        },
+    }
+}
+
 // Computes the boxes in a node that are due but for those in flow from it on, by preorder: each box out of flow with what is in flow in
 // it. So what holds a box, which is an ancestor, is computed before.
 pub(crate) fn refresh_inside<P: Styled, L: Ledger>(
@@ -111,10 +143,9 @@ pub(crate) fn refresh_inside<P: Styled, L: Ledger>(
     outside: Outside,
     steps: &mut Steps<L>,
 )
-    requires { node.0 < length tree.now.nodes }
-    ensures { let at = layout_tree P.style P.kind tree.now.nodes in (root : ℕ) (viewport : InputsModel) →
-        IsOutsideOf at root viewport node.0 outside (slot_in slots.old) → HasSlots at root (length slots.old) →
-        IsRefreshedInside at node.0 (inputs_in at root viewport) (length slots.old) (slot_in slots.old) (slot_in slots.new) steps.old steps.new }
+    requires node { node.0 < length tree.now.nodes }
+    requires forest { IsForest tree.now.most_depth tree.now.nodes }
+    ensures { IsRefreshedInside (layout_tree P.style P.kind tree.now.nodes) node.0 outside (length slots.old) (slot_in slots.old) (slot_in slots.new) steps.old steps.new }
 {
     if !has_outside(slots, node) {
         return;
@@ -122,22 +153,21 @@ pub(crate) fn refresh_inside<P: Styled, L: Ledger>(
     let mut next = first_inner(tree, node);
     while let Some(child) = next {
         if !is_hidden(tree, child) {
-            let position = position(tree, child);
-            match position {
-                Position::Absolute => refresh_below(slots, tree, child, outside.absolute, steps),
-                Position::Fixed => refresh_below(slots, tree, child, outside.fixed, steps),
-                Position::Static | Position::Relative => {}
-            }
-            let within = match position {
-                Position::Static => outside,
-                _ => Outside {
-                    absolute: inputs_held(slots, child, outside.fixed),
-                    fixed: outside.fixed,
-                },
-            };
+            refresh_moved(slots, tree, child, outside, steps);
+            let within = brought_to(slots, tree, child, outside);
             refresh_inside(slots, tree, child, within, steps);
         }
         next = tree.next_sibling(child);
+    }
+}
+
+// The inputs of boxes out of flow that no element holds, by those of a root element.
+fn out_of_flow(inputs: Inputs) -> Inputs
+    ensures { seen_inputs result ≡ record (seen_inputs inputs) { flow = false } }
+{
+    Inputs {
+        flow: false,
+        ..inputs
     }
 }
 
@@ -164,9 +194,9 @@ pub(crate) fn refresh_tree<P: Styled, L: Ledger>(
         IsSound (layout_tree P.style P.kind tree.now.nodes) (slot_in slots.new) }
     ensures others { (n : ℕ) → inputs_in (layout_tree P.style P.kind tree.now.nodes) root.0 (seen_inputs inputs) n ≡ None →
         slot_in slots.new n ≡ slot_in slots.old n }
-    ensures ticks { HasSlots (layout_tree P.style P.kind tree.now.nodes) root.0 (length slots.old) →
+    ensures ticks { HasSlots (layout_tree P.style P.kind tree.now.nodes) root.0 (length slots.old) → IsSound (layout_tree P.style P.kind tree.now.nodes) (slot_in slots.old) →
         steps.new ≤ steps.old + due_count (inputs_in (layout_tree P.style P.kind tree.now.nodes) root.0 (seen_inputs inputs)) (slot_in slots.old) (length slots.old) }
-    ensures paid { HasSlots (layout_tree P.style P.kind tree.now.nodes) root.0 (length slots.old) →
+    ensures paid { HasSlots (layout_tree P.style P.kind tree.now.nodes) root.0 (length slots.old) → IsSound (layout_tree P.style P.kind tree.now.nodes) (slot_in slots.old) →
         (wanted : ℕ → Option InputsModel) →
         ((n : ℕ) → is_in_path (layout_tree P.style P.kind tree.now.nodes) root.0 n ≡ true → wanted n ≡ inputs_in (layout_tree P.style P.kind tree.now.nodes) root.0 (seen_inputs inputs) n) →
         steps.new + due_count wanted (slot_in slots.new) (length slots.old) ≤ steps.old + due_count wanted (slot_in slots.old) (length slots.old) }
@@ -175,10 +205,7 @@ pub(crate) fn refresh_tree<P: Styled, L: Ledger>(
         return;
     }
     refresh_below(slots, tree, root, inputs, steps);
-    let viewport = Inputs {
-        flow: false,
-        ..inputs
-    };
+    let viewport = out_of_flow(inputs);
     refresh_inside(
         slots,
         tree,
