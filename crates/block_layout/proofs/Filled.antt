@@ -64,7 +64,7 @@ module _ (at : ℕ → Node) where
   unfolding counted
   counted_as inputs c still = shown_as inputs c ((at c).item.style.hidden) ∙ ap (shown_height (box_in at inputs) c) (sym (passed_is at c still))
 
-  paid_as : (inputs : Inputs) (count : ℕ) (hidden : Bool) → steps_of (if_shown hidden (Some inputs)) count ≡ if_displayed hidden count
+  pub paid_as : (inputs : Inputs) (count : ℕ) (hidden : Bool) → steps_of (if_shown hidden (Some inputs)) count ≡ if_displayed hidden count
   paid_as inputs count true = refl
   paid_as inputs count false = refl
 

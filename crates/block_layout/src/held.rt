@@ -97,8 +97,8 @@ impl FreshBoxes {
     )
         requires { root.0 < length tree.now.nodes }
         ensures boxes { let at = layout_tree P.style P.kind tree.now.nodes in
-            IsUnpositioned at root.0 → (at root.0).parent ≡ None → (n : ℕ) → n < length self.old → is_in_path at root.0 n ≡ true →
-            held_in self.new n ≡ box_of_node at root.0 (seen_inputs inputs) n }
+            IsUnpositioned at root.0 → inputs.flow ≡ true → (at root.0).parent ≡ None → (n : ℕ) → n < length self.old →
+            is_in_path at root.0 n ≡ true → held_in self.new n ≡ box_of_node at root.0 (seen_inputs inputs) n }
         ensures under { let at = layout_tree P.style P.kind tree.now.nodes in
             IsUnpositioned at root.0 → (wanted : ℕ → Option InputsModel) → GoesDown at (depth_of at root.0) wanted →
             wanted root.0 ≡ if_shown (at root.0).item.style.hidden (Some (seen_inputs inputs)) →

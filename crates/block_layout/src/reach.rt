@@ -71,8 +71,9 @@ impl Extent {
 /// at its own scroll offset 0; else the viewport of that size whose root element is `node`. Each length is at most
 /// 2,147,483,647 units.
 ///
-/// It is so where no element of the node's tree is positioned, and each box of the node and in it is held as it is now. It calls itself once a level: a tree of 2,000
-/// levels was tried, while some 5,000 may use up the stack.
+/// It is so where no element of the node's tree is positioned, and each box of the node and in it is held as it is now. A
+/// box that clips nothing reaches over its padding box alone. It calls itself once a level: a tree of 2,000 levels was
+/// tried, while some 5,000 may use up the stack.
 pub fn overflow_reach<P: Styled, B: Boxes>(
     tree: &Tree<P>,
     boxes: &B,
@@ -102,16 +103,17 @@ pub fn overflow_reach<P: Styled, B: Boxes>(
     }
 }
 
+// How far a box reaches: over its padding box, and what is in it where it clips that.
 fn container_reach<P: Styled, B: Boxes>(tree: &Tree<P>, boxes: &B, node: NodeId) -> Size
     requires { node.0 < length tree.now.nodes }
-    ensures { (document : View) (inputs : Inputs) →
+    ensures { IsUnpositioned (layout_tree P.style P.kind tree.now.nodes) node.0 → (document : View) (inputs : Inputs) →
         inputs_in_view (layout_tree P.style P.kind tree.now.nodes) document node.0 ≡ Some inputs →
         HoldsBoxes (layout_tree P.style P.kind tree.now.nodes) document node.0 (B.held boxes.now) →
         result ≡ as_size (reach_of (layout_tree P.style P.kind tree.now.nodes) document node.0) }
 {
     match boxes.box_of(node) {
         Some(own) => {
-            let far = far_inside(tree, boxes, node, own, NOWHERE, false);
+            let far = far_inside(tree, boxes, node, own, NOWHERE, !is_clipping(tree, node));
             let inside = far.minus(own.padding_offset());
             own.padding_extent().larger(inside).capped().size()
         }
@@ -121,7 +123,7 @@ fn container_reach<P: Styled, B: Boxes>(tree: &Tree<P>, boxes: &B, node: NodeId)
 
 fn view_reach<P: Styled, B: Boxes>(tree: &Tree<P>, boxes: &B, root: NodeId, size: Extent) -> Size
     requires { root.0 < length tree.now.nodes }
-    ensures { (layout_tree P.style P.kind tree.now.nodes root.0).parent ≡ None → (document : View) →
+    ensures { IsUnpositioned (layout_tree P.style P.kind tree.now.nodes) root.0 → (layout_tree P.style P.kind tree.now.nodes root.0).parent ≡ None → (document : View) →
         document.root ≡ Some root.0 → document.width ≡ size.across → document.height ≡ size.down →
         HoldsBoxes (layout_tree P.style P.kind tree.now.nodes) document root.0 (B.held boxes.now) →
         result ≡ as_size (reach_of_view (layout_tree P.style P.kind tree.now.nodes) document) }
@@ -196,7 +198,7 @@ fn far_inside<P: Styled, B: Boxes>(
     requires node { node.0 < length tree.now.nodes }
     requires across { corner.across ≤ depth tree.now.nodes node.0 * 2147483647 }
     requires down { corner.down ≤ depth tree.now.nodes node.0 * 2147483647 }
-    ensures { (document : View) (inputs : Inputs) →
+    ensures { IsUnpositioned (layout_tree P.style P.kind tree.now.nodes) node.0 → (document : View) (inputs : Inputs) →
         inputs_in_view (layout_tree P.style P.kind tree.now.nodes) document node.0 ≡ Some inputs →
         HoldsBoxes (layout_tree P.style P.kind tree.now.nodes) document node.0 (B.held boxes.now) →
         own ≡ box_in (layout_tree P.style P.kind tree.now.nodes) inputs node.0 →
