@@ -11,7 +11,7 @@ from .traits import (CROSSED_IS_TURNED, DEAD_READS_THROW, FRAMES_IN_TIME, HIDDEN
 
 ALL_THREE = frozenset('''border-widths read-of-dead-frame hidden-frame-keeps-size frame-of-part-pixels reach-of-empty-boxes
     reach-with-margins reach-with-padding scroll-of-part-pixels observe-again first-size offset-of-moved-box frame-order stored-offset
-    sizes-of-last-layout root-removed root-rectangle-of-none is-intersecting margin-percentages'''.split())
+    sizes-of-last-layout shrink-to-fit root-removed root-rectangle-of-none is-intersecting margin-percentages'''.split())
 CHROMIUM = ALL_THREE | {LATE_SCROLLS} | set('''scroll-anchoring scroll-of-hidden-frame unobserve-in-delivery queue-after-unobserve
     listener-of-adopted-element frame-callback-late rounds-by-turns depth-at-gathering skipped-then-cured dead-frame-target
     target-of-dead-frame observers-in-any-order margin-of-part-pixels crossed-root cut-in-a-frame told-of-dead-root
