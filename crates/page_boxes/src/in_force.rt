@@ -11,6 +11,8 @@ ghost use Rattle.page_model.specs.PageBoxes.{extent_of, view_with, stored_in};
 ghost use Rattle.scrolling.specs.Seen.{seen_target, point_of};
 ghost use Rattle.block_layout.specs.Seen.{as_point};
 ghost use Rattle.block_layout.specs.Trees.{layout_tree};
+ghost use Rattle.kept_layout.specs.Measures.{IsSized};
+ghost use Rattle.page_tree.specs.Items.{IsNatural};
 ghost use Rattle.page_boxes.specs.Fresh.{HoldsAll};
 ghost use Rattle.page_boxes.specs.Pages.{seen_pair};
 ghost use Rattle.page_boxes.specs.Ranges.{IsOffset};
@@ -55,7 +57,8 @@ fn stored_within(scrolls: &Scrolls, target: ScrollTarget, least: Size) -> Option
 }
 
 /// The scroll offset in force of a node that has a box (CSSOM View, 6: `scrollTop`): on each axis the lesser of the stored position
-/// and of how far it can be scrolled. It is so where the boxes in its view are held as they are now. No memory.
+/// and of how far it can be scrolled. It is so where the boxes in its view, whose lengths are at most the largest one, are held as they
+/// are now. No memory.
 pub fn boxed_offset<P: Styled>(
     tree: &Tree<P>,
     boxes: &Kept,
@@ -64,7 +67,7 @@ pub fn boxed_offset<P: Styled>(
 ) -> Point
     requires { node.0 < length tree.now.nodes }
     ensures value { let at = layout_tree P.style P.kind tree.now.nodes in (view : View) →
-        HoldsAll at view boxes.now → is_some (inputs_in_view at view node.0) ≡ true →
+        IsSized view → HoldsAll at view boxes.now → is_some (inputs_in_view at view node.0) ≡ true →
         result ≡ as_point (offset_in_force at (stored_in scrolls.now) view node.0) }
     ensures range { IsOffset result }
 {
@@ -90,7 +93,8 @@ pub fn shown_offset<P: Styled>(
     target: ScrollTarget,
     shown: ShownRoot,
 ) -> Point
-    requires { shown.root.0 < length tree.now.nodes }
+    requires root { shown.root.0 < length tree.now.nodes }
+    requires size { IsNatural shown.size }
     ensures value { let at = layout_tree P.style P.kind tree.now.nodes in (at shown.root.0).parent ≡ None → (view : View) →
         view ≡ view_with (Some shown.root.0) (Some (seen_pair shown.size)) → HoldsAll at view boxes.now →
         result ≡ point_of (lesser_extent (position_of (seen_target target) scrolls.now) (extent_of (range_of_view at view))) }
