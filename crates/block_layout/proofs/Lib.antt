@@ -11,3 +11,6 @@ pub mod Handed
 pub mod Filled
 pub mod Far
 pub mod Reaching
+pub mod Stacked
+pub mod Reached
+pub mod FlowReach

@@ -1,13 +1,12 @@
 -- How far the boxes in a node reach, found on one walk down, where no element in it is positioned: each child stands in its parent then,
 -- below the siblings before it.
-use Rattle.std.specs.Prelude.{ℕ, zero, suc, ◌+◌, Bool, true, false, Option, Some, None, List, [], ◌∷◌, ⊤}
+use Rattle.std.specs.Prelude.{ℕ, zero, suc, ◌+◌, Bool, true, false, List, [], ◌∷◌, ⊤}
 use Rattle.layout_model.specs.Items.{Item}
 use Rattle.layout_model.specs.Nodes.{Node, levels}
-use Rattle.layout_model.specs.Boxes.{Inputs, Box, computed, child_inputs, kids_of, counted, box_in, padding_size, padding_corner, border_size}
-use Rattle.layout_model.specs.Points.{plus, minus, capped, larger}
+use Rattle.layout_model.specs.Boxes.{Inputs, computed, child_inputs, kids_of, counted, box_in, border_size}
+use Rattle.layout_model.specs.Points.{plus, larger}
 use Rattle.layout_model.specs.Clips.{clips}
-use Rattle.layout_model.specs.Views.{View, view_size, view_inputs}
-use Rattle.layout_model.specs.FlatPlaces.{margin_corner, offset_with}
+use Rattle.layout_model.specs.FlatPlaces.{offset_with}
 
 -- from the corner of a parent's border box to that of a child's, under so much height of its earlier siblings
 unfoldable pub offset_at : Item → Inputs → ℕ → Item → ℕ × ℕ
@@ -44,29 +43,6 @@ far_down (suc deep) at inputs corner n =
     larger
     (plus corner (border_size (box_in at inputs n)))
     (far_inside at (far_down deep at) ((at n).item) inputs corner (child_inputs ((at n).item) inputs) (open_kids (clips (at n)) (kids_of (at n))))
-
-abbrev pub flow_reach_in : (ℕ → Node) → Node → Inputs → Box → ℕ × ℕ
-flow_reach_in at node inputs box =
-    capped
-    (larger
-    (padding_size box)
-    (minus
-    (far_inside at (far_down levels at) (node.item) inputs (0, 0) (child_inputs (node.item) inputs) (kids_of node))
-    (padding_corner box)))
-
-abbrev pub flow_reach_at : (ℕ → Node) → ℕ → Option Inputs → ℕ × ℕ
-flow_reach_at at n None = (0, 0)
-flow_reach_at at n (Some inputs) = flow_reach_in at (at n) inputs (box_in at inputs n)
-
-abbrev pub far_root : (ℕ → Node) → Inputs → Option ℕ → ℕ × ℕ
-far_root at inputs None = (0, 0)
-far_root at inputs (Some root) =
-    far_if_shown (far_down levels at) inputs (λ u. margin_corner inputs ((at root).item)) root ((at root).item.style.hidden)
-
--- how far a viewport reaches
-unfoldable pub flow_reach_of_view : (ℕ → Node) → View → ℕ × ℕ
-unfolding far_down margin_corner
-flow_reach_of_view at view = capped (larger (view_size view) (far_root at (view_inputs view) (view.root)))
 
 -- the farthest edges of these children of a node and of what is in them, where the corner of the node's border box is as given
 abbrev pub far_in : (ℕ → Node) → ℕ → Inputs → ℕ × ℕ → List ℕ → ℕ × ℕ
