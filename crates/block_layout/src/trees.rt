@@ -17,6 +17,7 @@ use style_values::{Display, Overflow, Position, Style};
 pub trait Styled {
     ghost use Rattle.layout_model.specs.Styles.{Style as StyleModel};
     ghost use Rattle.layout_model.specs.Items.{Kind};
+    ghost use Rattle.style_values.specs.Ranges.{IsStyle};
 
     /// The style, as the definitions of layout see it.
     ghost style: { Self → StyleModel };
@@ -24,9 +25,10 @@ pub trait Styled {
     /// The kind, as the definitions of layout see it.
     ghost kind: { Self → Kind };
 
-    /// The style of the element.
+    /// The style of the element. Each property has a value of its own.
     fn style(&self) -> &Style
-        ensures { seen_style result.now ≡ style self.now };
+        ensures value { seen_style result.now ≡ style self.now }
+        ensures range { IsStyle result.now };
 
     /// The kind of the element.
     fn kind(&self) -> ItemKind

@@ -8,6 +8,7 @@ mod insets;
 mod places;
 mod reaches;
 
+use block_layout::Styled;
 use element_tree::NodeId;
 pub use holders::holder_of;
 pub use places::flat_place;
@@ -29,6 +30,15 @@ pub trait Placed {
     fn style(&self) -> &Style
         ensures value { seen_style result.now ≡ placed self.now }
         ensures range { IsStyle result.now };
+}
+
+// What is laid out as blocks is placed by the same style.
+impl<P: Styled> Placed for P {
+    ghost placed = { P.style };
+
+    fn style(&self) -> &Style {
+        Styled::style(self)
+    }
 }
 
 /// What is measured of a box. Each number is from 0 to 2^40 units.

@@ -14,7 +14,7 @@ returns-in-Static-clause-value g c =
     sym
     (passed_in_flow g.P.Styled.style g.P.Styled.kind c.args.tree.now.nodes (c.args.node.0) _ c.payload.ensures.value
     (sym (hidden_is g.P.Styled.style g.P.Styled.kind c.args.tree.now.nodes (c.args.node.0) _ c.payload.ensures.value) ∙ sym c.is_hidden.ensures.value ∙ c.if-is_hidden.false)
-    (sym (ap (λ s. is_flow (s.position)) c.style.ensures) ∙ flow))
+    (sym (ap (λ s. is_flow (s.position)) c.style.ensures.value) ∙ flow))
 
 pub returns-in-Absolute-clause-value : goal.returns-in-Absolute-clause-value
 returns-in-Absolute-clause-value g c =
@@ -26,4 +26,4 @@ returns-in-Absolute-clause-value g c =
     ∙ sym
     (passed_out_of_flow g.P.Styled.style g.P.Styled.kind c.args.tree.now.nodes (c.args.node.0) _ c.payload.ensures.value
     (sym (hidden_is g.P.Styled.style g.P.Styled.kind c.args.tree.now.nodes (c.args.node.0) _ c.payload.ensures.value) ∙ sym c.is_hidden.ensures.value ∙ c.if-is_hidden.false)
-    (sym (ap (λ s. is_flow (s.position)) c.style.ensures) ∙ out))
+    (sym (ap (λ s. is_flow (s.position)) c.style.ensures.value) ∙ out))
