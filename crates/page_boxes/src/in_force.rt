@@ -57,8 +57,8 @@ fn stored_within(scrolls: &Scrolls, target: ScrollTarget, least: Size) -> Option
 }
 
 /// The scroll offset in force of a node that has a box (CSSOM View, 6: `scrollTop`): on each axis the lesser of the stored position
-/// and of how far it can be scrolled. It is so where the boxes in its view, whose lengths are at most the largest one, are held as they
-/// are now. No memory.
+/// and of how far it can be scrolled. It is so where the boxes in its view are held as they are now, and no length of that is above the
+/// largest one. No memory.
 pub fn boxed_offset<P: Styled>(
     tree: &Tree<P>,
     boxes: &Kept,
@@ -66,8 +66,8 @@ pub fn boxed_offset<P: Styled>(
     node: NodeId,
 ) -> Point
     requires { node.0 < length tree.now.nodes }
-    ensures value { let at = layout_tree P.style P.kind tree.now.nodes in (view : View) →
-        IsSized view → HoldsAll at view boxes.now → is_some (inputs_in_view at view node.0) ≡ true →
+    ensures value { let at = layout_tree P.style P.kind tree.now.nodes in (view : View) → IsSized view →
+        HoldsAll at view boxes.now → is_some (inputs_in_view at view node.0) ≡ true →
         result ≡ as_point (offset_in_force at (stored_in scrolls.now) view node.0) }
     ensures range { IsOffset result }
 {

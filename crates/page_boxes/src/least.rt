@@ -3,8 +3,7 @@
 
 ghost use Rattle.std.specs.Prelude.{◌≡◌, ◌+◌, ◌-◌, ◌<◌, ◌≤◌, pos, cond, true, Some, None, length, is_some, unsigned_abs};
 ghost use Rattle.px_units.specs.Lengths.{cap};
-ghost use Rattle.layout_model.specs.Styles.{StaticPosition};
-ghost use Rattle.layout_model.specs.Nodes.{position_of};
+ghost use Rattle.layout_model.specs.Nodes.{is_static};
 ghost use Rattle.layout_model.specs.Boxes.{border_size};
 ghost use Rattle.layout_model.specs.Clips.{is_scroll_container};
 ghost use Rattle.layout_model.specs.Points.{plus, minus, capped, IsWithin};
@@ -56,17 +55,6 @@ fn edges(corner: Shift, own: &BoxOf, from: Point) -> Size
     }
 }
 
-// Whether a node is placed where the flow puts it.
-fn is_static<P: Styled>(tree: &Tree<P>, node: NodeId) -> bool
-    requires { node.0 < length tree.now.nodes }
-    ensures { result ≡ true → position_of (layout_tree P.style P.kind tree.now.nodes node.0) ≡ StaticPosition }
-{
-    match tree.payload(node).style().position {
-        Position::Static => true,
-        Position::Relative | Position::Absolute | Position::Fixed => false,
-    }
-}
-
 // The range of the viewport in which a root element is shown by the border box of that element alone.
 pub(crate) fn root_range<P: Styled>(tree: &Tree<P>, boxes: &Kept, shown: ShownRoot) -> Size
     requires { shown.root.0 < length tree.now.nodes }
@@ -85,7 +73,18 @@ pub(crate) fn root_range<P: Styled>(tree: &Tree<P>, boxes: &Kept, shown: ShownRo
     range_between(edges(corner, &own, ORIGIN), shown.size)
 }
 
-// The range of a node that has a box by the border box of its last child alone, where that isn't positioned.
+// Whether the style of a node says `position: static`, which leaves its box in the flow where it stands.
+fn is_static<P: Styled>(tree: &Tree<P>, node: NodeId) -> bool
+    requires { node.0 < length tree.now.nodes }
+    ensures { result ≡ is_static ((layout_tree P.style P.kind tree.now.nodes node.0).item.style.position) }
+{
+    match tree.payload(node).style().position {
+        Position::Static => true,
+        Position::Relative | Position::Absolute | Position::Fixed => false,
+    }
+}
+
+// The range of a node that has a box by the border box of its last child alone, where that one is static.
 pub(crate) fn last_range<P: Styled>(tree: &Tree<P>, boxes: &Kept, node: NodeId) -> Size
     requires { node.0 < length tree.now.nodes }
     ensures within { let at = layout_tree P.style P.kind tree.now.nodes in (view : View) →
@@ -102,7 +101,7 @@ pub(crate) fn last_range<P: Styled>(tree: &Tree<P>, boxes: &Kept, node: NodeId) 
     }
 }
 
-// The range of a scroll container by the border box of a child alone.
+// The range of a scroll container by the border box of a child alone, where that one is static.
 fn range_to<P: Styled>(tree: &Tree<P>, boxes: &Kept, node: NodeId, child: NodeId) -> Size
     requires node { node.0 < length tree.now.nodes }
     requires child { child.0 < length tree.now.nodes }

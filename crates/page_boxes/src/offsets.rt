@@ -1,6 +1,6 @@
-//! How far what lies around a box is scrolled, and where it is then (CSS 2.2, 9.4.1; CSSOM View, 6).
+//! How far what holds a box is scrolled, and where it is then (CSS 2.2, 9.4.1 and 10.1; CSSOM View, 6).
 
-ghost use Rattle.std.specs.Prelude.{◌≡◌, ◌*◌, ◌<◌, ◌≤◌, ℕ, true, pos, length, is_some, unsigned_abs};
+ghost use Rattle.std.specs.Prelude.{◌≡◌, ◌*◌, ◌<◌, ◌≤◌, ℕ, true, cond, length, is_some, unsigned_abs};
 ghost use Rattle.layout_model.specs.Nodes.{holders_of, is_on_screen};
 ghost use Rattle.layout_model.specs.Points.{plus, moved_back, sum_points};
 ghost use Rattle.layout_model.specs.Views.{View, inputs_in_view};
@@ -8,9 +8,9 @@ ghost use Rattle.layout_model.specs.Reach.{offset_in_force, view_in_force};
 ghost use Rattle.layout_model.specs.Places.{place_in};
 ghost use Rattle.block_layout.specs.Seen.{as_point};
 ghost use Rattle.block_layout.specs.Trees.{layout_tree};
-ghost use Rattle.page_model.specs.PageBoxes.{point_of, stored_in};
 ghost use Rattle.positioned_layout.specs.Seen.{IsFlat};
 ghost use Rattle.kept_layout.specs.Measures.{IsSized};
+ghost use Rattle.page_model.specs.PageBoxes.{point_of, stored_in};
 ghost use Rattle.page_boxes.specs.Fresh.{HoldsAll};
 ghost use Rattle.page_boxes.specs.Ranges.{IsOffset, IsPlace};
 
@@ -35,8 +35,8 @@ fn unsigned(offset: Point) -> Shift
 // The scroll offset in force of a node that has a box.
 fn own_scroll<P: Styled>(tree: &Tree<P>, boxes: &Kept, scrolls: &Scrolls, node: NodeId) -> Shift
     requires { node.0 < length tree.now.nodes }
-    ensures value { let at = layout_tree P.style P.kind tree.now.nodes in (view : View) →
-        IsSized view → HoldsAll at view boxes.now → is_some (inputs_in_view at view node.0) ≡ true →
+    ensures value { let at = layout_tree P.style P.kind tree.now.nodes in (view : View) → IsSized view →
+        HoldsAll at view boxes.now → is_some (inputs_in_view at view node.0) ≡ true →
         (result.across, result.down) ≡ offset_in_force at (stored_in scrolls.now) view node.0 }
     ensures across { result.across ≤ 2147483647 }
     ensures down { result.down ≤ 2147483647 }
@@ -58,8 +58,8 @@ fn scrolled<P: Styled>(
     node: NodeId,
 ) -> HolderScroll
     requires { node.0 < length tree.now.nodes }
-    ensures value { let at = layout_tree P.style P.kind tree.now.nodes in (view : View) →
-        IsSized view → HoldsAll at view boxes.now → is_some (inputs_in_view at view node.0) ≡ true →
+    ensures value { let at = layout_tree P.style P.kind tree.now.nodes in (view : View) → IsSized view →
+        HoldsAll at view boxes.now → is_some (inputs_in_view at view node.0) ≡ true →
         (result.shift.across, result.shift.down) ≡ sum_points (offset_in_force at (stored_in scrolls.now) view) (holders_of at node.0) }
     ensures ends { result.on_screen ≡ is_on_screen (layout_tree P.style P.kind tree.now.nodes) node.0 }
     ensures across { result.shift.across ≤ 2147483647 * tree.now.most_depth }
@@ -82,7 +82,7 @@ fn scrolled<P: Styled>(
     HolderScroll { shift, on_screen }
 }
 
-// A place from the corner of a viewport, where what it is in and the viewport are scrolled so far.
+// A place from the corner of a viewport, where what holds it and the viewport are scrolled so far.
 fn moved_back(place: Point, inner: Shift, view: Shift) -> Point
     requires left { IsFlat 256 place.left }
     requires top { IsFlat 256 place.top }
@@ -100,12 +100,27 @@ fn moved_back(place: Point, inner: Shift, view: Shift) -> Point
     }
 }
 
+// What a viewport's scroll offset moves a box by: nothing that the screen holds.
+fn view_shift(view: Point, on_screen: bool) -> Shift
+    requires { IsOffset view }
+    ensures left { result.across ≡ cond on_screen 0 (unsigned_abs view.left) }
+    ensures top { result.down ≡ cond on_screen 0 (unsigned_abs view.top) }
+    ensures across { result.across ≤ 2147483647 }
+    ensures down { result.down ≤ 2147483647 }
+{
+    if on_screen {
+        Shift::NONE
+    } else {
+        unsigned(view)
+    }
+}
+
 /// The place of the border box of a node that has a box, in its document's viewport that is scrolled so far (CSSOM View, 6:
-/// `getBoundingClientRect`). It is so where the boxes in its view, whose lengths are at most the largest one, are held as they are now.
-/// No memory.
+/// `getBoundingClientRect`). It is so where the boxes in its view are held as they are now, and no length of that is above the largest
+/// one. No memory.
 ///
-/// It goes up from what holds a box to what holds that one, by the boxes of the node and its ancestors alone, with the heights that are
-/// kept above each; what is scrolled on the way is measured. The viewport's scroll doesn't move what the screen holds.
+/// It goes up by the boxes of the node, its ancestors and those that hold it alone, with the heights that are kept above each; what is
+/// scrolled on the way is measured.
 pub fn place_in<P: Styled>(
     tree: &Tree<P>,
     boxes: &Kept,
@@ -115,8 +130,8 @@ pub fn place_in<P: Styled>(
 ) -> Point
     requires depth { tree.now.most_depth ≤ 256 }
     requires view { IsOffset view }
-    ensures value { let at = layout_tree P.style P.kind tree.now.nodes in (inside : View) (scrolled : ℕ × ℕ) →
-        IsSized inside → HoldsAll at inside boxes.now → is_some (inputs_in_view at inside node.0) ≡ true →
+    ensures value { let at = layout_tree P.style P.kind tree.now.nodes in (inside : View) (scrolled : ℕ × ℕ) → IsSized inside →
+        HoldsAll at inside boxes.now → is_some (inputs_in_view at inside node.0) ≡ true →
         view ≡ as_point (view_in_force at (record inside { scrolled = scrolled })) →
         result ≡ point_of (place_in at (stored_in scrolls.now) (record inside { scrolled = scrolled }) node.0) }
     ensures left { IsPlace result.left }
@@ -127,10 +142,5 @@ pub fn place_in<P: Styled>(
         return place;
     }
     let scrolled = scrolled(tree, boxes, scrolls, node);
-    let view = if scrolled.on_screen {
-        Shift::NONE
-    } else {
-        unsigned(view)
-    };
-    moved_back(place, scrolled.shift, view)
+    moved_back(place, scrolled.shift, view_shift(view, scrolled.on_screen))
 }

@@ -85,14 +85,14 @@ pub(crate) fn range_between(reach: Size, shown: Size) -> Size
 }
 
 /// The scrolling range of a node that has a box (CSS Overflow 3, 2.2; CSSOM View: scrolling area): how far its content reaches
-/// beyond its padding box, 0 by 0 where it isn't a scroll container. It is so where the boxes in its view, whose lengths are at most the
-/// largest one, are held as they are now. No memory.
+/// beyond its padding box, 0 by 0 where it isn't a scroll container. It is so where the boxes in its view are held as they are now, and
+/// no length of that is above the largest one. No memory.
 ///
 /// It calls itself once a level of the tree below.
 pub fn boxed_range<P: Styled>(tree: &Tree<P>, boxes: &Kept, node: NodeId) -> Size
     requires { node.0 < length tree.now.nodes }
-    ensures value { let at = layout_tree P.style P.kind tree.now.nodes in (view : View) →
-        IsSized view → HoldsAll at view boxes.now → is_some (inputs_in_view at view node.0) ≡ true →
+    ensures value { let at = layout_tree P.style P.kind tree.now.nodes in (view : View) → IsSized view →
+        HoldsAll at view boxes.now → is_some (inputs_in_view at view node.0) ≡ true →
         result ≡ as_size (cond (is_scroll_container (at node.0)) (range_in at view node.0) (0, 0)) }
     ensures range { IsRange result }
 {
@@ -102,10 +102,8 @@ pub fn boxed_range<P: Styled>(tree: &Tree<P>, boxes: &Kept, node: NodeId) -> Siz
     let Some(own) = boxes.box_of(node) else {
         return NO_SIZE;
     };
-    let inside = own.padding_size();
-    // What a container reaches over doesn't rest on which root element it is in.
-    let reached = reach(tree, &boxes.measures(tree), node, Some(node), inside);
-    range_between(reached, inside)
+    let reach = reach(tree, &boxes.measures(tree), node, Some(node), NO_SIZE);
+    range_between(reach, own.padding_size())
 }
 
 /// The scrolling range of the viewport in which a root element is shown (CSSOM View: scrolling area): how far the content reaches
@@ -120,6 +118,6 @@ pub fn shown_range<P: Styled>(tree: &Tree<P>, boxes: &Kept, shown: ShownRoot) ->
         result ≡ as_size (range_of_view at view) }
     ensures range { IsRange result }
 {
-    let reached = reach(tree, &boxes.measures(tree), shown.root, None, shown.size);
-    range_between(reached, shown.size)
+    let reach = reach(tree, &boxes.measures(tree), shown.root, None, shown.size);
+    range_between(reach, shown.size)
 }
