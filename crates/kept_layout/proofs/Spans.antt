@@ -8,7 +8,10 @@ use Rattle.px_units.specs.declared.Size.{Size}
 use Rattle.layout_model.specs.Boxes.{Box, inner_corner, padding_corner, margin_height, padding_size, border_size}
 use Rattle.block_layout.specs.Ranges.{IsBox}
 use Rattle.block_layout.specs.Seen.{as_point, as_size}
-use Rattle.positioned_layout.specs.Seen.{IsSpan, IsSpanOfSize}
+use Rattle.positioned_layout.specs.Seen.{IsSpan, IsLength, IsSpanOfSize}
+
+length_of : (units : ℕ) → units ≤ 2147483647 → IsLength (pos units)
+length_of units low = (omega (arith, ints), omega (arith, ints))
 
 span_of : (units : ℕ) → units ≤ 1099511627776 → IsSpan (pos units)
 span_of units low = (omega (arith, ints), omega (arith, ints))
@@ -29,11 +32,11 @@ module _ (box : Box) (is : IsBox box) where
         subst IsSpan (sym (ap (λ (p : Point). p.top) same)) (span_of (box.border.top + box.padding.top) (omega arith)),
       )
 
-  pub corner_spans : (point : Point) → point ≡ as_point (padding_corner box) → IsSpan point.left × IsSpan point.top
+  pub corner_spans : (point : Point) → point ≡ as_point (padding_corner box) → IsLength point.left × IsLength point.top
   corner_spans point same =
       let left = is.border.left in let top = is.border.top in (
-        subst IsSpan (sym (ap (λ (p : Point). p.left) same)) (span_of box.border.left (omega arith)),
-        subst IsSpan (sym (ap (λ (p : Point). p.top) same)) (span_of box.border.top (omega arith)),
+        subst IsLength (sym (ap (λ (p : Point). p.left) same)) (length_of box.border.left (omega arith)),
+        subst IsLength (sym (ap (λ (p : Point). p.top) same)) (length_of box.border.top (omega arith)),
       )
 
   pub margin_spans : (point : Point) → point ≡ as_point (box.margin.left, box.margin.top) → IsSpan point.left × IsSpan point.top

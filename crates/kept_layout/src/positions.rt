@@ -8,7 +8,7 @@ ghost use Rattle.layout_model.specs.Views.{View};
 ghost use Rattle.layout_model.specs.FlatPlaces.{offset_of, flat_place};
 ghost use Rattle.element_tree.specs.Forest.{IsForest};
 ghost use Rattle.block_layout.specs.Trees.{layout_tree};
-ghost use Rattle.positioned_layout.specs.Seen.{IsFlat};
+ghost use Rattle.positioned_layout.specs.Seen.{IsNear};
 ghost use Rattle.kept_layout.specs.Fresh.{IsFreshPath};
 ghost use Rattle.kept_layout.specs.Measures.{IsSized};
 ghost use Rattle.kept_layout.specs.Positions.{IsOffset, seen_offset, scrolled_in, place_at, point_of};
@@ -134,8 +134,8 @@ fn scrolled<P: Styled, O: Offsets>(tree: &Tree<P>, offsets: &O, node: NodeId) ->
 
 // A place from the corner of a viewport, where what it is in and the viewport are scrolled so far.
 fn moved_back(place: Point, inner: Shift, view: Shift) -> Point
-    requires left { IsFlat 65536 place.left }
-    requires top { IsFlat 65536 place.top }
+    requires left { IsNear 65536 place.left }
+    requires top { IsNear 65536 place.top }
     requires inner_across { inner.across ≤ 2147483647 * 65536 }
     requires inner_down { inner.down ≤ 2147483647 * 65536 }
     requires view_across { view.across ≤ 2147483647 }
@@ -179,8 +179,8 @@ impl Kept {
     pub fn flat_place_of<P: Styled>(&self, tree: &Tree<P>, node: NodeId) -> Point
         ensures value { let at = layout_tree P.style P.kind tree.now.nodes in (view : View) → IsSized view →
             IsFreshPath at view (slot_in self.now) node.0 → result ≡ point_of (flat_place at view node.0) }
-        ensures left { IsFlat tree.now.most_depth result.left }
-        ensures top { IsFlat tree.now.most_depth result.top }
+        ensures left { IsNear tree.now.most_depth result.left }
+        ensures top { IsNear tree.now.most_depth result.top }
         ensures levels { tree.now.most_depth ≤ 65536 }
     {
         if tree.holds(node) {

@@ -8,7 +8,7 @@ ghost use Rattle.layout_model.specs.Reach.{offset_in_force, view_in_force};
 ghost use Rattle.layout_model.specs.Places.{place_in};
 ghost use Rattle.block_layout.specs.Seen.{as_point};
 ghost use Rattle.block_layout.specs.Trees.{layout_tree};
-ghost use Rattle.positioned_layout.specs.Seen.{IsFlat};
+ghost use Rattle.positioned_layout.specs.Seen.{IsNear};
 ghost use Rattle.kept_layout.specs.Measures.{IsSized};
 ghost use Rattle.page_model.specs.PageBoxes.{point_of, stored_in};
 ghost use Rattle.page_boxes.specs.Fresh.{HoldsAll};
@@ -84,8 +84,8 @@ fn scrolled<P: Styled>(
 
 // A place from the corner of a viewport, where what holds it and the viewport are scrolled so far.
 fn moved_back(place: Point, inner: Shift, view: Shift) -> Point
-    requires left { IsFlat 256 place.left }
-    requires top { IsFlat 256 place.top }
+    requires left { IsNear 256 place.left }
+    requires top { IsNear 256 place.top }
     requires inner_across { inner.across ≤ 2147483647 * 256 }
     requires inner_down { inner.down ≤ 2147483647 * 256 }
     requires view_across { view.across ≤ 2147483647 }
