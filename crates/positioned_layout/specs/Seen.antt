@@ -1,9 +1,10 @@
 -- What this crate's types stand for in the definitions of layout.
-use Rattle.std.specs.Prelude.{ℕ, ◌+◌, ◌*◌, ℤ, pos, neg_ℤ, ◌≤ℤ◌, IfSome, option_map, unsigned_abs}
+use Rattle.std.specs.Prelude.{ℕ, ◌+◌, ◌*◌, ℤ, pos, neg_ℤ, ◌≤ℤ◌, Option, Some, None, IfSome, option_map, unsigned_abs}
 use Rattle.px_units.specs.declared.Point.{Point}
 use Rattle.px_units.specs.declared.Size.{Size}
 use Rattle.layout_model.specs.Nodes.{Holder as HolderModel, HeldByElement, HeldByPage, HeldByScreen}
 use Rattle.layout_model.specs.FlatPlaces.{Along}
+use Rattle.element_tree.specs.declared.node.NodeId.{NodeId}
 use Rattle.positioned_layout.specs.declared.Holder.{Holder}
 use Rattle.positioned_layout.specs.declared.Holder.TheVariants as holder
 use Rattle.positioned_layout.specs.declared.Measure.{Measure}
@@ -14,6 +15,10 @@ abbrev pub seen_holder : Holder → HolderModel
 seen_holder (holder.Node node) = HeldByElement node.0
 seen_holder holder.Page = HeldByPage
 seen_holder holder.Screen = HeldByScreen
+
+abbrev pub held_from : Option NodeId → Holder
+held_from None = holder.Page
+held_from (Some element) = holder.Node element
 
 abbrev pub pair_of_point : Point → ℕ × ℕ
 pair_of_point point = (unsigned_abs point.left, unsigned_abs point.top)

@@ -5,7 +5,7 @@ use Rattle.layout_model.specs.Nodes.{Node}
 use Rattle.element_tree.specs.Forest.{Knot, parent_of, children_of}
 
 -- nodes of layout that are those of a tree, whatever their kinds
-pub record AreNodesOf {P : Type 0} (style : P → Style) (nodes : List (Knot P)) (at : ℕ → Node) : Type 0 where
+pub record AreNodesOf {P : Type 0} (placed : P → Style) (nodes : List (Knot P)) (at : ℕ → Node) : Type 0 where
   pub parent : (n : ℕ) → (at n).parent ≡ parent_of nodes n
   pub children : (n : ℕ) → (at n).children ≡ children_of nodes n
-  pub style : (n : ℕ) (knot : Knot P) → slice_get nodes n ≡ Some knot → (at n).item.style ≡ style knot.payload
+  pub style : (n : ℕ) (knot : Knot P) → slice_get nodes n ≡ Some knot → (at n).item.style ≡ placed knot.payload

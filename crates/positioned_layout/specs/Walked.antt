@@ -1,13 +1,13 @@
 -- How far a walk downwards has measured.
-use Rattle.std.specs.Prelude.{◌≡◌, ◌≤◌, ◌⊎◌, ℕ, ℤ, pos, ◌+ℤ◌, ◌-ℤ◌, ◌≤ℤ◌, Bool, true, not, ◌&&◌, find, is_some, Some, List}
+use Rattle.std.specs.Prelude.{◌≡◌, ◌≤◌, ◌⊎◌, ℕ, ℤ, pos, ◌+ℤ◌, ◌-ℤ◌, ◌≤ℤ◌, Bool, true, false, cond, ◌==◌, not, ◌&&◌, find, is_some, Some, List}
 use Rattle.px_units.specs.declared.Point.{Point}
 use Rattle.px_units.specs.declared.Size.{Size}
 use Rattle.px_units.specs.Lengths.{at_least_zero}
-use Rattle.layout_model.specs.Nodes.{Node, path_of, is_in_path, is_positioned, Holder, HeldByElement, HeldByScreen, held_by, holder}
+use Rattle.layout_model.specs.Nodes.{Node, path_of, is_in_path, is_positioned, is_on_screen, Holder, HeldByElement, HeldByPage, HeldByScreen, held_by, holder}
 use Rattle.layout_model.specs.Clips.{clips}
 use Rattle.layout_model.specs.Views.{View, inputs_in_view}
 use Rattle.layout_model.specs.FlatPlaces.{corner_of, flat_place}
-use Rattle.layout_model.specs.Reach.{edges_from}
+use Rattle.layout_model.specs.Reach.{clipped_by, is_it, edges_from}
 use Rattle.element_tree.specs.Forest.{has}
 use Rattle.positioned_layout.specs.declared.insets.Axis.{Axis}
 use Rattle.positioned_layout.specs.declared.reaches.Held.{Held}
@@ -51,6 +51,17 @@ IsOpenIn at n opens =
 abbrev pub absolute_in : (ℕ → Node) → ℕ → Holder
 absolute_in at n = held_by (find (λ a. is_positioned (at a)) (path_of at n))
 
+-- whether a container reaches over what holds boxes, and a viewport
+abbrev pub opens_in : (ℕ → Node) → ℕ → Holder → Bool
+opens_in at n (HeldByElement h) = cond (clips (at h)) (h == n) (is_it n (clipped_by at h))
+opens_in at n HeldByPage = false
+opens_in at n HeldByScreen = false
+
+abbrev pub opens_view : (ℕ → Node) → Holder → Bool
+opens_view at (HeldByElement h) = not (clips (at h)) && (not (is_some (clipped_by at h)) && not (is_on_screen at h))
+opens_view at HeldByPage = true
+opens_view at HeldByScreen = false
+
 pub record IsHeld (at : ℕ → Node) (view : View) (opens : Holder → Bool) (by : Holder) (held : Held) : Type 0 where
   pub corner : held.corner ≡ as_place (corner_of at (flat_place at view) by)
   pub opened : held.opened ≡ opens by
@@ -68,7 +79,11 @@ pub record IsNearAround (boxes : ℕ) (around : Around) : Type 0 where
   pub absolute : IsCornerPoint boxes around.absolute.corner
   pub fixed : IsCornerPoint boxes around.fixed.corner
 
+-- more than any edge is past a corner
+abbrev pub IsEdge : ℤ → Type 0
+IsEdge units = (pos 0 ≤ℤ units) × (units ≤ℤ pos 1152921504606846976)
+
 pub record IsRoom (far : Farthest) : Type 0 where
   pub corner : IsCornerPoint 65536 far.corner
-  pub width : (pos 0 ≤ℤ far.size.width) × (far.size.width ≤ℤ pos 1152921504606846976)
-  pub height : (pos 0 ≤ℤ far.size.height) × (far.size.height ≤ℤ pos 1152921504606846976)
+  pub width : IsEdge far.size.width
+  pub height : IsEdge far.size.height

@@ -5,7 +5,7 @@ ghost use Rattle.layout_model.specs.Nodes.{Node, ancestors_of, position_of, is_p
 ghost use Rattle.element_tree.specs.Forest.{IsForest, depth};
 ghost use Rattle.element_tree.specs.Links.{number};
 ghost use Rattle.style_values.specs.Seen.{seen_position};
-ghost use Rattle.positioned_layout.specs.Seen.{seen_holder, IfElement};
+ghost use Rattle.positioned_layout.specs.Seen.{seen_holder, held_from, IfElement};
 ghost use Rattle.positioned_layout.specs.Trees.{AreNodesOf};
 
 use crate::{Holder, Placed};
@@ -27,7 +27,8 @@ pub(crate) fn position<P: Placed>(tree: &Tree<P>, node: NodeId) -> Position
 // Whether a node is positioned.
 pub(crate) fn is_positioned<P: Placed>(tree: &Tree<P>, node: NodeId) -> bool
     requires { node.0 < length tree.now.nodes }
-    ensures { (at : ℕ → Node) → AreNodesOf P.placed tree.now.nodes at → result ≡ is_positioned (at node.0) }
+    ensures value { (at : ℕ → Node) → AreNodesOf P.placed tree.now.nodes at → result ≡ is_positioned (at node.0) }
+    ensures forest { IsForest tree.now.most_depth tree.now.nodes }
 {
     match position(tree, node) {
         Position::Static => false,
@@ -41,6 +42,7 @@ pub(crate) fn positioned_ancestor<P: Placed>(tree: &Tree<P>, node: NodeId) -> Op
     ensures value { (at : ℕ → Node) → AreNodesOf P.placed tree.now.nodes at →
         option_map number result ≡ find (λ a. is_positioned (at a)) (ancestors_of at node.0) }
     ensures above { IfSome result (λ ancestor. (ancestor.0 < length tree.now.nodes) × (depth tree.now.nodes ancestor.0 < depth tree.now.nodes node.0)) }
+    ensures forest { IsForest tree.now.most_depth tree.now.nodes }
 {
     let mut up = tree.parent(node);
     while let Some(ancestor) = up {
@@ -52,6 +54,16 @@ pub(crate) fn positioned_ancestor<P: Placed>(tree: &Tree<P>, node: NodeId) -> Op
     None
 }
 
+// The box of this element, or the page.
+fn held_by(element: Option<NodeId>) -> Holder
+    ensures { result ≡ held_from element }
+{
+    match element {
+        Some(element) => Holder::Node(element),
+        None => Holder::Page,
+    }
+}
+
 /// What holds a node's box: in flow its parent's box; for an absolute one that of its nearest positioned ancestor, or the page where
 /// there is none; for a fixed one the screen; for a root element, which counts as static, the page. An element that holds it is nearer
 /// to the root. No memory.
@@ -61,13 +73,9 @@ pub fn holder_of<P: Placed>(tree: &Tree<P>, node: NodeId) -> Holder
     ensures above { IfElement result (λ element. (element < length tree.now.nodes) × (depth tree.now.nodes element < depth tree.now.nodes node.0)) }
     ensures forest { IsForest tree.now.most_depth tree.now.nodes }
 {
-    let held = match position(tree, node) {
-        Position::Static | Position::Relative => tree.parent(node),
-        Position::Absolute => positioned_ancestor(tree, node),
-        Position::Fixed => return Holder::Screen,
-    };
-    match held {
-        Some(element) => Holder::Node(element),
-        None => Holder::Page,
+    match position(tree, node) {
+        Position::Static | Position::Relative => held_by(tree.parent(node)),
+        Position::Absolute => held_by(positioned_ancestor(tree, node)),
+        Position::Fixed => Holder::Screen,
     }
 }

@@ -6,7 +6,7 @@ ghost use Rattle.layout_model.specs.Boxes.{used_insets, box_in};
 ghost use Rattle.layout_model.specs.Points.{moved};
 ghost use Rattle.layout_model.specs.Views.{View, inputs_under, inputs_in_view};
 ghost use Rattle.layout_model.specs.FlatPlaces.{offset_of, border_corner, corner_of, above_of, flat_place};
-ghost use Rattle.element_tree.specs.Forest.{depth};
+ghost use Rattle.element_tree.specs.Forest.{IsForest, depth};
 ghost use Rattle.element_tree.specs.Links.{number};
 ghost use Rattle.px_units.specs.Lengths.{cap, seen_length};
 ghost use Rattle.style_values.specs.Ranges.{IsSize, IsStyle};
@@ -81,6 +81,16 @@ fn cut(units: i64) -> i64
     capped(units.unsigned_abs()) as i64
 }
 
+// The heights above a box, of which there are none across.
+fn above(own: &Measure, axis: Axis) -> i64
+    ensures { result ≡ part axis (pos 0, own.now.above) }
+{
+    match axis {
+        Axis::Across => 0,
+        Axis::Down => own.above,
+    }
+}
+
 // From the corner of a parent's border box to where a child's own is in the flow, or would be.
 fn offset(parent: &Measure, own: &Measure, axis: Axis) -> i64
     requires parent { IsMeasure parent.now }
@@ -89,11 +99,20 @@ fn offset(parent: &Measure, own: &Measure, axis: Axis) -> i64
         IsMeasuredAt at view c (seen_measure own.now) → result ≡ pos (part axis (offset_of at view c)) }
     ensures range { IsReach result }
 {
-    let above = match axis {
-        Axis::Across => 0,
-        Axis::Down => own.above,
-    };
-    cut(along(parent.inner, axis) + above + along(own.margin, axis))
+    cut(along(parent.inner, axis) + above(own, axis) + along(own.margin, axis))
+}
+
+// The same, where the parent is to be measured.
+fn offset_in<M: Measures>(measures: &M, parent: NodeId, own: &Measure, axis: Axis) -> i64
+    requires { IsMeasure own.now }
+    ensures value { (at : ℕ → Node) (view : View) (c : ℕ) → (at c).parent ≡ Some parent.0 → IsMeasureOf at view parent.0 (M.measured measures.now parent.0) →
+        is_some (inputs_in_view at view parent.0) ≡ true → IsMeasuredAt at view c (seen_measure own.now) → result ≡ pos (part axis (offset_of at view c)) }
+    ensures range { IsReach result }
+{
+    match measures.measure(parent) {
+        Some(outer) => offset(&outer, own, axis),
+        None => 0,
+    }
 }
 
 // From the viewport's corner to where a root element's border box is.
@@ -176,12 +195,8 @@ fn from_flow<P: Placed, M: Measures>(
             to: None,
         };
     };
-    let in_flow = match measures.measure(parent) {
-        Some(outer) => offset(&outer, own, axis),
-        None => 0,
-    };
     Step {
-        by: in_flow + by,
+        by: offset_in(measures, parent, own, axis) + by,
         to: Some(parent),
     }
 }
@@ -201,6 +216,7 @@ fn outwards<P: Placed, M: Measures>(
     ensures above { IfSome result.to (λ outer. (outer.0 < length tree.now.nodes) × (depth tree.now.nodes outer.0 < depth tree.now.nodes node.0)) }
     ensures inside { (at : ℕ → Node) → AreNodesOf P.placed tree.now.nodes at → IfSome result.to (λ outer. is_in_path at outer.0 node.0 ≡ true) }
     ensures range { IsNear 1 result.by }
+    ensures forest { IsForest tree.now.most_depth tree.now.nodes }
 {
     let side = side(tree.payload(node).style(), own, axis);
     match side.moved(position(tree, node)) {
@@ -210,16 +226,12 @@ fn outwards<P: Placed, M: Measures>(
 }
 
 // By steps outwards, each of less than 2^41 units: 65,536 of them stay within 2^57.
-fn flat_along<P: Placed, M: Measures>(
-    tree: &Tree<P>,
-    measures: &M,
-    node: NodeId,
-    axis: Axis,
-) -> i64
+fn flat_along<P: Placed, M: Measures>(tree: &Tree<P>, measures: &M, node: NodeId, axis: Axis) -> i64
     requires { node.0 < length tree.now.nodes }
     ensures value { (at : ℕ → Node) (view : View) → AreNodesOf P.placed tree.now.nodes at → AreMeasuresUp at view node.0 (M.measured measures.now) →
         is_some (inputs_in_view at view node.0) ≡ true → result ≡ part axis (flat_place at view node.0) }
     ensures range { IsNear (depth tree.now.nodes node.0) result }
+    ensures short { IsNear 65536 result }
 {
     let mut place = 0;
     let mut next = Some(node);
@@ -245,6 +257,7 @@ pub fn flat_place<P: Placed, M: Measures>(tree: &Tree<P>, measures: &M, node: No
     ensures value { (at : ℕ → Node) (view : View) → AreNodesOf P.placed tree.now.nodes at → AreMeasuresUp at view node.0 (M.measured measures.now) →
         is_some (inputs_in_view at view node.0) ≡ true → result ≡ as_place (flat_place at view node.0) }
     ensures range { IsNearPoint (depth tree.now.nodes node.0) result }
+    ensures short { IsNearPoint 65536 result }
 {
     Point {
         left: flat_along(tree, measures, node, Axis::Across),

@@ -1,18 +1,19 @@
 //! How far scroll containers and viewports reach.
 
-ghost use Rattle.std.specs.Prelude.{◌≡◌, ◌<◌, ◌+◌, ◌-◌, ℕ, Bool, Some, None, true, false, cond, length, find, is_some, IfSome, unsigned_abs};
+ghost use Rattle.std.specs.Prelude.{◌≡◌, ◌<◌, ◌+◌, ◌-◌, ◌+ℤ◌, ◌-ℤ◌, ℕ, max, Bool, Some, None, true, false, cond, length, find, is_some, IfSome, unsigned_abs};
+ghost use Rattle.px_units.specs.Lengths.{at_least_zero};
 ghost use Rattle.layout_model.specs.Nodes.{Node, ancestors_of, position_of, is_positioned, is_in_flow, HeldByElement, Holder, held_by, holder, IsShallow};
 ghost use Rattle.layout_model.specs.Boxes.{Inputs};
 ghost use Rattle.layout_model.specs.Points.{moved, capped, larger};
 ghost use Rattle.layout_model.specs.Views.{View, inputs_in_view};
 ghost use Rattle.layout_model.specs.FlatPlaces.{flat_place, border_corner, corner_of};
 ghost use Rattle.layout_model.specs.Reach.{reach_of, reach_of_view};
-ghost use Rattle.element_tree.specs.Forest.{depth, parent_of, children_of};
+ghost use Rattle.element_tree.specs.Forest.{IsForest, depth, parent_of, children_of};
 ghost use Rattle.style_values.specs.Seen.{seen_position};
 ghost use Rattle.positioned_layout.specs.Measured.{AreMeasuresOf, AreMeasuresUp, IsMeasuredAt};
-ghost use Rattle.positioned_layout.specs.Seen.{as_place, as_size, pair_of_size, seen_measure, IsMeasure, IsNearPoint, IsCornerPoint, IsSpanOfSize};
+ghost use Rattle.positioned_layout.specs.Seen.{as_place, as_size, pair_of_size, seen_measure, IsMeasure, IsNear, IsNearPoint, IsCorner, IsCornerPoint, IsSpan, IsSpanOfSize};
 ghost use Rattle.positioned_layout.specs.Trees.{AreNodesOf};
-ghost use Rattle.positioned_layout.specs.Walked.{edges_past, IsFar, IsReached, IsReachedIn, IsOpenIn, IsAround, IsNearAround, IsRoom};
+ghost use Rattle.positioned_layout.specs.Walked.{edges_past, absolute_in, opens_in, IsFar, IsReached, IsReachedIn, IsOpenIn, IsHeld, IsAround, IsNearAround, IsEdge, IsRoom};
 
 use crate::holders::{is_positioned, position, positioned_ancestor};
 use crate::places::{flat_place, placed};
@@ -57,6 +58,19 @@ impl Around {
         }
     }
 
+    // What holds the absolute boxes in a child of this position: the child itself where it is positioned, as `own` tells it.
+    fn absolute_in(self, position: Position, own: Held) -> Held
+        ensures value { (at : ℕ → Node) (view : View) (opens : Holder → Bool) (p c : ℕ) → IsShallow at → (at c).parent ≡ Some p →
+            seen_position position ≡ position_of (at c) → IsHeld at view opens (absolute_in at p) self.absolute →
+            IsHeld at view opens (HeldByElement c) own → IsHeld at view opens (absolute_in at c) result }
+        ensures range { (boxes : ℕ) → IsCornerPoint boxes self.absolute.corner → IsCornerPoint (boxes + 1) own.corner → IsCornerPoint (boxes + 1) result.corner }
+    {
+        match position {
+            Position::Static => self.absolute,
+            Position::Relative | Position::Absolute | Position::Fixed => own,
+        }
+    }
+
     // The same in a child of this position, whose box is at `place`; `opened` tells whether what the child holds is reached.
     fn inside(self, position: Position, place: Point, own: &Measure, opened: bool) -> Around
         requires measure { IsMeasure own.now }
@@ -67,17 +81,11 @@ impl Around {
             opened ≡ opens (HeldByElement c) → IsAround at view c opens result }
         ensures range { (boxes : ℕ) → IsNearAround boxes self → IsNearPoint (boxes + 1) place → IsNearAround (boxes + 1) result }
     {
-        let absolute = match position {
-            Position::Static => self.absolute,
-            Position::Relative | Position::Absolute | Position::Fixed => Held {
-                corner: padding_corner(place, own),
-                opened,
-            },
-        };
+        let corner = padding_corner(place, own);
         Around {
             place,
             flow: opened,
-            absolute,
+            absolute: self.absolute_in(position, Held { corner, opened }),
             fixed: self.fixed,
         }
     }
@@ -95,6 +103,18 @@ fn padding_corner(place: Point, own: &Measure) -> Point
         left: place.left + own.corner.left,
         top: place.top + own.corner.top,
     }
+}
+
+// The farther of an edge by now and of a border box's, from a corner on.
+fn farther(edge: i64, place: i64, border: i64, corner: i64) -> i64
+    requires edge { IsEdge edge }
+    requires place { IsNear 65536 place }
+    requires border { IsSpan border }
+    requires corner { IsCorner 65536 corner }
+    ensures value { unsigned_abs result ≡ max (at_least_zero (place +ℤ border -ℤ corner)) (unsigned_abs edge) }
+    ensures range { IsEdge result }
+{
+    edge.max(place + border - corner)
 }
 
 // The farthest edges by now, from a corner on.
@@ -117,13 +137,11 @@ impl Farthest {
         if !opened {
             return self;
         }
-        let across = place.left + border.width - self.corner.left;
-        let down = place.top + border.height - self.corner.top;
         Farthest {
             corner: self.corner,
             size: Size {
-                width: self.size.width.max(across),
-                height: self.size.height.max(down),
+                width: farther(self.size.width, place.left, border.width, self.corner.left),
+                height: farther(self.size.height, place.top, border.height, self.corner.top),
             },
         }
     }
@@ -198,17 +216,18 @@ fn far_below<P: Placed, M: Measures>(
         IsAround at view node.0 opens around → IsFar at view (IsReachedIn at view opens (children_of tree.now.nodes node.0)) far result }
     ensures corner { result.corner ≡ far.corner }
     ensures room { IsRoom result }
+    ensures forest { IsForest tree.now.most_depth tree.now.nodes }
 {
-    let mut far = far;
+    let mut farthest = far;
     let mut next = tree.first_child(node);
     while let Some(child) = next {
         if let Some(own) = measures.measure(child) {
-            let entered = enter(tree, child, &own, outer, around, far);
-            far = far_below(tree, measures, child, &own, entered.around, entered.far);
+            let entered = enter(tree, child, &own, outer, around, farthest);
+            farthest = far_below(tree, measures, child, &own, entered.around, entered.far);
         }
         next = tree.next_sibling(child);
     }
-    far
+    farthest
 }
 
 /// How far something reaches: the scroll container `of`, from the corner of its padding box, over that box and the border boxes that it
@@ -268,12 +287,35 @@ fn outer_holder<P: Placed, M: Measures>(tree: &Tree<P>, measures: &M, node: Node
     }
 }
 
+// What holds the absolute boxes in the node whose reach is measured: the node itself where it is positioned.
+fn absolute_holder<P: Placed, M: Measures>(
+    tree: &Tree<P>,
+    measures: &M,
+    node: NodeId,
+    positioned: bool,
+    own: Held,
+) -> Held
+    requires node { node.0 < length tree.now.nodes }
+    requires own { IsCornerPoint (depth tree.now.nodes node.0) own.corner }
+    ensures value { (at : ℕ → Node) (view : View) → AreNodesOf P.placed tree.now.nodes at → IsShallow at → AreMeasuresUp at view node.0 (M.measured measures.now) →
+        positioned ≡ is_positioned (at node.0) → is_some (inputs_in_view at view node.0) ≡ true → IsHeld at view (opens_in at node.0) (HeldByElement node.0) own →
+        IsHeld at view (opens_in at node.0) (absolute_in at node.0) result }
+    ensures range { IsCornerPoint (depth tree.now.nodes node.0) result.corner }
+{
+    if positioned {
+        own
+    } else {
+        outer_holder(tree, measures, node)
+    }
+}
+
 fn container_reach<P: Placed, M: Measures>(tree: &Tree<P>, measures: &M, node: NodeId) -> Size
     requires { node.0 < length tree.now.nodes }
     ensures { (at : ℕ → Node) (document : View) (inputs : Inputs) → AreNodesOf P.placed tree.now.nodes at →
         AreMeasuresOf at document (M.measured measures.now) →
         inputs_in_view at document node.0 ≡ Some inputs → result ≡ as_size (reach_of at document node.0) }
 {
+    let positioned = is_positioned(tree, node);
     let Some(own) = measures.measure(node) else {
         return Size {
             width: 0,
@@ -282,18 +324,12 @@ fn container_reach<P: Placed, M: Measures>(tree: &Tree<P>, measures: &M, node: N
     };
     let place = flat_place(tree, measures, node);
     let corner = padding_corner(place, &own);
-    let absolute = if is_positioned(tree, node) {
-        Held {
-            corner,
-            opened: own.clips,
-        }
-    } else {
-        outer_holder(tree, measures, node)
-    };
+    // A box that doesn't clip reaches over itself alone.
+    let opened = own.clips;
     let around = Around {
         place,
-        flow: own.clips,
-        absolute,
+        flow: opened,
+        absolute: absolute_holder(tree, measures, node, positioned, Held { corner, opened }),
         fixed: CLOSED,
     };
     let size = own.padding;
