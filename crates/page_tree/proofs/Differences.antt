@@ -1,5 +1,5 @@
 -- At which elements writing an element or making one changes what is laid out.
-use Rattle.std.proofs.Common.{◌≡◌, ◌≢◌, ℕ, List, [], ◌∷◌, ◌++◌, length, map, Option, Some, None, true, false, nat_eq, ◌||◌, inl, inr, refl, ap, sym, subst, ◌∙◌}
+use Rattle.std.proofs.Common.{◌≡◌, ◌≢◌, ℕ, List, [], ◌∷◌, ◌++◌, length, map, true, false, nat_eq, ◌||◌, inl, inr, refl, ap, subst, ◌∙◌}
 use Rattle.layout_model.specs.Items.{Item}
 use Rattle.layout_model.specs.Nodes.{is_in_flow}
 use Rattle.layout_model.specs.Boxes.{kids_of}
