@@ -23,7 +23,7 @@ returns-then-has_box-clause-value c =
     let nodes = c.elements.ensures.nodes in
     let there = sym c.has_box.ensures ∙ c.if-has_box.true in
     let boxed = sym (ap (λ at. is_some (inputs_in_view at view n)) nodes) ∙ sym (boxed_is it.tree it.screen n) ∙ there in
-    c.boxed_offset.ensures.value view (subst (λ at. HoldsAll at view c.boxes.result.now) nodes (c.boxes.ensures.documents (element_at it.tree n).document)) boxed
+    c.boxed_offset.ensures.value view (c.boxes.ensures.sized (element_at it.tree n).document) (subst (λ at. HoldsAll at view c.boxes.result.now) nodes (c.boxes.ensures.fresh.documents (element_at it.tree n).document)) boxed
     ∙ (λ i. as_point (offset_in_force (sym nodes i) (stored_in (c.scrolls.ensures i)) view n))
     ∙ ap as_point (element_offset it.tree it.screen it.scrolls n there)
 
