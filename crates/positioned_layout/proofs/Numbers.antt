@@ -6,7 +6,7 @@ use Rattle.std.specs.Prelude.{max, IfSome, unwrap_or, option_map, pos, negsuc, n
 use mir.Val.{to_z, of_z, SFits}
 use mir.Syntax.{w32, w64}
 use Rattle.px_units.specs.Lengths.{cap, clamped, signed_part, at_least_zero}
-use Rattle.positioned_layout.specs.Seen.{IsReach, IsSpan, IsNear, IsCorner}
+use Rattle.positioned_layout.specs.Seen.{IsReach, IsSpan, IsNear, IsCorner, IsLength}
 
 pub pos_abs : (x : ℤ) → pos 0 ≤ℤ x → pos (unsigned_abs x) ≡ x
 pos_abs (pos n) low = refl
@@ -121,3 +121,6 @@ farther_whole edge place border corner range near span past =
 
 pub pair_is : (a b c d : ℕ) → a ≡ c → b ≡ d → ◌≡◌ {A = ℕ × ℕ} (a, b) (c, d)
 pair_is a b c d first second = ap {B = ℕ × ℕ} (λ x. (x, b)) first ∙ ap {B = ℕ × ℕ} (λ x. (c, x)) second
+
+pub length_span : (units : ℤ) → IsLength units → IsSpan units
+length_span units length = (length.0, omega (arith, ints, length.1))

@@ -13,7 +13,7 @@ use Rattle.layout_model.specs.Reach.{clipped_by, is_it, tree_in, reached_by, rea
 use Rattle.layout_model.proofs.Ancestors.{option_cases, found_among, in_self, above_in, in_path_trans, in_path_depth, proper_depth}
 use Rattle.layout_model.proofs.Farthest.{kept, passed, it_is}
 use Rattle.layout_model.proofs.Holders.{top_static, holder_of_top, holders_of_held, holders_of_unheld, on_screen_held, on_screen_unheld, holders_above, holders_less}
-use Rattle.layout_model.proofs.Inputs.{box_child, box_top, in_view, is_some_inputs, under_view}
+use Rattle.layout_model.proofs.Inputs.{box_child, box_top, in_view, is_some_inputs, under_view, view_root, boxed_top, inputs_boxed}
 use Rattle.layout_model.proofs.Paths.{depth_child, depth_least, ancestors_top}
 use Rattle.layout_model.proofs.Reaches.{reach_is, view_is, shown_in_tree}
 use Rattle.element_tree.specs.Forest.{Knot, IsForest, children_of}
@@ -23,7 +23,7 @@ use Rattle.positioned_layout.specs.declared.insets.Axis.{Axis}
 use Rattle.positioned_layout.specs.declared.insets.Axis.TheVariants.{Across, Down}
 use Rattle.positioned_layout.specs.declared.reaches.Farthest.{Farthest}
 use Rattle.positioned_layout.specs.Along.{part}
-use Rattle.positioned_layout.specs.Measured.{Measured, IsMeasuredAt, IsComeTo}
+use Rattle.positioned_layout.specs.Measured.{Measured, IsMeasuredAt, IsComeTo, is_come_to}
 use Rattle.positioned_layout.specs.Seen.{as_place, pair_of_size, seen_measure}
 use Rattle.positioned_layout.specs.Trees.{AreNodesOf}
 use Rattle.positioned_layout.specs.Walked.{absolute_in, opens_in, opens_view, IsFar, IsReached, IsReachedIn, IsOpenIn}
@@ -193,8 +193,16 @@ module _ (at : ℕ → Node) (shallow : IsShallow at) where
 
 -- what is measured of all boxes in a view is so of a node with a box and its ancestors
 pub comes_to : (at : ℕ → Node) → IsShallow at → (view : View) (n m : ℕ) → is_in_path at m n ≡ true → is_some (inputs_in_view at view n) ≡ true → IsComeTo at view m
-comes_to at shallow view n m inside boxed p up =
-    boxed_above at shallow view p n (in_path_trans at shallow p m n (above_in at shallow p m p up (in_self at p)) inside) boxed
+comes_to at shallow view n m inside boxed = by_parent ((at m).parent) refl
+  where
+    by_parent : (parent : Option ℕ) → (at m).parent ≡ parent → is_come_to at view m parent
+    by_parent None top = elim (option_cases (inputs_in_view at view m)) [
+      | inl none ↦ absurd (false≢true (sym (ap is_some none) ∙ boxed_above at shallow view m n inside boxed))
+      | inr own ↦
+          let found = view_root at view own.0 m own.1 in
+          found.1 ∙ ap Some (sym ((boxed_top at found.0 m top (inputs_boxed at found.0 (view_inputs view) own.0 m found.2)).1))
+    ]
+    by_parent (Some p) up = boxed_above at shallow view p n (in_path_trans at shallow p m n (above_in at shallow p m p up (in_self at p)) inside) boxed
 
 -- what would hold an absolute box in a root element
 pub absolute_top : (at : ℕ → Node) → IsShallow at → (root : ℕ) → (at root).parent ≡ None → absolute_in at root ≡ HeldByPage

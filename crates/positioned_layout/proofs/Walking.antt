@@ -26,7 +26,7 @@ use Rattle.positioned_layout.specs.declared.insets.Axis.TheVariants.{Across, Dow
 use Rattle.positioned_layout.specs.declared.reaches.Around.{Around}
 use Rattle.positioned_layout.specs.declared.reaches.Farthest.{Farthest}
 use Rattle.positioned_layout.specs.Along.{part}
-use Rattle.positioned_layout.specs.Measured.{Measured, IsMeasuredAt, IsComeTo}
+use Rattle.positioned_layout.specs.Measured.{Measured, IsMeasuredAt, IsComeTo, is_come_to}
 use Rattle.positioned_layout.specs.Trees.{AreNodesOf}
 use Rattle.positioned_layout.specs.Seen.{as_place, pair_of_size, seen_measure, IsSpanOfSize}
 use Rattle.positioned_layout.specs.Walked.{edges_past, absolute_in, IsFarther, IsFar, IsReached, IsReachedIn, IsAround}
@@ -245,7 +245,5 @@ module _ {P : Type 0} (placed : P → Style) (nodes : List (Knot P)) (at : ℕ �
 
 -- no walk comes to a child but of a node with a box
 pub come_to : {P : Type 0} (placed : P → Style) (nodes : List (Knot P)) (at : ℕ → Node) → AreNodesOf placed nodes at → {most : ℕ} → IsForest most nodes → (view : View) (n c : ℕ) → has (children_of nodes n) c ≡ true → is_some (inputs_in_view at view n) ≡ true → IsComeTo at view c
-come_to placed nodes at are forest view n c kid boxed p up =
-    let both : ◌≡◌ {A = Option ℕ} (Some n) (Some p) = sym (are.parent c ∙ kid_parent forest n c kid) ∙ up in
-    let same : n ≡ p = cc in
-    subst (λ m. is_some (inputs_in_view at view m) ≡ true) same boxed
+come_to placed nodes at are forest view n c kid boxed =
+    subst (is_come_to at view c) (sym (are.parent c ∙ kid_parent forest n c kid)) boxed

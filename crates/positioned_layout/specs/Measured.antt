@@ -38,9 +38,14 @@ measured_with at view n inputs box = record {
   clips = clips (at n);
 }
 
--- a node whose parent has a box, or that has no parent. No walk comes to another one
+-- by its parent: the root element of the view, or a node whose parent has a box
+abbrev pub is_come_to : (ℕ → Node) → View → ℕ → Option ℕ → Type 0
+is_come_to at view n None = view.root ≡ Some n
+is_come_to at view n (Some p) = is_some (inputs_in_view at view p) ≡ true
+
+-- a node that a walk comes to
 abbrev pub IsComeTo : (ℕ → Node) → View → ℕ → Type 0
-IsComeTo at view n = (p : ℕ) → (at n).parent ≡ Some p → is_some (inputs_in_view at view p) ≡ true
+IsComeTo at view n = is_come_to at view n (at n).parent
 
 -- the measure of a node's box in a view, none exactly without a box
 abbrev pub IsMeasureOf : (ℕ → Node) → View → ℕ → Option Measured → Type 0

@@ -65,12 +65,16 @@ IsSpan units = (pos 0 ≤ℤ units) × (units ≤ℤ pos 1099511627776)
 abbrev pub IsSpanOfSize : Size → Type 0
 IsSpanOfSize size = IsSpan size.width × IsSpan size.height
 
--- no number of a measure is negative or above 2 ^ 40
+-- from 0 to the largest length
+abbrev pub IsLength : ℤ → Type 0
+IsLength units = (pos 0 ≤ℤ units) × (units ≤ℤ pos 2147483647)
+
+-- no number of a measure is negative or above 2 ^ 40, and no border is above the largest length
 pub record IsMeasure (measure : Measure) : Type 0 where
   pub width : IsSpan measure.width
   pub height : IfSome measure.height IsSpan
   pub inner : IsSpan measure.inner.left × IsSpan measure.inner.top
-  pub corner : IsSpan measure.corner.left × IsSpan measure.corner.top
+  pub corner : IsLength measure.corner.left × IsLength measure.corner.top
   pub margin : IsSpan measure.margin.left × IsSpan measure.margin.top
   pub margin_height : IsSpan measure.margin_height
   pub above : IsSpan measure.above
@@ -83,7 +87,7 @@ IsReach units = (neg_ℤ (pos 2147483647) ≤ℤ units) × (units ≤ℤ pos 214
 
 -- as far from 0 as so many boxes, one placed by the other, can be
 abbrev pub IsNear : ℕ → ℤ → Type 0
-IsNear boxes units = (neg_ℤ (pos (2199023255552 * boxes)) ≤ℤ units) × (units ≤ℤ pos (2199023255552 * boxes))
+IsNear boxes units = (neg_ℤ (pos (4294967296 * boxes)) ≤ℤ units) × (units ≤ℤ pos (4294967296 * boxes))
 
 abbrev pub IsNearPoint : ℕ → Point → Type 0
 IsNearPoint boxes point = IsNear boxes point.left × IsNear boxes point.top
@@ -91,7 +95,7 @@ IsNearPoint boxes point = IsNear boxes point.left × IsNear boxes point.top
 -- and a border further
 abbrev pub IsCorner : ℕ → ℤ → Type 0
 IsCorner boxes units =
-    (neg_ℤ (pos (2199023255552 * boxes + 1099511627776)) ≤ℤ units) × (units ≤ℤ pos (2199023255552 * boxes + 1099511627776))
+    (neg_ℤ (pos (4294967296 * boxes + 2147483647)) ≤ℤ units) × (units ≤ℤ pos (4294967296 * boxes + 2147483647))
 
 abbrev pub IsCornerPoint : ℕ → Point → Type 0
 IsCornerPoint boxes point = IsCorner boxes point.left × IsCorner boxes point.top

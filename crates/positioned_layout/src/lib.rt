@@ -41,7 +41,7 @@ impl<P: Styled> Placed for P {
     }
 }
 
-/// What is measured of a box. Each number is from 0 to 2^40 units.
+/// What is measured of a box. Each number is from 0 to 2^40 units, and no border is above 2,147,483,647.
 #[derive(Clone, Copy, Debug, PartialEq, Eq)]
 pub struct Measure {
     /// The width of the containing block.
@@ -50,7 +50,7 @@ pub struct Measure {
     pub height: Option<i64>,
     /// The left and top borders and paddings.
     pub inner: Point,
-    /// The left and top borders.
+    /// The left and top borders, each at most 2,147,483,647 units.
     pub corner: Point,
     /// The left and top margins.
     pub margin: Point,

@@ -13,7 +13,7 @@ ghost use Rattle.style_values.specs.Ranges.{IsSize, IsStyle};
 ghost use Rattle.style_values.specs.Seen.{seen_style};
 ghost use Rattle.positioned_layout.specs.Along.{part, along, far_side, place_of};
 ghost use Rattle.positioned_layout.specs.Measured.{IsMeasureOf, AreMeasuresUp, IsMeasuredAt};
-ghost use Rattle.positioned_layout.specs.Seen.{as_place, seen_measure, seen_side, IsMeasure, IsReach, IsNear, IsNearPoint, IsCorner, IsCornerPoint, IsSpan, IsSide};
+ghost use Rattle.positioned_layout.specs.Seen.{as_place, seen_measure, seen_side, IsMeasure, IsReach, IsNear, IsNearPoint, IsCorner, IsCornerPoint, IsLength, IsSide};
 ghost use Rattle.positioned_layout.specs.Trees.{AreNodesOf};
 
 use crate::holders::{holder_of, position};
@@ -162,7 +162,7 @@ fn from_holder<P: Placed, M: Measures>(
 fn corner<M: Measures>(measures: &M, node: NodeId, axis: Axis) -> i64
     ensures value { (at : ℕ → Node) (view : View) → IsMeasureOf at view node.0 (M.measured measures.now node.0) →
         is_some (inputs_in_view at view node.0) ≡ true → result ≡ pos (part axis (border_corner (at node.0).item)) }
-    ensures range { IsSpan result }
+    ensures range { IsLength result }
 {
     match measures.measure(node) {
         Some(measure) => along(measure.corner, axis),

@@ -14,8 +14,8 @@ use Rattle.positioned_layout.proofs.places.flat_along.Given as goal
 abbrev pub invariant-loop-next : goal.invariant-loop-next
 invariant-loop-next g l = record {
   inside : (n : ℕ) → option_map number l.next ≡ Some n → n < length l.tree.nodes;
-  low : neg_ℤ (pos (2199023255552 * depth l.tree.nodes (l.fn.node.0))) ≤ℤ (l.place -ℤ pos (2199023255552 * above (depth l.tree.nodes) (option_map number l.next)));
-  high : (l.place +ℤ pos (2199023255552 * above (depth l.tree.nodes) (option_map number l.next))) ≤ℤ pos (2199023255552 * depth l.tree.nodes (l.fn.node.0));
+  low : neg_ℤ (pos (4294967296 * depth l.tree.nodes (l.fn.node.0))) ≤ℤ (l.place -ℤ pos (4294967296 * above (depth l.tree.nodes) (option_map number l.next)));
+  high : (l.place +ℤ pos (4294967296 * above (depth l.tree.nodes) (option_map number l.next))) ≤ℤ pos (4294967296 * depth l.tree.nodes (l.fn.node.0));
   short : IsNear 65536 l.place;
   value : (at : ℕ → Node) (view : View) → AreNodesOf g.P.Placed.placed l.tree.nodes at → AreMeasuresUp at view (l.fn.node.0) (g.M.Measures.measured l.measures) →
       is_some (inputs_in_view at view (l.fn.node.0)) ≡ true →

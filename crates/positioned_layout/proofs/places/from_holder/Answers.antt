@@ -5,7 +5,7 @@ use Rattle.layout_model.proofs.Holders.{holder_above}
 use Rattle.positioned_layout.specs.Along.{part}
 use Rattle.positioned_layout.specs.Seen.{seen_holder}
 use Rattle.positioned_layout.proofs.Nodes.{shallow}
-use Rattle.positioned_layout.proofs.Numbers.{step_again}
+use Rattle.positioned_layout.proofs.Numbers.{step_again, length_span}
 use Rattle.positioned_layout.proofs.Placing.{part_moved, boxed_above}
 use Rattle.positioned_layout.proofs.places.from_holder.Goals as goal
 
@@ -19,7 +19,7 @@ returns-in-Node-clause-value g c at view are up boxed =
     ap (λ h. part c.args.axis (corner_of at (flat_place at view) h) +ℤ c.args.by) held
     ∙ ap (λ x. x +ℤ c.args.by) (part_moved c.args.axis (flat_place at view e) (border_corner (at e).item))
     ∙ ap (λ x. part c.args.axis (flat_place at view e) +ℤ x +ℤ c.args.by) (sym (c.corner.ensures.value at view (up e inside) (boxed_above at low view e n inside boxed)))
-    ∙ step_again (part c.args.axis (flat_place at view e)) c.args.by c.corner.result c.requires.by c.corner.ensures.range
+    ∙ step_again (part c.args.axis (flat_place at view e)) c.args.by c.corner.result c.requires.by (length_span _ c.corner.ensures.range)
 
 pub returns-in-Node-clause-inside : goal.returns-in-Node-clause-inside
 returns-in-Node-clause-inside g c at are =

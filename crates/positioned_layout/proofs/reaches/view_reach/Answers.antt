@@ -1,11 +1,11 @@
-use Rattle.std.proofs.Common.{◌≡◌, Option, Some, None, true, refl, subst, ap, sym, ◌∙◌, arith}
+use Rattle.std.proofs.Common.{Option, true, refl, subst, ap, sym, ◌∙◌, arith}
 use Rattle.std.proofs.lemmas.Int.{ints}
 use Rattle.std.specs.Prelude.{IfSome, pos}
 use Rattle.layout_model.proofs.Holders.{holder_of_top}
 use Rattle.positioned_layout.specs.declared.Measure.{Measure}
 use Rattle.positioned_layout.specs.declared.reaches.Farthest.{Farthest}
 use Rattle.positioned_layout.specs.declared.reaches.Held.{Held}
-use Rattle.positioned_layout.specs.Measured.{IsComeTo}
+use Rattle.positioned_layout.specs.Measured.{is_come_to, IsComeTo}
 use Rattle.positioned_layout.specs.Seen.{as_size, IsMeasure}
 use Rattle.positioned_layout.specs.Walked.{opens_view, IsHeld}
 use Rattle.positioned_layout.proofs.Nodes.{shallow}
@@ -19,7 +19,7 @@ pub returns-in_default : goal.returns-in_default
 returns-in_default g c top at view are root_is width_is height_is measures =
     let root = c.args.root.0 in
     let first = are.parent root ∙ top in
-    let come : IsComeTo at view root = λ p up. let both : None ≡ Some p = sym first ∙ up in absurd cc in
+    let come : IsComeTo at view root = subst (is_come_to at view root) (sym first) root_is in
     c.capped.ensures
     ∙ ap as_size
     (view_bare at view root root_is first (record { corner = record { left = pos 0; top = pos 0 }; size = c.args.view }) refl (pair_is _ _ _ _ (sym width_is) (sym height_is))
@@ -39,7 +39,7 @@ pub returns : goal.returns
 returns g c top at view are root_is width_is height_is measures =
     let root = c.args.root.0 in
     let first = are.parent root ∙ top in
-    let come : IsComeTo at view root = λ p up. let both : None ≡ Some p = sym first ∙ up in absurd cc in
+    let come : IsComeTo at view root = subst (is_come_to at view root) (sym first) root_is in
     let forest = c.far_below.ensures.forest in
     let low = shallow g.P.Placed.placed c.args.tree.now.nodes at are forest in
     let boxed = measured_boxed at view root _ (measures root come) c.measure.result c.in-Some.own c.measure.ensures.value c.in-Some.is in
