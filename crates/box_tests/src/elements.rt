@@ -1,5 +1,7 @@
 //! Elements with a style and a kind, for trees that are laid out.
 
+ghost use Rattle.style_values.specs.Ranges.{IsStyle};
+
 use block_layout::{Inputs, ItemKind, Styled};
 use std::process::Abort;
 use style_values::{Overflow, Style};
@@ -8,12 +10,15 @@ use style_values::{Overflow, Style};
 pub const SCREEN: Inputs = Inputs {
     width: 51200,
     height: Some(38400),
+    flow: true,
 };
 
+/// An element by itself.
 #[derive(Drop)]
 pub struct Element {
-    pub style: Style,
+    style: Style,
     pub kind: ItemKind,
+    ghost in_range: { IsStyle style },
 }
 
 impl Styled for Element {
@@ -34,6 +39,19 @@ impl Styled for Element {
 }
 
 impl Element {
+    /// An element of the first style.
+    pub fn new(kind: ItemKind) -> Element {
+        Element {
+            style: Style::new(),
+            kind,
+        }
+    }
+
+    /// Sets a property; false where there is none of this name, or it hasn't this value.
+    pub fn set(&mut self, property: &str, value: &str) -> bool {
+        self.style.set(property.as_bytes(), value.as_bytes()) == Ok(())
+    }
+
     /// Whether it is a scroll container, unless it is the root element.
     pub fn scrolls(&self) -> bool {
         let is_cut = matches!(
@@ -44,21 +62,18 @@ impl Element {
     }
 }
 
-fn declare(rt: &impl Abort, style: &mut Style, declaration: &str) {
+fn declare(rt: &impl Abort, element: &mut Element, declaration: &str) {
     match declaration.split_once(':') {
-        Some((property, value)) => {
-            let set = style.set(property.as_bytes(), value.as_bytes());
-            assert!(rt; set == Ok(()), "{declaration}");
-        }
+        Some((property, value)) => assert!(rt; element.set(property, value), "{declaration}"),
         None => assert!(rt; false, "{declaration}"),
     }
 }
 
 /// An element with declarations as `width:1px height:50%`.
 pub fn styled(rt: &impl Abort, kind: ItemKind, declarations: &str) -> Element {
-    let mut style = Style::new();
+    let mut element = Element::new(kind);
     for declaration in declarations.split_whitespace() {
-        declare(rt, &mut style, declaration);
+        declare(rt, &mut element, declaration);
     }
-    Element { style, kind }
+    element
 }
