@@ -4,3 +4,4 @@ pub mod Holding
 pub mod Placing
 pub mod Walking
 pub mod Opening
+pub mod Closing

@@ -1,6 +1,6 @@
 //! How far scroll containers and viewports reach.
 
-ghost use Rattle.std.specs.Prelude.{◌≡◌, ◌<◌, ◌+◌, ◌-◌, ◌+ℤ◌, ◌-ℤ◌, ℕ, max, Bool, Some, None, true, false, cond, length, find, is_some, IfSome, unsigned_abs};
+ghost use Rattle.std.specs.Prelude.{◌≡◌, ◌<◌, ◌+◌, ◌-◌, ◌+ℤ◌, ◌-ℤ◌, ◌&&◌, ℕ, max, not, Bool, Some, None, true, false, cond, length, find, is_some, IfSome, unsigned_abs};
 ghost use Rattle.px_units.specs.Lengths.{at_least_zero};
 ghost use Rattle.layout_model.specs.Nodes.{Node, ancestors_of, position_of, is_positioned, is_in_flow, HeldByElement, Holder, held_by, holder, IsShallow};
 ghost use Rattle.layout_model.specs.Boxes.{Inputs};
@@ -41,6 +41,13 @@ struct Around {
 }
 
 impl Around {
+    // Whether nothing that is held in the node is reached.
+    fn is_closed(self) -> bool
+        ensures { result ≡ (not self.flow && (not self.absolute.opened && not self.fixed.opened)) }
+    {
+        !self.flow && !self.absolute.opened && !self.fixed.opened
+    }
+
     // What holds a child of this position. One in flow is placed by its parent, so that the corner says nothing then.
     fn holding(self, position: Position) -> Held
         ensures value { (at : ℕ → Node) (view : View) (opens : Holder → Bool) (p c : ℕ) → IsShallow at → (at c).parent ≡ Some p →
@@ -218,8 +225,11 @@ fn far_below<P: Placed, M: Measures>(
     ensures room { IsRoom result }
     ensures forest { IsForest tree.now.most_depth tree.now.nodes }
 {
-    let mut farthest = far;
     let mut next = tree.first_child(node);
+    if around.is_closed() {
+        return far;
+    }
+    let mut farthest = far;
     while let Some(child) = next {
         if let Some(own) = measures.measure(child) {
             let entered = enter(tree, child, &own, outer, around, farthest);

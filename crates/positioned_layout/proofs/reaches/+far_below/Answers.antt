@@ -12,11 +12,17 @@ use Rattle.positioned_layout.specs.declared.Measure.{Measure}
 use Rattle.positioned_layout.specs.declared.reaches.Farthest.{Farthest}
 use Rattle.positioned_layout.specs.Seen.{IsMeasure}
 use Rattle.positioned_layout.specs.Walked.{IsFar, IsReachedIn, IsNearAround, IsRoom}
+use Rattle.positioned_layout.proofs.Closing.{nothing_reached}
 use Rattle.positioned_layout.proofs.Nodes.{shallow}
 use Rattle.positioned_layout.proofs.Placing.{measured_at, measured_boxed, measured_none}
 use Rattle.positioned_layout.proofs.Walking.{far_none, far_turn, far_pass, come_to}
 use Rattle.positioned_layout.proofs.reaches.+far_below.Goals as goal
 use Rattle.positioned_layout.proofs.reaches.+far_below.Goals.{in-Some-measure, in_default-measure}
+
+pub returns-then-is_closed-clause-value : goal.returns-then-is_closed-clause-value
+returns-then-is_closed-clause-value g t c at view opens are measures inner boxed own around =
+    far_none at view (IsReachedIn at view opens (children_of c.args.tree.now.nodes (c.args.node.0))) c.args.far
+    (nothing_reached g.P.Placed.placed c.args.tree.now.nodes at are c.first_child-next.ensures.forest view opens (c.args.node.0) inner c.args.around around (sym c.is_closed.ensures ∙ c.if-is_closed.true))
 
 pub loop-next-init : goal.loop-next-init
 loop-next-init g t c =
