@@ -140,6 +140,7 @@ class EngineLayout(Layout):
         known = self._reaches.get(document)
         if known is None:
             known = self._reaches[document] = {}
+            self._filled = self._around_areas(document)
             for node in self._boxes_of(document):
                 holder = self.holder(node)
                 while isinstance(holder, Element) and not self.clips(holder):
@@ -150,13 +151,23 @@ class EngineLayout(Layout):
                     known[holder] = (max(old[0], far[0]), max(old[1], far[1]))
         return known
 
+    def _around_areas(self, document):
+        """The elements that hold a box with an area, with no clip in between: their own boxes count with it."""
+        filled = set()
+        for node in self._boxes_of(document):
+            holder = self.holder(node) if all(self.border_size(node)) else None
+            while isinstance(holder, Element) and holder not in filled and not self.clips(holder):
+                filled.add(holder)
+                holder = self.holder(holder)
+        return filled
+
     def _far_corner(self, node, holder):
         """How far a box makes the range of what it scrolls with."""
         left, top = self.flat_place(node)
         width, height = self.border_size(node)
         right, bottom = left + width, top + height
         if node.root_of is None and node.parent is not holder:
-            return None if not (width and height) and self.differs('reach-of-empty-boxes') else (right, bottom)
+            return None if not (width and height) and node not in self._filled and self.differs('reach-of-empty-boxes') else (right, bottom)
         margin = self.edges(node)[0]
         if (margin[1] or margin[2]) and self.differs('reach-with-margins'):
             right, bottom = right + margin[1], bottom + margin[2]
