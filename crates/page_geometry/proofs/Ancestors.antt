@@ -8,7 +8,6 @@ use Rattle.page_model.specs.World.{Tree}
 use Rattle.page_model.specs.Lookups.{element_at}
 use Rattle.page_model.specs.Documents.{nodes_of}
 use Rattle.page_model.specs.Findings.{is_on_chain}
-use Rattle.page_documents.specs.Frames.{AreFramed}
 
 -- whether an element is among what holds a box, from a holder on
 abbrev pub is_from : (ℕ → Node) → ℕ → Holder → Bool
@@ -46,10 +45,10 @@ module _ (tree : Tree) (a n : ℕ) where
   not_itself same = sym (ap (λ b. cond b false (is_in_path (held (nodes_of tree)) a n)) same)
 
   -- nothing holds what has no parent
-  pub none_above : AreFramed tree → (element_at tree n).parent ≡ None → false ≡ is_on_chain tree a n
-  none_above framed top = by_number (nat_eq a n) refl
+  pub none_above : IsShallow (nodes_of tree) → (element_at tree n).parent ≡ None → false ≡ is_on_chain tree a n
+  none_above shallow top = by_number (nat_eq a n) refl
     where
       by_number : (same : Bool) → nat_eq a n ≡ same → false ≡ is_on_chain tree a n
       by_number true same = not_itself same
       by_number false differs =
-          on_chain false differs (sym (unheld (nodes_of tree) framed.trees.shallow a n differs (ap element_of (holder_of_top (nodes_of tree) n top))))
+          on_chain false differs (sym (unheld (nodes_of tree) shallow a n differs (ap element_of (holder_of_top (nodes_of tree) n top))))

@@ -63,3 +63,10 @@ loop-held-preserved c =
           ∙ sym (ap (λ (h : Holder). is_from at a (seen_holder h)) c.in-Node.is)
           ∙ c.loop-held.invariant.on;
     }
+
+pub returns-then-not-holds : goal.returns-then-not-holds
+returns-then-not-holds c =
+    let tree = c.args.page.now.tree in
+    let n = c.args.target.0 in
+    none_above tree (c.args.element.0) n c.holds.ensures.trees.shallow
+    (ap (λ (it : Element). it.parent) (missing_element tree n (sym c.holds.ensures.value ∙ c.if-not-holds.true)))
