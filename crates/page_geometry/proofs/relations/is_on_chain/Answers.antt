@@ -1,4 +1,4 @@
-use Rattle.std.proofs.Common.{◌≡◌, ◌<◌, ◌≤◌, ℕ, true, false, length, nat_eq, nat_lt, eqb-true, ap, sym, subst, ◌∙◌, arith}
+use Rattle.std.proofs.Common.{◌≡◌, ℕ, true, false, nat_eq, eqb-true, ap, sym, subst, ◌∙◌, arith}
 use Rattle.std.proofs.lemmas.Bool.Decides.{nat_tests}
 use Rattle.layout_model.specs.Nodes.{held, is_in_path, IsShallow}
 use Rattle.element_tree.specs.Forest.{depth}
@@ -7,9 +7,8 @@ use Rattle.positioned_layout.specs.declared.Holder.{Holder}
 use Rattle.positioned_layout.specs.Seen.{seen_holder}
 use Rattle.kept_layout.proofs.Held.{tree_nodes, levels_from, if_first, levels_fall}
 use Rattle.page_model.specs.World.{Element}
-use Rattle.page_model.specs.Documents.{nodes_of}
 use Rattle.page_tree.specs.Items.{style_in, kind_in}
-use Rattle.page_boxes.proofs.Pages.{count_here, missing_element}
+use Rattle.page_boxes.proofs.Pages.{missing_element}
 use Rattle.page_geometry.proofs.Ancestors.{is_from, from_holder, from_itself, on_chain, not_itself, none_above}
 use Rattle.page_geometry.proofs.relations.is_on_chain.Goals as goal
 

@@ -1,4 +1,4 @@
-use Rattle.std.proofs.Common.{◌≡◌, ◌<◌, ◌≤◌, ℕ, Some, length, inl, inr, ap, sym, ◌∙◌, arith}
+use Rattle.std.proofs.Common.{◌≡◌, ℕ, Some, inl, inr, ap, sym, ◌∙◌, arith}
 use Rattle.layout_model.specs.Nodes.{Node, HeldByPage, holder}
 use Rattle.page_model.specs.World.{Tree}
 use Rattle.page_model.specs.Documents.{InDocument, nodes_of, tree_document}
