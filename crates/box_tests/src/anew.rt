@@ -129,7 +129,7 @@ impl Anew {
         let outer = self.of(parent)?;
         assert!(rt; tree.holds(parent) && tree.holds(node));
         let above = tree.payload(parent);
-        if above.kind != ItemKind::Block {
+        if above.kind() != ItemKind::Block {
             return None;
         }
         if is_flow(tree.payload(node).style().position) {

@@ -1,8 +1,7 @@
 //! Elements with a style and a kind, for trees that are laid out.
 
-ghost use Rattle.style_values.specs.Ranges.{IsStyle};
-
 use block_layout::{Inputs, ItemKind, Styled};
+use std::marker::Model;
 use std::process::Abort;
 use style_values::{Overflow, Style};
 
@@ -13,21 +12,30 @@ pub const SCREEN: Inputs = Inputs {
     flow: true,
 };
 
-/// An element by itself.
+/// An element by itself. A contract sees its style and kind.
 #[derive(Drop)]
 pub struct Element {
     style: Style,
-    pub kind: ItemKind,
-    ghost in_range: { IsStyle style },
+    kind: ItemKind,
 }
 
-impl Styled for Element {
+impl Model for Element {
+    ghost use Rattle.layout_model.specs.Items.{Item};
+    ghost use Rattle.style_values.specs.Ranges.{IsStyle};
     ghost use Rattle.style_values.specs.Seen.{seen_style};
     ghost use Rattle.block_layout.specs.Seen.{seen_kind};
 
-    ghost style = { λ e. seen_style e.style };
+    ghost Value = { Item };
 
-    ghost kind = { λ e. seen_kind e.kind };
+    ghost view = { λ e. record { style = seen_style e.style; kind = seen_kind e.kind } };
+
+    ghost invariant = { λ e. IsStyle e.style };
+}
+
+impl Styled for Element {
+    ghost style = { λ e. e.style };
+
+    ghost kind = { λ e. e.kind };
 
     fn style(&self) -> &Style {
         &self.style
