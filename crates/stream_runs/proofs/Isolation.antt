@@ -54,7 +54,7 @@ module _ (form : FormLaw) (long : LengthLaw) (source : List ℕ) where
   -- ---- what the lines are that it says
 
   module _ (fit : All IsOneLine (stream_lines source)) where
-    turns : List TraceLine
+    abbrev turns : List TraceLine
     turns = lines_from (stream_opened (scripts_of source)).pages (parts_of source)
 
     both-fit : All IsOneLine (opening_lines (scripts_of source) ++ turns)
