@@ -24,7 +24,7 @@ loop-part-preserved g c =
       | then-part-pages+in_default w ↦
           rw (w.pages-is, w.sink-is)
           (turning_more (get_or c.args.parts.now c.loop-part.part-index d) d (get_or c.loop-part.pages place w.index-pages-part.result) w.take_turn.new.page c.loop-part.invariant c.loop-part-test.true refl
-          (page_at c.loop-part.pages place w.index-pages-part.result w.if-part-pages.true) w.in_default.ensures.wrote.0 w.in_default.ensures.wrote.1 w.in_default.ensures.page
+          (page_at c.loop-part.pages place w.index-pages-part.result w.if-part-pages.true) w.in_default.ensures.wrote.0 w.in_default.ensures.wrote.1 w.in_default.ensures.lines w.in_default.ensures.page
           (All-set IsReadyPage c.loop-part.pages place w.take_turn.new.page w.in_default.ensures.ready c.loop-part.invariant.ready))
       | else-part-pages w ↦
           rw (w.pages-is, w.sink-is)
