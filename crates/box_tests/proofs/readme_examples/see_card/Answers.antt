@@ -1,19 +1,9 @@
 -- The tree has two nodes, numbered 0 and 1, and the second goes into the first.
-use Rattle.std.proofs.Common.{◌≡◌, ◌++◌, ℕ, List, [], ◌∷◌, length, true, None, Ok, Err, ap, sym, subst, ◌∙◌, arith}
-use Rattle.std.specs.Prelude.{Result, is_ok, MatchResult, IfOk, OnOk}
+use Rattle.std.proofs.Common.{◌≡◌, ◌++◌, ℕ, List, [], ◌∷◌, length, None, ap, ◌∙◌, arith}
 use Rattle.element_tree.specs.Edits.{inserted, lone}
 use Rattle.element_tree.specs.Forest.{Knot, parent_of}
+use Rattle.box_tests.proofs.Added.{ok_is, if_ok, on_ok}
 use Rattle.box_tests.proofs.readme_examples.see_card.Goals as goal
-
-ok_is : {T E F : Type 0} (r : Result T E) (m : Result T F) (v : T) (bad : E → Type 0) → MatchResult r (λ x. m ≡ Ok x) bad → m ≡ Ok v → true ≡ is_ok r → r ≡ Ok v
-ok_is (Ok x) m v bad cases was ok = let same : Ok x ≡ Ok v = sym cases ∙ was in cc
-ok_is (Err e) m v bad cases was ok = absurd cc
-
-if_ok : {T E : Type 0} (r : Result T E) (v : T) (P : T → Type 0) → r ≡ Ok v → IfOk r P → P v
-if_ok r v P is held = subst (λ q. IfOk q P) is held
-
-on_ok : {T E : Type 0} (r : Result T E) (v : T) (P : Type 0) → r ≡ Ok v → OnOk r P → P
-on_ok r v P is held = subst (λ q. OnOk q P) is held
 
 two : {P : Type 0} (a b : P) (none first second : List (Knot P)) → none ≡ [] → first ≡ none ++ lone a ∷ [] → second ≡ first ++ lone b ∷ [] → second ≡ lone a ∷ lone b ∷ []
 two a b none first second empty one more = more ∙ ap (λ xs. xs ++ lone b ∷ []) (one ∙ ap (λ xs. xs ++ lone a ∷ []) empty)
