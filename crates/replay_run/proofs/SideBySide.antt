@@ -1,15 +1,14 @@
 -- Pages of a stream side by side: how they are opened, and how they take their turns.
-use Rattle.std.proofs.Common.{◌≡◌, ◌∙◌, refl, sym, ap, subst, ℕ, zero, suc, ◌+◌, ◌<◌, ◌≤◌, Bool, true, false, cond, ◌||◌, List, [], ◌∷◌, ◌++◌, length, map, drop, get_or, Option, append_assoc, arith, tests}
-use Rattle.std.specs.Prelude.{Some, None, Result, Ok, Err, OnOk, OnErr, flat_map, fold, slice_get, slice_set, is_some, nat_lt}
+use Rattle.std.proofs.Common.{◌≡◌, ◌∙◌, refl, sym, ap, subst, ℕ, zero, suc, ◌+◌, ◌<◌, ◌≤◌, Bool, true, false, cond, ◌||◌, List, [], ◌∷◌, ◌++◌, length, map, drop, get_or, Option, append_assoc, arith}
+use Rattle.std.specs.Prelude.{Some, None, Result, Ok, Err, OnOk, OnErr, flat_map, fold, slice_get, slice_set}
 use Rattle.std.specs.Io.KnownBytes.{Appends}
 use Rattle.std.specs.List.{All, list_any}
 use Rattle.std.proofs.lemmas.Bool.{false≢true}
-use Rattle.std.proofs.lemmas.List.{append-nil, map-append, drop_all}
+use Rattle.std.proofs.lemmas.List.{append-nil, drop_all}
 use Rattle.std.proofs.lemmas.List.Elements.{All-append, All-cons, All-nil}
 use Rattle.text_io.specs.declared.kinds.Version.{Version}
 use Rattle.script_model.specs.Reading.{Reading, Refusal, reading, refusal_line}
 use Rattle.script_model.specs.Syntax.{Item, Script}
-use Rattle.script_model.specs.TraceLines.{TraceLine}
 use Rattle.page_model.specs.World.{World}
 use Rattle.page_model.specs.Outcome.{opening_world, Ending}
 use Rattle.trace_runs.specs.declared.faults.RunFault.{RunFault}
@@ -22,7 +21,7 @@ use Rattle.page_stream.specs.Pages.{pages_of}
 use Rattle.page_stream.specs.Parts.{parts_of, script_of}
 use Rattle.replay_run.specs.Answers.{Tells}
 use Rattle.stream_runs.specs.Alone.{IsOneLine, lines_from, opening_lines, stream_lines}
-use Rattle.stream_runs.specs.PageRuns.{PageScript, PageRun, Standing, Turn, ending_at, opened, refused_lines, turn_at}
+use Rattle.stream_runs.specs.PageRuns.{PageScript, PageRun, ending_at, opened, refused_lines, turn_at}
 use Rattle.replay_run.specs.Replies.{Reply, run_reply}
 use Rattle.stream_runs.specs.StreamRuns.{StreamRun, named_text, refused_text, scripts_from, scripts_of, stream_opened, stream_step, turned, with_turn, parts_run, stream_run}
 use Rattle.stream_runs.proofs.Said.{fit_none, fit_more}

@@ -1,4 +1,5 @@
-use Rattle.std.proofs.Common.{◌≤◌, arith, length}
+use Rattle.std.proofs.Common.{◌≤◌, arith, length, subst, ℕ, List}
+use Rattle.replay_run.specs.Answers.{IsolatesPages}
 use Rattle.replay_run.proofs.PagesAsked.{pages_end_past, pages_taken, alone_end, past_alone}
 use Rattle.replay_run.proofs.side_by_side.run_pages.Goals as goal
 
@@ -13,7 +14,9 @@ returns-in-Err-TooLong-clause-ends g c =
     pages_end_past c.meet_limit.result _ _ c.in-Err-TooLong.feeds _ _ _ _ cause.2 c.meet_limit.ensures.tells
 
 pub returns-in-Ok-clause-alone : goal.returns-in-Ok-clause-alone
-returns-in-Ok-clause-alone g c = alone_end c.run_bytes.result _ c.in-Ok.bytes.items c.in-Ok.ensures.all c.run_bytes.ensures.alone
+returns-in-Ok-clause-alone g c =
+    alone_end c.run_bytes.result _ c.in-Ok.bytes.items c.in-Ok.ensures.all
+    (subst (λ (it : List ℕ). IsolatesPages c.run_bytes.result it) c.deref.ensures.value c.run_bytes.ensures.alone)
 
 pub returns-in-Err-TooLong-clause-alone : goal.returns-in-Err-TooLong-clause-alone
 returns-in-Err-TooLong-clause-alone g c =

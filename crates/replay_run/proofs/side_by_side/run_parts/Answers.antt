@@ -1,4 +1,4 @@
-use Rattle.std.proofs.Common.{refl, ◌≤◌, ℕ, [], get_or, length, map, arith}
+use Rattle.std.proofs.Common.{refl, ◌≤◌, ℕ, get_or, length, map, arith}
 use Rattle.std.proofs.lemmas.List.Elements.{All-set}
 use Rattle.page_stream.specs.declared.stream.Part.{Part}
 use Rattle.replay_run.specs.StreamPages.{seen_page, IsReadyPage}

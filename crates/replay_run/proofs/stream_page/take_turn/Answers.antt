@@ -1,14 +1,13 @@
-use Rattle.std.proofs.Common.{◌≡◌, ◌∙◌, refl, sym, ap, subst, ℕ, List, [], false}
-use Rattle.std.proofs.Common.{rules}
+use Rattle.std.proofs.Common.{◌≡◌, ◌∙◌, refl, sym, ap, subst, ℕ, List, false}
 use Rattle.std.specs.Io.KnownBytes.{Appends}
 use Rattle.std.specs.List.{All}
 use Rattle.std.proofs.lemmas.List.Elements.{All-nil, All-weaker}
 use Rattle.trace_text.specs.Ranges.{IsLine}
 use Rattle.trace_runs.proofs.Writes.{nothing}
 use Rattle.stream_runs.specs.Alone.{IsOneLine}
-use Rattle.stream_runs.specs.PageRuns.{Turn, PageRun, turn_at}
+use Rattle.stream_runs.specs.PageRuns.{Turn, PageRun}
 use Rattle.stream_runs.specs.StreamRuns.{named_text}
-use Rattle.replay_run.specs.StreamPages.{begins, seen_standing}
+use Rattle.replay_run.specs.StreamPages.{begins}
 use Rattle.replay_run.proofs.SideBySide.{on_ok}
 use Rattle.replay_run.proofs.Turning.{turn_passed}
 use Rattle.replay_run.proofs.NamedLines.{named_nothing}
