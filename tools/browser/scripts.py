@@ -37,12 +37,17 @@ PROPERTIES = {
 for side in SIDES:
     PROPERTIES['margin' + side] = PROPERTIES['padding' + side] = EDGE
     PROPERTIES['border' + side] = LENGTH
+INSET = 'auto|-?%s|-?%s' % (LENGTH, PERCENT)
+PROPERTIES_OF_VERSION_2 = {**PROPERTIES, 'position': 'static|relative|absolute|fixed', **{side[1:]: INSET for side in SIDES[1:]}}
 
 FEATURE = r'\([ \t]*(?:(?:min-|max-)?(?:width|height)[ \t]*:[ \t]*%s|orientation[ \t]*:[ \t]*(?:portrait|landscape))[ \t]*\)' % LENGTH
 TYPED = r'(?:(?:not|only)[ \t]+)?(?:all|screen|print)(?:[ \t]+and[ \t]+%s)*' % FEATURE
 CONDITION = r'(?:not[ \t]+{0}|{0}(?:[ \t]+and[ \t]+{0})*|{0}(?:[ \t]+or[ \t]+{0})+)'.format(FEATURE)
 QUERY = '(?:%s|%s)' % (TYPED, CONDITION)
 QUERIES = re.compile(r'{0}(?:[ \t]*,[ \t]*{0})*'.format(QUERY))
+
+
+NOT_YET = " aren't run in browsers yet"
 
 
 class Refused(Exception):
@@ -67,12 +72,15 @@ def check_words(words, forms, line, of):
         raise Refused("line %d: '%s' is a word too many for '%s'" % (line, words[len(forms)], of))
 
 
-def check_set(args, line):
-    check_words(args[:2], [NODE, '|'.join(PROPERTIES)], line, 'set')
-    check_words(args[2:], [PROPERTIES[args[1]]], line, 'set %s %s' % (args[0], args[1]))
+def check_set(args, line, version):
+    properties = PROPERTIES if version == 1 else PROPERTIES_OF_VERSION_2
+    check_words(args[:2], [NODE, '|'.join(properties)], line, 'set')
+    check_words(args[2:], [properties[args[1]]], line, 'set %s %s' % (args[0], args[1]))
 
 
-def check_crossing(args, line):
+def check_crossing(args, line, version):
+    if version == 2 and 'scroll' in args[6:]:
+        raise Refused('line %d: scroll margins' % line + NOT_YET)
     cut = args.index('threshold') if 'threshold' in args else len(args)
     check_words(args[:6] if cut > 5 else args[:cut], [NAME, NAME, '-|' + NAME, 'root', '-|' + NODE, 'margin'], line, 'io')
     if cut == len(args):
@@ -80,14 +88,14 @@ def check_crossing(args, line):
     check_words(args[cut + 1:], [NUMBER] * (len(args) - cut - 1), line, 'io')
 
 
-def check_when(args, line):
+def check_when(args, line, version):
     asks = args[1:] if args[:1] == ['not'] else args
     if not asks or asks[0] not in CONDITIONS:
         raise Refused("line %d: '%s' is no condition" % (line, ' '.join(args)))
     check_words(asks[1:], CONDITIONS[asks[0]], line, asks[0])
 
 
-def check_query(args, line):
+def check_query(args, line, version):
     check_words(args[:2], [NAME, NAME], line, 'media')
     if len(args) < 3 or not QUERIES.fullmatch(args[2]) or any(float(n) > MOST['px'] for n in re.findall(r'([\d.]+)px', args[2])):
         raise Refused("line %d: '%s' is no media query of the language" % (line, ' '.join(args[2:])))
@@ -117,7 +125,8 @@ def lines_with_words(text):
 class Reader:
     """Takes the lines after the first one, and keeps what is open."""
 
-    def __init__(self):
+    def __init__(self, version):
+        self.version = version
         self.items, self.handlers, self.open, self.in_handler = [], {}, [], False
 
     def take(self, number, bare, words):
@@ -132,6 +141,8 @@ class Reader:
             self.in_handler = self.in_handler and bool(self.open)
         elif word in FORMS or word in SPECIAL:
             self.command(number, word, words[1:], bare)
+        elif word == 'ratio' and self.version == 2:
+            raise Refused('line %d: ratios of device pixels' % number + NOT_YET)
         else:
             raise Refused("line %d: '%s' is no command" % (number, word))
 
@@ -150,7 +161,9 @@ class Reader:
         if word == 'media' and len(args) > 2:
             args = args[:2] + [bare.split(None, 3)[3]]
         if word in SPECIAL:
-            SPECIAL[word](args, number)
+            SPECIAL[word](args, number, self.version)
+        elif word == 'ro-observe' and args[2:] == ['device'] and self.version == 2:
+            raise Refused('line %d: observers of device pixels' % number + NOT_YET)
         else:
             check_words(args, FORMS[word], number, word)
         if word == 'tick' and self.open:
@@ -166,18 +179,16 @@ class Reader:
 
 def read_script(text):
     """The items and handlers of a script, as the page takes them."""
-    reader, started = Reader(), False
+    reader = None
     for number, bare, words in lines_with_words(text):
-        if started:
+        if reader:
             reader.take(number, bare, words)
-        elif words == ['script', '1']:
-            started = True
-        elif words == ['script', '2']:
-            raise Refused("line %d: scripts of version 2, with ratios of device pixels and scroll margins, aren't run in browsers yet" % number)
+        elif words in (['script', '1'], ['script', '2']):
+            reader = Reader(int(words[1]))
         else:
-            raise Refused("line %d: the first line with words is to be 'script 1'" % number)
-    if not started:
-        raise Refused("there is no line 'script 1'")
+            raise Refused("line %d: the first line with words is to be 'script 1' or 'script 2'" % number)
+    if not reader:
+        raise Refused("there is no line 'script 1' or 'script 2'")
     if reader.open:
         raise Refused("a handler or block is open at the script's end")
     return {'items': reader.items, 'handlers': reader.handlers}

@@ -2,7 +2,7 @@
 import difflib
 import re
 
-from reference import available, forms
+from reference import forms, styles
 
 
 def close(word, words, most=3):
@@ -13,9 +13,6 @@ def close(word, words, most=3):
 
 def of_version_2(word):
     """A sentence on a word of version 2, or None."""
-    if word in available.LANGUAGE.without:
-        return ("`%s` the proved program doesn't have yet; the reference program reads it in version 2 of the language: "
-                'tools/reference/replay.' % word)
     if word in ('ratio', 'device'):
         return '`%s` is of version 2 of the language; such a script begins with `script 2`.' % word
     return None
@@ -23,6 +20,8 @@ def of_version_2(word):
 
 def wrong_with(word, form):
     """A sentence on why a word isn't of its form, or None where the form says enough."""
+    if form.shown == 'PROPERTY' and word in styles.POSITIONED:
+        return '`%s` is a property of version 2 of the language; such a script begins with `script 2`.' % word
     if of_version_2(word) and form.keywords:
         return of_version_2(word)
     if form.keywords:

@@ -25,5 +25,5 @@ proof rests on it. Each module follows one part of the rules, in the plainest wa
     shrinking     cuts a script down while something still holds of it
     random_scripts  random scripts by kind
 
-Positions and insets, which are of version 2 of the language, the proved program doesn't have yet. `available` says what it has.
+`available` says what of this the proved program has: today all.
 """

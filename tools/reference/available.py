@@ -3,9 +3,9 @@
 A change to the proved program that adds a version of the language, a property or a word of the command line adds it here too: then
 tools/compare compares it and bin/explain explains it.
 """
-from . import grammar, styles
+from . import grammar
 
-LANGUAGE = grammar.Language((1, 2), without=styles.POSITIONED)
+LANGUAGE = grammar.WHOLE
 VERSIONS = LANGUAGE.versions
 WORDS = ('--check', '--lint', '--summary', '--inspect', '--hit', '--judge', '--pages', '--generate', '--generate-run')
 WORDS_OF_THE_REFERENCE_ALONE = ()

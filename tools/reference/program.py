@@ -26,8 +26,6 @@ The rules of docs/ as a second, plain program. It writes what the proved program
   --pages            runs several scripts of one stream, in which a line `page NAME` says whose the next lines are
   --generate N       writes the script of a number, 0 to 1000000: a list of lazily loaded cards
   --generate-run N   replays the script of a number, and writes its summary
-
-Positions and insets (`set NODE position ..` in version 2 of the language) the proved program doesn't have yet.
 '''
 
 

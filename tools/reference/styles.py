@@ -1,5 +1,4 @@
-"""Style properties and their values (docs/SCRIPT.md, 'Style properties'); `position` and the insets are of version 2, and not of
-what the proved program has (`available`).
+"""Style properties and their values (docs/SCRIPT.md, 'Style properties'); `position` and the insets are of version 2.
 
 A form of values says how docs/SCRIPT.md writes it and answers None for a word that isn't of it.
 """

@@ -1,11 +1,11 @@
 -- Inclusive ancestors in what layout sees of a forest.
 use Rattle.std.proofs.Common.{◌≡◌, ◌≤◌, ℕ, zero, suc, List, Some, None, Bool, true, false, nat_eq, ◌||◌, refl, ap, sym, ◌∙◌, ◌⊎◌, inl, inr, arith, eqb-true}
 use Rattle.std.proofs.lemmas.Bool.{or_cases, false≢true}
-use Rattle.std.proofs.lemmas.Bool.Decides.{nat_tests}
 use Rattle.layout_model.specs.Styles.{Style}
 use Rattle.layout_model.specs.Items.{Kind}
-use Rattle.layout_model.specs.Nodes.{Node, path_above, path_up, path_of, is_among, is_in_path}
-use Rattle.layout_model.proofs.Paths.{path_child, path_top}
+use Rattle.layout_model.specs.Nodes.{is_in_path}
+pub use Rattle.layout_model.proofs.Ancestors.{in_self}
+use Rattle.layout_model.proofs.Ancestors.{in_top as top_path, in_child as child_path, above_in as path_on, in_path_of_parent}
 use Rattle.element_tree.specs.Forest.{Knot, IsForest, has, parent_of, children_of, depth}
 use Rattle.element_tree.proofs.Depths.{depth_positive}
 use Rattle.element_tree.proofs.Facts.{listed_child}
@@ -14,42 +14,22 @@ use Rattle.block_layout.specs.Trees.{layout_tree}
 use Rattle.block_layout.proofs.Forests.{shallow}
 use Rattle.block_layout.proofs.Nodes.{parent_is}
 
-pub in_self : (at : ℕ → Node) (n : ℕ) → is_in_path at n n ≡ true
-unfolding is_in_path path_of path_up is_among
-in_self at n = let same : nat_eq n n ≡ true = grind (arith, nat_tests) in ap (λ b. b || is_among n (path_above (path_up 65535 at) ((at n).parent))) same
-
 module _ {P : Type 0} (style : P → Style) (kind : P → Kind) {most : ℕ} {nodes : List (Knot P)} (forest : IsForest most nodes) where
   abbrev in_path : ℕ → ℕ → Bool
   in_path a n = is_in_path (layout_tree style kind nodes) a n
 
   pub in_top : (a n : ℕ) → parent_of nodes n ≡ None → in_path a n ≡ (nat_eq a n || false)
-  unfolding is_in_path is_among
-  in_top a n top = ap (is_among a) (path_top (layout_tree style kind nodes) n (parent_is style kind nodes n ∙ top))
+  in_top a n top = top_path (layout_tree style kind nodes) (shallow style kind forest) a n (parent_is style kind nodes n ∙ top)
 
   pub in_child : (a n p : ℕ) → parent_of nodes n ≡ Some p → in_path a n ≡ (nat_eq a n || in_path a p)
-  unfolding is_in_path is_among
-  in_child a n p up = ap (is_among a) (path_child (layout_tree style kind nodes) n p (parent_is style kind nodes n ∙ up) (shallow style kind forest p))
+  in_child a n p up = child_path (layout_tree style kind nodes) (shallow style kind forest) a n p (parent_is style kind nodes n ∙ up)
 
   pub above_in : (a n p : ℕ) → parent_of nodes n ≡ Some p → in_path a p ≡ true → in_path a n ≡ true
-  above_in a n p up inside = in_child a n p up ∙ ap (λ b. nat_eq a n || b) inside ∙ (let P : Bool → Type 0 = λ b. (b || true) ≡ true in elim (nat_eq a n) as P [ true ↦ refl | false ↦ refl ])
+  above_in a n p up inside = path_on (layout_tree style kind nodes) (shallow style kind forest) a n p (parent_is style kind nodes n ∙ up) inside
 
   -- what is in a child is in its parent
-  under_child_within : (high p c n : ℕ) → parent_of nodes c ≡ Some p → depth nodes n ≤ high → in_path c n ≡ true → in_path p n ≡ true
-  under_child_within zero p c n up low inside = absurd (omega (arith, depth_positive nodes n))
-  under_child_within (suc high) p c n up low inside =
-      elim (option_cases (parent_of nodes n)) [
-        | inl top ↦ elim (or_cases _ _ (sym (in_top c n top) ∙ inside)) [
-          | inl e ↦ let same : c ≡ n = eqb-true c n e in let both : None ≡ Some p = sym top ∙ ap (parent_of nodes) (sym same) ∙ up in cc
-          | inr e ↦ absurd (false≢true e)
-        ]
-        | inr q ↦ elim (or_cases _ _ (sym (in_child c n q.0 q.1) ∙ inside)) [
-          | inl e ↦ let same : c ≡ n = eqb-true c n e in above_in p n p (ap (parent_of nodes) (sym same) ∙ up) (in_self (layout_tree style kind nodes) p)
-          | inr e ↦ above_in p n q.0 q.1 (under_child_within high p c q.0 up (omega (arith, forest.falls n q.0 q.1)) e)
-        ]
-      ]
-
   pub under_child : (p c n : ℕ) → has (children_of nodes p) c ≡ true → in_path c n ≡ true → in_path p n ≡ true
-  under_child p c n kid inside = under_child_within (depth nodes n) p c n (kid_parent forest p c kid) (omega arith) inside
+  under_child p c n kid inside = in_path_of_parent (layout_tree style kind nodes) (shallow style kind forest) p c n (parent_is style kind nodes c ∙ kid_parent forest p c kid) inside
 
   pub beside_child : (p c n : ℕ) → has (children_of nodes p) c ≡ true → in_path p n ≡ false → in_path c n ≡ false
   beside_child p c n kid outside = other (in_path c n) refl

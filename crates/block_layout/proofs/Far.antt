@@ -7,7 +7,7 @@ use Rattle.layout_model.specs.Nodes.{Node, levels, depth_of, IsLinked, IsShallow
 use Rattle.layout_model.specs.Boxes.{Inputs, kids_of, counted, border_size, child_inputs, box_in}
 use Rattle.layout_model.specs.Clips.{clips}
 use Rattle.layout_model.specs.Points.{plus, larger}
-use Rattle.layout_model.specs.Reach.{offset_at, far_kids, far_if_shown, far_inside, far_down, open_kids}
+use Rattle.block_layout.specs.Far.{offset_at, far_kids, far_if_shown, far_inside, far_down, open_kids}
 use Rattle.layout_model.proofs.Paths.{depth_least}
 use Rattle.layout_model.proofs.Trees.{depth_kid, contains_next}
 use Rattle.block_layout.specs.Far.{far_in}

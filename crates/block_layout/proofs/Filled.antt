@@ -3,23 +3,20 @@ use Rattle.std.proofs.Common.{◌≡◌, ◌≢◌, ◌≤◌, ◌<◌, ℕ, ◌
 use Rattle.std.proofs.lemmas.Bool.{false≢true}
 use Rattle.std.proofs.lemmas.Bool.Decides.{nat_tests}
 use Rattle.std.proofs.lemmas.List.Sums.{sum_by-cons}
-use Rattle.std.specs.Prelude.{sum_by}
+use Rattle.std.specs.Prelude.{sum_by, Contains}
 use Rattle.px_units.specs.Lengths.{cap}
 use Rattle.layout_model.specs.Styles.{Style}
 use Rattle.layout_model.specs.Items.{Item, Kind, BlockKind, ImageKind, FrameKind}
-use Rattle.layout_model.specs.Nodes.{Node, is_in_path, IsLinked, IsShallow}
-use Rattle.layout_model.specs.Boxes.{Inputs, Box, inner_children, counted, shown_height, total, computed, child_inputs, inputs_if_block, if_shown, box_at, box_in}
+use Rattle.layout_model.specs.Nodes.{Node, is_in_path, is_positioned, IsLinked, IsShallow}
+use Rattle.layout_model.specs.Boxes.{Inputs, Box, inner_children, is_passed, counted, shown_height, total, computed, child_inputs, box_at, box_in}
 use Rattle.layout_model.proofs.Trees.{box_of_children}
 use Rattle.element_tree.specs.Forest.{Knot, IsForest, has, children_of}
 use Rattle.block_layout.specs.Counts.{if_displayed, box_count}
-use Rattle.block_layout.specs.Filling.{box_with, height_of, steps_of}
+use Rattle.block_layout.specs.Filling.{IsUnpositioned, inputs_if_block, if_shown, box_with, height_of, steps_of}
 use Rattle.block_layout.specs.Trees.{layout_tree}
 use Rattle.block_layout.proofs.Ancestors.{some_child}
-use Rattle.block_layout.proofs.Totals.{count_of_kids}
-
-sum_all : (f g : ℕ → ℕ) (xs : List ℕ) → ((c : ℕ) → f c ≡ g c) → sum_by f xs ≡ sum_by g xs
-sum_all f g [] same = refl
-sum_all f g (x ∷ xs) same = sum_by-cons f x xs ∙ omega (arith, same x, sum_all f g xs same) ∙ sym (sum_by-cons g x xs)
+use Rattle.block_layout.proofs.Totals.{sum_same, count_of_kids}
+use Rattle.block_layout.proofs.Unpositioned.{passed_is, child_still}
 
 sum_none : (f : ℕ → ℕ) (xs : List ℕ) → ((c : ℕ) → f c ≡ 0) → sum_by f xs ≡ 0
 sum_none f [] none = refl
@@ -63,11 +60,11 @@ module _ (at : ℕ → Node) where
   shown_as inputs c true = refl
   shown_as inputs c false = refl
 
-  counted_as : (inputs : Inputs) (c : ℕ) → child_height at (Some inputs) c ≡ counted at (box_in at inputs) c
+  counted_as : (inputs : Inputs) (c : ℕ) → is_positioned (at c) ≡ false → child_height at (Some inputs) c ≡ counted at (box_in at inputs) c
   unfolding counted
-  counted_as inputs c = shown_as inputs c ((at c).item.style.hidden)
+  counted_as inputs c still = shown_as inputs c ((at c).item.style.hidden) ∙ ap (shown_height (box_in at inputs) c) (sym (passed_is at c still))
 
-  paid_as : (inputs : Inputs) (count : ℕ) (hidden : Bool) → steps_of (if_shown hidden (Some inputs)) count ≡ if_displayed hidden count
+  pub paid_as : (inputs : Inputs) (count : ℕ) (hidden : Bool) → steps_of (if_shown hidden (Some inputs)) count ≡ if_displayed hidden count
   paid_as inputs count true = refl
   paid_as inputs count false = refl
 
@@ -77,19 +74,27 @@ module _ (at : ℕ → Node) where
   no_steps : (c : ℕ) → child_steps at None c ≡ 0
   no_steps c = ap (λ o. steps_of o (box_count at c)) (none_shown ((at c).item.style.hidden))
 
-  heights_in : (kind : Kind) (item : Item) (inputs : Inputs) (children : List ℕ)
+  abbrev AreStill : List ℕ → Type 0
+  AreStill children = (c : ℕ) → Contains children c → is_positioned (at c) ≡ false
+
+  heights_in : (kind : Kind) (item : Item) (inputs : Inputs) (children : List ℕ) → AreStill children
       → cap (sum_by (child_height at (inputs_if_block kind item (Some inputs))) children) ≡ total at (box_in at (child_inputs item inputs)) (inner_children kind children)
   unfolding total
-  heights_in BlockKind item inputs children = ap cap (sum_all (child_height at (Some (child_inputs item inputs))) (counted at (box_in at (child_inputs item inputs))) children (counted_as (child_inputs item inputs)))
-  heights_in (ImageKind width height) item inputs children = ap cap (sum_none (child_height at None) children no_height)
-  heights_in FrameKind item inputs children = ap cap (sum_none (child_height at None) children no_height)
+  heights_in BlockKind item inputs children still =
+      ap cap (sum_same (child_height at (Some (child_inputs item inputs))) (counted at (box_in at (child_inputs item inputs))) children (λ c among. counted_as (child_inputs item inputs) c (still c among)))
+  heights_in (ImageKind width height) item inputs children still = ap cap (sum_none (child_height at None) children no_height)
+  heights_in FrameKind item inputs children still = ap cap (sum_none (child_height at None) children no_height)
 
-  steps_in : (kind : Kind) (item : Item) (inputs : Inputs) (children : List ℕ)
-      → sum_by (child_steps at (inputs_if_block kind item (Some inputs))) children ≡ sum_by (λ c. if_displayed ((at c).item.style.hidden) (box_count at c)) (inner_children kind children)
-  steps_in BlockKind item inputs children =
-      sum_all (child_steps at (Some (child_inputs item inputs))) (λ c. if_displayed ((at c).item.style.hidden) (box_count at c)) children (λ c. paid_as (child_inputs item inputs) (box_count at c) ((at c).item.style.hidden))
-  steps_in (ImageKind width height) item inputs children = sum_none (child_steps at None) children no_steps
-  steps_in FrameKind item inputs children = sum_none (child_steps at None) children no_steps
+  steps_in : (kind : Kind) (item : Item) (inputs : Inputs) (children : List ℕ) → AreStill children
+      → sum_by (child_steps at (inputs_if_block kind item (Some inputs))) children ≡ sum_by (λ c. if_displayed (is_passed (at c)) (box_count at c)) (inner_children kind children)
+  steps_in BlockKind item inputs children still =
+      sum_same
+      (child_steps at (Some (child_inputs item inputs)))
+      (λ c. if_displayed (is_passed (at c)) (box_count at c))
+      children
+      (λ c among. paid_as (child_inputs item inputs) (box_count at c) ((at c).item.style.hidden) ∙ ap (λ b. if_displayed b (box_count at c)) (sym (passed_is at c (still c among))))
+  steps_in (ImageKind width height) item inputs children still = sum_none (child_steps at None) children no_steps
+  steps_in FrameKind item inputs children still = sum_none (child_steps at None) children no_steps
 
   no_steps_in : (kind : Kind) (item : Item) (children : List ℕ) → sum_by (child_steps at (inputs_if_block kind item None)) children ≡ 0
   no_steps_in BlockKind item children = sum_none (child_steps at None) children no_steps
@@ -97,7 +102,7 @@ module _ (at : ℕ → Node) where
   no_steps_in FrameKind item children = sum_none (child_steps at None) children no_steps
 
   -- what a walk has summed at its end gives the box
-  module _ (linked : IsLinked at) (shallow : IsShallow at) (n : ℕ) (left : List ℕ) (inside first now : ℕ) (done : left ≡ []) where
+  module _ (linked : IsLinked at) (shallow : IsShallow at) (n : ℕ) (still : IsUnpositioned at n) (left : List ℕ) (inside first now : ℕ) (done : left ≡ []) where
     abbrev FilledBy : Option Inputs → Type 0
     FilledBy inputs = Filled at (inputs_if_block ((at n).item.kind) ((at n).item) inputs) ((at n).children) left inside first now
 
@@ -110,7 +115,7 @@ module _ (at : ℕ → Node) where
         = ap (λ xs. cap (inside + sum_by (child_height at below) xs)) done ∙ omega (arith, filled.capped) in
         ap
         Some
-        (ap (computed ((at n).item) inputs) (sym whole ∙ filled.heights ∙ heights_in ((at n).item.kind) ((at n).item) inputs ((at n).children))
+        (ap (computed ((at n).item) inputs) (sym whole ∙ filled.heights ∙ heights_in ((at n).item.kind) ((at n).item) inputs ((at n).children) (child_still at linked shallow n still))
         ∙ sym (box_of_children at linked shallow inputs n))
 
     steps_by : (inputs : Option Inputs) → FilledBy inputs → now + steps_of inputs 1 ≡ first + steps_of inputs (box_count at n)
@@ -122,7 +127,7 @@ module _ (at : ℕ → Node) where
     steps_by (Some inputs) filled =
         let below : Option Inputs = inputs_if_block ((at n).item.kind) ((at n).item) (Some inputs) in
         let ended : sum_by (child_steps at below) left ≡ 0 = ap (sum_by (child_steps at below)) done in
-        let all = steps_in ((at n).item.kind) ((at n).item) inputs ((at n).children) in
+        let all = steps_in ((at n).item.kind) ((at n).item) inputs ((at n).children) (child_still at linked shallow n still) in
         omega (arith, filled.steps, all, count_of_kids at linked shallow n)
 
     module _ (inputs below : Option Inputs) (children : List ℕ) (is : below ≡ inputs_if_block ((at n).item.kind) ((at n).item) inputs) (own : children ≡ (at n).children)

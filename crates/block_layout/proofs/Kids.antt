@@ -6,8 +6,8 @@ use Rattle.px_units.specs.Lengths.{cap}
 use Rattle.layout_model.specs.Styles.{Style}
 use Rattle.layout_model.specs.Items.{Kind, BlockKind, ImageKind, FrameKind}
 use Rattle.layout_model.specs.Nodes.{Node, IsLinked, IsShallow}
-use Rattle.layout_model.specs.Boxes.{Inputs, Box, inner_children, kids_of, counted, shown_height, margin_height, total, computed, child_inputs, box_at, box_in}
-use Rattle.layout_model.specs.Reach.{open_kids}
+use Rattle.layout_model.specs.Boxes.{Inputs, Box, inner_children, kids_of, is_passed, counted, shown_height, margin_height, total, computed, child_inputs, box_at, box_in}
+use Rattle.block_layout.specs.Far.{open_kids}
 use Rattle.layout_model.proofs.Trees.{box_of_children}
 use Rattle.element_tree.specs.declared.node.NodeId.{NodeId}
 use Rattle.element_tree.specs.Forest.{Knot, IsForest, has, children_of, siblings_of, next_of, first_of, rest_from, depth}
@@ -111,7 +111,7 @@ module _ {P : Type 0} (style : P → Style) (kind : P → Kind) {most : ℕ} {no
 pub record Sums (at : ℕ → Node) (box : ℕ → Box) (kids left : List ℕ) (inside first now : ℕ) : Type 0 where
   pub capped : inside ≤ 2147483647
   pub heights : cap (inside + sum_by (counted at box) left) ≡ total at box kids
-  pub steps : now + sum_by (λ c. if_displayed ((at c).item.style.hidden) (box_count at c)) left ≡ first + sum_by (λ c. if_displayed ((at c).item.style.hidden) (box_count at c)) kids
+  pub steps : now + sum_by (λ c. if_displayed (is_passed (at c)) (box_count at c)) left ≡ first + sum_by (λ c. if_displayed (is_passed (at c)) (box_count at c)) kids
 
 module _ (at : ℕ → Node) (box : ℕ → Box) (kids : List ℕ) where
   pub sums_begin : (left : List ℕ) (steps : ℕ) → left ≡ kids → Sums at box kids left 0 steps steps
@@ -119,24 +119,24 @@ module _ (at : ℕ → Node) (box : ℕ → Box) (kids : List ℕ) where
   sums_begin left steps whole = record {
     capped = omega arith;
     heights = ap (λ xs. cap (0 + sum_by (counted at box) xs)) whole ∙ ap cap (omega arith);
-    steps = ap (λ xs. steps + sum_by (λ c. if_displayed ((at c).item.style.hidden) (box_count at c)) xs) whole;
+    steps = ap (λ xs. steps + sum_by (λ c. if_displayed (is_passed (at c)) (box_count at c)) xs) whole;
   }
 
-  counted_as : (c : ℕ) (hidden : Bool) → (at c).item.style.hidden ≡ hidden → counted at box c ≡ shown_height box c hidden
+  counted_as : (c : ℕ) (passed : Bool) → is_passed (at c) ≡ passed → counted at box c ≡ shown_height box c passed
   unfolding counted
-  counted_as c hidden is = ap (shown_height box c) is
+  counted_as c passed is = ap (shown_height box c) is
 
   module _ (left more : List ℕ) (c inside first now : ℕ) (step : left ≡ c ∷ more) (sums : Sums at box kids left inside first now) where
     heights_cons : sum_by (counted at box) left ≡ counted at box c + sum_by (counted at box) more
     heights_cons = ap (sum_by (counted at box)) step ∙ sum_by-cons (counted at box) c more
 
-    steps_cons : sum_by (λ c. if_displayed ((at c).item.style.hidden) (box_count at c)) left ≡ if_displayed ((at c).item.style.hidden) (box_count at c) + sum_by (λ c. if_displayed ((at c).item.style.hidden) (box_count at c)) more
-    steps_cons = ap (sum_by (λ c. if_displayed ((at c).item.style.hidden) (box_count at c))) step ∙ sum_by-cons (λ c. if_displayed ((at c).item.style.hidden) (box_count at c)) c more
+    steps_cons : sum_by (λ c. if_displayed (is_passed (at c)) (box_count at c)) left ≡ if_displayed (is_passed (at c)) (box_count at c) + sum_by (λ c. if_displayed (is_passed (at c)) (box_count at c)) more
+    steps_cons = ap (sum_by (λ c. if_displayed (is_passed (at c)) (box_count at c))) step ∙ sum_by-cons (λ c. if_displayed (is_passed (at c)) (box_count at c)) c more
 
-    pub sums_hidden : (at c).item.style.hidden ≡ true → (sum steps : ℕ) → sum ≡ inside → steps ≡ now → Sums at box kids more sum first steps
-    sums_hidden hidden sum steps same paid =
-        let nothing : counted at box c ≡ 0 = counted_as c true hidden in
-        let none : if_displayed ((at c).item.style.hidden) (box_count at c) ≡ 0 = ap (λ h. if_displayed h (box_count at c)) hidden in
+    pub sums_passed : is_passed (at c) ≡ true → (sum steps : ℕ) → sum ≡ inside → steps ≡ now → Sums at box kids more sum first steps
+    sums_passed passed sum steps same paid =
+        let nothing : counted at box c ≡ 0 = counted_as c true passed in
+        let none : if_displayed (is_passed (at c)) (box_count at c) ≡ 0 = ap (λ h. if_displayed h (box_count at c)) passed in
         let fewer : sum + sum_by (counted at box) more ≡ inside + sum_by (counted at box) left = omega (arith, heights_cons) in
         record {
           capped = omega (arith, sums.capped);
@@ -144,10 +144,10 @@ module _ (at : ℕ → Node) (box : ℕ → Box) (kids : List ℕ) where
           steps = omega (arith, steps_cons, sums.steps);
         }
 
-    pub sums_shown : (at c).item.style.hidden ≡ false → (sum steps : ℕ) → sum ≡ cap (inside + margin_height (box c)) → steps ≡ now + box_count at c → Sums at box kids more sum first steps
-    sums_shown shown sum steps is paid =
-        let height : counted at box c ≡ margin_height (box c) = counted_as c false shown in
-        let one : if_displayed ((at c).item.style.hidden) (box_count at c) ≡ box_count at c = ap (λ h. if_displayed h (box_count at c)) shown in
+    pub sums_stacked : is_passed (at c) ≡ false → (sum steps : ℕ) → sum ≡ cap (inside + margin_height (box c)) → steps ≡ now + box_count at c → Sums at box kids more sum first steps
+    sums_stacked stacked sum steps is paid =
+        let height : counted at box c ≡ margin_height (box c) = counted_as c false stacked in
+        let one : if_displayed (is_passed (at c)) (box_count at c) ≡ box_count at c = ap (λ h. if_displayed h (box_count at c)) stacked in
         let same : cap (sum + sum_by (counted at box) more) ≡ cap (inside + sum_by (counted at box) left) = omega (arith, heights_cons) in
         record {
           capped = omega arith;
@@ -167,5 +167,5 @@ module _ (at : ℕ → Node) (linked : IsLinked at) (shallow : IsShallow at) (in
 
   pub steps_done : now + 1 ≡ first + box_count at n
   steps_done =
-      let none : sum_by (λ c. if_displayed ((at c).item.style.hidden) (box_count at c)) left ≡ 0 = ap (sum_by (λ c. if_displayed ((at c).item.style.hidden) (box_count at c))) done in
+      let none : sum_by (λ c. if_displayed (is_passed (at c)) (box_count at c)) left ≡ 0 = ap (sum_by (λ c. if_displayed (is_passed (at c)) (box_count at c))) done in
       omega (arith, sums.steps, count_of_kids at linked shallow n)

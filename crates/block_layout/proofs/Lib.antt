@@ -1,9 +1,16 @@
 pub mod Nodes
 pub mod Parts
+pub mod Signed
+pub mod Limited
 pub mod Forests
 pub mod Totals
 pub mod Kids
 pub mod Ancestors
+pub mod Unpositioned
+pub mod Handed
 pub mod Filled
 pub mod Far
 pub mod Reaching
+pub mod Stacked
+pub mod Reached
+pub mod FlowReach

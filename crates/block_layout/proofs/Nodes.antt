@@ -1,13 +1,15 @@
 -- What layout sees of a node, by what the tree's calls tell of it.
-use Rattle.std.proofs.Common.{◌≡◌, ℕ, Bool, false, List, [], Option, Some, None, option_map, ap, refl, sym, ◌∙◌}
-use Rattle.std.specs.Prelude.{slice_get, ◌&&◌, not, is_some}
-use Rattle.layout_model.specs.Styles.{Style}
+use Rattle.std.proofs.Common.{◌≡◌, ℕ, Bool, true, false, cond, List, [], Option, Some, None, option_map, ap, refl, sym, ◌∙◌}
+use Rattle.std.specs.Prelude.{slice_get, ◌&&◌, ◌||◌, not, is_some}
+use Rattle.layout_model.specs.Styles.{Style, Position, StaticPosition}
 use Rattle.layout_model.specs.Items.{Item, Kind, BlockKind, ImageKind, FrameKind}
-use Rattle.layout_model.specs.Boxes.{Inputs, inner_children, kids_of, child_inputs, inputs_if_block}
+use Rattle.layout_model.specs.Nodes.{is_flow}
+use Rattle.layout_model.specs.Boxes.{Inputs, inner_children, kids_of, child_inputs, is_passed}
 use Rattle.layout_model.specs.Clips.{clips, is_block, is_visible}
 use Rattle.element_tree.specs.declared.node.NodeId.{NodeId}
 use Rattle.element_tree.specs.Links.{node_ids}
 use Rattle.element_tree.specs.Forest.{Knot, parent_of, children_of, parent_in, children_in}
+use Rattle.block_layout.specs.Filling.{inputs_if_block}
 use Rattle.block_layout.specs.Trees.{layout_tree, node_in}
 
 inner_leaf : (kind : Kind) (children : List ℕ) → is_block kind ≡ false → inner_children kind children ≡ []
@@ -23,6 +25,14 @@ none_in FrameKind item found leaf = refl
 pub some_ids : (o : Option ℕ) → is_some (node_ids o) ≡ is_some o
 some_ids None = refl
 some_ids (Some n) = refl
+
+flow_in : (nested : Bool) (position : Position) → is_flow position ≡ true → is_flow (cond nested position StaticPosition) ≡ true
+flow_in true position flow = flow
+flow_in false position flow = refl
+
+flow_out : (nested : Bool) (position : Position) → is_flow position ≡ false → not (is_flow (cond nested position StaticPosition)) ≡ nested
+flow_out true position flow = ap not flow
+flow_out false position flow = refl
 
 module _ {P : Type 0} (style : P → Style) (kind : P → Kind) where
   item_in : (found : Option (Knot P)) (carried : P) → option_map (λ k. k.payload) found ≡ Some carried → (node_in style kind found).item ≡ record { style = style carried; kind = kind carried }
@@ -55,6 +65,23 @@ module _ {P : Type 0} (style : P → Style) (kind : P → Kind) where
 
       pub hidden_is : (layout_tree style kind nodes n).item.style.hidden ≡ (style carried).hidden
       hidden_is = ap (λ item. item.style.hidden) item_is
+
+      -- whether a child is passed over where its parent's children are stacked
+      passed_as : (hidden : Bool) → (style carried).hidden ≡ hidden
+          → is_passed (layout_tree style kind nodes n) ≡ (hidden || not (is_flow (cond (is_some (parent_of nodes n)) ((style carried).position) StaticPosition)))
+      passed_as hidden shown =
+          ap (λ item. item.style.hidden || not (is_flow (cond (is_some ((layout_tree style kind nodes n).parent)) (item.style.position) StaticPosition))) item_is
+          ∙ ap (λ parent. (style carried).hidden || not (is_flow (cond (is_some parent) ((style carried).position) StaticPosition))) (parent_is n)
+          ∙ ap (λ b. b || not (is_flow (cond (is_some (parent_of nodes n)) ((style carried).position) StaticPosition))) shown
+
+      pub passed_hidden : (style carried).hidden ≡ true → is_passed (layout_tree style kind nodes n) ≡ true
+      passed_hidden hidden = passed_as true hidden
+
+      pub passed_in_flow : (style carried).hidden ≡ false → is_flow ((style carried).position) ≡ true → is_passed (layout_tree style kind nodes n) ≡ false
+      passed_in_flow shown flow = passed_as false shown ∙ ap not (flow_in (is_some (parent_of nodes n)) ((style carried).position) flow)
+
+      pub passed_out_of_flow : (style carried).hidden ≡ false → is_flow ((style carried).position) ≡ false → is_passed (layout_tree style kind nodes n) ≡ is_some (parent_of nodes n)
+      passed_out_of_flow shown flow = passed_as false shown ∙ flow_out (is_some (parent_of nodes n)) ((style carried).position) flow
 
       pub kids_is : kids_of (layout_tree style kind nodes n) ≡ inner_children (kind carried) (children_of nodes n)
       kids_is =

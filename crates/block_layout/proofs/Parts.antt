@@ -1,17 +1,17 @@
 -- The parts of a box, and of the inputs that a box hands down.
-use Rattle.std.proofs.Common.{◌≡◌, ◌≤◌, ℕ, ℤ, pos, arith, Option, Some, None, option_map, refl, ap, ◌∙◌}
+use Rattle.std.proofs.Common.{◌≡◌, ◌≤◌, ℕ, ℤ, pos, arith, Bool, true, false, cond, Option, Some, None, option_map, refl, ap, sym, ◌∙◌}
 use Rattle.std.proofs.lemmas.Int.{to_z_pos}
-use Rattle.std.specs.Prelude.{unsigned_abs}
+use Rattle.std.specs.Prelude.{unsigned_abs, is_some, ◌||◌}
 use mir.Val.{of_z, to_z}
 use mir.Syntax.{w64}
 use Rattle.px_units.specs.Lengths.{cap}
 use Rattle.layout_model.specs.Styles.{Style, Sides}
 use Rattle.layout_model.specs.Items.{Item, Kind}
-use Rattle.layout_model.specs.Boxes.{Inputs, Box, computed, child_inputs, box_with, used_width, used_height, used_side, on_sides, against}
+use Rattle.layout_model.specs.Boxes.{Inputs, Box, computed, child_inputs, box_with, used_width, used_height, used_side, used_insets, on_sides, against, is_stretched, has_definite_height, inputs_inside}
 
 module _ (item : Item) (inputs : Inputs) (inside : ℕ) where
   pub box_is : (width height : ℕ) (margin border padding : Sides ℕ)
-      → width ≡ used_width item inputs margin border padding → height ≡ used_height item inputs inside border padding
+      → width ≡ used_width item inputs margin border padding → height ≡ used_height item inputs inside margin border padding
       → margin ≡ on_sides (used_side (inputs.width)) (item.style.margin) → border ≡ on_sides cap (item.style.border)
       → padding ≡ on_sides (used_side (inputs.width)) (item.style.padding)
       → record { width = width; height = height; margin = margin; border = border; padding = padding } ≡ computed item inputs inside
@@ -24,26 +24,32 @@ module _ (item : Item) (inputs : Inputs) (inside : ℕ) where
       ∙ ap (λ sides. box_with item inputs inside (on_sides (used_side (inputs.width)) (item.style.margin)) (on_sides cap (item.style.border)) sides) p
 
 pub inputs_are : (item : Item) (inputs : Inputs) (box : Box) → box ≡ computed item inputs 0
-    → record { width = box.width; height = option_map (λ given. box.height) (against (item.style.height) (inputs.height)) } ≡ child_inputs item inputs
+    → record { width = box.width; height = cond (has_definite_height item inputs) (Some (box.height)) None; flow = true } ≡ child_inputs item inputs
 unfolding child_inputs
-inputs_are item inputs box is =
-    ap (λ b. let below : Inputs = record { width = b.width; height = option_map (λ given. b.height) (against (item.style.height) (inputs.height)) } in below) is
+inputs_are item inputs box is = ap (inputs_inside item inputs) is
+
+pub definite_is : (item : Item) (style : Style) (inputs : Inputs) → item.style ≡ style
+    → (is_some (against (style.height) (inputs.height)) || is_stretched inputs (used_insets (style.inset) inputs)) ≡ has_definite_height item inputs
+definite_is item style inputs is =
+    sym (ap (λ s. is_some (against (s.height) (inputs.height)) || is_stretched inputs (used_insets (s.inset) inputs)) is)
 
 pub item_same : (style other : Style) (kind like : Kind) → style ≡ other → kind ≡ like → ◌≡◌ {A = Item} (record { style = style; kind = kind }) (record { style = other; kind = like })
 item_same style other kind like first second =
     ap (λ s. let item : Item = record { style = s; kind = kind } in item) first ∙ ap (λ k. let item : Item = record { style = other; kind = k } in item) second
 
-pub inputs_with : (width wide : ℕ) (height tall : Option ℕ) → width ≡ wide → height ≡ tall → ◌≡◌ {A = Inputs} (record { width = width; height = height }) (record { width = wide; height = tall })
+pub inputs_with : (width wide : ℕ) (height tall : Option ℕ) → width ≡ wide → height ≡ tall
+    → ◌≡◌ {A = Inputs} (record { width = width; height = height; flow = true }) (record { width = wide; height = tall; flow = true })
 inputs_with width wide height tall first second =
-    ap (λ w. let inputs : Inputs = record { width = w; height = height } in inputs) first ∙ ap (λ h. let inputs : Inputs = record { width = wide; height = h } in inputs) second
+    ap (λ w. let inputs : Inputs = record { width = w; height = height; flow = true } in inputs) first
+    ∙ ap (λ h. let inputs : Inputs = record { width = wide; height = h; flow = true } in inputs) second
 
 -- a length that was given a sign and loses it again
 pub unsigned_again : (given : ℤ) (units : ℕ) → units ≤ 2147483647 → given ≡ pos units → unsigned_abs (to_z w64 (of_z w64 given)) ≡ units
 unsigned_again given units low is = ap (λ z. unsigned_abs (to_z w64 (of_z w64 z))) is ∙ ap unsigned_abs (to_z_pos w64 units (omega arith))
 
-pub unsigned_if : (found : Option ℕ) (units : ℕ) → option_map unsigned_abs (option_map (λ given. pos units) found) ≡ option_map (λ given. units) found
-unsigned_if None units = refl
-unsigned_if (Some given) units = refl
+pub unsigned_if : (definite : Bool) (units : ℕ) → option_map unsigned_abs (cond definite (Some (pos units)) None) ≡ cond definite (Some units) None
+unsigned_if true units = refl
+unsigned_if false units = refl
 
 pub unsigned_of : (units : ℕ) → units ≤ 2147483647 → unsigned_abs (to_z w64 units) ≡ units
 unsigned_of units low = ap unsigned_abs (to_z_pos w64 units (omega arith))

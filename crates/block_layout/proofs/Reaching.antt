@@ -1,30 +1,28 @@
--- A walk that measures how far the children of a node reach, over boxes that are held.
-use Rattle.std.proofs.Common.{◌≡◌, ◌≤◌, ℕ, ◌+◌, List, ◌∷◌, Option, Some, None, Bool, true, false, nat_eq, cond, refl, ap, sym, ◌∙◌, arith}
-use Rattle.std.proofs.lemmas.Bool.Decides.{nat_tests}
-use Rattle.std.specs.Prelude.{option_and_then, unwrap_or}
+-- What a walk over the children of a node has come to: how far those that it met reach, and what is in them.
+use Rattle.std.proofs.Common.{◌≡◌, ◌≤◌, ℕ, ◌+◌, List, ◌∷◌, Option, Some, None, Bool, true, false, cond, refl, ap, sym, ◌∙◌, arith}
+use Rattle.std.specs.Prelude.{◌||◌, not, unwrap_or}
 use Rattle.px_units.specs.Lengths.{cap}
 use Rattle.layout_model.specs.Styles.{Style}
 use Rattle.layout_model.specs.Items.{Item, Kind, BlockKind, ImageKind, FrameKind}
-use Rattle.layout_model.specs.Nodes.{Node, levels, IsLinked, IsShallow}
-use Rattle.layout_model.specs.Boxes.{Inputs, Box, kids_of, inner_children, counted, shown_height, margin_height, inner_corner, total, computed, child_inputs, box_at, box_in, inputs_in, if_shown, inputs_if_block}
+use Rattle.layout_model.specs.Nodes.{Node, levels, is_positioned, is_in_flow, IsLinked, IsShallow}
+use Rattle.layout_model.specs.Boxes.{Inputs, Box, kids_of, inner_children, is_passed, counted, shown_height, margin_height, inner_corner, total, computed, child_inputs, box_at, box_in}
 use Rattle.layout_model.specs.Points.{plus, capped, larger}
-use Rattle.layout_model.specs.Reach.{View, view_inputs, view_size, inputs_in_view, offset_at, margin_corner, reach_of_view, far_root, far_kids, far_if_shown, far_down}
-use Rattle.layout_model.proofs.Inputs.{inputs_child, inputs_top}
+use Rattle.layout_model.specs.Views.{View, inputs_in_view}
+use Rattle.layout_model.specs.FlatPlaces.{margin_corner}
 use Rattle.layout_model.proofs.Trees.{box_of_children}
+use Rattle.layout_model.proofs.Unpositioned.{in_flow_unpositioned}
 use Rattle.element_tree.specs.Forest.{Knot, IsForest, has, children_of}
 use Rattle.element_tree.proofs.Levels.{kid_parent}
+use Rattle.block_layout.specs.Far.{offset_at, far_kids, far_if_shown, far_down}
+use Rattle.block_layout.specs.Filling.{IsUnpositioned, if_shown, inputs_if_block}
 use Rattle.block_layout.specs.Held.{HoldsBoxes}
 use Rattle.block_layout.specs.Trees.{layout_tree}
 use Rattle.block_layout.proofs.Ancestors.{in_self, under_child}
-use Rattle.block_layout.proofs.Far.{pair_same, larger_turn, larger_nothing, nothing_larger, kids_capped, far_cons, far_kid, far_kid_capped}
+use Rattle.block_layout.proofs.Far.{pair_same, larger_turn, nothing_larger, kids_capped, far_cons, far_kid, far_kid_capped}
 use Rattle.block_layout.proofs.Forests.{linked, shallow}
+use Rattle.block_layout.proofs.Handed.{view_down}
 use Rattle.block_layout.proofs.Nodes.{parent_is}
-
-none_handed : (hidden : Bool) (kind : Kind) (item : Item) → None ≡ if_shown hidden (inputs_if_block kind item None)
-none_handed true kind item = refl
-none_handed false BlockKind item = refl
-none_handed false (ImageKind width height) item = refl
-none_handed false FrameKind item = refl
+use Rattle.block_layout.proofs.Unpositioned.{passed_is}
 
 handed_in : (kind : Kind) (item : Item) (inputs : Inputs) (children : List ℕ) (c : ℕ) → has (inner_children kind children) c ≡ true → inputs_if_block kind item (Some inputs) ≡ Some (child_inputs item inputs)
 handed_in BlockKind item inputs children c kid = refl
@@ -37,20 +35,7 @@ offset_is : (parent item : Item) (inputs : Inputs) (above inside deep : ℕ)
 unfolding computed offset_at
 offset_is parent item inputs above inside deep = refl
 
-module _ (at : ℕ → Node) (shallow : IsShallow at) where
-  view_down : (document : View) (root : Option ℕ) → document.root ≡ root → (c p : ℕ) → (at c).parent ≡ Some p
-      → inputs_in_view at document c ≡ if_shown ((at c).item.style.hidden) (inputs_if_block ((at p).item.kind) ((at p).item) (inputs_in_view at document p))
-  unfolding inputs_in_view
-  view_down document None is c p up =
-      ap (option_and_then (λ r. inputs_in at r (view_inputs document) c)) is
-      ∙ none_handed ((at c).item.style.hidden) ((at p).item.kind) ((at p).item)
-      ∙ sym (ap (λ o. if_shown ((at c).item.style.hidden) (inputs_if_block ((at p).item.kind) ((at p).item) (option_and_then (λ r. inputs_in at r (view_inputs document) p) o))) is)
-  view_down document (Some root) is c p up =
-      ap (option_and_then (λ r. inputs_in at r (view_inputs document) c)) is
-      ∙ inputs_child at root (view_inputs document) c p up (shallow p)
-      ∙ sym (ap (λ o. if_shown ((at c).item.style.hidden) (inputs_if_block ((at p).item.kind) ((at p).item) (option_and_then (λ r. inputs_in at r (view_inputs document) p) o))) is)
-
-module _ {P : Type 0} (style : P → Style) (kind : P → Kind) {most : ℕ} {nodes : List (Knot P)} (forest : IsForest most nodes) (p : ℕ) (document : View) (inputs : Inputs)
+module _ {P : Type 0} (style : P → Style) (kind : P → Kind) {most : ℕ} {nodes : List (Knot P)} (forest : IsForest most nodes) (p : ℕ) (still : IsUnpositioned (layout_tree style kind nodes) p) (document : View) (inputs : Inputs)
     (found : inputs_in_view (layout_tree style kind nodes) document p ≡ Some inputs) (held : ℕ → Option Box) (holds : HoldsBoxes (layout_tree style kind nodes) document p held)
     (c : ℕ) (kid : has (kids_of (layout_tree style kind nodes p)) c ≡ true) (child : has (children_of nodes p) c ≡ true) where
   abbrev at : ℕ → Node
@@ -59,9 +44,15 @@ module _ {P : Type 0} (style : P → Style) (kind : P → Kind) {most : ℕ} {no
   abbrev within : Inputs
   within = child_inputs ((layout_tree style kind nodes p).item) inputs
 
+  pub kid_below : IsUnpositioned (layout_tree style kind nodes) c
+  kid_below n inside = still n (under_child style kind forest p c n child inside)
+
+  pub kid_still : is_positioned (layout_tree style kind nodes c) ≡ false
+  kid_still = kid_below c (in_self at c)
+
   pub kid_inputs : (layout_tree style kind nodes c).item.style.hidden ≡ false → inputs_in_view (layout_tree style kind nodes) document c ≡ Some (child_inputs ((layout_tree style kind nodes p).item) inputs)
   kid_inputs shown =
-      view_down at (shallow style kind forest) document (document.root) refl c p (parent_is style kind nodes c ∙ kid_parent forest p c child)
+      view_down at (shallow style kind forest) document c p (parent_is style kind nodes c ∙ kid_parent forest p c child) (in_flow_unpositioned at c kid_still)
       ∙ ap (λ hidden. if_shown hidden (inputs_if_block ((at p).item.kind) ((at p).item) (inputs_in_view at document p))) shown
       ∙ ap (inputs_if_block ((at p).item.kind) ((at p).item)) found
       ∙ handed_in ((at p).item.kind) ((at p).item) inputs ((at p).children) c kid
@@ -83,9 +74,9 @@ module _ {P : Type 0} (style : P → Style) (kind : P → Kind) {most : ℕ} {no
       ∙ offset_is ((at p).item) ((at c).item) inputs above (total at (box_in at within) (kids_of (at p))) (total at (box_in at (child_inputs ((at c).item) within)) (kids_of (at c)))
 
 -- what a walk has met, and what is to come, make the whole
-counted_as : (at : ℕ → Node) (within : Inputs) (c : ℕ) (hidden : Bool) → (at c).item.style.hidden ≡ hidden → counted at (box_in at within) c ≡ shown_height (box_in at within) c hidden
+counted_as : (at : ℕ → Node) (within : Inputs) (c : ℕ) (passed : Bool) → is_passed (at c) ≡ passed → counted at (box_in at within) c ≡ shown_height (box_in at within) c passed
 unfolding counted
-counted_as at within c hidden is = ap (shown_height (box_in at within) c) is
+counted_as at within c passed is = ap (shown_height (box_in at within) c) is
 
 -- how far these children reach, under so much height, and what is in them
 abbrev pub far_among : (ℕ → Node) → Item → Inputs → Inputs → ℕ × ℕ → ℕ → List ℕ → ℕ × ℕ
@@ -101,7 +92,7 @@ module _ (at : ℕ → Node) (parent : Item) (inputs within : Inputs) (corner : 
   module _ (left more : List ℕ) (c above : ℕ) (step : left ≡ c ∷ more) (far whole : ℕ × ℕ) (so_far : larger far (far_kids height reach above left) ≡ whole) where
     pub far_hidden : (at c).item.style.hidden ≡ true → larger far (far_kids height reach above more) ≡ whole
     far_hidden hidden =
-        let none : height c ≡ 0 = counted_as at within c true hidden in
+        let none : height c ≡ 0 = counted_as at within c true (ap (λ h. h || not (is_in_flow (at c))) hidden) in
         let nothing : reach above c ≡ (0, 0) = ap (far_if_shown (far_down levels at) within (λ u. plus corner (offset_at parent inputs above ((at c).item))) c) hidden in
         ap (larger far)
         (sym
@@ -111,10 +102,10 @@ module _ (at : ℕ → Node) (parent : Item) (inputs within : Inputs) (corner : 
         ∙ ap (λ a. far_kids height reach a more) (omega (arith, none))))
         ∙ so_far
 
-    pub far_shown : (at c).item.style.hidden ≡ false → (place edge : ℕ × ℕ) → place ≡ plus corner (offset_at parent inputs above ((at c).item)) → edge ≡ far_down levels at within place c
+    pub far_shown : is_positioned (at c) ≡ false → (at c).item.style.hidden ≡ false → (place edge : ℕ × ℕ) → place ≡ plus corner (offset_at parent inputs above ((at c).item)) → edge ≡ far_down levels at within place c
         → (sum : ℕ) → sum ≡ cap (above + margin_height (box_in at within c)) → larger (larger far edge) (far_kids height reach sum more) ≡ whole
-    far_shown shown place edge there is sum summed =
-        let high : height c ≡ margin_height (box_in at within c) = counted_as at within c false shown in
+    far_shown still shown place edge there is sum summed =
+        let high : height c ≡ margin_height (box_in at within c) = counted_as at within c false (passed_is at c still ∙ shown) in
         let met : edge ≡ reach above c
         = is ∙ ap (λ p. far_down levels at within p c) there
         ∙ sym (ap (far_if_shown (far_down levels at) within (λ u. plus corner (offset_at parent inputs above ((at c).item))) c) shown) in
@@ -136,16 +127,6 @@ pub hidden_none : (hidden : Bool) (held : Option Box) (box : Box) → cond hidde
 hidden_none true held box is there = refl
 hidden_none false held box is there = let both : None ≡ Some box = sym is ∙ there refl in absurd (cc)
 
--- a root element has the viewport's size as inputs
-pub view_top : (at : ℕ → Node) (document : View) (root : ℕ) → document.root ≡ Some root → (at root).parent ≡ None → (at root).item.style.hidden ≡ false → inputs_in_view at document root ≡ Some (view_inputs document)
-unfolding inputs_in_view
-view_top at document root is top shown =
-    let itself : nat_eq root root ≡ true = grind (arith, nat_tests) in
-    ap (option_and_then (λ r. inputs_in at r (view_inputs document) root)) is
-    ∙ inputs_top at root (view_inputs document) root top
-    ∙ ap (λ hidden. if_shown hidden (cond (nat_eq root root) (Some (view_inputs document)) None)) shown
-    ∙ ap (λ b. cond b (Some (view_inputs document)) None) itself
-
 margin_in : (item : Item) (inputs : Inputs) (inside : ℕ) → capped ((computed item inputs inside).margin.left, (computed item inputs inside).margin.top) ≡ margin_corner inputs item
 unfolding computed margin_corner
 margin_in item inputs inside = refl
@@ -157,20 +138,6 @@ margin_is at linked shallow inputs n own is left top =
     sym (pair_same _ _ _ _ (omega arith) (omega arith))
     ∙ ap (λ (b : Box). capped (b.margin.left, b.margin.top)) (is ∙ box_of_children at linked shallow inputs n)
     ∙ margin_in ((at n).item) inputs (total at (box_in at (child_inputs ((at n).item) inputs)) (kids_of (at n)))
-
-module _ (at : ℕ → Node) (document : View) (root : ℕ) (is : document.root ≡ Some root) where
-  pub view_shown : (at root).item.style.hidden ≡ false → reach_of_view at document ≡ capped (larger (view_size document) (far_down levels at (view_inputs document) (margin_corner (view_inputs document) ((at root).item)) root))
-  unfolding reach_of_view
-  view_shown shown =
-      ap (λ r. capped (larger (view_size document) (far_root at (view_inputs document) r))) is
-      ∙ ap (λ hidden. capped (larger (view_size document) (far_if_shown (far_down levels at) (view_inputs document) (λ u. margin_corner (view_inputs document) ((at root).item)) root hidden))) shown
-
-  pub view_hidden : (at root).item.style.hidden ≡ true → reach_of_view at document ≡ capped (view_size document)
-  unfolding reach_of_view
-  view_hidden hidden =
-      ap (λ r. capped (larger (view_size document) (far_root at (view_inputs document) r))) is
-      ∙ ap (λ hidden. capped (larger (view_size document) (far_if_shown (far_down levels at) (view_inputs document) (λ u. margin_corner (view_inputs document) ((at root).item)) root hidden))) hidden
-      ∙ ap capped (larger_nothing (view_size document))
 
 pub some_none : (box : Box) → ◌≡◌ {A = Option Box} None (Some box) → ⊥
 some_none box both = cc

@@ -20,7 +20,7 @@ pub record IsAround (around : Around) : Type 0 where
   pub padding : IsSides (seen_edges around.padding)
 
 abbrev pub seen_given : Given → Inputs
-seen_given given = record { width = given.width; height = given.height }
+seen_given given = record { width = given.width; height = given.height; flow = given.flow }
 
 abbrev pub seen_extent : Extent → ℕ × ℕ
 seen_extent extent = (extent.across, extent.down)

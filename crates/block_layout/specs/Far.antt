@@ -1,8 +1,48 @@
--- How far the boxes in a node reach, where it has a box.
-use Rattle.std.specs.Prelude.{ℕ, List}
+-- How far the boxes in a node reach, found on one walk down, where no element in it is positioned: each child stands in its parent then,
+-- below the siblings before it.
+use Rattle.std.specs.Prelude.{ℕ, zero, suc, ◌+◌, Bool, true, false, List, [], ◌∷◌, ⊤}
+use Rattle.layout_model.specs.Items.{Item}
 use Rattle.layout_model.specs.Nodes.{Node, levels}
-use Rattle.layout_model.specs.Boxes.{Inputs, child_inputs}
-use Rattle.layout_model.specs.Reach.{far_down, far_inside}
+use Rattle.layout_model.specs.Boxes.{Inputs, computed, child_inputs, kids_of, counted, box_in, border_size}
+use Rattle.layout_model.specs.Points.{plus, larger}
+use Rattle.layout_model.specs.Clips.{clips}
+use Rattle.layout_model.specs.FlatPlaces.{offset_with}
+
+-- from the corner of a parent's border box to that of a child's, under so much height of its earlier siblings
+unfoldable pub offset_at : Item → Inputs → ℕ → Item → ℕ × ℕ
+unfolding computed child_inputs
+offset_at parent inputs above item = offset_with (computed parent inputs 0) above (child_inputs parent inputs) item
+
+-- the farthest point that children give which are stacked from a height on
+unfoldable pub far_kids : (ℕ → ℕ) → (ℕ → ℕ → ℕ × ℕ) → ℕ → List ℕ → ℕ × ℕ
+far_kids height far above [] = (0, 0)
+far_kids height far above (c ∷ cs) = larger (far above c) (far_kids height far (above + height c) cs)
+
+abbrev pub far_if_shown : (Inputs → ℕ × ℕ → ℕ → ℕ × ℕ) → Inputs → (⊤ → ℕ × ℕ) → ℕ → Bool → ℕ × ℕ
+far_if_shown far inputs corner c true = (0, 0)
+far_if_shown far inputs corner c false = far inputs (corner tt) c
+
+abbrev pub far_inside : (ℕ → Node) → (Inputs → ℕ × ℕ → ℕ → ℕ × ℕ) → Item → Inputs → ℕ × ℕ → Inputs → List ℕ → ℕ × ℕ
+far_inside at far parent inputs corner within kids =
+    far_kids
+    (counted at (box_in at within))
+    (λ above c. far_if_shown far within (λ u. plus corner (offset_at parent inputs above ((at c).item))) c ((at c).item.style.hidden))
+    0
+    kids
+
+abbrev pub open_kids : Bool → List ℕ → List ℕ
+open_kids true kids = []
+open_kids false kids = kids
+
+-- the farthest right and bottom edges of the border boxes of a node and its descendants, but for those that a box in
+-- between clips, where the corner of the node's border box is as given
+unfoldable pub far_down : ℕ → (ℕ → Node) → Inputs → ℕ × ℕ → ℕ → ℕ × ℕ
+unfolding box_in child_inputs offset_at counted far_kids
+far_down zero at inputs corner n = (0, 0)
+far_down (suc deep) at inputs corner n =
+    larger
+    (plus corner (border_size (box_in at inputs n)))
+    (far_inside at (far_down deep at) ((at n).item) inputs corner (child_inputs ((at n).item) inputs) (open_kids (clips (at n)) (kids_of (at n))))
 
 -- the farthest edges of these children of a node and of what is in them, where the corner of the node's border box is as given
 abbrev pub far_in : (ℕ → Node) → ℕ → Inputs → ℕ × ℕ → List ℕ → ℕ × ℕ

@@ -1,7 +1,21 @@
--- What a walk that fills places gives for a node, by the inputs that the node has.
-use Rattle.std.specs.Prelude.{◌≡◌, ◌≤◌, ℕ, Option, Some, None, option_map}
-use Rattle.layout_model.specs.Nodes.{Node, depth_of}
-use Rattle.layout_model.specs.Boxes.{Inputs, Box, box_in, margin_height, if_shown, inputs_if_block}
+-- What a walk that fills places gives for a node, by the inputs that the node has, where no element is positioned.
+use Rattle.std.specs.Prelude.{◌≡◌, ◌≤◌, ℕ, Bool, true, false, Option, Some, None, option_map}
+use Rattle.layout_model.specs.Items.{Item, Kind, BlockKind, ImageKind, FrameKind}
+use Rattle.layout_model.specs.Nodes.{Node, depth_of, is_in_path, is_positioned}
+use Rattle.layout_model.specs.Boxes.{Inputs, Box, child_inputs, box_in, margin_height}
+
+-- no element in the tree of a node is positioned
+abbrev pub IsUnpositioned : (ℕ → Node) → ℕ → Type 0
+IsUnpositioned at root = (n : ℕ) → is_in_path at root n ≡ true → is_positioned (at n) ≡ false
+
+abbrev pub inputs_if_block : Kind → Item → Option Inputs → Option Inputs
+inputs_if_block BlockKind item inputs = option_map (child_inputs item) inputs
+inputs_if_block (ImageKind width height) item inputs = None
+inputs_if_block FrameKind item inputs = None
+
+abbrev pub if_shown : Bool → Option Inputs → Option Inputs
+if_shown true inputs = None
+if_shown false inputs = inputs
 
 -- from this depth on each element has the inputs that its parent hands down, none where it has no box
 abbrev pub GoesDown : (ℕ → Node) → ℕ → (ℕ → Option Inputs) → Type 0

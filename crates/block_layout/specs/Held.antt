@@ -2,7 +2,7 @@
 use Rattle.std.specs.Prelude.{◌≡◌, ℕ, suc, ◌-◌, ◌++◌, true, List, length, Option, Some, None, slice_get, replicate}
 use Rattle.layout_model.specs.Nodes.{Node, is_in_path}
 use Rattle.layout_model.specs.Boxes.{Inputs, Box, box_in}
-use Rattle.layout_model.specs.Reach.{View, inputs_in_view}
+use Rattle.layout_model.specs.Views.{View, inputs_in_view}
 
 abbrev pub box_in_place : Option (Option Box) → Option Box
 box_in_place None = None

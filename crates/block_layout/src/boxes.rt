@@ -1,14 +1,15 @@
 //! The box of one element: computed from its inputs and from the heights in it, and read.
 
-ghost use Rattle.std.specs.Prelude.{◌≡◌, ◌+◌, ◌≤◌, pos, ◌≤ℤ◌, unsigned_abs, option_map, IfSome};
-ghost use Rattle.layout_model.specs.Boxes.{computed, child_inputs, content_size, border_size, padding_size, content_corner, inner_corner, padding_corner, margin_height, against};
+ghost use Rattle.std.specs.Prelude.{◌≡◌, ◌+◌, ◌≤◌, pos, ◌≤ℤ◌, cond, Some, None, unsigned_abs, IfSome};
+ghost use Rattle.layout_model.specs.Boxes.{computed, child_inputs, content_size, border_size, padding_size, content_corner, inner_corner, padding_corner, margin_height, has_definite_height};
+ghost use Rattle.layout_model.specs.Items.{Item};
 ghost use Rattle.style_values.specs.Seen.{seen_style};
 ghost use Rattle.block_layout.specs.Ranges.{IsInputs, IsBox};
 ghost use Rattle.block_layout.specs.Around.{seen_given, seen_extent};
 ghost use Rattle.block_layout.specs.Seen.{seen_inputs, seen_item, as_size, as_point};
 
 use crate::numbers::against;
-use crate::sizes::{Around, Extent, around_content, used_height, used_width};
+use crate::sizes::{Around, Extent, around_content, is_stretched, used_height, used_width};
 use crate::{Inputs, ItemKind, Styled};
 use px_units::{BoxKind, Point, Size};
 use std::marker::Model;
@@ -188,9 +189,10 @@ impl BoxOf {
 
 // Inputs without their signs.
 #[derive(Clone, Copy)]
-struct Given {
-    width: u64,
-    height: Option<u64>,
+pub(crate) struct Given {
+    pub(crate) width: u64,
+    pub(crate) height: Option<u64>,
+    pub(crate) flow: bool,
 }
 
 fn unsigned(inputs: Inputs) -> Given
@@ -199,6 +201,7 @@ fn unsigned(inputs: Inputs) -> Given
     Given {
         width: inputs.width.unsigned_abs(),
         height: inputs.height.map(|height| height.unsigned_abs()),
+        flow: inputs.flow,
     }
 }
 
@@ -209,8 +212,8 @@ fn laid_out(style: &Style, kind: ItemKind, inputs: Given, inside: u64) -> BoxOf
 {
     let around = around_content(style, inputs.width);
     BoxOf {
-        width: used_width(style, kind, inputs.width, around),
-        height: used_height(style, kind, inputs.height, inside, around),
+        width: used_width(style, kind, inputs, around),
+        height: used_height(style, kind, inputs, inside, around),
         around,
     }
 }
@@ -222,16 +225,17 @@ fn signed(units: u64) -> i64
     units as i64
 }
 
-// The used height where it doesn't rest on the children (CSS 2.2, 10.5).
-fn definite_height(style: &Style, basis: Option<u64>, used: u64) -> Option<i64>
+// The used height where it doesn't rest on the children: it is given, or found between insets (CSS 2.2, 10.5 and 10.6.4).
+fn definite_height(style: &Style, inputs: Given, used: u64) -> Option<i64>
     requires { used ≤ 2147483647 }
-    ensures value { result ≡ option_map (λ given. pos used) (against (seen_style style.now).height basis) }
+    ensures value { (item : Item) → item.style ≡ seen_style style.now → result ≡ cond (has_definite_height item (seen_given inputs)) (Some (pos used)) None }
     ensures tall { IfSome result (λ height. pos 0 ≤ℤ height) }
     ensures low { IfSome result (λ height. height ≤ℤ pos 2147483647) }
 {
-    match against(style.height, basis) {
-        Some(_) => Some(signed(used)),
-        None => None,
+    if against(style.height, inputs.height).is_some() || is_stretched(style, inputs) {
+        Some(signed(used))
+    } else {
+        None
     }
 }
 
@@ -242,13 +246,14 @@ fn handed_down(style: &Style, kind: ItemKind, inputs: Given) -> Inputs
     let whole = laid_out(style, kind, inputs, 0);
     Inputs {
         width: signed(whole.width),
-        height: definite_height(style, inputs.height, whole.height),
+        height: definite_height(style, inputs, whole.height),
+        flow: true,
     }
 }
 
-/// The inputs of an element's children, from its own: its used content width, and its used content height where its
-/// `height` is a length, or a percentage of a definite height (CSS 2.2, 10.1 and 10.5). They don't depend on the
-/// children.
+/// The inputs of an element's children in flow, from its own: its used content width, and its used content height where its
+/// `height` is a length, or a percentage of a definite height, or where the element is out of flow between its `top` and `bottom`
+/// (CSS 2.2, 10.1, 10.5 and 10.6.4). They don't depend on the children.
 pub fn child_inputs<P: Styled>(item: &P, inputs: Inputs) -> Inputs
     ensures value { seen_inputs result ≡ child_inputs (record { style = P.style item.now; kind = P.kind item.now }) (seen_inputs inputs) }
     ensures range { IsInputs result }

@@ -9,7 +9,7 @@ ghost use Rattle.block_layout.specs.Seen.{seen_inputs};
 ghost use Rattle.block_layout.specs.Trees.{layout_tree};
 
 use crate::boxes::{child_inputs, compute_box};
-use crate::trees::{first_inner, is_hidden};
+use crate::trees::{first_inner, is_passed};
 use crate::{BoxOf, Inputs, Styled};
 use element_tree::{NodeId, Tree};
 use layout_model::capped;
@@ -27,7 +27,7 @@ pub(crate) fn added(inside: u64, height: u64) -> u64
 }
 
 /// The box of a node at its inputs, computed anew with all boxes in it (CSS 2.2, 10). The node's own `display` isn't
-/// asked. It takes one step for each of these boxes.
+/// asked, and nothing out of flow in it is computed, on which it doesn't rest. It takes one step for each of these boxes.
 ///
 /// It calls itself once a level: a tree of 2,000 levels was tried, while some 5,000 may use up the stack.
 pub fn fresh_box<P: Styled, L: Ledger>(
@@ -45,7 +45,7 @@ pub fn fresh_box<P: Styled, L: Ledger>(
     let mut inside = 0;
     let mut next = first_inner(tree, node);
     while let Some(child) = next {
-        if !is_hidden(tree, child) {
+        if !is_passed(tree, child) {
             inside = added(inside, fresh_box(tree, child, inner, steps).margin_units());
         }
         next = tree.next_sibling(child);

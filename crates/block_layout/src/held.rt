@@ -2,10 +2,10 @@
 
 ghost use Rattle.std.specs.Prelude.{◌≡◌, ◌≢◌, ◌+◌, ◌^◌, ◌<◌, ◌≤◌, ℕ, true, false, Option, Some, None, [], length, option_map, OnOk, OnErr};
 ghost use Rattle.layout_model.specs.Nodes.{depth_of, is_in_path};
-ghost use Rattle.layout_model.specs.Boxes.{Inputs as InputsModel, computed, box_of_node, if_shown, inputs_if_block};
+ghost use Rattle.layout_model.specs.Boxes.{Inputs as InputsModel, computed, box_of_node};
 ghost use Rattle.element_tree.specs.Forest.{IsForest};
 ghost use Rattle.block_layout.specs.Counts.{if_displayed, box_count};
-ghost use Rattle.block_layout.specs.Filling.{GoesDown, box_with, height_of, steps_of};
+ghost use Rattle.block_layout.specs.Filling.{IsUnpositioned, GoesDown, if_shown, inputs_if_block, box_with, height_of, steps_of};
 ghost use Rattle.block_layout.specs.Held.{held_in, with_place};
 ghost use Rattle.block_layout.specs.Seen.{seen_inputs};
 ghost use Rattle.block_layout.specs.Trees.{layout_tree};
@@ -85,7 +85,7 @@ impl FreshBoxes {
 
     /// Computes every box of the tree under a root element anew, from the root's inputs, and holds it. The nodes in that
     /// tree without a box hold none afterwards (CSS 2.2, 9.2.4), and a box without a place isn't held. It takes one step
-    /// for each box. A node with a parent serves as root too, for what is in it.
+    /// for each box. A node with a parent serves as root too, for what is in it. It is so where no element of the tree is positioned.
     ///
     /// It calls itself once a level: a tree of 2,000 levels was tried, while some 5,000 may use up the stack.
     pub fn fill<P: Styled, L: Ledger>(
@@ -97,17 +97,17 @@ impl FreshBoxes {
     )
         requires { root.0 < length tree.now.nodes }
         ensures boxes { let at = layout_tree P.style P.kind tree.now.nodes in
-            (at root.0).parent ≡ None → (n : ℕ) → n < length self.old → is_in_path at root.0 n ≡ true →
-            held_in self.new n ≡ box_of_node at root.0 (seen_inputs inputs) n }
+            IsUnpositioned at root.0 → inputs.flow ≡ true → (at root.0).parent ≡ None → (n : ℕ) → n < length self.old →
+            is_in_path at root.0 n ≡ true → held_in self.new n ≡ box_of_node at root.0 (seen_inputs inputs) n }
         ensures under { let at = layout_tree P.style P.kind tree.now.nodes in
-            (wanted : ℕ → Option InputsModel) → GoesDown at (depth_of at root.0) wanted →
+            IsUnpositioned at root.0 → (wanted : ℕ → Option InputsModel) → GoesDown at (depth_of at root.0) wanted →
             wanted root.0 ≡ if_shown (at root.0).item.style.hidden (Some (seen_inputs inputs)) →
             (n : ℕ) → n < length self.old → is_in_path at root.0 n ≡ true → held_in self.new n ≡ box_with at (wanted n) n }
         ensures others { (n : ℕ) → is_in_path (layout_tree P.style P.kind tree.now.nodes) root.0 n ≡ false →
             held_in self.new n ≡ held_in self.old n }
         ensures places { length self.new ≡ length self.old }
         ensures ticks { let at = layout_tree P.style P.kind tree.now.nodes in
-            steps.new ≡ steps.old + if_displayed (at root.0).item.style.hidden (box_count at root.0) }
+            IsUnpositioned at root.0 → steps.new ≡ steps.old + if_displayed (at root.0).item.style.hidden (box_count at root.0) }
     {
         let shown = inputs_of_child(tree, root, Some(inputs));
         let _height = fill_below(self.places.as_mut_slice(), tree, root, shown, steps);
@@ -194,13 +194,13 @@ fn fill_below<P: Styled, L: Ledger>(
     steps: &mut Steps<L>,
 ) -> u64
     requires { node.0 < length tree.now.nodes }
-    ensures value { result ≡ height_of (box_with (layout_tree P.style P.kind tree.now.nodes) (option_map seen_inputs inputs) node.0) }
+    ensures value { IsUnpositioned (layout_tree P.style P.kind tree.now.nodes) node.0 → result ≡ height_of (box_with (layout_tree P.style P.kind tree.now.nodes) (option_map seen_inputs inputs) node.0) }
     ensures bound { result ≤ 2 ^ 34 }
-    ensures under { (wanted : ℕ → Option InputsModel) → GoesDown (layout_tree P.style P.kind tree.now.nodes) (depth_of (layout_tree P.style P.kind tree.now.nodes) node.0) wanted →
+    ensures under { IsUnpositioned (layout_tree P.style P.kind tree.now.nodes) node.0 → (wanted : ℕ → Option InputsModel) → GoesDown (layout_tree P.style P.kind tree.now.nodes) (depth_of (layout_tree P.style P.kind tree.now.nodes) node.0) wanted →
         wanted node.0 ≡ option_map seen_inputs inputs → (n : ℕ) → is_in_path (layout_tree P.style P.kind tree.now.nodes) node.0 n ≡ true → n < length places.old →
         held_in places.new n ≡ box_with (layout_tree P.style P.kind tree.now.nodes) (wanted n) n }
     ensures others { (n : ℕ) → is_in_path (layout_tree P.style P.kind tree.now.nodes) node.0 n ≡ false → held_in places.new n ≡ held_in places.old n }
-    ensures ticks { steps.new ≡ steps.old + steps_of (option_map seen_inputs inputs) (box_count (layout_tree P.style P.kind tree.now.nodes) node.0) }
+    ensures ticks { IsUnpositioned (layout_tree P.style P.kind tree.now.nodes) node.0 → steps.new ≡ steps.old + steps_of (option_map seen_inputs inputs) (box_count (layout_tree P.style P.kind tree.now.nodes) node.0) }
 {
     let within = inputs_within(tree, node, inputs);
     let mut inside = 0;

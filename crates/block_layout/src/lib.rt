@@ -24,6 +24,8 @@ pub struct Inputs {
     pub width: i64,
     /// None where it isn't known before the heights of the content.
     pub height: Option<i64>,
+    /// Whether the box is in flow (CSS 2.2, 9.3), as each root element's is.
+    pub flow: bool,
 }
 
 /// What kind of element a box is of.

@@ -2,7 +2,7 @@
 //! without a sign, so that no length is out of range.
 
 ghost use Rattle.std.specs.Prelude.{◌≡◌, ◌≤◌, ◌*◌, ◌/◌, IfSome, option_map, option_and_then};
-ghost use Rattle.px_units.specs.Lengths.{seen_length, cap};
+ghost use Rattle.px_units.specs.Lengths.{seen_length, seen_inset, cap, clamped, signed_part, inset_against};
 ghost use Rattle.layout_model.specs.Boxes.{used_side, against, inner, at_most, at_least, used_along};
 ghost use Rattle.style_values.specs.Seen.{seen_box_sizing};
 
@@ -31,6 +31,29 @@ pub(crate) fn against(length: Length, basis: Option<u64>) -> Option<u64>
             None => None,
         },
     }
+}
+
+// An inset against a basis that may be indefinite: there a percentage gives none, as `auto` does (CSS Positioned Layout 3, 3.1).
+pub(crate) fn inset(length: Length, basis: Option<u64>) -> Option<i64>
+    ensures { result ≡ inset_against (seen_inset length) basis }
+{
+    match length {
+        Length::Auto => None,
+        Length::Px(px) => Some(px.0),
+        Length::Percent(percent) => match basis {
+            Some(whole) => Some(signed_part(percent.0, whole)),
+            None => None,
+        },
+    }
+}
+
+// A percentage of a basis, cut toward zero to units, no farther from 0 than the largest length.
+fn signed_part(hundredths: i32, basis: u64) -> i64
+    ensures { result ≡ clamped (signed_part hundredths basis) }
+{
+    let largest = i128::from(LARGEST);
+    let part = i128::from(basis) * i128::from(hundredths) / 10_000;
+    part.max(-largest).min(largest) as i64
 }
 
 // A margin or padding: also a vertical one is relative to the containing width (8.3, 8.4).

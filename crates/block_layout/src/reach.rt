@@ -3,11 +3,14 @@
 ghost use Rattle.std.specs.Prelude.{◌≡◌, ◌+◌, ◌*◌, ◌^◌, ◌<◌, ◌≤◌, cond, Some, None, IfSome, length, unsigned_abs};
 ghost use Rattle.layout_model.specs.Boxes.{Inputs, kids_of, box_in, border_size, inner_corner};
 ghost use Rattle.layout_model.specs.Points.{plus, minus, capped, larger};
-ghost use Rattle.layout_model.specs.Reach.{View, inputs_in_view, open_kids, reach_of, reach_of_view};
+ghost use Rattle.layout_model.specs.Views.{View, inputs_in_view};
+ghost use Rattle.layout_model.specs.Reach.{reach_of, reach_of_view};
+ghost use Rattle.block_layout.specs.Far.{open_kids};
 ghost use Rattle.element_tree.specs.Forest.{IsForest, depth, first_of};
 ghost use Rattle.element_tree.specs.Links.{node_ids};
 ghost use Rattle.block_layout.specs.Around.{seen_extent};
 ghost use Rattle.block_layout.specs.Far.{far_in};
+ghost use Rattle.block_layout.specs.Filling.{IsUnpositioned};
 ghost use Rattle.block_layout.specs.Held.{HoldsBoxes};
 ghost use Rattle.block_layout.specs.Seen.{as_size};
 ghost use Rattle.block_layout.specs.Trees.{layout_tree};
@@ -68,8 +71,9 @@ impl Extent {
 /// at its own scroll offset 0; else the viewport of that size whose root element is `node`. Each length is at most
 /// 2,147,483,647 units.
 ///
-/// It is so where each box of the node and in it is held as it is now. It calls itself once a level: a tree of 2,000
-/// levels was tried, while some 5,000 may use up the stack.
+/// It is so where no element of the node's tree is positioned, and each box of the node and in it is held as it is now. A
+/// box that clips nothing reaches over its padding box alone. It calls itself once a level: a tree of 2,000 levels was
+/// tried, while some 5,000 may use up the stack.
 pub fn overflow_reach<P: Styled, B: Boxes>(
     tree: &Tree<P>,
     boxes: &B,
@@ -78,10 +82,10 @@ pub fn overflow_reach<P: Styled, B: Boxes>(
 ) -> Size
     requires { node.0 < length tree.now.nodes }
     ensures container { let at = layout_tree P.style P.kind tree.now.nodes in
-        view ≡ None → (document : View) (inputs : Inputs) → inputs_in_view at document node.0 ≡ Some inputs →
+        view ≡ None → IsUnpositioned at node.0 → (document : View) (inputs : Inputs) → inputs_in_view at document node.0 ≡ Some inputs →
         HoldsBoxes at document node.0 (B.held boxes.now) → result ≡ as_size (reach_of at document node.0) }
     ensures viewport { let at = layout_tree P.style P.kind tree.now.nodes in
-        IfSome view (λ size. (at node.0).parent ≡ None → (document : View) → document.root ≡ Some node.0 →
+        IfSome view (λ size. IsUnpositioned at node.0 → (at node.0).parent ≡ None → (document : View) → document.root ≡ Some node.0 →
         document.width ≡ unsigned_abs size.width → document.height ≡ unsigned_abs size.height →
         HoldsBoxes at document node.0 (B.held boxes.now) → result ≡ as_size (reach_of_view at document)) }
 {
@@ -99,16 +103,17 @@ pub fn overflow_reach<P: Styled, B: Boxes>(
     }
 }
 
+// How far a box reaches: over its padding box, and what is in it where it clips that.
 fn container_reach<P: Styled, B: Boxes>(tree: &Tree<P>, boxes: &B, node: NodeId) -> Size
     requires { node.0 < length tree.now.nodes }
-    ensures { (document : View) (inputs : Inputs) →
+    ensures { IsUnpositioned (layout_tree P.style P.kind tree.now.nodes) node.0 → (document : View) (inputs : Inputs) →
         inputs_in_view (layout_tree P.style P.kind tree.now.nodes) document node.0 ≡ Some inputs →
         HoldsBoxes (layout_tree P.style P.kind tree.now.nodes) document node.0 (B.held boxes.now) →
         result ≡ as_size (reach_of (layout_tree P.style P.kind tree.now.nodes) document node.0) }
 {
     match boxes.box_of(node) {
         Some(own) => {
-            let far = far_inside(tree, boxes, node, own, NOWHERE, false);
+            let far = far_inside(tree, boxes, node, own, NOWHERE, !is_clipping(tree, node));
             let inside = far.minus(own.padding_offset());
             own.padding_extent().larger(inside).capped().size()
         }
@@ -118,7 +123,7 @@ fn container_reach<P: Styled, B: Boxes>(tree: &Tree<P>, boxes: &B, node: NodeId)
 
 fn view_reach<P: Styled, B: Boxes>(tree: &Tree<P>, boxes: &B, root: NodeId, size: Extent) -> Size
     requires { root.0 < length tree.now.nodes }
-    ensures { (layout_tree P.style P.kind tree.now.nodes root.0).parent ≡ None → (document : View) →
+    ensures { IsUnpositioned (layout_tree P.style P.kind tree.now.nodes) root.0 → (layout_tree P.style P.kind tree.now.nodes root.0).parent ≡ None → (document : View) →
         document.root ≡ Some root.0 → document.width ≡ size.across → document.height ≡ size.down →
         HoldsBoxes (layout_tree P.style P.kind tree.now.nodes) document root.0 (B.held boxes.now) →
         result ≡ as_size (reach_of_view (layout_tree P.style P.kind tree.now.nodes) document) }
@@ -193,7 +198,7 @@ fn far_inside<P: Styled, B: Boxes>(
     requires node { node.0 < length tree.now.nodes }
     requires across { corner.across ≤ depth tree.now.nodes node.0 * 2147483647 }
     requires down { corner.down ≤ depth tree.now.nodes node.0 * 2147483647 }
-    ensures { (document : View) (inputs : Inputs) →
+    ensures { IsUnpositioned (layout_tree P.style P.kind tree.now.nodes) node.0 → (document : View) (inputs : Inputs) →
         inputs_in_view (layout_tree P.style P.kind tree.now.nodes) document node.0 ≡ Some inputs →
         HoldsBoxes (layout_tree P.style P.kind tree.now.nodes) document node.0 (B.held boxes.now) →
         own ≡ box_in (layout_tree P.style P.kind tree.now.nodes) inputs node.0 →

@@ -2,15 +2,16 @@
 
 ghost use Rattle.std.specs.Prelude.{◌≡◌, ◌^◌, ◌<◌, ◌≤◌};
 ghost use Rattle.px_units.specs.Lengths.{cap};
-ghost use Rattle.layout_model.specs.Boxes.{Inputs as InputsModel, used_side, used_width, used_height, automatic_width, automatic_height, on_sides};
+ghost use Rattle.layout_model.specs.Boxes.{used_side, used_insets, left_between, is_stretched, used_width, used_height, automatic_width, automatic_height, on_sides};
 ghost use Rattle.style_values.specs.Seen.{seen_style};
-ghost use Rattle.block_layout.specs.Around.{seen_edges, seen_extent, IsAround};
+ghost use Rattle.block_layout.specs.Around.{seen_edges, seen_extent, seen_given, IsAround};
 ghost use Rattle.block_layout.specs.Ranges.{IsSides};
 ghost use Rattle.block_layout.specs.Seen.{seen_kind, seen_item, as_size, as_point};
 
 use crate::ItemKind;
-use crate::numbers::{Axis, used_side};
-use layout_model::capped;
+use crate::boxes::Given;
+use crate::numbers::{Axis, inset, used_side};
+use layout_model::{LARGEST, capped};
 use px_units::{Point, Size};
 use style_values::Style;
 
@@ -116,20 +117,74 @@ pub(crate) fn around_content(style: &Style, width: u64) -> Around
     }
 }
 
-fn automatic_width(kind: ItemKind, containing: u64, around: u64) -> u64
-    ensures { result ≡ automatic_width (seen_kind kind) containing around }
+// What insets on both sides leave of a containing block, less what is around the content, cut to the largest length.
+fn left_between(containing: u64, one: Option<i64>, other: Option<i64>, around: u64) -> u64
+    ensures { result ≡ cap (left_between containing one other around) }
+{
+    let insets = i128::from(one.unwrap_or(0)) + i128::from(other.unwrap_or(0));
+    let left = i128::from(containing) - insets - i128::from(around);
+    left.max(0).min(i128::from(LARGEST)) as u64
+}
+
+// The insets of both sides of an axis.
+#[derive(Clone, Copy)]
+struct Insets {
+    one: Option<i64>,
+    other: Option<i64>,
+}
+
+fn horizontal(style: &Style, inputs: Given) -> Insets
+    ensures one { result.one ≡ (used_insets (seen_style style.now).inset (seen_given inputs)).left }
+    ensures other { result.other ≡ (used_insets (seen_style style.now).inset (seen_given inputs)).right }
+{
+    Insets {
+        one: inset(style.left, Some(inputs.width)),
+        other: inset(style.right, Some(inputs.width)),
+    }
+}
+
+fn vertical(style: &Style, inputs: Given) -> Insets
+    ensures one { result.one ≡ (used_insets (seen_style style.now).inset (seen_given inputs)).top }
+    ensures other { result.other ≡ (used_insets (seen_style style.now).inset (seen_given inputs)).bottom }
+{
+    Insets {
+        one: inset(style.top, inputs.height),
+        other: inset(style.bottom, inputs.height),
+    }
+}
+
+// Whether a box out of flow has its insets on both vertical sides, between which a block of automatic height fills its containing block.
+pub(crate) fn is_stretched(style: &Style, inputs: Given) -> bool
+    ensures { result ≡ is_stretched (seen_given inputs) (used_insets (seen_style style.now).inset (seen_given inputs)) }
+{
+    let insets = vertical(style, inputs);
+    !inputs.flow && insets.one.is_some() && insets.other.is_some()
+}
+
+// The width of `auto`, as far as the largest length.
+fn automatic_width(style: &Style, kind: ItemKind, inputs: Given, around: u64) -> u64
+    ensures { cap result ≡ cap (automatic_width (seen_kind kind) (seen_given inputs) (used_insets (seen_style style.now).inset (seen_given inputs)) around) }
 {
     match kind {
-        ItemKind::Block => containing.saturating_sub(around),
+        ItemKind::Block if inputs.flow => inputs.width.saturating_sub(around),
+        ItemKind::Block => {
+            let insets = horizontal(style, inputs);
+            left_between(inputs.width, insets.one, insets.other, around)
+        }
         ItemKind::Image(natural) => natural.width.unsigned_abs(),
         ItemKind::Frame => FRAME_WIDTH,
     }
 }
 
-fn automatic_height(kind: ItemKind, inside: u64) -> u64
-    ensures { result ≡ automatic_height (seen_kind kind) inside }
+// The height of `auto`, as far as the largest length.
+fn automatic_height(style: &Style, kind: ItemKind, inputs: Given, inside: u64, around: u64) -> u64
+    ensures { cap result ≡ cap (automatic_height (seen_kind kind) (seen_given inputs) (used_insets (seen_style style.now).inset (seen_given inputs)) inside around) }
 {
     match kind {
+        ItemKind::Block if is_stretched(style, inputs) => {
+            let insets = vertical(style, inputs);
+            left_between(inputs.height.unwrap_or(0), insets.one, insets.other, around)
+        }
         ItemKind::Block => inside,
         ItemKind::Image(natural) => natural.height.unsigned_abs(),
         ItemKind::Frame => FRAME_HEIGHT,
@@ -137,9 +192,9 @@ fn automatic_height(kind: ItemKind, inside: u64) -> u64
 }
 
 // The used content width (CSS 2.2, 10.3 and 10.4).
-pub(crate) fn used_width(style: &Style, kind: ItemKind, width: u64, around: Around) -> u64
+pub(crate) fn used_width(style: &Style, kind: ItemKind, inputs: Given, around: Around) -> u64
     requires { IsAround around }
-    ensures value { (inputs : InputsModel) → inputs.width ≡ width → result ≡ used_width (seen_item style.now kind) inputs (seen_edges around.margin) (seen_edges around.border) (seen_edges around.padding) }
+    ensures value { result ≡ used_width (seen_item style.now kind) (seen_given inputs) (seen_edges around.margin) (seen_edges around.border) (seen_edges around.padding) }
     ensures bound { result ≤ 2147483647 }
 {
     let Around {
@@ -151,38 +206,45 @@ pub(crate) fn used_width(style: &Style, kind: ItemKind, width: u64, around: Arou
     let axis = Axis {
         sizing: style.box_sizing,
         edges,
-        basis: Some(width),
+        basis: Some(inputs.width),
         size: style.width,
         least: style.min_width,
         most: style.max_width,
     };
-    axis.used(automatic_width(kind, width, margin.left + edges + margin.right))
+    axis.used(automatic_width(style, kind, inputs, margin.left + edges + margin.right))
 }
 
 // The used content height, where the heights in it add up to `inside` (CSS 2.2, 10.5 to 10.7).
 pub(crate) fn used_height(
     style: &Style,
     kind: ItemKind,
-    basis: Option<u64>,
+    inputs: Given,
     inside: u64,
     around: Around,
 ) -> u64
     requires { IsAround around }
-    ensures value { (inputs : InputsModel) → inputs.height ≡ basis → result ≡ used_height (seen_item style.now kind) inputs inside (seen_edges around.border) (seen_edges around.padding) }
+    ensures value { result ≡ used_height (seen_item style.now kind) (seen_given inputs) inside (seen_edges around.margin) (seen_edges around.border) (seen_edges around.padding) }
     ensures bound { result ≤ 2147483647 }
 {
     let Around {
+        margin,
         border,
         padding,
-        ..
     } = around;
+    let edges = border.top + padding.top + padding.bottom + border.bottom;
     let axis = Axis {
         sizing: style.box_sizing,
-        edges: border.top + padding.top + padding.bottom + border.bottom,
-        basis,
+        edges,
+        basis: inputs.height,
         size: style.height,
         least: style.min_height,
         most: style.max_height,
     };
-    axis.used(automatic_height(kind, inside))
+    axis.used(automatic_height(
+        style,
+        kind,
+        inputs,
+        inside,
+        margin.top + edges + margin.bottom,
+    ))
 }

@@ -1,7 +1,7 @@
 //! What layout asks of the elements of a tree.
 
 ghost use Rattle.std.specs.Prelude.{◌≡◌, ◌<◌, not, length};
-ghost use Rattle.layout_model.specs.Boxes.{kids_of};
+ghost use Rattle.layout_model.specs.Boxes.{kids_of, is_passed};
 ghost use Rattle.layout_model.specs.Clips.{clips, is_visible};
 ghost use Rattle.element_tree.specs.Forest.{IsForest, first_of};
 ghost use Rattle.element_tree.specs.Links.{node_ids};
@@ -11,12 +11,13 @@ ghost use Rattle.block_layout.specs.Trees.{layout_tree};
 
 use crate::ItemKind;
 use element_tree::{NodeId, Tree};
-use style_values::{Display, Overflow, Style};
+use style_values::{Display, Overflow, Position, Style};
 
 /// What a tree carries for layout: elements with a style and a kind.
 pub trait Styled {
     ghost use Rattle.layout_model.specs.Styles.{Style as StyleModel};
     ghost use Rattle.layout_model.specs.Items.{Kind};
+    ghost use Rattle.style_values.specs.Ranges.{IsStyle};
 
     /// The style, as the definitions of layout see it.
     ghost style: { Self → StyleModel };
@@ -24,9 +25,10 @@ pub trait Styled {
     /// The kind, as the definitions of layout see it.
     ghost kind: { Self → Kind };
 
-    /// The style of the element.
+    /// The style of the element. Each property has a value of its own.
     fn style(&self) -> &Style
-        ensures { seen_style result.now ≡ style self.now };
+        ensures value { seen_style result.now ≡ style self.now }
+        ensures range { IsStyle result.now };
 
     /// The kind of the element.
     fn kind(&self) -> ItemKind
@@ -42,6 +44,21 @@ pub(crate) fn is_hidden<P: Styled>(tree: &Tree<P>, node: NodeId) -> bool
     match tree.payload(node).style().display {
         Display::Hidden => true,
         Display::Block => false,
+    }
+}
+
+// Whether a child adds nothing to the height of its parent: it isn't displayed, or is out of flow. A root element counts as static.
+pub(crate) fn is_passed<P: Styled>(tree: &Tree<P>, node: NodeId) -> bool
+    requires { node.0 < length tree.now.nodes }
+    ensures value { result ≡ is_passed (layout_tree P.style P.kind tree.now.nodes node.0) }
+    ensures forest { IsForest tree.now.most_depth tree.now.nodes }
+{
+    if is_hidden(tree, node) {
+        return true;
+    }
+    match tree.payload(node).style().position {
+        Position::Static | Position::Relative => false,
+        Position::Absolute | Position::Fixed => tree.parent(node).is_some(),
     }
 }
 

@@ -377,6 +377,196 @@ const BOXES: [BoxRow; 40] = [
     ),
 ];
 
+/// Boxes out of flow, whose insets are taken off an automatic size.
+const OUT_OF_FLOW: [BoxRow; 19] = [
+    (
+        ItemKind::Block,
+        51200,
+        Some(38400),
+        6400,
+        "position:absolute",
+        "51200 6400 51200 6400 51200 6400 0 0 0 0 0 0 6400 / 51200 -",
+    ),
+    (
+        ItemKind::Block,
+        51200,
+        Some(38400),
+        6400,
+        "position:absolute left:10px right:20px",
+        "49280 6400 49280 6400 49280 6400 0 0 0 0 0 0 6400 / 49280 -",
+    ),
+    (
+        ItemKind::Block,
+        51200,
+        Some(38400),
+        6400,
+        "position:fixed left:25% margin:3px padding:4px border:5px",
+        "36864 6400 37376 6912 38016 7552 192 192 320 320 256 256 7936 / 36864 -",
+    ),
+    (
+        ItemKind::Block,
+        51200,
+        Some(38400),
+        6400,
+        "position:absolute right:-100px left:-50%",
+        "83200 6400 83200 6400 83200 6400 0 0 0 0 0 0 6400 / 83200 -",
+    ),
+    (
+        ItemKind::Block,
+        51200,
+        Some(38400),
+        6400,
+        "position:absolute left:500px right:301px",
+        "0 6400 0 6400 0 6400 0 0 0 0 0 0 6400 / 0 -",
+    ),
+    (
+        ItemKind::Block,
+        777,
+        Some(1081),
+        100,
+        "position:absolute left:33.33% right:-33.33%",
+        "777 100 777 100 777 100 0 0 0 0 0 0 100 / 777 -",
+    ),
+    (
+        ItemKind::Block,
+        51200,
+        Some(38400),
+        6400,
+        "position:absolute left:10px right:10px width:50% max-width:300px",
+        "19200 6400 19200 6400 19200 6400 0 0 0 0 0 0 6400 / 19200 -",
+    ),
+    (
+        ItemKind::Block,
+        51200,
+        Some(38400),
+        6400,
+        "position:absolute left:10px right:10px min-width:900px box-sizing:border-box padding:7px",
+        "56704 6400 57600 7296 57600 7296 0 0 0 0 448 448 7296 / 56704 -",
+    ),
+    (
+        ItemKind::Block,
+        2147483647,
+        Some(2147483647),
+        0,
+        "position:absolute left:-1000000px right:-1000000px top:-1000000px bottom:-100%",
+        "2147483647 2147483647 2147483647 2147483647 2147483647 2147483647 0 0 0 0 0 0 2147483647 / 2147483647 2147483647",
+    ),
+    (
+        ItemKind::Block,
+        51200,
+        Some(38400),
+        6400,
+        "position:absolute top:10px bottom:20px",
+        "51200 36480 51200 36480 51200 36480 0 0 0 0 0 0 36480 / 51200 36480",
+    ),
+    (
+        ItemKind::Block,
+        51200,
+        Some(38400),
+        6400,
+        "position:fixed top:10% bottom:-5% padding:10px border:1px margin-top:2px",
+        "49792 34944 51072 36224 51200 36352 0 128 64 64 640 640 36480 / 49792 34944",
+    ),
+    (
+        ItemKind::Block,
+        51200,
+        Some(38400),
+        6400,
+        "position:absolute top:10px",
+        "51200 6400 51200 6400 51200 6400 0 0 0 0 0 0 6400 / 51200 -",
+    ),
+    (
+        ItemKind::Block,
+        51200,
+        Some(38400),
+        6400,
+        "position:absolute bottom:10px height:50%",
+        "51200 19200 51200 19200 51200 19200 0 0 0 0 0 0 19200 / 51200 19200",
+    ),
+    (
+        ItemKind::Block,
+        51200,
+        Some(38400),
+        6400,
+        "position:absolute top:300px bottom:301px padding-top:5px",
+        "51200 0 51200 320 51200 320 0 0 0 0 0 320 320 / 51200 0",
+    ),
+    (
+        ItemKind::Block,
+        51200,
+        Some(38400),
+        6400,
+        "position:absolute top:10px bottom:10px height:33.33% max-height:100px",
+        "51200 6400 51200 6400 51200 6400 0 0 0 0 0 0 6400 / 51200 6400",
+    ),
+    (
+        ItemKind::Block,
+        51200,
+        Some(38400),
+        6400,
+        "position:absolute top:10px bottom:10px min-height:110% box-sizing:border-box border:3px",
+        "50816 41856 50816 41856 51200 42240 0 0 192 192 0 0 42240 / 50816 41856",
+    ),
+    (
+        ItemKind::Image(Size {
+            width: 8063,
+            height: 15145,
+        }),
+        51200,
+        Some(38400),
+        0,
+        "position:absolute left:10px right:20px top:10px bottom:20px",
+        "8063 15145 8063 15145 8063 15145 0 0 0 0 0 0 15145 / 8063 15145",
+    ),
+    (
+        ItemKind::Image(Size {
+            width: 8063,
+            height: 15145,
+        }),
+        51200,
+        Some(38400),
+        0,
+        "position:fixed top:10px height:25% padding:1%",
+        "8063 9600 9087 10624 9087 10624 0 0 0 0 512 512 10624 / 8063 9600",
+    ),
+    (
+        ItemKind::Frame,
+        51200,
+        Some(38400),
+        0,
+        "position:absolute left:10px right:20px top:1px bottom:1px border:2px",
+        "19200 9600 19200 9600 19456 9856 0 0 128 128 0 0 9856 / 19200 9600",
+    ),
+];
+
+/// Boxes in flow, whose insets move them and change no size.
+const RELATIVE: [BoxRow; 3] = [
+    (
+        ItemKind::Block,
+        51200,
+        None,
+        100,
+        "position:relative top:10% bottom:20% left:10px right:10px",
+        "51200 100 51200 100 51200 100 0 0 0 0 0 0 100 / 51200 -",
+    ),
+    (
+        ItemKind::Block,
+        51200,
+        Some(38400),
+        100,
+        "position:relative top:10px bottom:20px",
+        "51200 100 51200 100 51200 100 0 0 0 0 0 0 100 / 51200 -",
+    ),
+    (
+        ItemKind::Block,
+        51200,
+        None,
+        6400,
+        "position:relative height:50% left:-10px",
+        "51200 6400 51200 6400 51200 6400 0 0 0 0 0 0 6400 / 51200 -",
+    ),
+];
+
 /// The parent's number, which is its own for the root element; kind; declarations. Wanted: the content size and, of a
 /// scroll container, how far it reaches; a bar without a box.
 type ElementRow = (u32, ItemKind, &'static str, &'static str);
@@ -511,10 +701,14 @@ fn line_of(alloc: Global, item: &Element, inputs: Inputs, found: &BoxOf) -> Resu
     Ok(format!(in alloc; "{sizes} {corners} {height} / {handed}")?)
 }
 
-fn see_box(rt: &impl Abort, alloc: Global, row: BoxRow) -> Result<(), Fail> {
+fn see_box(rt: &impl Abort, alloc: Global, flow: bool, row: BoxRow) -> Result<(), Fail> {
     let (kind, width, height, inside, declarations, wanted) = row;
     let item = styled(rt, kind, declarations);
-    let inputs = Inputs { width, height };
+    let inputs = Inputs {
+        width,
+        height,
+        flow,
+    };
     let found = computed::<Brand>(Blank::new(1), &item, inputs, inside);
     let line = line_of(alloc, &item, inputs, &found)?;
     assert_eq!(rt; line.as_str(), wanted, "{declarations}");
@@ -525,7 +719,23 @@ fn see_box(rt: &impl Abort, alloc: Global, row: BoxRow) -> Result<(), Fail> {
 #[test]
 fn boxes_have_their_numbers(rt: HostRuntime) -> Result<(), Fail> {
     for row in BOXES {
-        see_box(&rt, rt.alloc(), row)?;
+        see_box(&rt, rt.alloc(), true, row)?;
+    }
+    Ok(())
+}
+
+#[test]
+fn boxes_out_of_flow_have_their_numbers(rt: HostRuntime) -> Result<(), Fail> {
+    for row in OUT_OF_FLOW {
+        see_box(&rt, rt.alloc(), false, row)?;
+    }
+    Ok(())
+}
+
+#[test]
+fn insets_change_no_size_in_flow(rt: HostRuntime) -> Result<(), Fail> {
+    for row in RELATIVE {
+        see_box(&rt, rt.alloc(), true, row)?;
     }
     Ok(())
 }
@@ -648,7 +858,7 @@ fn see_reach(
 fn hide(rt: &impl Abort, tree: &mut Tree<Element>, boxes: &mut FreshBoxes) {
     assert!(rt; tree.holds(NodeId(3)));
     let item = tree.payload_mut(NodeId(3));
-    assert!(rt; item.style.set(b"display", b"none") == Ok(()));
+    assert!(rt; item.set("display", "none"));
     fill(rt, boxes, tree);
     for number in 3..20 {
         assert_eq!(rt; boxes.box_of(NodeId(number)), None);
@@ -685,6 +895,36 @@ fn measured(rt: &impl Abort, tree: &Tree<Element>) -> BoxOf {
 fn see_content(rt: &impl Abort, found: &BoxOf, wanted: (i64, i64)) {
     let content = found.size(BoxKind::Content);
     assert_eq!(rt; (content.width, content.height), wanted);
+}
+
+// A root element, which counts as static, with children of 10, 40 and 30 pixels stacked in it, the second with 10 in itself. What is
+// out of flow is stacked nowhere.
+fn place_positioned(rt: &impl Abort, tree: &mut Tree<Element>) {
+    for (parent, declarations) in [
+        (0, "position:absolute left:10px"),
+        (0, "height:10px"),
+        (0, "position:relative top:500px padding:15px"),
+        (0, "position:absolute height:1000px"),
+        (0, "position:fixed height:2000px"),
+        (0, "position:relative bottom:-3px height:30px"),
+        (2, "height:10px"),
+        (2, "position:absolute top:0px bottom:0px"),
+        (2, "position:fixed height:50%"),
+    ] {
+        place(
+            rt,
+            tree,
+            NodeId(parent),
+            styled(rt, ItemKind::Block, declarations),
+        );
+    }
+}
+
+#[test]
+fn boxes_out_of_flow_are_not_stacked(rt: HostRuntime) {
+    let mut tree = Tree::new(rt.alloc(), 9, 256);
+    place_positioned(&rt, &mut tree);
+    see_content(&rt, &measured(&rt, &tree), (51200, 5120)); // 10, 40 and 30 pixels
 }
 
 // A root element with 19,999 lines.

@@ -1,10 +1,11 @@
-//! Kept boxes beside boxes computed anew, through random edits of a tree.
+//! Kept boxes and places beside those computed anew, through random edits of a tree with positions.
 
-ghost use Rattle.std.specs.Prelude.{◌≡◌, ◌<◌, length, None};
+ghost use Rattle.std.specs.Prelude.{◌≡◌, ◌<◌, length, true, None};
 ghost use Rattle.element_tree.specs.Forest.{parent_of};
 
+use crate::anew::{Anew, Held};
 use crate::elements::{Element, SCREEN};
-use block_layout::{Boxes, FreshBoxes, Inputs, ItemKind};
+use block_layout::{Boxes, Inputs, ItemKind};
 use element_tree::{NodeId, Tree};
 use kept_layout::{Kept, Offsets};
 use px_units::{BoxKind, Point, Size};
@@ -14,7 +15,6 @@ use std::process::Abort;
 use std::sync::ledger::{Blank, Ledger};
 use std::test::Fail;
 use step_count::Steps;
-use style_values::Style;
 
 const ELEMENTS: u32 = 500;
 
@@ -25,9 +25,10 @@ const ROOT: NodeId = NodeId(0);
 const NARROW: Inputs = Inputs {
     width: 20480,
     height: Some(12800),
+    flow: true,
 };
 
-const DECLARATIONS: [(&str, &str); 24] = [
+const DECLARATIONS: [(&str, &str); 44] = [
     ("width", "50%"),
     ("width", "120px"),
     ("width", "auto"),
@@ -52,6 +53,26 @@ const DECLARATIONS: [(&str, &str); 24] = [
     ("box-sizing", "content-box"),
     ("max-width", "200px"),
     ("min-height", "10px"),
+    ("position", "static"),
+    ("position", "static"),
+    ("position", "relative"),
+    ("position", "relative"),
+    ("position", "absolute"),
+    ("position", "absolute"),
+    ("position", "fixed"),
+    ("left", "auto"),
+    ("left", "10px"),
+    ("left", "-5%"),
+    ("right", "auto"),
+    ("right", "3px"),
+    ("right", "20%"),
+    ("top", "auto"),
+    ("top", "2px"),
+    ("top", "10%"),
+    ("bottom", "auto"),
+    ("bottom", "4px"),
+    ("bottom", "-3px"),
+    ("bottom", "-10%"),
 ];
 
 /// Each scroll container is scrolled by 1 and 2 pixels.
@@ -122,12 +143,12 @@ fn restyle(
 )
     requires { node.0 < length tree.old.nodes }
 {
-    let (property, value) = DECLARATIONS[random.below(24) as usize];
+    let (property, value) = DECLARATIONS[random.below(44) as usize];
     if node == ROOT && property == "display" {
         return;
     }
     let item = tree.payload_mut(node);
-    assert!(rt; item.style.set(property.as_bytes(), value.as_bytes()) == Ok(()));
+    assert!(rt; item.set(property, value));
     kept.mark(tree, node);
 }
 
@@ -173,8 +194,9 @@ fn edit(rt: &impl Abort, random: &mut Random, tree: &mut Tree<Element>, kept: &m
 
 fn lay_out_for<L: Ledger>(
     blank: Blank,
+    rt: &impl Abort,
     kept: &mut Kept,
-    fresh: &mut FreshBoxes,
+    anew: &mut Anew,
     tree: &Tree<Element>,
     inputs: Inputs,
 )
@@ -183,66 +205,19 @@ fn lay_out_for<L: Ledger>(
     requires one_part { 0 < blank.parts }
     requires root { 0 < length tree.now.nodes }
     requires top { parent_of tree.now.nodes 0 ≡ None }
+    requires flow { inputs.flow ≡ true }
 {
     let mut steps = Steps::<L>::new(blank);
     kept.refresh(tree, ROOT, inputs, &mut steps);
-    fresh.fill(tree, ROOT, inputs, &mut steps);
+    anew.find_all(rt, tree, ROOT, inputs, &mut steps);
 }
 
 // Computes the kept boxes that are due, and all boxes anew.
-fn lay_out(
-    rt: &impl Abort,
-    kept: &mut Kept,
-    fresh: &mut FreshBoxes,
-    tree: &Tree<Element>,
-    inputs: Inputs,
-) {
+fn lay_out(rt: &impl Abort, kept: &mut Kept, anew: &mut Anew, tree: &Tree<Element>, inputs: Inputs)
+    requires { inputs.flow ≡ true }
+{
     assert!(rt; tree.holds(ROOT) && tree.parent(ROOT).is_none());
-    lay_out_for::<Brand>(Blank::new(1), kept, fresh, tree, inputs);
-}
-
-// The margin box heights of the earlier siblings of a node, one by one.
-fn height_above(tree: &Tree<Element>, boxes: &FreshBoxes, parent: NodeId, node: NodeId) -> i64 {
-    let mut above: i64 = 0;
-    let mut next = tree.first_child(parent);
-    for _ in 0..ELEMENTS {
-        let Some(child) = next else { break };
-        if child == node {
-            break;
-        }
-        if let Some(own) = boxes.box_of(child) {
-            above = above.saturating_add(own.margin_height());
-        }
-        next = tree.next_sibling(child);
-    }
-    above
-}
-
-fn capped(length: i64) -> i64 {
-    length.min(2_147_483_647)
-}
-
-// From the corner of the parent's border box to that of the node's own.
-fn shift(tree: &Tree<Element>, boxes: &FreshBoxes, node: NodeId) -> Point {
-    let Some(own) = boxes.box_of(node) else {
-        return SCROLLED;
-    };
-    let margin = own.margin_corner();
-    let Some(parent) = tree.parent(node) else {
-        return Point {
-            left: capped(margin.left),
-            top: capped(margin.top),
-        };
-    };
-    let Some(outer) = boxes.box_of(parent) else {
-        return SCROLLED;
-    };
-    let inner = outer.inner();
-    let above = height_above(tree, boxes, parent, node);
-    Point {
-        left: capped(inner.left.saturating_add(margin.left)),
-        top: capped(inner.top.saturating_add(above).saturating_add(margin.top)),
-    }
+    lay_out_for::<Brand>(Blank::new(1), rt, kept, anew, tree, inputs);
 }
 
 fn is_scrolled(rt: &impl Abort, tree: &Tree<Element>, node: NodeId) -> bool {
@@ -251,41 +226,35 @@ fn is_scrolled(rt: &impl Abort, tree: &Tree<Element>, node: NodeId) -> bool {
 }
 
 // The place of a node by the definition's sum, from boxes computed anew.
-fn place_anew(rt: &impl Abort, tree: &Tree<Element>, boxes: &FreshBoxes, node: NodeId) -> Point {
-    let mut place = Point {
-        left: -VIEW.left,
-        top: -VIEW.top,
-    };
-    let mut next = Some(node);
+fn place_anew(rt: &impl Abort, tree: &Tree<Element>, anew: &Anew, flat: Point, by: Held) -> Point {
+    let mut place = flat;
+    let mut held = by;
     for _ in 0..ELEMENTS {
-        let Some(inclusive) = next else { break };
-        let more = shift(tree, boxes, inclusive);
-        place.left = place.left.saturating_add(more.left);
-        place.top = place.top.saturating_add(more.top);
-        next = tree.parent(inclusive);
-        if let Some(parent) = next {
-            if is_scrolled(rt, tree, parent) {
-                place.left = place.left.saturating_sub(SCROLLED.left);
-                place.top = place.top.saturating_sub(SCROLLED.top);
-            }
+        let Held::Element(holder) = held else { break };
+        if is_scrolled(rt, tree, holder) {
+            place.left = place.left.saturating_sub(SCROLLED.left);
+            place.top = place.top.saturating_sub(SCROLLED.top);
         }
+        let Some(found) = anew.of(holder) else { break };
+        held = found.held;
     }
-    place
+    match held {
+        Held::Screen => place,
+        Held::Page | Held::Element(_) => Point {
+            left: place.left.saturating_sub(VIEW.left),
+            top: place.top.saturating_sub(VIEW.top),
+        },
+    }
 }
 
-fn compare(
-    rt: &impl Abort,
-    tree: &Tree<Element>,
-    kept: &Kept,
-    fresh: &FreshBoxes,
-    node: NodeId,
-) -> bool {
+fn compare(rt: &impl Abort, tree: &Tree<Element>, kept: &Kept, anew: &Anew, node: NodeId) -> bool {
     if !tree.is_ancestor(ROOT, node) {
         return false;
     }
-    let Some(own) = fresh.box_of(node) else {
+    let Some(found) = anew.of(node) else {
         return false;
     };
+    let own = found.own;
     assert_eq!(rt; kept.box_of(node), Some(own));
     assert_eq!(rt;
         kept.size_of(node, BoxKind::Content),
@@ -297,7 +266,7 @@ fn compare(
     );
     assert_eq!(rt;
         kept.place_of(tree, node, VIEW, &Scrolled),
-        place_anew(rt, tree, fresh, node)
+        place_anew(rt, tree, anew, found.flat, found.held)
     );
     true
 }
@@ -306,10 +275,7 @@ fn compare(
 fn plant(rt: &impl Abort, random: &mut Random, tree: &mut Tree<Element>) {
     for number in 0..ELEMENTS {
         let kind = kind_of(number);
-        let added = tree.add(Element {
-            style: Style::new(),
-            kind,
-        });
+        let added = tree.add(Element::new(kind));
         assert!(rt; added.is_ok());
         if number > 0 {
             let parent = NodeId(random.below(number));
@@ -319,20 +285,27 @@ fn plant(rt: &impl Abort, random: &mut Random, tree: &mut Tree<Element>) {
     }
 }
 
-fn make_room(kept: &mut Kept, fresh: &mut FreshBoxes) -> Result<(), AllocError> {
+fn make_room(kept: &mut Kept, anew: &mut Anew) -> Result<(), AllocError> {
     kept.add(NodeId(ELEMENTS - 1))?;
-    fresh.add(NodeId(ELEMENTS - 1))
+    anew.make_room(ELEMENTS)
 }
 
 // Compares all elements, and returns how many have a box.
-fn compare_all(rt: &impl Abort, tree: &Tree<Element>, kept: &Kept, fresh: &FreshBoxes) -> u64 {
+fn compare_all(rt: &impl Abort, tree: &Tree<Element>, kept: &Kept, anew: &Anew) -> u64 {
     let mut boxes: u64 = 0;
     for number in 0..ELEMENTS {
-        if compare(rt, tree, kept, fresh, NodeId(number)) {
+        if compare(rt, tree, kept, anew, NodeId(number)) {
             boxes = boxes.saturating_add(1);
         }
     }
     boxes
+}
+
+// The viewport in a round: it is narrow in each tenth of a hundred.
+fn viewport(round: u32) -> Inputs
+    ensures { result.flow ≡ true }
+{
+    if round % 100 < 90 { SCREEN } else { NARROW }
 }
 
 // Edits the tree, and compares after each edit; returns how many boxes were compared.
@@ -341,14 +314,13 @@ fn follow(
     random: &mut Random,
     tree: &mut Tree<Element>,
     kept: &mut Kept,
-    fresh: &mut FreshBoxes,
+    anew: &mut Anew,
 ) -> u64 {
     let mut boxes: u64 = 0;
     for round in 0..EDITS {
         edit(rt, random, tree, kept);
-        let inputs = if round % 100 < 90 { SCREEN } else { NARROW };
-        lay_out(rt, kept, fresh, tree, inputs);
-        boxes = boxes.saturating_add(compare_all(rt, tree, kept, fresh));
+        lay_out(rt, kept, anew, tree, viewport(round));
+        boxes = boxes.saturating_add(compare_all(rt, tree, kept, anew));
     }
     boxes
 }
@@ -358,10 +330,10 @@ fn kept_boxes_are_those_computed_anew(rt: HostRuntime) -> Result<(), Fail> {
     let mut random = Random { state: 20 };
     let mut tree = Tree::new(rt.alloc(), ELEMENTS, 256);
     let mut kept = Kept::new(rt.alloc());
-    let mut fresh = FreshBoxes::new(rt.alloc());
-    make_room(&mut kept, &mut fresh)?;
+    let mut anew = Anew::new(rt.alloc());
+    make_room(&mut kept, &mut anew)?;
     plant(&rt, &mut random, &mut tree);
-    let boxes = follow(&rt, &mut random, &mut tree, &mut kept, &mut fresh);
+    let boxes = follow(&rt, &mut random, &mut tree, &mut kept, &mut anew);
     assert!(rt; boxes > 20_000, "{boxes}");
     Ok(())
 }

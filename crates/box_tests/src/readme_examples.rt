@@ -7,6 +7,7 @@ use block_layout::{BoxOf, ItemKind, compute_box};
 use element_tree::{NodeId, Tree, TreeFault};
 use kept_layout::Kept;
 use number_map::NumberMap;
+use positioned_layout::{Holder, holder_of};
 use px_units::BoxKind;
 use std::alloc::Global;
 use std::marker::Brand;
@@ -115,4 +116,24 @@ fn see_card_counted(rt: &impl Abort, alloc: Global) -> Result<(), Fail> {
 #[test]
 fn a_card_is_laid_out(rt: HostRuntime) -> Result<(), Fail> {
     see_card_counted(&rt, rt.alloc())
+}
+
+#[test]
+fn a_badge_is_held_by_its_card(rt: HostRuntime) -> Result<(), Fail> {
+    let mut tree = Tree::new(rt.alloc(), 20_000, 256);
+    let page = tree
+        .add(styled(&rt, ItemKind::Block, "padding:1px"))
+        .map_err(|refused| refused.0)?;
+    let card = tree
+        .add(styled(&rt, ItemKind::Block, "position:relative"))
+        .map_err(|refused| refused.0)?;
+    let badge = tree
+        .add(styled(&rt, ItemKind::Block, "position:absolute"))
+        .map_err(|refused| refused.0)?;
+    tree.append(page, card)?;
+    tree.append(card, badge)?;
+    assert_eq!(rt; holder_of(&tree, badge), Holder::Node(card));
+    tree.append(page, badge)?; // a root element counts as static
+    assert_eq!(rt; holder_of(&tree, badge), Holder::Page);
+    Ok(())
 }

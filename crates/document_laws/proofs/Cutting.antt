@@ -1,14 +1,16 @@
 -- As many levels suffice as a tree has.
-use Rattle.std.proofs.Common.{◌≡◌, ◌<◌, ◌≤◌, ◌+◌, ℕ, zero, suc, Bool, true, false, List, [], ◌∷◌, Option, Some, None, inl, inr, refl, ap, sym, ◌∙◌, arith}
-use Rattle.std.specs.Prelude.{fold, max, ⊤}
+use Rattle.std.proofs.Common.{◌≡◌, ◌<◌, ◌≤◌, ◌+◌, ℕ, zero, suc, Bool, true, false, List, [], ◌∷◌, Option, Some, None, refl, ap, sym, ◌∙◌, arith}
+use Rattle.std.specs.Prelude.{fold, max}
 use Rattle.px_units.specs.Lengths.{cap}
-use Rattle.layout_model.specs.Nodes.{Node, levels, path_above, path_up, path_of}
+use Rattle.layout_model.specs.Nodes.{Node, path_above, path_up, path_of, depth_of, order_down as nodes_down, tree_order, held, IsShallow}
 use Rattle.layout_model.specs.Items.{Kind, BlockKind, ImageKind, FrameKind}
-use Rattle.layout_model.specs.Boxes.{Inputs, Box, border_size, computed, child_inputs, inner_children, kids_of, shown_height, counted, total, box_at, box_down, box_in}
-use Rattle.layout_model.specs.Clips.{clips}
-use Rattle.layout_model.specs.Points.{plus, larger}
-use Rattle.layout_model.specs.Reach.{far_kids, far_if_shown, offset_at, open_kids, far_down}
-use Rattle.layout_model.proofs.Paths.{depth_least}
+use Rattle.layout_model.specs.Boxes.{Inputs, Box, computed, child_inputs, inner_children, kids_of, shown_height, is_passed, counted, total, box_at, box_down, box_in, inputs_up, inputs_at}
+use Rattle.layout_model.specs.Views.{View}
+use Rattle.layout_model.specs.FlatPlaces.{flat_up, flat_place}
+use Rattle.layout_model.proofs.Paths.{depth_child, depth_least}
+use Rattle.layout_model.proofs.Holders.{held_depth, held_shallow}
+use Rattle.layout_model.proofs.Inputs.{inputs_enough}
+use Rattle.layout_model.proofs.FlatPlaces.{flat_enough}
 use Rattle.page_model.specs.World.{Tree}
 use Rattle.page_model.specs.Lookups.{element_at}
 use Rattle.page_model.specs.Documents.{nodes_of, element_depth, order_down, inclusive_descendants, levels_down, levels_of}
@@ -46,6 +48,54 @@ far_above deep most low enough = omega arith
 whole_above : (deep : ℕ) → deep ≤ 256 → deep ≤ suc 65536
 whole_above deep low = omega arith
 
+low_enough : (deep most : ℕ) → deep ≤ 256 → 256 ≤ most → deep ≤ most
+low_enough deep most low enough = omega arith
+
+lower : (deep over : ℕ) → deep ≤ over → over ≤ 256 → deep ≤ 256
+lower deep over less low = omega arith
+
+-- paths ---------------------------------------------------------------------------------------------------------------------------------
+
+module _ (at : ℕ → Node) (shallow : IsShallow at) where
+  path_alone : (high n : ℕ) → (at n).parent ≡ None → path_up high at n ≡ n ∷ []
+  unfolding path_up
+  path_alone zero n up = refl
+  path_alone (suc high) n up = ap (λ found. n ∷ path_above (path_up high at) found) up
+
+  path_more : (high n p : ℕ) → (at n).parent ≡ Some p → path_up (suc high) at n ≡ n ∷ path_up high at p
+  unfolding path_up
+  path_more high n p up = ap (λ found. n ∷ path_above (path_up high at) found) up
+
+  one_less : (n p : ℕ) → (at n).parent ≡ Some p → depth_of at n ≡ depth_of at p + 1
+  one_less n p up = depth_child at n p up (shallow p)
+
+  -- a node on the first level has no parent
+  alone : (n : ℕ) → depth_of at n ≤ suc zero → (found : Option ℕ) → (at n).parent ≡ found → (at n).parent ≡ None
+  alone n few None up = up
+  alone n few (Some p) up = absurd (top_only (depth_of at n) (depth_of at p) (one_less n p up) (depth_least at p) few)
+
+  path_step : (few more n : ℕ) →
+      ((p : ℕ) → depth_of at p ≤ suc few → depth_of at p ≤ suc more → path_up few at p ≡ path_up more at p) → (found : Option ℕ) → (at n).parent ≡ found →
+      depth_of at n ≤ suc (suc few) → depth_of at n ≤ suc (suc more) → path_up (suc few) at n ≡ path_up (suc more) at n
+  path_step few more n each None up enough enough' = path_alone (suc few) n up ∙ sym (path_alone (suc more) n up)
+  path_step few more n each (Some p) up enough enough' =
+      path_more few n p up
+      ∙ ap (λ path. n ∷ path) (each p (level_above (depth_of at n) (depth_of at p) few (one_less n p up) enough)
+      (level_above (depth_of at n) (depth_of at p) more (one_less n p up) enough'))
+      ∙ sym (path_more more n p up)
+
+  same_paths : (few more n : ℕ) → depth_of at n ≤ suc few → depth_of at n ≤ suc more → path_up few at n ≡ path_up more at n
+  same_paths zero more n enough enough' =
+      let top = alone n enough ((at n).parent) refl in path_alone zero n top ∙ sym (path_alone more n top)
+  same_paths (suc few) zero n enough enough' =
+      let top = alone n enough' ((at n).parent) refl in path_alone (suc few) n top ∙ sym (path_alone zero n top)
+  same_paths (suc few) (suc more) n enough enough' =
+      path_step few more n (λ p less less'. same_paths few more p less less') ((at n).parent) refl enough enough'
+
+  whole_path : (most n : ℕ) → depth_of at n ≤ 256 → 256 ≤ most → path_up most at n ≡ path_of at n
+  unfolding path_of
+  whole_path most n low enough = same_paths most 65536 n (far_above (depth_of at n) most low enough) (whole_above (depth_of at n) low)
+
 module _ (tree : Tree) (is : MakeLowTrees tree) where
   abbrev at : ℕ → Node
   at = nodes_of tree
@@ -61,43 +111,21 @@ module _ (tree : Tree) (is : MakeLowTrees tree) where
   child_deep n c among =
       deeper tree is.trees c n (number_is ((element_at tree c).parent) n (sym (is.trees.children n c) ∙ listed c ((element_at tree n).children) among))
 
-  -- paths ---------------------------------------------------------------------------------------------------------------------------------
-
-  path_alone : (high n : ℕ) → (at n).parent ≡ None → path_up high at n ≡ n ∷ []
-  unfolding path_up
-  path_alone zero n up = refl
-  path_alone (suc high) n up = ap (λ found. n ∷ path_above (path_up high at) found) up
-
-  path_more : (high n p : ℕ) → (at n).parent ≡ Some p → path_up (suc high) at n ≡ n ∷ path_up high at p
-  unfolding path_up
-  path_more high n p up = ap (λ found. n ∷ path_above (path_up high at) found) up
-
-  -- an element on the first level has no parent
-  alone : (n : ℕ) → depth tree n ≤ suc zero → (found : Option ℕ) → (at n).parent ≡ found → (at n).parent ≡ None
-  alone n few None up = up
-  alone n few (Some p) up = absurd (top_only (depth tree n) (depth tree p) (deeper tree is.trees n p up) (least p) few)
-
-  path_step : (few more n : ℕ) →
-      ((p : ℕ) → depth tree p ≤ suc few → depth tree p ≤ suc more → path_up few at p ≡ path_up more at p) → (found : Option ℕ) → (at n).parent ≡ found →
-      depth tree n ≤ suc (suc few) → depth tree n ≤ suc (suc more) → path_up (suc few) at n ≡ path_up (suc more) at n
-  path_step few more n each None up enough enough' = path_alone (suc few) n up ∙ sym (path_alone (suc more) n up)
-  path_step few more n each (Some p) up enough enough' =
-      path_more few n p up
-      ∙ ap (λ path. n ∷ path) (each p (level_above (depth tree n) (depth tree p) few (deeper tree is.trees n p up) enough)
-      (level_above (depth tree n) (depth tree p) more (deeper tree is.trees n p up) enough'))
-      ∙ sym (path_more more n p up)
-
-  same_paths : (few more n : ℕ) → depth tree n ≤ suc few → depth tree n ≤ suc more → path_up few at n ≡ path_up more at n
-  same_paths zero more n enough enough' =
-      let top = alone n enough ((at n).parent) refl in path_alone zero n top ∙ sym (path_alone more n top)
-  same_paths (suc few) zero n enough enough' =
-      let top = alone n enough' ((at n).parent) refl in path_alone (suc few) n top ∙ sym (path_alone zero n top)
-  same_paths (suc few) (suc more) n enough enough' =
-      path_step few more n (λ p less less'. same_paths few more p less less') ((at n).parent) refl enough enough'
+  -- upwards -------------------------------------------------------------------------------------------------------------------------------
 
   pub paths_whole : (most n : ℕ) → 256 ≤ most → path_up most at n ≡ path_of at n
-  unfolding path_of
-  paths_whole most n enough = same_paths most 65536 n (far_above (depth tree n) most (low n) enough) (whole_above (depth tree n) (low n))
+  paths_whole most n enough = whole_path at is.trees.shallow most n (low n) enough
+
+  pub holders_whole : (most n : ℕ) → 256 ≤ most → path_up most (held at) n ≡ path_of (held at) n
+  holders_whole most n enough =
+      whole_path (held at) (held_shallow at is.trees.shallow) most n
+      (lower (depth_of (held at) n) (depth tree n) (held_depth at is.trees.shallow n) (low n)) enough
+
+  pub inputs_whole : (most : ℕ) (viewport : Inputs) (n : ℕ) → 256 ≤ most → inputs_up most at viewport n ≡ inputs_at at viewport n
+  inputs_whole most viewport n enough = inputs_enough at is.trees.shallow viewport most n (low_enough (depth tree n) most (low n) enough)
+
+  pub places_whole : (most : ℕ) (view : View) (n : ℕ) → 256 ≤ most → flat_up most at view n ≡ flat_place at view n
+  places_whole most view n enough = flat_enough at is.trees.shallow view most n (low_enough (depth tree n) most (low n) enough)
 
   -- descendants -----------------------------------------------------------------------------------------------------------------------------
 
@@ -113,6 +141,17 @@ module _ (tree : Tree) (is : MakeLowTrees tree) where
   pub orders_whole : (most n : ℕ) → 256 ≤ most → order_down most tree n ≡ inclusive_descendants tree n
   unfolding inclusive_descendants
   orders_whole most n enough = same_orders most 65536 n (first_level (depth tree n) most (least n) enough) (whole_levels (depth tree n) (least n))
+
+  -- the same for the elements as layout sees them
+  orders_alike : (deep n : ℕ) → nodes_down deep at n ≡ order_down deep tree n
+  unfolding nodes_down order_down
+  orders_alike zero n = refl
+  orders_alike (suc deep) n =
+      ap (λ order. n ∷ order) (flat_same (nodes_down deep at) (order_down deep tree) ((element_at tree n).children) (λ c among. orders_alike deep c))
+
+  pub trees_whole : (most n : ℕ) → 256 ≤ most → nodes_down most at n ≡ tree_order at n
+  unfolding tree_order inclusive_descendants
+  trees_whole most n enough = orders_alike most n ∙ orders_whole most n enough ∙ sym (orders_alike 65536 n)
 
   same_heights : (few more n : ℕ) → 256 < depth tree n + few → 256 < depth tree n + more → levels_down few tree n ≡ levels_down more tree n
   unfolding levels_down
@@ -140,7 +179,7 @@ module _ (tree : Tree) (is : MakeLowTrees tree) where
 
   counted_same : (box other : ℕ → Box) (c : ℕ) → box c ≡ other c → counted at box c ≡ counted at other c
   unfolding counted
-  counted_same box other c same = shown_same box other c ((at c).item.style.hidden) same
+  counted_same box other c same = shown_same box other c (is_passed (at c)) same
 
   total_same : (box other : ℕ → Box) (xs : List ℕ) → ((c : ℕ) → Among c xs → box c ≡ other c) → total at box xs ≡ total at other xs
   unfolding total
@@ -160,47 +199,3 @@ module _ (tree : Tree) (is : MakeLowTrees tree) where
   pub boxes_whole : (most : ℕ) (inputs : Inputs) (n : ℕ) → 256 ≤ most → box_down most at inputs n ≡ box_in at inputs n
   unfolding box_in
   boxes_whole most inputs n enough = same_boxes most 65536 inputs n (first_level (depth tree n) most (least n) enough) (whole_levels (depth tree n) (least n))
-
-  -- how far they reach ----------------------------------------------------------------------------------------------------------------------
-
-  kids_same : (height : ℕ → ℕ) (far other : ℕ → ℕ → ℕ × ℕ) (above : ℕ) (xs : List ℕ) → ((above c : ℕ) → Among c xs → far above c ≡ other above c) →
-      far_kids height far above xs ≡ far_kids height other above xs
-  unfolding far_kids
-  kids_same height far other above [] each = refl
-  kids_same height far other above (c ∷ cs) each =
-      ap (λ point. larger point (far_kids height far (above + height c) cs)) (each above c (inl refl))
-      ∙ ap (λ point. larger (other above c) point) (kids_same height far other (above + height c) cs (λ higher k among. each higher k (inr among)))
-
-  far_shown : (far other : Inputs → ℕ × ℕ → ℕ → ℕ × ℕ) (inputs : Inputs) (corner : ⊤ → ℕ × ℕ) (c : ℕ) (hidden : Bool) →
-      far inputs (corner tt) c ≡ other inputs (corner tt) c → far_if_shown far inputs corner c hidden ≡ far_if_shown other inputs corner c hidden
-  far_shown far other inputs corner c true same = refl
-  far_shown far other inputs corner c false same = same
-
-  among_open : (closed : Bool) (c : ℕ) (kids : List ℕ) → Among c (open_kids closed kids) → Among c kids
-  among_open true c kids among = absurd among
-  among_open false c kids among = among
-
-  same_reaches : (few more : ℕ) (inputs : Inputs) (corner : ℕ × ℕ) (n : ℕ) → 256 < depth tree n + few → 256 < depth tree n + more →
-      far_down few at inputs corner n ≡ far_down more at inputs corner n
-  unfolding far_down
-  same_reaches zero more inputs corner n enough enough' = absurd (no_levels (depth tree n) (low n) enough)
-  same_reaches (suc few) zero inputs corner n enough enough' = absurd (no_levels (depth tree n) (low n) enough')
-  same_reaches (suc few) (suc more) inputs corner n enough enough' =
-      let within : Inputs = child_inputs ((at n).item) inputs in
-      let kids : List ℕ = open_kids (clips (at n)) (kids_of (at n)) in
-      ap (λ point. larger (plus corner (border_size (box_in at inputs n))) point)
-      (kids_same (counted at (box_in at within))
-      (λ above c. far_if_shown (far_down few at) within (λ u. plus corner (offset_at ((at n).item) inputs above ((at c).item))) c ((at c).item.style.hidden))
-      (λ above c. far_if_shown (far_down more at) within (λ u. plus corner (offset_at ((at n).item) inputs above ((at c).item))) c ((at c).item.style.hidden))
-      0 kids
-      (λ above c among.
-      let deep = child_deep n c (among_kids ((at n).item.kind) c ((at n).children) (among_open (clips (at n)) c (kids_of (at n)) among)) in
-      far_shown (far_down few at) (far_down more at) within (λ u. plus corner (offset_at ((at n).item) inputs above ((at c).item))) c
-      ((at c).item.style.hidden)
-      (same_reaches few more within (plus corner (offset_at ((at n).item) inputs above ((at c).item))) c
-      (next_level (depth tree n) (depth tree c) few deep enough) (next_level (depth tree n) (depth tree c) more deep enough'))))
-
-  pub reaches_whole : (most : ℕ) (inputs : Inputs) (corner : ℕ × ℕ) (n : ℕ) → 256 ≤ most →
-      far_down most at inputs corner n ≡ far_down levels at inputs corner n
-  reaches_whole most inputs corner n enough =
-      same_reaches most 65536 inputs corner n (first_level (depth tree n) most (least n) enough) (whole_levels (depth tree n) (least n))

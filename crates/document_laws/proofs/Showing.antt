@@ -4,7 +4,7 @@ use Rattle.std.specs.Prelude.{is_some, option_map}
 use Rattle.std.proofs.lemmas.Bool.{cases_Bool, false≢true}
 use Rattle.px_units.specs.declared.Point.{Point}
 use Rattle.layout_model.specs.Boxes.{box_in, content_size}
-use Rattle.layout_model.specs.Reach.{View, inputs_in_view}
+use Rattle.layout_model.specs.Views.{View, inputs_in_view}
 use Rattle.page_model.specs.World.{DocumentState, Fresh, Active, Dead, Screen, Tree, World}
 use Rattle.page_model.specs.Lookups.{element_at, document_at}
 use Rattle.page_model.specs.Documents.{is_active, is_active_state, nodes_of}

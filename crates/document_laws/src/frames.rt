@@ -2,10 +2,10 @@
 
 ghost use Rattle.std.specs.Prelude.{◌≡◌, ◌≤◌, ℕ, List, true};
 ghost use Rattle.page_model.specs.World.{Screen, Tree, World};
-ghost use Rattle.page_model.specs.Documents.{frame_levels, container_of, is_active_state, is_fresh_state, stands_in_active, frames_in, led_to, documents_inside, shown};
+ghost use Rattle.page_model.specs.Documents.{frame_levels, is_active_state, is_fresh_state, stands_in_active, frames_in, led_to, documents_inside, shown};
 ghost use Rattle.page_model.specs.PageBoxes.{view_up, view_of, has_box};
 ghost use Rattle.page_model.specs.Shown.{shown_of};
-ghost use Rattle.page_model.specs.Chains.{origin_up, origin, containers_by, containers_from, containers_of};
+ghost use Rattle.page_model.specs.Chains.{origin_up, origin, holding, containers_by, containers_from, containers_of};
 ghost use Rattle.document_laws.specs.Levels.{IsWithinLevels};
 
 /// Nothing that is looked for from frame to frame is cut off. With any bound from 64 on what a document shows is the same, and so are
@@ -29,5 +29,5 @@ pub fn frames_are_never_cut_off()
 pub fn containers_are_never_cut_off()
     ensures boxes { (tree : Tree) → IsWithinLevels tree → (screen : Screen) (n : ℕ) → has_box tree screen n ≡ true → stands_in_active tree n ≡ true }
     ensures containers { (tree : Tree) → IsWithinLevels tree → (most n : ℕ) → stands_in_active tree n ≡ true → 16448 ≤ most →
-        containers_by (containers_from most tree) (container_of tree n) ≡ containers_of tree n }
+        containers_by (containers_from most tree) (holding tree n) ≡ containers_of tree n }
 {}

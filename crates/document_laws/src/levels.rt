@@ -1,9 +1,10 @@
 //! Laws of the bounds that the definitions give their recursions over levels of elements.
 
 ghost use Rattle.std.specs.Prelude.{◌≡◌, ◌<◌, ◌≤◌, ℕ, Option, length};
-ghost use Rattle.layout_model.specs.Nodes.{levels, path_up, path_of};
-ghost use Rattle.layout_model.specs.Boxes.{Inputs, box_down, box_in};
-ghost use Rattle.layout_model.specs.Reach.{far_down};
+ghost use Rattle.layout_model.specs.Nodes.{path_up, path_of, order_down as nodes_down, tree_order, held};
+ghost use Rattle.layout_model.specs.Boxes.{Inputs, box_down, box_in, inputs_up, inputs_at};
+ghost use Rattle.layout_model.specs.Views.{View};
+ghost use Rattle.layout_model.specs.FlatPlaces.{flat_up, flat_place};
 ghost use Rattle.page_model.specs.World.{Tree};
 ghost use Rattle.page_model.specs.Documents.{Container, nodes_of, order_down, inclusive_descendants, levels_down, levels_of};
 ghost use Rattle.page_model.specs.Steps.{Did};
@@ -13,8 +14,8 @@ ghost use Rattle.document_laws.specs.Insertions.{IsLowThroughout};
 ghost use Rattle.document_laws.specs.Levels.{MakeLowTrees, IsWithinLevels};
 
 /// In trees of at most 256 levels nothing that is looked for upwards or downwards is cut off: with any bound from 256 on a path to the
-/// top, the descendants in tree order, the number of levels, a box with all that lies in it and how far it reaches are the same. So
-/// the bound that the definitions give them, 65,536, is never reached.
+/// top, the descendants in tree order, the number of levels, a box with all that lies in it, what holds a box and so on outwards, what it is
+/// handed by those and where it stands are the same. So the bound that the definitions give them, 65,536, is never reached.
 pub fn levels_are_never_cut_off()
     ensures worlds { (tree : Tree) → IsWithinLevels tree → MakeLowTrees tree }
     ensures paths { (tree : Tree) → MakeLowTrees tree → (most n : ℕ) → 256 ≤ most → path_up most (nodes_of tree) n ≡ path_of (nodes_of tree) n }
@@ -22,8 +23,12 @@ pub fn levels_are_never_cut_off()
     ensures heights { (tree : Tree) → MakeLowTrees tree → (most n : ℕ) → 256 ≤ most → levels_down most tree n ≡ levels_of tree n }
     ensures boxes { (tree : Tree) → MakeLowTrees tree → (most : ℕ) (inputs : Inputs) (n : ℕ) → 256 ≤ most →
         box_down most (nodes_of tree) inputs n ≡ box_in (nodes_of tree) inputs n }
-    ensures reaches { (tree : Tree) → MakeLowTrees tree → (most : ℕ) (inputs : Inputs) (corner : ℕ × ℕ) (n : ℕ) → 256 ≤ most →
-        far_down most (nodes_of tree) inputs corner n ≡ far_down levels (nodes_of tree) inputs corner n }
+    ensures holders { (tree : Tree) → MakeLowTrees tree → (most n : ℕ) → 256 ≤ most → path_up most (held (nodes_of tree)) n ≡ path_of (held (nodes_of tree)) n }
+    ensures inputs { (tree : Tree) → MakeLowTrees tree → (most : ℕ) (viewport : Inputs) (n : ℕ) → 256 ≤ most →
+        inputs_up most (nodes_of tree) viewport n ≡ inputs_at (nodes_of tree) viewport n }
+    ensures places { (tree : Tree) → MakeLowTrees tree → (most : ℕ) (view : View) (n : ℕ) → 256 ≤ most →
+        flat_up most (nodes_of tree) view n ≡ flat_place (nodes_of tree) view n }
+    ensures trees { (tree : Tree) → MakeLowTrees tree → (most n : ℕ) → 256 ≤ most → nodes_down most (nodes_of tree) n ≡ tree_order (nodes_of tree) n }
 {}
 
 /// An insertion that is neither refused nor beyond the limit on levels goes through trees of at most 256 levels: once the element was

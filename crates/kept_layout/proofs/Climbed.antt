@@ -1,4 +1,4 @@
--- Sums of offsets along the path to a root, as far as a climb has come.
+-- Sums of offsets of the elements that hold a box, as far as a walk from holder to holder has come.
 use Rattle.std.proofs.Common.{◌≡◌, ◌+◌, ℕ, List, [], ◌∷◌, ap, sym, ◌∙◌, arith}
 use Rattle.layout_model.specs.Points.{plus, sum_points}
 
@@ -14,11 +14,6 @@ module _ (f : ℕ → ℕ × ℕ) where
   unfolding sum_points
   sum_none = pair_is _ _ _ (omega arith) (omega arith)
 
-  pub sum_begins : (n : ℕ) (path above : List ℕ) → path ≡ n ∷ above → (x y : ℕ) → ◌≡◌ {A = ℕ × ℕ} (x, y) (f n)
-      → plus (x, y) (sum_points f above) ≡ sum_points f path
-  sum_begins n path above is x y found =
-      ap (λ place. plus place (sum_points f above)) found ∙ sym (ap (sum_points f) is ∙ sum_first n above)
-
   pub sum_goes : (p : ℕ) (above higher : List ℕ) → above ≡ p ∷ higher → (x y dx dy : ℕ) → ◌≡◌ {A = ℕ × ℕ} (dx, dy) (f p)
       → plus (x + dx, y + dy) (sum_points f higher) ≡ plus (x, y) (sum_points f above)
   sum_goes p above higher is x y dx dy found =
@@ -30,3 +25,6 @@ module _ (f : ℕ → ℕ × ℕ) where
   sum_ends above none x y =
       pair_is x y (plus (x, y) (0, 0)) (omega arith) (omega arith)
       ∙ ap (plus (x, y)) (sym (ap (sum_points f) none ∙ sum_none))
+
+pub sum_starts : (sum : ℕ × ℕ) → plus (0, 0) sum ≡ sum
+sum_starts sum = pair_is (0 + sum.0) (0 + sum.1) sum (omega arith) (omega arith)

@@ -5,7 +5,7 @@ use Rattle.layout_model.specs.Boxes.{Inputs}
 use Rattle.block_layout.specs.Seen.{seen_inputs}
 use Rattle.kept_layout.specs.declared.slots.Slot.{Slot}
 use Rattle.kept_layout.specs.declared.slots.Found.{Found}
-use Rattle.kept_layout.specs.Due.{same_height, same_inputs, is_held_at, is_due_at, is_due, one_if, due_count}
+use Rattle.kept_layout.specs.Due.{same_height, same_flow, same_inputs, is_held_at, is_due_at, is_due, one_if, due_count}
 use Rattle.kept_layout.specs.Walks.{IsSettled}
 use Rattle.kept_layout.proofs.Lists.{decide}
 
@@ -13,10 +13,16 @@ height_itself : (height : Option ℕ) → same_height height height ≡ true
 height_itself None = refl
 height_itself (Some height) = grind (arith, nat_tests)
 
+flow_itself : (flow : Bool) → same_flow flow flow ≡ true
+flow_itself true = refl
+flow_itself false = refl
+
 pub inputs_itself : (inputs : Inputs) → same_inputs inputs inputs ≡ true
 inputs_itself inputs =
     let wide : nat_eq inputs.width inputs.width ≡ true = grind (arith, nat_tests) in
-    ap (λ b. b && same_height inputs.height inputs.height) wide ∙ height_itself inputs.height
+    ap (λ b. b && same_height inputs.height inputs.height && same_flow inputs.flow inputs.flow) wide
+    ∙ ap (λ b. b && same_flow inputs.flow inputs.flow) (height_itself inputs.height)
+    ∙ flow_itself inputs.flow
 
 height_is : (height other : Option ℕ) → same_height height other ≡ true → height ≡ other
 height_is None None same = refl
@@ -24,15 +30,22 @@ height_is None (Some other) same = cc
 height_is (Some height) None same = cc
 height_is (Some height) (Some other) same = ap Some (eqb-true height other same)
 
+flow_is : (flow other : Bool) → same_flow flow other ≡ true → flow ≡ other
+flow_is true other same = sym same
+flow_is false true same = cc
+flow_is false false same = refl
+
 both : (a b : Bool) → (a && b) ≡ true → (a ≡ true) × (b ≡ true)
 both true b is = (refl, is)
 both false b is = cc
 
 pub inputs_are : (inputs others : Inputs) → same_inputs inputs others ≡ true → inputs ≡ others
 inputs_are inputs others same =
-    let parts = both (nat_eq inputs.width others.width) (same_height inputs.height others.height) same in
-    ap (λ w. let i : Inputs = record { width = w; height = inputs.height } in i) (eqb-true inputs.width others.width parts.0)
-    ∙ ap (λ h. let i : Inputs = record { width = others.width; height = h } in i) (height_is inputs.height others.height parts.1)
+    let parts = both (nat_eq inputs.width others.width && same_height inputs.height others.height) (same_flow inputs.flow others.flow) same in
+    let sizes = both (nat_eq inputs.width others.width) (same_height inputs.height others.height) parts.0 in
+    ap (λ w. let i : Inputs = record { width = w; height = inputs.height; flow = inputs.flow } in i) (eqb-true inputs.width others.width sizes.0)
+    ∙ ap (λ h. let i : Inputs = record { width = others.width; height = h; flow = inputs.flow } in i) (height_is inputs.height others.height sizes.1)
+    ∙ ap (λ f. let i : Inputs = record { width = others.width; height = others.height; flow = f } in i) (flow_is inputs.flow others.flow parts.1)
 
 neither : (a b : Bool) → (a || b) ≡ false → (a ≡ false) × (b ≡ false)
 neither true b is = cc

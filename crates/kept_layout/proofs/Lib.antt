@@ -1,5 +1,6 @@
 pub mod Lists
 pub mod Shapes
+pub mod Subtrees
 pub mod Heights
 pub mod Steady
 pub mod Counts
@@ -7,8 +8,17 @@ pub mod Walked
 pub mod Paid
 pub mod Going
 pub mod Exact
+pub mod Wanted
+pub mod Entering
+pub mod Inside
+pub mod Refreshed
 pub mod Climbs
 pub mod Moved
 pub mod Scrollers
+pub mod Flows
 pub mod Climbed
 pub mod Shifted
+pub mod Measuring
+pub mod Spans
+pub mod Missing
+pub mod Held

@@ -2,7 +2,7 @@
 use Rattle.std.proofs.Common.{◌≡◌, ◌≢◌, ℕ, List, [], ◌∷◌, ◌++◌, Option, Some, None, option_map, Bool, true, false, nat_eq, cond, ◌||◌, refl, ap, sym, ◌∙◌, ◌⊎◌, inl, inr, arith, eqb-true}
 use Rattle.std.proofs.lemmas.Bool.{or_cases, false≢true}
 use Rattle.std.proofs.lemmas.Bool.Decides.{nat_tests}
-use Rattle.layout_model.specs.Places.{before}
+use Rattle.layout_model.specs.FlatPlaces.{before}
 use Rattle.element_tree.specs.declared.node.NodeId.{NodeId}
 use Rattle.element_tree.specs.Forest.{IsOnce, has, first_of, next_of, behind}
 use Rattle.element_tree.specs.Links.{node_ids, number}

@@ -1,20 +1,18 @@
 -- What the walks use of a tree.
-use Rattle.std.proofs.Common.{◌≡◌, ◌≢◌, ◌≤◌, ◌+◌, ℕ, List, Option, Some, true, refl, ap, sym, subst, ◌∙◌, arith}
+use Rattle.std.proofs.Common.{◌≡◌, ◌≢◌, ◌+◌, ℕ, List, Option, Some, true, refl, ap, sym, subst, ◌∙◌, arith}
 use Rattle.layout_model.specs.Styles.{Style}
-use Rattle.layout_model.specs.Items.{Item, Kind, BlockKind, ImageKind, FrameKind}
+use Rattle.layout_model.specs.Items.{Kind, BlockKind, ImageKind, FrameKind}
 use Rattle.layout_model.specs.Nodes.{Node, depth_of}
-use Rattle.layout_model.specs.Boxes.{Inputs, child_inputs, kids_of, inner_children, inputs_if_block, if_shown}
+use Rattle.layout_model.specs.Boxes.{kids_of, inner_children}
 use Rattle.layout_model.proofs.Paths.{depth_child}
 use Rattle.element_tree.specs.declared.node.NodeId.{NodeId}
 use Rattle.element_tree.specs.Links.{node_ids}
 use Rattle.element_tree.specs.Forest.{Knot, IsForest, IsOnce, has, children_of, children_under, siblings_of, next_of}
 use Rattle.element_tree.proofs.Facts.{listed_child}
 use Rattle.element_tree.proofs.Levels.{kid_parent}
-use Rattle.block_layout.specs.Filling.{GoesDown}
 use Rattle.block_layout.specs.Trees.{layout_tree}
 use Rattle.block_layout.proofs.Forests.{shallow}
 use Rattle.block_layout.proofs.Nodes.{parent_is, children_is}
-use Rattle.kept_layout.specs.Sound.{IsCounted}
 
 pub record IsShaped (at : ℕ → Node) : Type 0 where
   pub parents : (p c : ℕ) → has (kids_of (at p)) c ≡ true → (at c).parent ≡ Some p
@@ -63,11 +61,6 @@ module _ {P : Type 0} (style : P → Style) (kind : P → Kind) {most : ℕ} {no
 some_same : (o : Option ℕ) (p q : ℕ) → o ≡ Some p → o ≡ Some q → p ≡ q
 some_same o p q first second = cc
 
-handed_kid : (kind : Kind) (children : List ℕ) (c : ℕ) (item : Item) (inputs : Inputs) → has (inner_children kind children) c ≡ true → inputs_if_block kind item (Some inputs) ≡ Some (child_inputs item inputs)
-handed_kid BlockKind children c item inputs kid = refl
-handed_kid (ImageKind width height) children c item inputs kid = cc
-handed_kid FrameKind children c item inputs kid = cc
-
 module _ (at : ℕ → Node) (shaped : IsShaped at) where
   pub kid_falls : (p c : ℕ) → has (kids_of (at p)) c ≡ true → depth_of at c ≡ depth_of at p + 1
   kid_falls p c kid = shaped.falls c p (shaped.parents p c kid)
@@ -77,12 +70,3 @@ module _ (at : ℕ → Node) (shaped : IsShaped at) where
 
   pub one_parent : (p q c : ℕ) → has (kids_of (at p)) c ≡ true → has (kids_of (at q)) c ≡ true → q ≡ p
   one_parent p q c kid other = some_same ((at c).parent) q p (shaped.parents q c other) (shaped.parents p c kid)
-
-  -- a child that counts has the inputs that its parent hands down
-  pub wanted_kid : (p c : ℕ) (depth : ℕ) (wanted : ℕ → Option Inputs) (inputs : Inputs) → GoesDown at depth wanted → depth ≤ depth_of at p → wanted p ≡ Some inputs → IsCounted at p c
-      → wanted c ≡ Some (child_inputs (at p).item inputs)
-  wanted_kid p c depth wanted inputs down low is counted =
-      down c p (shaped.parents p c counted.listed) low
-      ∙ ap (λ h. if_shown h (inputs_if_block (at p).item.kind (at p).item (wanted p))) counted.shown
-      ∙ ap (inputs_if_block (at p).item.kind (at p).item) is
-      ∙ handed_kid (at p).item.kind (at p).children c (at p).item inputs counted.listed

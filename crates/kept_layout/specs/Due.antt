@@ -11,8 +11,13 @@ same_height None (Some other) = false
 same_height (Some height) None = false
 same_height (Some height) (Some other) = height == other
 
+abbrev pub same_flow : Bool → Bool → Bool
+same_flow true other = other
+same_flow false other = not other
+
 abbrev pub same_inputs : Inputs → Inputs → Bool
-same_inputs inputs others = inputs.width == others.width && same_height inputs.height others.height
+same_inputs inputs others =
+    inputs.width == others.width && same_height inputs.height others.height && same_flow inputs.flow others.flow
 
 abbrev pub is_held_at : Inputs → Option Found → Bool
 is_held_at inputs None = false

@@ -6,4 +6,5 @@ pub mod Sound
 pub mod Walks
 pub mod Fresh
 pub mod Changes
+pub mod Measures
 pub mod Positions

@@ -4,7 +4,7 @@ use Rattle.layout_model.specs.Boxes.{Box}
 use Rattle.kept_layout.specs.declared.slots.Slot.{Slot}
 
 abbrev pub no_slot : Slot
-no_slot = record { marked = false; found = None }
+no_slot = record { marked = false; above = 0; found = None }
 
 -- what is kept for a node: nothing where no slot was made for it
 abbrev pub slot_in : List Slot → ℕ → Slot

@@ -1,10 +1,9 @@
 //! Kept boxes.
 
 ghost use Rattle.std.specs.Prelude.{◌≡◌, ◌+◌, ◌<◌, ◌≤◌, ◌||◌, ℕ, Bool, true, false, Option, Some, None, [], length, option_map, OnOk, OnErr};
-ghost use Rattle.layout_model.specs.Nodes.{depth_of, is_in_path};
-ghost use Rattle.layout_model.specs.Boxes.{Inputs as InputsModel, box_in, inputs_in, if_shown};
+ghost use Rattle.layout_model.specs.Nodes.{is_in_path};
+ghost use Rattle.layout_model.specs.Boxes.{Inputs as InputsModel, box_in, inputs_in};
 ghost use Rattle.element_tree.specs.Forest.{parent_of};
-ghost use Rattle.block_layout.specs.Filling.{GoesDown};
 ghost use Rattle.block_layout.specs.Seen.{seen_inputs, as_size};
 ghost use Rattle.block_layout.specs.Trees.{layout_tree};
 ghost use Rattle.kept_layout.specs.Due.{is_due, due_count};
@@ -101,7 +100,8 @@ impl Kept {
         mark_path(self.slots.as_mut_slice(), tree, node);
     }
 
-    /// Computes every box that is due in the tree under a root element, from the root's inputs. Where what is kept fits the
+    /// Computes every box that is due in the tree under a root element, from the root's inputs: first what is in flow, from the root
+    /// down, then each box out of flow by preorder with what is in flow in it. Where what is kept fits the
     /// tree, and each node in it has a slot, each box of that tree is then held as it is now, with the heights above it, and
     /// it still fits. Nothing changes for a node without a box (CSS 2.2, 9.2.4).
     ///
@@ -116,6 +116,7 @@ impl Kept {
     )
         requires node { root.0 < length tree.now.nodes }
         requires top { parent_of tree.now.nodes root.0 ≡ None }
+        requires flow { inputs.flow ≡ true }
         ensures boxes { let at = layout_tree P.style P.kind tree.now.nodes in
             IsReady at root.0 self.old → (n : ℕ) (own : InputsModel) → inputs_in at root.0 (seen_inputs inputs) n ≡ Some own →
             held_in self.new n ≡ Some (box_in at own n) }
@@ -129,12 +130,11 @@ impl Kept {
             slot_in self.new n ≡ slot_in self.old n }
         ensures slots { length self.new ≡ length self.old }
         ensures ticks { let at = layout_tree P.style P.kind tree.now.nodes in
-            HasSlots at root.0 (length self.old) →
+            IsReady at root.0 self.old →
             steps.new ≤ steps.old + due_count (inputs_in at root.0 (seen_inputs inputs)) (slot_in self.old) (length self.old) }
         ensures paid { let at = layout_tree P.style P.kind tree.now.nodes in
-            HasSlots at root.0 (length self.old) →
-            (wanted : ℕ → Option InputsModel) → GoesDown at (depth_of at root.0) wanted →
-            wanted root.0 ≡ if_shown (at root.0).item.style.hidden (Some (seen_inputs inputs)) →
+            IsReady at root.0 self.old →
+            (wanted : ℕ → Option InputsModel) → ((n : ℕ) → is_in_path at root.0 n ≡ true → wanted n ≡ inputs_in at root.0 (seen_inputs inputs) n) →
             steps.new + due_count wanted (slot_in self.new) (length self.old) ≤ steps.old + due_count wanted (slot_in self.old) (length self.old) }
     {
         refresh_tree(self.slots.as_mut_slice(), tree, root, inputs, steps);

@@ -39,9 +39,9 @@ pub fn exceptions_may_be_more()
 /// At which nodes a tree changes: at the parent that a node leaves, at the parent that it comes to, at a node that is added,
 /// and at a node whose payload is written and its parent.
 pub fn trees_change_at_few_nodes<P: Styled>()
-    ensures removed { (nodes : List (Knot P)) (n : ℕ) →
+    ensures removed { (most : ℕ) (nodes : List (Knot P)) (n : ℕ) → IsForest most nodes →
         ChangesOnly (names (parent_of nodes n)) (layout_tree P.style P.kind nodes) (layout_tree P.style P.kind (removed n nodes)) }
-    ensures inserted { (nodes : List (Knot P)) (p n : ℕ) (mark : Option ℕ) →
+    ensures inserted { (most : ℕ) (nodes : List (Knot P)) (p n : ℕ) (mark : Option ℕ) → IsForest most nodes →
         ChangesOnly (λ m. names (parent_of nodes n) m || m == p) (layout_tree P.style P.kind nodes) (layout_tree P.style P.kind (inserted p n mark nodes)) }
     ensures added { (most : ℕ) (nodes : List (Knot P)) (payload : P) → IsForest most nodes →
         ChangesOnly (λ m. m == length nodes) (layout_tree P.style P.kind nodes) (layout_tree P.style P.kind (nodes ++ lone payload ∷ [])) }

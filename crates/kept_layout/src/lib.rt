@@ -4,6 +4,7 @@
 
 mod kept;
 mod laws;
+mod measures;
 mod positions;
 mod slots;
 mod trees;
@@ -14,5 +15,6 @@ pub use laws::{
     changes_leave_the_rest_right, exceptions_may_be_more, marked_nodes_are_no_exception,
     new_nodes_need_no_mark, trees_change_at_few_nodes,
 };
+pub use measures::KeptMeasures;
 pub use positions::{Offsets, Shift};
 pub use slots::{Found, Slot};

@@ -1,23 +1,26 @@
-//! Where a box is in its viewport (CSS 2.2, 8.1 and 9.4.1; CSSOM View, 6), by the heights that are kept above each box.
+//! Where a box is in its viewport (CSS 2.2, 8.1, 9.4.1 and 10.1; CSSOM View, 6), by the boxes that are kept and the heights above each.
 
-ghost use Rattle.std.specs.Prelude.{◌≡◌, ◌+◌, ◌*◌, ◌^◌, ◌<◌, ◌≤◌, ℕ, pos, length};
+ghost use Rattle.std.specs.Prelude.{◌≡◌, ◌+◌, ◌*◌, ◌<◌, ◌≤◌, ℕ, pos, ◌≤ℤ◌, neg_ℤ, length};
 ghost use Rattle.px_units.specs.Lengths.{cap};
-ghost use Rattle.layout_model.specs.Nodes.{path_of, ancestors_of};
-ghost use Rattle.layout_model.specs.Points.{plus, moved, moved_back, sum_points};
-ghost use Rattle.layout_model.specs.Reach.{View};
-ghost use Rattle.layout_model.specs.Places.{offset_of};
+ghost use Rattle.layout_model.specs.Nodes.{holders_of, is_on_screen};
+ghost use Rattle.layout_model.specs.Points.{plus, moved_back, sum_points};
+ghost use Rattle.layout_model.specs.Views.{View};
+ghost use Rattle.layout_model.specs.FlatPlaces.{offset_of, flat_place};
 ghost use Rattle.element_tree.specs.Forest.{IsForest};
-ghost use Rattle.block_layout.specs.Seen.{as_point};
 ghost use Rattle.block_layout.specs.Trees.{layout_tree};
+ghost use Rattle.positioned_layout.specs.Seen.{IsNear};
 ghost use Rattle.kept_layout.specs.Fresh.{IsFreshPath};
+ghost use Rattle.kept_layout.specs.Measures.{IsSized};
 ghost use Rattle.kept_layout.specs.Positions.{IsOffset, seen_offset, scrolled_in, place_at, point_of};
 ghost use Rattle.kept_layout.specs.Slots.{slot_in};
 
 use crate::Kept;
+use crate::slots::Slot;
 use crate::trees::is_scroller;
 use block_layout::{BoxOf, Styled};
 use element_tree::{NodeId, Tree};
 use layout_model::capped;
+use positioned_layout::{Holder, flat_place, holder_of};
 use px_units::Point;
 
 /// What tells how far elements are scrolled.
@@ -44,6 +47,8 @@ pub struct Shift {
 impl Shift {
     pub const NONE: Shift = Shift { across: 0, down: 0 };
 }
+
+const ORIGIN: Point = Point { left: 0, top: 0 };
 
 fn unsigned(offset: Point) -> Shift
     requires { IsOffset offset }
@@ -95,46 +100,58 @@ fn scroll_of<P: Styled, O: Offsets>(tree: &Tree<P>, offsets: &O, node: NodeId) -
     }
 }
 
-// How far the ancestors of a node are scrolled.
-fn scrolled<P: Styled, O: Offsets>(tree: &Tree<P>, offsets: &O, node: NodeId) -> Shift
+// How far the elements that hold a box are scrolled, and whether the screen holds the last of them.
+#[derive(Clone, Copy)]
+struct HolderScroll {
+    shift: Shift,
+    on_screen: bool,
+}
+
+fn scrolled<P: Styled, O: Offsets>(tree: &Tree<P>, offsets: &O, node: NodeId) -> HolderScroll
+    requires { node.0 < length tree.now.nodes }
     ensures value { let at = layout_tree P.style P.kind tree.now.nodes in
-        (result.across, result.down) ≡ sum_points (scrolled_in at (O.offset offsets.now)) (ancestors_of at node.0) }
-    ensures across { result.across ≤ 2147483647 * 65536 }
-    ensures down { result.down ≤ 2147483647 * 65536 }
+        (result.shift.across, result.shift.down) ≡ sum_points (scrolled_in at (O.offset offsets.now)) (holders_of at node.0) }
+    ensures ends { result.on_screen ≡ is_on_screen (layout_tree P.style P.kind tree.now.nodes) node.0 }
+    ensures across { result.shift.across ≤ 2147483647 * 65536 }
+    ensures down { result.shift.down ≤ 2147483647 * 65536 }
 {
-    let mut scrolled = Shift::NONE;
-    let mut at = node;
-    while let Some(parent) = tree.parent(at) {
-        let more = scroll_of(tree, offsets, parent);
-        scrolled = Shift {
-            across: scrolled.across + more.across,
-            down: scrolled.down + more.down,
+    let mut shift = Shift::NONE;
+    let mut held = holder_of(tree, node);
+    while let Holder::Node(element) = held {
+        let more = scroll_of(tree, offsets, element);
+        shift = Shift {
+            across: shift.across + more.across,
+            down: shift.down + more.down,
         };
-        at = parent;
+        held = holder_of(tree, element);
     }
-    scrolled
+    let on_screen = match held {
+        Holder::Screen => true,
+        Holder::Node(_) | Holder::Page => false,
+    };
+    HolderScroll { shift, on_screen }
 }
 
 // A place from the corner of a viewport, where what it is in and the viewport are scrolled so far.
-fn moved_back(place: Shift, inner: Shift, view: Shift) -> Point
-    requires across { place.across ≤ 2147483647 * 65536 }
-    requires down { place.down ≤ 2147483647 * 65536 }
+fn moved_back(place: Point, inner: Shift, view: Shift) -> Point
+    requires left { IsNear 65536 place.left }
+    requires top { IsNear 65536 place.top }
     requires inner_across { inner.across ≤ 2147483647 * 65536 }
     requires inner_down { inner.down ≤ 2147483647 * 65536 }
     requires view_across { view.across ≤ 2147483647 }
     requires view_down { view.down ≤ 2147483647 }
-    ensures { result ≡ point_of (moved_back (moved (pos 0, pos 0) (place.across, place.down)) (plus (inner.across, inner.down) (view.across, view.down))) }
+    ensures { result ≡ point_of (moved_back (place.left, place.top) (plus (inner.across, inner.down) (view.across, view.down))) }
 {
     Point {
-        left: place.across as i64 - (inner.across + view.across) as i64,
-        top: place.down as i64 - (inner.down + view.down) as i64,
+        left: place.left - (inner.across + view.across) as i64,
+        top: place.top - (inner.down + view.down) as i64,
     }
 }
 
 impl Kept {
-    /// From the corner of the parent's border box to that of the node's own where the parent isn't scrolled, and for a root element
-    /// from the viewport's corner (CSS 2.2, 8.1 and 9.4.1). It is so where the node has a box, and its own and those of its ancestors
-    /// are held as they are now. It reads its own box and its parent's alone.
+    /// From the corner of the parent's border box to where the node's own is in the flow, or would be, and for a root element from the
+    /// viewport's corner (CSS 2.2, 8.1 and 9.4.1), where nothing is scrolled. It is so where the node has a box, and its own and those
+    /// of its ancestors are held as they are now. It reads its own box and its parent's alone.
     pub fn shift<P: Styled>(&self, tree: &Tree<P>, node: NodeId) -> Shift
         ensures value { let at = layout_tree P.style P.kind tree.now.nodes in (view : View) →
             IsFreshPath at view (slot_in self.now) node.0 → (result.across, result.down) ≡ offset_of at view node.0 }
@@ -143,45 +160,40 @@ impl Kept {
         ensures forest { IsForest tree.now.most_depth tree.now.nodes }
     {
         let up = tree.parent(node);
-        let Some(found) = self.slot_of(node).found else {
+        let Slot { above, found, .. } = self.slot_of(node);
+        let Some(found) = found else {
             return Shift::NONE;
         };
         let Some(parent) = up else {
             return on_top(&found.own);
         };
         match self.slot_of(parent).found {
-            Some(outer) => below(&outer.own, found.above, &found.own),
+            Some(outer) => below(&outer.own, above, &found.own),
             None => Shift::NONE,
         }
     }
 
-    /// The place of a node's border box in its document's viewport where nothing is scrolled (CSS 2.2, 8.1 and 9.4.1): what the
-    /// node and its ancestors are shifted by, each from the corner of its parent's border box. It is so where the node has a box,
-    /// and its own and those of its ancestors are held as they are now. It reads these boxes alone, and no siblings'.
-    pub fn unscrolled_place_of<P: Styled>(&self, tree: &Tree<P>, node: NodeId) -> Shift
-        ensures value { let at = layout_tree P.style P.kind tree.now.nodes in (view : View) →
-            IsFreshPath at view (slot_in self.now) node.0 →
-            (result.across, result.down) ≡ sum_points (offset_of at view) (path_of at node.0) }
-        ensures across { result.across ≤ 2147483647 * tree.now.most_depth }
-        ensures down { result.down ≤ 2147483647 * tree.now.most_depth }
+    /// The place of a node's border box in its document's viewport, each scroll offset taken as 0 (CSS 2.2, 9.4 and 10; CSS
+    /// Positioned Layout 3, 2 and 3). It is so where the node has a box, and its own and those of its ancestors are held as they are
+    /// now in a viewport whose lengths are at most the largest one. It reads boxes of the node and its ancestors alone, and no siblings'.
+    pub fn flat_place_of<P: Styled>(&self, tree: &Tree<P>, node: NodeId) -> Point
+        ensures value { let at = layout_tree P.style P.kind tree.now.nodes in (view : View) → IsSized view →
+            IsFreshPath at view (slot_in self.now) node.0 → result ≡ point_of (flat_place at view node.0) }
+        ensures left { IsNear tree.now.most_depth result.left }
+        ensures top { IsNear tree.now.most_depth result.top }
         ensures levels { tree.now.most_depth ≤ 65536 }
     {
-        let mut place = self.shift(tree, node);
-        let mut at = node;
-        while let Some(parent) = tree.parent(at) {
-            let more = self.shift(tree, parent);
-            place = Shift {
-                across: place.across + more.across,
-                down: place.down + more.down,
-            };
-            at = parent;
+        if tree.holds(node) {
+            flat_place(tree, &self.measures(tree), node)
+        } else {
+            ORIGIN
         }
-        place
     }
 
-    /// The place of a node's border box in its document's viewport, whose scroll offset is `view`, where the elements around it
-    /// are scrolled so far (CSS 2.2, 9.4.1; CSSOM View, 6). It is so where the node has a box, and its own and those of its
-    /// ancestors are held as they are now, as a `refresh` of the tree leaves them. It reads these boxes alone, and no siblings'.
+    /// The place of a node's border box in its document's viewport, whose scroll offset is `view`, where the elements that hold it
+    /// are scrolled so far (CSS 2.2, 9.4.1 and 10.1; CSSOM View, 6). It is so where the node has a box, and its own and those of its
+    /// ancestors are held as they are now, as a `refresh` of the tree leaves them, in a viewport whose lengths are at most the
+    /// largest one. It reads boxes of the node and its ancestors alone, and no siblings'.
     pub fn place_of<P: Styled, O: Offsets>(
         &self,
         tree: &Tree<P>,
@@ -190,11 +202,20 @@ impl Kept {
         offsets: &O,
     ) -> Point
         requires { IsOffset view }
-        ensures { let at = layout_tree P.style P.kind tree.now.nodes in (document : View) →
+        ensures { let at = layout_tree P.style P.kind tree.now.nodes in (document : View) → IsSized document →
             IsFreshPath at document (slot_in self.now) node.0 →
             result ≡ point_of (place_at at document (O.offset offsets.now) (seen_offset view) node.0) }
     {
-        let place = self.unscrolled_place_of(tree, node);
-        moved_back(place, scrolled(tree, offsets, node), unsigned(view))
+        let place = self.flat_place_of(tree, node);
+        if !tree.holds(node) {
+            return place;
+        }
+        let scrolled = scrolled(tree, offsets, node);
+        let view = if scrolled.on_screen {
+            Shift::NONE
+        } else {
+            unsigned(view)
+        };
+        moved_back(place, scrolled.shift, view)
     }
 }

@@ -1,23 +1,24 @@
 //! What is kept for each node.
 
-ghost use Rattle.std.specs.Prelude.{◌≡◌, ◌≢◌, ◌<◌, ◌≤◌, ℕ, true, Some, length};
-ghost use Rattle.layout_model.specs.Boxes.{margin_height};
+ghost use Rattle.std.specs.Prelude.{◌≡◌, ◌≢◌, ◌<◌, ◌≤◌, ℕ, true, length, IfSome};
+ghost use Rattle.layout_model.specs.Boxes.{margin_height, inputs_held};
 ghost use Rattle.block_layout.specs.Seen.{seen_inputs};
 ghost use Rattle.kept_layout.specs.Due.{same_inputs, is_due_at};
 ghost use Rattle.kept_layout.specs.Slots.{slot_in, marked_if};
-ghost use Rattle.kept_layout.specs.Sound.{box_held};
+ghost use Rattle.kept_layout.specs.Sound.{box_held, outside_found};
 ghost use Rattle.kept_layout.specs.Writes.{with_above, holding};
 
 use block_layout::{BoxOf, Inputs};
 use element_tree::NodeId;
+use layout_model::capped;
 
 /// A box that was computed, and what it was computed from.
 #[derive(Clone, Copy)]
 pub struct Found {
     pub own: BoxOf,
     pub inputs: Inputs,
-    /// The margin box heights of the earlier siblings, at most 2,147,483,647 units. It says nothing at a root element.
-    pub above: u64,
+    /// Whether a box in it is out of flow, looked for through what is in flow.
+    pub outside: bool,
 }
 
 /// What is kept for a node.
@@ -25,6 +26,8 @@ pub struct Found {
 pub struct Slot {
     /// Whether something that the box rests on may have changed since it was computed.
     pub marked: bool,
+    /// The margin box heights of the earlier siblings in flow, at most 2,147,483,647 units. It says nothing at a root element.
+    pub above: u64,
     /// None until a box is computed for the first time.
     pub found: Option<Found>,
 }
@@ -32,6 +35,7 @@ pub struct Slot {
 impl Slot {
     pub(crate) const EMPTY: Slot = Slot {
         marked: false,
+        above: 0,
         found: None,
     };
 }
@@ -64,14 +68,16 @@ fn are_same(inputs: Inputs, others: Inputs) -> bool
         (None, None) => true,
         _ => false,
     };
-    inputs.width.unsigned_abs() == others.width.unsigned_abs() && same_height
+    inputs.width.unsigned_abs() == others.width.unsigned_abs()
+        && same_height
+        && inputs.flow == others.flow
 }
 
 // Whether the box of a node with these inputs is to be computed.
 pub(crate) fn is_due(slots: &[Slot], node: NodeId, inputs: Inputs) -> bool
     ensures { result ≡ is_due_at (Some (seen_inputs inputs)) (slot_in slots.now node.0) }
 {
-    let Slot { marked, found } = slot_of(slots, node);
+    let Slot { marked, found, .. } = slot_of(slots, node);
     match found {
         Some(held) => marked || !are_same(held.inputs, inputs),
         None => true,
@@ -88,7 +94,7 @@ pub(crate) fn set_mark(slots: &mut [Slot], node: NodeId)
         node,
         Slot {
             marked: true,
-            found: kept.found,
+            ..kept
         },
     );
 }
@@ -98,11 +104,8 @@ pub(crate) fn set_above(slots: &mut [Slot], node: NodeId, above: u64)
     ensures own { node.0 < length slots.old → slot_in slots.new node.0 ≡ with_above above (slot_in slots.old node.0) }
     ensures others { (n : ℕ) → n ≢ node.0 → slot_in slots.new n ≡ slot_in slots.old n }
 {
-    let Slot { marked, found } = slot_of(slots, node);
-    if let Some(Found { own, inputs, .. }) = found {
-        let found = Some(Found { own, inputs, above });
-        put(slots, node, Slot { marked, found });
-    }
+    let kept = slot_of(slots, node);
+    put(slots, node, Slot { above, ..kept });
 }
 
 // The height of the margin box that is held for a node, 0 where none is.
@@ -124,21 +127,44 @@ fn outer_height(own: &BoxOf) -> u64
 }
 
 // Holds a box, which leaves its node without a mark.
-pub(crate) fn hold(slots: &mut [Slot], node: NodeId, own: BoxOf, inputs: Inputs)
-    ensures own { node.0 < length slots.old → slot_in slots.new node.0 ≡ holding own inputs (slot_in slots.old node.0) }
+pub(crate) fn hold(slots: &mut [Slot], node: NodeId, found: Found)
+    ensures own { node.0 < length slots.old → slot_in slots.new node.0 ≡ holding found.own found.inputs found.outside (slot_in slots.old node.0) }
     ensures others { (n : ℕ) → n ≢ node.0 → slot_in slots.new n ≡ slot_in slots.old n }
 {
-    let above = match slot_of(slots, node).found {
-        Some(found) => found.above,
-        None => 0,
-    };
-    let found = Some(Found { own, inputs, above });
+    let Slot { above, .. } = slot_of(slots, node);
     put(
         slots,
         node,
         Slot {
             marked: false,
-            found,
+            above,
+            found: Some(found),
         },
     );
+}
+
+// Whether something in the box that is held for a node is out of flow.
+pub(crate) fn has_outside(slots: &[Slot], node: NodeId) -> bool
+    ensures { result ≡ outside_found (slot_in slots.now node.0).found }
+{
+    match slot_of(slots, node).found {
+        Some(found) => found.outside,
+        None => false,
+    }
+}
+
+// The inputs of boxes out of flow that a node's box holds: the size of its padding box. Where none is held, which isn't so of a node with
+// a box here, they are these.
+pub(crate) fn inputs_held(slots: &[Slot], node: NodeId, or: Inputs) -> Inputs
+    ensures { IfSome (slot_in slots.now node.0).found (λ found. seen_inputs result ≡ inputs_held found.own) }
+{
+    let Some(found) = slot_of(slots, node).found else {
+        return or;
+    };
+    let padding = found.own.padding_size();
+    Inputs {
+        width: capped(padding.width.unsigned_abs()) as i64,
+        height: Some(capped(padding.height.unsigned_abs()) as i64),
+        flow: false,
+    }
 }

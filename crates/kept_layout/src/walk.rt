@@ -2,25 +2,27 @@
 
 ghost use Rattle.std.specs.Prelude.{◌≡◌, ◌≢◌, ◌+◌, ◌<◌, ◌≤◌, ℕ, Bool, true, false, Option, Some, None, ◌||◌, length};
 ghost use Rattle.px_units.specs.Lengths.{cap};
-ghost use Rattle.layout_model.specs.Nodes.{depth_of, is_in_path};
-ghost use Rattle.layout_model.specs.Boxes.{Inputs as InputsModel, box_in, inputs_in, if_shown};
-ghost use Rattle.element_tree.specs.Forest.{parent_of};
-ghost use Rattle.block_layout.specs.Filling.{GoesDown};
+ghost use Rattle.layout_model.specs.Nodes.{is_in_path};
+ghost use Rattle.layout_model.specs.Boxes.{Inputs as InputsModel, box_in, inputs_in};
+ghost use Rattle.element_tree.specs.Forest.{IsForest, parent_of};
 ghost use Rattle.block_layout.specs.Seen.{seen_inputs};
 ghost use Rattle.block_layout.specs.Trees.{layout_tree};
 ghost use Rattle.kept_layout.specs.Due.{is_due, due_count};
 ghost use Rattle.kept_layout.specs.Fresh.{IsFresh};
 ghost use Rattle.kept_layout.specs.Slots.{slot_in, held_in, marked_if};
 ghost use Rattle.kept_layout.specs.Sound.{HasSlots, IsSound, IsSoundBut};
-ghost use Rattle.kept_layout.specs.Walks.{IsRefreshed};
+ghost use Rattle.kept_layout.specs.Walks.{IsRefreshed, IsEntered, IsBroughtTo, IsRefreshedInside};
 
-use crate::slots::{Slot, height_held, hold, is_due, set_above, set_mark};
-use crate::trees::{first_inner, is_hidden};
+use crate::slots::{
+    Found, Slot, has_outside, height_held, hold, inputs_held, is_due, set_above, set_mark,
+};
+use crate::trees::{first_inner, is_hidden, is_in_flow, position};
 use block_layout::{Inputs, Styled, child_inputs, compute_box};
 use element_tree::{NodeId, Tree};
 use layout_model::capped;
 use std::sync::ledger::Ledger;
 use step_count::Steps;
+use style_values::Position;
 
 // Marks a node and its ancestors.
 pub(crate) fn mark_path<P: Styled>(slots: &mut [Slot], tree: &Tree<P>, node: NodeId)
@@ -47,8 +49,9 @@ fn added(above: u64, height: u64) -> u64
     capped(above + height)
 }
 
-// Computes the boxes of a node with these inputs and in it that are due, and holds them. The node is marked until its own is
-// held, so that what is held without a mark is right at every step.
+// Computes the boxes of a node with these inputs and in flow in it that are due, and holds them; it enters no box out of flow, but
+// tells each child with a box what is stacked above it. The node is marked until its own box is held, so that what is held without a
+// mark is right at every step.
 pub(crate) fn refresh_below<P: Styled, L: Ledger>(
     slots: &mut [Slot],
     tree: &Tree<P>,
@@ -65,17 +68,107 @@ pub(crate) fn refresh_below<P: Styled, L: Ledger>(
     set_mark(slots, node);
     let inner = child_inputs(tree.payload(node), inputs);
     let mut above = 0;
+    let mut outside = false;
     let mut next = first_inner(tree, node);
     while let Some(child) = next {
         if !is_hidden(tree, child) {
-            refresh_below(slots, tree, child, inner, steps);
             set_above(slots, child, above);
-            above = added(above, height_held(slots, child));
+            if is_in_flow(tree, child) {
+                refresh_below(slots, tree, child, inner, steps);
+                above = added(above, height_held(slots, child));
+                outside = outside || has_outside(slots, child);
+            } else {
+                outside = true;
+            }
         }
         next = tree.next_sibling(child);
     }
     let own = compute_box(tree.payload(node), inputs, above as i64, steps);
-    hold(slots, node, own, inputs);
+    hold(
+        slots,
+        node,
+        Found {
+            own,
+            inputs,
+            outside,
+        },
+    );
+}
+
+// The inputs of boxes out of flow: the size of what holds absolute ones, and that of the screen.
+#[derive(Clone, Copy)]
+pub(crate) struct Outside {
+    absolute: Inputs,
+    fixed: Inputs,
+}
+
+// Computes a displayed child that is out of flow, with what is in flow in it. One in flow was computed with its parent.
+fn refresh_moved<P: Styled, L: Ledger>(
+    slots: &mut [Slot],
+    tree: &Tree<P>,
+    node: NodeId,
+    outside: Outside,
+    steps: &mut Steps<L>,
+)
+    requires { node.0 < length tree.now.nodes }
+    ensures { IsEntered (layout_tree P.style P.kind tree.now.nodes) node.0 outside (length slots.old) (slot_in slots.old) (slot_in slots.new) steps.old steps.new }
+{
+    match position(tree, node) {
+        Position::Absolute => refresh_below(slots, tree, node, outside.absolute, steps),
+        Position::Fixed => refresh_below(slots, tree, node, outside.fixed, steps),
+        Position::Static | Position::Relative => {}
+    }
+}
+
+// What is brought on to a child whose box is held: a positioned one holds absolute boxes itself.
+fn brought_to<P: Styled>(slots: &[Slot], tree: &Tree<P>, node: NodeId, outside: Outside) -> Outside
+    requires { node.0 < length tree.now.nodes }
+    ensures { IsBroughtTo (layout_tree P.style P.kind tree.now.nodes) node.0 outside result (slot_in slots.now) }
+{
+    match position(tree, node) {
+        Position::Static => outside,
+        Position::Relative | Position::Absolute | Position::Fixed => Outside {
+            absolute: inputs_held(slots, node, outside.fixed),
+            fixed: outside.fixed,
+        },
+    }
+}
+
+// Computes the boxes in a node that are due but for those in flow from it on, by preorder: each box out of flow with what is in flow in
+// it. So what holds a box, which is an ancestor, is computed before.
+pub(crate) fn refresh_inside<P: Styled, L: Ledger>(
+    slots: &mut [Slot],
+    tree: &Tree<P>,
+    node: NodeId,
+    outside: Outside,
+    steps: &mut Steps<L>,
+)
+    requires node { node.0 < length tree.now.nodes }
+    requires forest { IsForest tree.now.most_depth tree.now.nodes }
+    ensures { IsRefreshedInside (layout_tree P.style P.kind tree.now.nodes) node.0 outside (length slots.old) (slot_in slots.old) (slot_in slots.new) steps.old steps.new }
+{
+    if !has_outside(slots, node) {
+        return;
+    }
+    let mut next = first_inner(tree, node);
+    while let Some(child) = next {
+        if !is_hidden(tree, child) {
+            refresh_moved(slots, tree, child, outside, steps);
+            let within = brought_to(slots, tree, child, outside);
+            refresh_inside(slots, tree, child, within, steps);
+        }
+        next = tree.next_sibling(child);
+    }
+}
+
+// The inputs of boxes out of flow that no element holds, by those of a root element.
+fn out_of_flow(inputs: Inputs) -> Inputs
+    ensures { seen_inputs result ≡ record (seen_inputs inputs) { flow = false } }
+{
+    Inputs {
+        flow: false,
+        ..inputs
+    }
 }
 
 // Computes the boxes that are due in the tree under a root element.
@@ -88,6 +181,7 @@ pub(crate) fn refresh_tree<P: Styled, L: Ledger>(
 )
     requires node { root.0 < length tree.now.nodes }
     requires top { parent_of tree.now.nodes root.0 ≡ None }
+    requires flow { inputs.flow ≡ true }
     ensures boxes { HasSlots (layout_tree P.style P.kind tree.now.nodes) root.0 (length slots.old) → IsSound (layout_tree P.style P.kind tree.now.nodes) (slot_in slots.old) →
         (n : ℕ) (own : InputsModel) → inputs_in (layout_tree P.style P.kind tree.now.nodes) root.0 (seen_inputs inputs) n ≡ Some own →
         held_in slots.new n ≡ Some (box_in (layout_tree P.style P.kind tree.now.nodes) own n) }
@@ -100,15 +194,26 @@ pub(crate) fn refresh_tree<P: Styled, L: Ledger>(
         IsSound (layout_tree P.style P.kind tree.now.nodes) (slot_in slots.new) }
     ensures others { (n : ℕ) → inputs_in (layout_tree P.style P.kind tree.now.nodes) root.0 (seen_inputs inputs) n ≡ None →
         slot_in slots.new n ≡ slot_in slots.old n }
-    ensures ticks { HasSlots (layout_tree P.style P.kind tree.now.nodes) root.0 (length slots.old) →
+    ensures ticks { HasSlots (layout_tree P.style P.kind tree.now.nodes) root.0 (length slots.old) → IsSound (layout_tree P.style P.kind tree.now.nodes) (slot_in slots.old) →
         steps.new ≤ steps.old + due_count (inputs_in (layout_tree P.style P.kind tree.now.nodes) root.0 (seen_inputs inputs)) (slot_in slots.old) (length slots.old) }
-    ensures paid { HasSlots (layout_tree P.style P.kind tree.now.nodes) root.0 (length slots.old) →
-        (wanted : ℕ → Option InputsModel) → GoesDown (layout_tree P.style P.kind tree.now.nodes) (depth_of (layout_tree P.style P.kind tree.now.nodes) root.0) wanted →
-        wanted root.0 ≡ if_shown (layout_tree P.style P.kind tree.now.nodes root.0).item.style.hidden (Some (seen_inputs inputs)) →
+    ensures paid { HasSlots (layout_tree P.style P.kind tree.now.nodes) root.0 (length slots.old) → IsSound (layout_tree P.style P.kind tree.now.nodes) (slot_in slots.old) →
+        (wanted : ℕ → Option InputsModel) →
+        ((n : ℕ) → is_in_path (layout_tree P.style P.kind tree.now.nodes) root.0 n ≡ true → wanted n ≡ inputs_in (layout_tree P.style P.kind tree.now.nodes) root.0 (seen_inputs inputs) n) →
         steps.new + due_count wanted (slot_in slots.new) (length slots.old) ≤ steps.old + due_count wanted (slot_in slots.old) (length slots.old) }
 {
     if is_hidden(tree, root) {
         return;
     }
     refresh_below(slots, tree, root, inputs, steps);
+    let viewport = out_of_flow(inputs);
+    refresh_inside(
+        slots,
+        tree,
+        root,
+        Outside {
+            absolute: viewport,
+            fixed: viewport,
+        },
+        steps,
+    );
 }

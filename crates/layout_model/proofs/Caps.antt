@@ -1,11 +1,9 @@
 -- Bounds on lengths and points.
-use Rattle.std.proofs.Common.{◌≤◌, ℕ, zero, suc, Bool, true, false, Option, Some, ◌≡◌, max, subst, sym, arith}
+use Rattle.std.proofs.Common.{◌≤◌, ℕ, zero, suc, Bool, true, false, arith}
 use Rattle.std.specs.Prelude.{⊤}
 use Rattle.px_units.specs.Lengths.{cap}
-use Rattle.layout_model.specs.Nodes.{Node}
-use Rattle.layout_model.specs.Boxes.{Inputs, box_in, padding_size}
-use Rattle.layout_model.specs.Points.{IsWithin, capped}
-use Rattle.layout_model.specs.Reach.{in_force, force_if, reach_at}
+use Rattle.layout_model.specs.Points.{IsWithin}
+use Rattle.layout_model.specs.Reach.{in_force, force_if}
 
 pub cap_most : (size : ℕ) → cap size ≤ 2147483647
 cap_most size = omega arith
@@ -18,9 +16,3 @@ force_within (suc x) y range = (omega arith, omega arith)
 pub force_if_within : (scrolls : Bool) (stored : ℕ × ℕ) (range : ⊤ → ℕ × ℕ) → IsWithin (force_if scrolls stored range) (range tt)
 force_if_within true stored range = force_within (stored.0) (stored.1) range
 force_if_within false stored range = (omega arith, omega arith)
-
-pub cap_wider : (size more : ℕ) → cap size ≤ cap (max size more)
-cap_wider size more = omega arith
-
-pub reach_within : (at : ℕ → Node) (n : ℕ) (inputs : Inputs) (found : Option Inputs) → found ≡ Some inputs → IsWithin (capped (padding_size (box_in at inputs n))) (reach_at at n found)
-reach_within at n inputs found is = subst (λ f. IsWithin (capped (padding_size (box_in at inputs n))) (reach_at at n f)) (sym is) (cap_wider _ _, cap_wider _ _)

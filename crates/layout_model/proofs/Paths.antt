@@ -47,6 +47,10 @@ pub depth_child : (at : ℕ → Node) (c p : ℕ) → (at c).parent ≡ Some p �
 unfolding depth_of
 depth_child at c p is short = ap length (path_child at c p is short) ∙ (omega arith)
 
+pub depth_top : (at : ℕ → Node) (n : ℕ) → (at n).parent ≡ None → depth_of at n ≡ 1
+unfolding depth_of
+depth_top at n is = ap length (path_top at n is)
+
 pub ancestors_child : (at : ℕ → Node) (c p : ℕ) → (at c).parent ≡ Some p → ancestors_of at c ≡ path_of at p
 unfolding ancestors_of
 ancestors_child at c p is = ap (path_above (path_of at)) is

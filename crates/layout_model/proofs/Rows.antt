@@ -1,11 +1,12 @@
 -- Small pages, computed: their boxes and places are the expected numbers.
-use Rattle.std.specs.Prelude.{◌≡◌, refl, ℕ, ◌*◌, Option, Some, None, List, [], ◌∷◌, pos, neg_ℤ, unwrap_or, slice_get, option_map}
-use Rattle.px_units.specs.Lengths.{Pixels, Percentage}
-use Rattle.layout_model.specs.Styles.{Style, Declaration, first_style, declared, BorderBox, SetWidth, SetHeight, SetMinHeight, SetMargin, SetPadding, SetBorder, SetBoxSizing, SetOverflow, LeftSide, TopSide, AllSides, OverflowHidden}
+use Rattle.std.specs.Prelude.{◌≡◌, refl, ℕ, ◌*◌, true, Option, Some, None, List, [], ◌∷◌, pos, neg_ℤ, unwrap_or, slice_get, option_map}
+use Rattle.px_units.specs.Lengths.{Pixels, Percentage, InsetPixels}
+use Rattle.layout_model.specs.Styles.{Style, Declaration, first_style, declared, BorderBox, SetWidth, SetHeight, SetMinHeight, SetMargin, SetPadding, SetBorder, SetBoxSizing, SetOverflow, SetPosition, SetTop, SetRight, LeftSide, TopSide, AllSides, OverflowHidden, StaticPosition, RelativePosition, AbsolutePosition}
 use Rattle.layout_model.specs.Items.{BlockKind}
 use Rattle.layout_model.specs.Nodes.{Node, missing_node, depth_of}
 use Rattle.layout_model.specs.Boxes.{Inputs, content_size, border_size, content_corner, box_of_node}
-use Rattle.layout_model.specs.Reach.{View, range_of}
+use Rattle.layout_model.specs.Views.{View}
+use Rattle.layout_model.specs.Reach.{range_of}
 use Rattle.layout_model.specs.Places.{place_in}
 
 -- the nodes of a list, in order from number 0
@@ -22,7 +23,7 @@ block declarations parent children =
 
 -- a viewport of 800 by 600 pixels
 abbrev screen : Inputs
-screen = record { width = 51200; height = Some 38400 }
+screen = record { width = 51200; height = Some 38400; flow = true }
 
 abbrev view : View
 view = record { root = Some 0; width = 51200; height = 38400; scrolled = (0, 0) }
@@ -118,3 +119,33 @@ scrolled_out = refl
 depth : depth_of scrolling 3 ≡ 3
 unfolding depth_of
 depth = refl
+
+-- in a block of 100 pixels with a margin of 100 pixels on the left, a box out of flow of half the width of what holds it
+abbrev overlaid : Declaration → ℕ → Node
+overlaid position =
+    nodes
+    (block [] None (1 ∷ []) ∷
+    block (position ∷ SetHeight (Pixels 6400) ∷ SetMargin LeftSide (Pixels 6400) ∷ []) (Some 0) (2 ∷ []) ∷
+    block (SetPosition AbsolutePosition ∷ SetRight (InsetPixels (pos 640)) ∷ SetTop (InsetPixels (pos 1280)) ∷ SetWidth (Percentage 5000) ∷ SetHeight (Pixels 1920) ∷ []) (Some 1) [] ∷ [])
+
+-- the block holds it where it is positioned, else the page
+held_size : option_map border_size (box_of_node (overlaid (SetPosition RelativePosition)) 0 screen 2) ≡ Some (350 * 64, 30 * 64)
+unfolding box_of_node
+held_size = refl
+
+held_place : place_in (overlaid (SetPosition RelativePosition)) (λ n. (0, 0)) view 2 ≡ (pos (440 * 64), pos (20 * 64))
+unfolding place_in
+held_place = refl
+
+page_size : option_map border_size (box_of_node (overlaid (SetPosition StaticPosition)) 0 screen 2) ≡ Some (400 * 64, 30 * 64)
+unfolding box_of_node
+page_size = refl
+
+page_place : place_in (overlaid (SetPosition StaticPosition)) (λ n. (0, 0)) view 2 ≡ (pos (390 * 64), pos (20 * 64))
+unfolding place_in
+page_place = refl
+
+-- out of flow, it adds no height
+block_size : option_map border_size (box_of_node (overlaid (SetPosition RelativePosition)) 0 screen 0) ≡ Some (800 * 64, 100 * 64)
+unfolding box_of_node
+block_size = refl

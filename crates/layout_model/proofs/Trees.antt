@@ -4,7 +4,7 @@ use Rattle.std.specs.Prelude.{Bool, true, false, fold, Contains}
 use Rattle.px_units.specs.Lengths.{cap}
 use Rattle.layout_model.specs.Items.{Kind, BlockKind, ImageKind, FrameKind}
 use Rattle.layout_model.specs.Nodes.{Node, levels, depth_of, IsLinked, IsShallow}
-use Rattle.layout_model.specs.Boxes.{Inputs, Box, child_inputs, computed, inner_children, kids_of, counted, shown_height, margin_height, total, box_at, box_down, box_in}
+use Rattle.layout_model.specs.Boxes.{Inputs, Box, child_inputs, computed, inner_children, kids_of, is_passed, counted, shown_height, margin_height, total, box_at, box_down, box_in}
 use Rattle.layout_model.proofs.Paths.{depth_child, depth_least}
 
 pub contains_next : (x : ℕ) (xs : List ℕ) (c : ℕ) → Contains xs c → Contains (x ∷ xs) c
@@ -28,9 +28,9 @@ fold_same f g (x ∷ xs) all s =
 
 counted_same : (at : ℕ → Node) (f g : ℕ → Box) (c : ℕ) → f c ≡ g c → counted at f c ≡ counted at g c
 unfolding counted
-counted_same at f g c same = shown ((at c).item.style.hidden)
+counted_same at f g c same = shown (is_passed (at c))
   where
-    shown : (hidden : Bool) → shown_height f c hidden ≡ shown_height g c hidden
+    shown : (passed : Bool) → shown_height f c passed ≡ shown_height g c passed
     shown true = refl
     shown false = ap margin_height same
 

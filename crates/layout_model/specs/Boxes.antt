@@ -1,14 +1,17 @@
--- Boxes of block layout (CSS 2.2, 8 and 10). All numbers are units of 1/64 pixel.
-use Rattle.std.specs.Prelude.{ℕ, zero, suc, ◌+◌, ◌-◌, min, max, Bool, true, false, cond, ◌==◌, Option, Some, None, option_map, unwrap_or, option_and_then, List, [], ◌∷◌, sum_by}
-use Rattle.px_units.specs.Lengths.{LengthValue, Automatic, Pixels, Percentage, cap, resolved}
+-- Boxes of block layout (CSS 2.2, 8 to 10; CSS Positioned Layout 3). All numbers are units of 1/64 pixel.
+use Rattle.std.specs.Prelude.{ℕ, zero, suc, ◌+◌, ◌-◌, min, max, ℤ, pos, ◌-ℤ◌, Bool, true, false, not, ◌&&◌, ◌||◌, cond, ◌==◌, Option, Some, None, option_map, unwrap_or, option_and_then, is_some, List, [], ◌∷◌, sum_by}
+use Rattle.px_units.specs.Lengths.{LengthValue, Automatic, Pixels, Percentage, InsetValue, cap, resolved, inset_against, at_least_zero}
 use Rattle.layout_model.specs.Styles.{Sides, BoxSizing, ContentBox, BorderBox}
 use Rattle.layout_model.specs.Items.{Item, Kind, BlockKind, ImageKind, FrameKind}
-use Rattle.layout_model.specs.Nodes.{Node, levels, path_of}
+use Rattle.layout_model.specs.Nodes.{Node, levels, path_of, is_in_flow, Holder, HeldByElement, HeldByPage, HeldByScreen, holder}
+use Rattle.layout_model.specs.Clips.{is_block}
 
--- what layout knows of a box from above: the containing width, and the containing height where it is definite (10.1, 10.5)
+-- what layout knows of a box from above: the width of its containing block, the height of that where it is definite (10.1, 10.5), and
+-- whether the box is in flow
 pub record Inputs : Type 0 where
   pub width : ℕ
   pub height : Option ℕ
+  pub flow : Bool
 
 -- the used content width and height, margins, borders and paddings
 pub record Box : Type 0 where
@@ -69,6 +72,15 @@ against Automatic basis = None
 against (Pixels units) basis = Some (cap units)
 against (Percentage hundredths) basis = option_and_then (resolved (Percentage hundredths)) basis
 
+-- the insets, none for `auto` and for a percentage without a basis (CSS Positioned Layout 3, 3.1)
+abbrev pub used_insets : Sides InsetValue → Inputs → Sides (Option ℤ)
+used_insets inset inputs = record {
+  top = inset_against (inset.top) (inputs.height);
+  right = inset_against (inset.right) (Some (inputs.width));
+  bottom = inset_against (inset.bottom) (inputs.height);
+  left = inset_against (inset.left) (Some (inputs.width));
+}
+
 -- the content size of a size that `box-sizing` says is of the content or of the border box (CSS Box Sizing 3, 3.3)
 abbrev pub inner : BoxSizing → ℕ → ℕ → ℕ
 inner ContentBox edges size = size
@@ -95,17 +107,37 @@ used_along sizing edges basis size least most automatic =
     (option_map (inner sizing edges) (against least basis))
     (unwrap_or (option_map (inner sizing edges) (against size basis)) automatic)
 
--- a block fills its containing width; images and frames have a size of their own (10.3.2, 10.3.3, 10.6.2). No margin is
--- `auto`, and one that 10.3.3 would ignore, where the sizes do not add up, keeps its value, which moves no box
-abbrev pub automatic_width : Kind → ℕ → ℕ → ℕ
-automatic_width BlockKind containing around = containing - around
-automatic_width (ImageKind width height) containing around = width
-automatic_width FrameKind containing around = 19200
+-- what insets on both sides leave of a containing block, less the margins, borders and paddings of both
+abbrev pub left_between : ℕ → Option ℤ → Option ℤ → ℕ → ℕ
+left_between containing one other around =
+    at_least_zero (pos containing -ℤ unwrap_or one (pos 0) -ℤ unwrap_or other (pos 0) -ℤ pos around)
 
-abbrev pub automatic_height : Kind → ℕ → ℕ
-automatic_height BlockKind inside = inside
-automatic_height (ImageKind width height) inside = height
-automatic_height FrameKind inside = 9600
+-- a block in flow fills its containing width. So does one out of flow, between its insets, of which `auto` counts as 0: that it does
+-- where not both are given, and isn't shrunk to fit its content, is this project's own (10.3.3, 10.3.7)
+abbrev pub block_width : Inputs → Sides (Option ℤ) → ℕ → ℕ
+block_width inputs insets around =
+    cond (inputs.flow) (inputs.width - around) (left_between (inputs.width) (insets.left) (insets.right) around)
+
+-- a block out of flow fills its containing height between its insets where both are given, any other one is as high as what is stacked
+-- in it (10.6.3, 10.6.4)
+abbrev pub is_stretched : Inputs → Sides (Option ℤ) → Bool
+is_stretched inputs insets = not (inputs.flow) && is_some (insets.top) && is_some (insets.bottom)
+
+abbrev pub block_height : Inputs → Sides (Option ℤ) → ℕ → ℕ → ℕ
+block_height inputs insets inside around =
+    cond (is_stretched inputs insets) (left_between (unwrap_or (inputs.height) 0) (insets.top) (insets.bottom) around) inside
+
+-- images and frames have a size of their own (10.3.2, 10.6.2). No margin is `auto`, and one that 10.3.3 would ignore, where
+-- the sizes do not add up, keeps its value, which moves no box
+abbrev pub automatic_width : Kind → Inputs → Sides (Option ℤ) → ℕ → ℕ
+automatic_width BlockKind inputs insets around = block_width inputs insets around
+automatic_width (ImageKind width height) inputs insets around = width
+automatic_width FrameKind inputs insets around = 19200
+
+abbrev pub automatic_height : Kind → Inputs → Sides (Option ℤ) → ℕ → ℕ → ℕ
+automatic_height BlockKind inputs insets inside around = block_height inputs insets inside around
+automatic_height (ImageKind width height) inputs insets inside around = height
+automatic_height FrameKind inputs insets inside around = 9600
 
 abbrev pub used_width : Item → Inputs → Sides ℕ → Sides ℕ → Sides ℕ → ℕ
 used_width item inputs margin border padding =
@@ -116,10 +148,14 @@ used_width item inputs margin border padding =
     (item.style.width)
     (item.style.min_width)
     (item.style.max_width)
-    (automatic_width (item.kind) (inputs.width) (margin.left + border.left + padding.left + padding.right + border.right + margin.right))
+    (automatic_width
+    (item.kind)
+    inputs
+    (used_insets (item.style.inset) inputs)
+    (margin.left + border.left + padding.left + padding.right + border.right + margin.right))
 
-abbrev pub used_height : Item → Inputs → ℕ → Sides ℕ → Sides ℕ → ℕ
-used_height item inputs inside border padding =
+abbrev pub used_height : Item → Inputs → ℕ → Sides ℕ → Sides ℕ → Sides ℕ → ℕ
+used_height item inputs inside margin border padding =
     used_along
     (item.style.box_sizing)
     (border.top + padding.top + padding.bottom + border.bottom)
@@ -127,13 +163,18 @@ used_height item inputs inside border padding =
     (item.style.height)
     (item.style.min_height)
     (item.style.max_height)
-    (automatic_height (item.kind) inside)
+    (automatic_height
+    (item.kind)
+    inputs
+    (used_insets (item.style.inset) inputs)
+    inside
+    (margin.top + border.top + padding.top + padding.bottom + border.bottom + margin.bottom))
 
 abbrev pub box_with : Item → Inputs → ℕ → Sides ℕ → Sides ℕ → Sides ℕ → Box
 box_with item inputs inside margin border padding =
     record {
       width = used_width item inputs margin border padding;
-      height = used_height item inputs inside border padding;
+      height = used_height item inputs inside margin border padding;
       margin = margin;
       border = border;
       padding = padding;
@@ -150,12 +191,17 @@ computed item inputs inside =
     (on_sides cap (item.style.border))
     (on_sides (used_side (inputs.width)) (item.style.padding))
 
+-- whether the height doesn't hang on what is stacked in the box: it is given in pixels, or as a percentage of a definite height, or
+-- found between insets (10.5, 10.6.4)
+abbrev pub has_definite_height : Item → Inputs → Bool
+has_definite_height item inputs =
+    is_some (against (item.style.height) (inputs.height)) || is_stretched inputs (used_insets (item.style.inset) inputs)
+
 abbrev pub inputs_inside : Item → Inputs → Box → Inputs
 inputs_inside item inputs box =
-    record { width = box.width; height = option_map (λ given. box.height) (against (item.style.height) (inputs.height)) }
+    record { width = box.width; height = cond (has_definite_height item inputs) (Some (box.height)) None; flow = true }
 
--- the inputs of an element's children: its content width, and its content height where that does not depend on them, which
--- is where the height is given in pixels or as a percentage of a definite height (10.1, 10.5)
+-- the inputs of an element's children in flow: its content width, and its content height where that is definite (10.1, 10.5)
 unfoldable pub child_inputs : Item → Inputs → Inputs
 unfolding computed
 child_inputs item inputs = inputs_inside item inputs (computed item inputs 0)
@@ -173,9 +219,13 @@ abbrev pub shown_height : (ℕ → Box) → ℕ → Bool → ℕ
 shown_height box child true = 0
 shown_height box child false = margin_height (box child)
 
--- what a child adds to its parent's height: nothing where it has no box
+-- whether a child isn't stacked in its parent: it has no box, or is out of flow
+abbrev pub is_passed : Node → Bool
+is_passed node = node.item.style.hidden || not (is_in_flow node)
+
+-- what a child adds to its parent's height
 unfoldable pub counted : (ℕ → Node) → (ℕ → Box) → ℕ → ℕ
-counted at box child = shown_height box child ((at child).item.style.hidden)
+counted at box child = shown_height box child (is_passed (at child))
 
 -- boxes are stacked downwards, and margins do not collapse (10.6.3 without 8.3.1)
 unfoldable pub total : (ℕ → Node) → (ℕ → Box) → List ℕ → ℕ
@@ -197,30 +247,49 @@ unfoldable pub box_in : (ℕ → Node) → Inputs → ℕ → Box
 unfolding box_down
 box_in at inputs n = box_down levels at inputs n
 
-abbrev pub inputs_if_block : Kind → Item → Option Inputs → Option Inputs
-inputs_if_block BlockKind item inputs = option_map (child_inputs item) inputs
-inputs_if_block (ImageKind width height) item inputs = None
-inputs_if_block FrameKind item inputs = None
+-- the inputs of a node out of flow whose box an element's box holds: the size of that one's padding box (10.1)
+abbrev pub inputs_held : Box → Inputs
+inputs_held box = record { width = cap (padding_width box); height = Some (cap (padding_height box)); flow = false }
 
-abbrev pub if_shown : Bool → Option Inputs → Option Inputs
-if_shown true inputs = None
-if_shown false inputs = inputs
+abbrev pub inputs_by_element : (ℕ → Node) → ℕ → Inputs → Bool → Inputs
+inputs_by_element at element inputs true = child_inputs ((at element).item) inputs
+inputs_by_element at element inputs false = inputs_held (box_in at inputs element)
 
-abbrev pub inputs_at : (ℕ → Node) → ℕ → Inputs → ℕ → List ℕ → Option Inputs → Option Inputs
-inputs_at at root viewport n [] found = cond (n == root) (Some viewport) None
-inputs_at at root viewport n (parent ∷ above) found = inputs_if_block ((at parent).item.kind) ((at parent).item) found
+abbrev pub inputs_by : (ℕ → Node) → Inputs → (ℕ → Inputs) → Bool → Holder → Inputs
+inputs_by at viewport above flow (HeldByElement element) = inputs_by_element at element (above element) flow
+inputs_by at viewport above flow HeldByPage = record viewport { flow = flow }
+inputs_by at viewport above flow HeldByScreen = record viewport { flow = flow }
 
-unfoldable pub inputs_along : (ℕ → Node) → ℕ → Inputs → List ℕ → Option Inputs
-unfolding child_inputs
-inputs_along at root viewport [] = None
-inputs_along at root viewport (n ∷ above) =
-    if_shown ((at n).item.style.hidden) (inputs_at at root viewport n above (inputs_along at root viewport above))
+unfoldable pub inputs_up : ℕ → (ℕ → Node) → Inputs → ℕ → Inputs
+unfolding child_inputs box_in holder
+inputs_up zero at viewport n = viewport
+inputs_up (suc high) at viewport n = inputs_by at viewport (inputs_up high at viewport) (is_in_flow (at n)) (holder at n)
 
--- the inputs of a node in the tree of a root element in a viewport, none without a box: where it or an ancestor has
--- `display: none`, or an ancestor is no block, or it stands in another tree (9.2.4, 10.1)
+-- the inputs of a node in a viewport, if it has a box: those of its containing block (10.1). The page and the screen have the viewport's
+-- size
+unfoldable pub inputs_at : (ℕ → Node) → Inputs → ℕ → Inputs
+unfolding inputs_up
+inputs_at at viewport n = inputs_up levels at viewport n
+
+abbrev pub is_box_under : (ℕ → Node) → ℕ → ℕ → List ℕ → Bool → Bool
+is_box_under at root n [] boxed = n == root
+is_box_under at root n (parent ∷ above) boxed = is_block ((at parent).item.kind) && boxed
+
+unfoldable pub has_box_along : (ℕ → Node) → ℕ → List ℕ → Bool
+has_box_along at root [] = false
+has_box_along at root (n ∷ above) =
+    not ((at n).item.style.hidden) && is_box_under at root n above (has_box_along at root above)
+
+-- whether a node has a box in the tree of a root element: neither it nor an ancestor has `display: none`, and each ancestor is a block
+-- (9.2.4)
+unfoldable pub has_box_in : (ℕ → Node) → ℕ → ℕ → Bool
+unfolding has_box_along path_of
+has_box_in at root n = has_box_along at root (path_of at n)
+
+-- the inputs of a node in that tree, none without a box
 unfoldable pub inputs_in : (ℕ → Node) → ℕ → Inputs → ℕ → Option Inputs
-unfolding inputs_along path_of
-inputs_in at root viewport n = inputs_along at root viewport (path_of at n)
+unfolding inputs_at has_box_in
+inputs_in at root viewport n = cond (has_box_in at root n) (Some (inputs_at at viewport n)) None
 
 -- the box of a node in that tree, none where it has none
 unfoldable pub box_of_node : (ℕ → Node) → ℕ → Inputs → ℕ → Option Box

@@ -1,9 +1,10 @@
 pub mod Styles
 pub mod Items
 pub mod Nodes
+pub mod Clips
 pub mod Boxes
 pub mod Points
-pub mod Clips
+pub mod Views
+pub mod FlatPlaces
 pub mod Reach
 pub mod Places
-pub mod Unclipped

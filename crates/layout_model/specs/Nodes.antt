@@ -1,6 +1,6 @@
 -- Trees of elements, seen as a function from numbers to nodes (DOM, 4.2.1: trees).
-use Rattle.std.specs.Prelude.{◌≡◌, ◌≢◌, ◌≤◌, ℕ, zero, suc, Bool, true, false, ◌||◌, ◌==◌, Option, Some, None, List, [], ◌∷◌, length, Contains, AllPairs}
-use Rattle.layout_model.specs.Styles.{first_style}
+use Rattle.std.specs.Prelude.{◌≡◌, ◌≢◌, ◌≤◌, ℕ, zero, suc, Bool, true, false, not, ◌||◌, ◌==◌, cond, is_some, Option, Some, None, List, [], ◌∷◌, find, flat_map, length, Contains, AllPairs}
+use Rattle.layout_model.specs.Styles.{first_style, Position, StaticPosition, RelativePosition, AbsolutePosition, FixedPosition}
 use Rattle.layout_model.specs.Items.{Item, BlockKind}
 
 pub record Node : Type 0 where
@@ -57,19 +57,92 @@ unfoldable pub top_of : (ℕ → Node) → ℕ → ℕ
 unfolding path_of last_of
 top_of at n = last_of n (path_of at n)
 
--- the element whose box holds a node's box: that of its parent (CSS 2.2, 10.1: containing block). The box of a root element is held by
--- the viewport of its document
-abbrev pub holder : Node → Option ℕ
-holder node = node.parent
+-- a node and its descendants in tree order
+unfoldable pub order_down : ℕ → (ℕ → Node) → ℕ → List ℕ
+order_down zero at n = []
+order_down (suc deep) at n = n ∷ flat_map (order_down deep at) (at n).children
 
--- the nodes, each under the one whose box holds its own. Places, scroll offsets in force and chains of clips go up here; what is
--- displayed, widths and depths go by the tree itself
+unfoldable pub tree_order : (ℕ → Node) → ℕ → List ℕ
+unfolding order_down
+tree_order at n = order_down levels at n
+
+-- how a node is positioned. That a root element, which has no parent, counts as static is this project's own
+abbrev pub position_of : Node → Position
+position_of node = cond (is_some (node.parent)) (node.item.style.position) StaticPosition
+
+abbrev pub is_static : Position → Bool
+is_static StaticPosition = true
+is_static RelativePosition = false
+is_static AbsolutePosition = false
+is_static FixedPosition = false
+
+abbrev pub is_flow : Position → Bool
+is_flow StaticPosition = true
+is_flow RelativePosition = true
+is_flow AbsolutePosition = false
+is_flow FixedPosition = false
+
+-- whether a node is positioned, and whether it is in flow (CSS 2.2, 9.3.2 and 9.3)
+abbrev pub is_positioned : Node → Bool
+is_positioned node = not (is_static (position_of node))
+
+abbrev pub is_in_flow : Node → Bool
+is_in_flow node = is_flow (position_of node)
+
+-- what holds a box: the box of an element, the page, which the viewport scrolls, or the screen, which nothing scrolls
+pub data Holder : Type 0 where
+  HeldByElement : (element : ℕ) → Holder
+  HeldByPage : Holder
+  HeldByScreen : Holder
+
+abbrev pub held_by : Option ℕ → Holder
+held_by None = HeldByPage
+held_by (Some element) = HeldByElement element
+
+abbrev pub holder_by : (ℕ → Node) → ℕ → Position → Holder
+holder_by at n StaticPosition = held_by ((at n).parent)
+holder_by at n RelativePosition = held_by ((at n).parent)
+holder_by at n AbsolutePosition = held_by (find (λ a. is_positioned (at a)) (ancestors_of at n))
+holder_by at n FixedPosition = HeldByScreen
+
+-- what holds a node's box (CSS 2.2, 10.1: containing block): in flow its parent's box, for an absolute one that of its nearest positioned
+-- ancestor, for a fixed one the screen; the page for a root element, and for an absolute one without such an ancestor
+unfoldable pub holder : (ℕ → Node) → ℕ → Holder
+unfolding ancestors_of
+holder at n = holder_by at n (position_of (at n))
+
+abbrev pub element_of : Holder → Option ℕ
+element_of (HeldByElement element) = Some element
+element_of HeldByPage = None
+element_of HeldByScreen = None
+
+abbrev pub is_screen : Holder → Bool
+is_screen (HeldByElement element) = false
+is_screen HeldByPage = false
+is_screen HeldByScreen = true
+
+-- the nodes, each under the one whose box holds its own. Inputs, scroll offsets in force and chains of clips go up here; what is
+-- displayed, depths and the flow go by the tree itself
 abbrev pub held : (ℕ → Node) → ℕ → Node
-held at n = record (at n) { parent = holder (at n) }
+held at n = record (at n) { parent = element_of (holder at n) }
+
+-- the elements that hold a node's box, the nearest first
+unfoldable pub holders_of : (ℕ → Node) → ℕ → List ℕ
+unfolding ancestors_of holder
+holders_of at n = ancestors_of (held at) n
+
+-- whether the outermost of them, or the node itself where there is none, is held by the screen
+unfoldable pub is_on_screen : (ℕ → Node) → ℕ → Bool
+unfolding top_of holder
+is_on_screen at n = is_screen (holder at (top_of (held at) n))
 
 -- each child has its parent as parent
 abbrev pub IsLinked : (ℕ → Node) → Type 0
 IsLinked at = (p c : ℕ) → Contains ((at p).children) c → (at c).parent ≡ Some p
+
+-- each node with a parent stands among that one's children
+abbrev pub IsListed : (ℕ → Node) → Type 0
+IsListed at = (c p : ℕ) → (at c).parent ≡ Some p → Contains ((at p).children) c
 
 -- no tree has more levels than are looked at
 abbrev pub IsShallow : (ℕ → Node) → Type 0

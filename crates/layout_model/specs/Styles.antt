@@ -1,6 +1,6 @@
--- A style and what one declaration changes in it (CSS 2.2, 4 to 11).
+-- A style and what one declaration changes in it (CSS 2.2, 4 to 11; CSS Positioned Layout 3, 2 and 3).
 use Rattle.std.specs.Prelude.{ℕ, Bool, false, Option, None}
-use Rattle.px_units.specs.Lengths.{LengthValue, Automatic, Pixels}
+use Rattle.px_units.specs.Lengths.{LengthValue, Automatic, Pixels, InsetValue, AutomaticInset}
 
 pub data BoxSizing : Type 0 where
   ContentBox : BoxSizing
@@ -14,6 +14,13 @@ pub data Overflow : Type 0 where
   OverflowScroll : Overflow
   OverflowAuto : Overflow
 
+-- how a box is positioned (CSS Positioned Layout 3, 2)
+pub data Position : Type 0 where
+  StaticPosition : Position
+  RelativePosition : Position
+  AbsolutePosition : Position
+  FixedPosition : Position
+
 -- one value for each side
 pub record Sides (A : Type 0) : Type 0 where
   pub top : A
@@ -21,7 +28,7 @@ pub record Sides (A : Type 0) : Type 0 where
   pub bottom : A
   pub left : A
 
--- borders are in units; a maximum of none is `none`
+-- borders are in units; a maximum of none is `none`; the insets are the properties `top`, `right`, `bottom` and `left`
 pub record Style : Type 0 where
   pub hidden : Bool
   pub width : LengthValue
@@ -35,6 +42,8 @@ pub record Style : Type 0 where
   pub border : Sides ℕ
   pub box_sizing : BoxSizing
   pub overflow : Overflow
+  pub position : Position
+  pub inset : Sides InsetValue
 
 -- the sides that one declaration sets: all four for a shorthand
 pub data Side : Type 0 where
@@ -57,6 +66,11 @@ pub data Declaration : Type 0 where
   SetBorder : (side : Side) (units : ℕ) → Declaration
   SetBoxSizing : (value : BoxSizing) → Declaration
   SetOverflow : (value : Overflow) → Declaration
+  SetPosition : (value : Position) → Declaration
+  SetTop : (value : InsetValue) → Declaration
+  SetRight : (value : InsetValue) → Declaration
+  SetBottom : (value : InsetValue) → Declaration
+  SetLeft : (value : InsetValue) → Declaration
 
 abbrev pub all_four : {A : Type 0} → A → Sides A
 all_four value = record { top = value; right = value; bottom = value; left = value }
@@ -84,6 +98,8 @@ first_style = record {
   border = all_four 0;
   box_sizing = ContentBox;
   overflow = OverflowVisible;
+  position = StaticPosition;
+  inset = all_four AutomaticInset;
 }
 
 -- the style once a declaration is set
@@ -100,3 +116,8 @@ declared (SetPadding side value) style = record style { padding = with_side side
 declared (SetBorder side units) style = record style { border = with_side side units (style.border) }
 declared (SetBoxSizing value) style = record style { box_sizing = value }
 declared (SetOverflow value) style = record style { overflow = value }
+declared (SetPosition value) style = record style { position = value }
+declared (SetTop value) style = record style { inset = record (style.inset) { top = value } }
+declared (SetRight value) style = record style { inset = record (style.inset) { right = value } }
+declared (SetBottom value) style = record style { inset = record (style.inset) { bottom = value } }
+declared (SetLeft value) style = record style { inset = record (style.inset) { left = value } }

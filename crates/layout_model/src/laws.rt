@@ -1,15 +1,17 @@
 //! Laws of the definitions: each is the contract of a function that does nothing.
 
-ghost use Rattle.std.specs.Prelude.{◌==◌, ◌||◌, ◌≡◌, ◌≢◌, ◌≤◌, ◌⊎◌, ◌+◌, ◌-◌, ℕ, ℤ, pos, Option, Some, None, true, false};
-ghost use Rattle.px_units.specs.Lengths.{LengthValue, cap, Automatic, Pixels, Percentage};
-ghost use Rattle.layout_model.specs.Styles.{ContentBox, BorderBox};
+ghost use Rattle.std.specs.Prelude.{◌==◌, ◌||◌, ◌&&◌, ◌≡◌, ◌<◌, ◌≤◌, ◌⊎◌, ◌+◌, ◌-◌, ℕ, ℤ, pos, ◌+ℤ◌, ◌-ℤ◌, ◌≤ℤ◌, Some, None, is_some, true, false, not, find};
+ghost use Rattle.px_units.specs.Lengths.{LengthValue, cap, clamped, Automatic, Pixels, Percentage};
+ghost use Rattle.layout_model.specs.Styles.{ContentBox, BorderBox, StaticPosition, RelativePosition, AbsolutePosition, FixedPosition};
 ghost use Rattle.layout_model.specs.Items.{Item, BlockKind};
-ghost use Rattle.layout_model.specs.Nodes.{Node, levels, depth_of, is_in_path, top_of, IsLinked, IsShallow, IsDistinct};
-ghost use Rattle.layout_model.specs.Boxes.{Inputs, against, computed, child_inputs, inputs_in, box_in, kids_of, total, padding_width, padding_height, padding_size, padding_corner, border_width, border_height, border_size};
-ghost use Rattle.layout_model.specs.Reach.{View, view_size, view_inputs, margin_corner, inputs_in_view, reach_of, reach_of_view, range_of, range_of_view, offset_in_force, view_in_force};
-ghost use Rattle.layout_model.specs.Places.{height_above, offset_of, place_in};
-ghost use Rattle.layout_model.specs.Points.{plus, minus, capped, moved, moved_back, IsWithin};
-ghost use Rattle.layout_model.specs.Unclipped.{Unclipped};
+ghost use Rattle.layout_model.specs.Nodes.{Node, levels, depth_of, ancestors_of, is_in_path, top_of, position_of, is_positioned, is_in_flow, HeldByElement, HeldByPage, HeldByScreen, holder, held_by, held, is_on_screen, IsLinked, IsListed, IsShallow};
+ghost use Rattle.layout_model.specs.Clips.{is_block};
+ghost use Rattle.layout_model.specs.Boxes.{Inputs, against, used_insets, is_stretched, computed, child_inputs, inputs_held, inputs_in, box_in, kids_of, total, padding_width, padding_height, padding_size, border_width, border_height};
+ghost use Rattle.layout_model.specs.Views.{View, view_size, inputs_in_view};
+ghost use Rattle.layout_model.specs.FlatPlaces.{shift_of, height_above, offset_of, border_corner, flat_place};
+ghost use Rattle.layout_model.specs.Reach.{clipped_by, reach_of, reach_of_view, range_of, range_of_view, offset_in_force, view_in_force};
+ghost use Rattle.layout_model.specs.Places.{place_in};
+ghost use Rattle.layout_model.specs.Points.{capped, moved, moved_back, IsWithin};
 
 /// A node's depth is one more than its parent's, and 1 without a parent, in trees of at most 65,536 levels.
 pub fn depth_counts_ancestors()
@@ -37,28 +39,58 @@ pub fn inputs_do_not_depend_on_children()
         item.style.height ≡ Percentage hundredths → inputs.height ≡ Some basis →
         (child_inputs item inputs).height ≡ Some ((computed item inputs inside).height) }
     ensures indefinite { (item : Item) (inputs : Inputs) (hundredths : ℕ) →
-        item.style.height ≡ Percentage hundredths → inputs.height ≡ None → (child_inputs item inputs).height ≡ None }
+        item.style.height ≡ Percentage hundredths → inputs.height ≡ None →
+        is_stretched inputs (used_insets item.style.inset inputs) ≡ false → (child_inputs item inputs).height ≡ None }
     ensures automatic { (item : Item) (inputs : Inputs) → item.style.height ≡ Automatic →
-        (child_inputs item inputs).height ≡ None }
+        is_stretched inputs (used_insets item.style.inset inputs) ≡ false → (child_inputs item inputs).height ≡ None }
+    ensures stretched { (item : Item) (inputs : Inputs) (inside : ℕ) → item.kind ≡ BlockKind → item.style.height ≡ Automatic →
+        is_stretched inputs (used_insets item.style.inset inputs) ≡ true →
+        (child_inputs item inputs).height ≡ Some ((computed item inputs inside).height) }
+    ensures flow { (item : Item) (inputs : Inputs) → (child_inputs item inputs).flow ≡ true }
 {}
 
-/// A root element has the viewport as inputs, and a child what its parent hands down; there is no box where the element
-/// isn't displayed, its parent has no box or is no block, or it tops another tree.
+/// What holds a box: the parent's box in flow, the screen for a fixed one, and for an absolute one its parent's box where that is
+/// positioned, else what would hold an absolute box in the parent's place. A node without a parent is in flow, and the page holds it.
+pub fn holders_go_up()
+    ensures flow { (at : ℕ → Node) (c p : ℕ) → (at c).parent ≡ Some p → is_in_flow (at c) ≡ true → holder at c ≡ HeldByElement p }
+    ensures absolute { (at : ℕ → Node) (c p : ℕ) → (at c).parent ≡ Some p → depth_of at p ≤ levels →
+        position_of (at c) ≡ AbsolutePosition → is_positioned (at p) ≡ true → holder at c ≡ HeldByElement p }
+    ensures passed { (at : ℕ → Node) (c p : ℕ) → (at c).parent ≡ Some p → depth_of at p ≤ levels →
+        position_of (at c) ≡ AbsolutePosition → is_positioned (at p) ≡ false →
+        holder at c ≡ held_by (find (λ a. is_positioned (at a)) (ancestors_of at p)) }
+    ensures fixed { (at : ℕ → Node) (n : ℕ) → position_of (at n) ≡ FixedPosition → holder at n ≡ HeldByScreen }
+    ensures top { (at : ℕ → Node) (n : ℕ) → (at n).parent ≡ None → holder at n ≡ HeldByPage }
+    ensures ancestor { (at : ℕ → Node) → IsShallow at → (n h : ℕ) → holder at n ≡ HeldByElement h →
+        (is_in_path at h n ≡ true) × depth_of at h < depth_of at n }
+    ensures shallow { (at : ℕ → Node) → IsShallow at → IsShallow (held at) }
+{}
+
+/// A node has a box where its parent is a block with one and it is displayed; a root element where it is displayed. There is no box
+/// in another tree.
+pub fn boxes_go_down()
+    ensures root { (at : ℕ → Node) (root : ℕ) (viewport : Inputs) (n : ℕ) → (at n).parent ≡ None →
+        is_some (inputs_in at root viewport n) ≡ (not (at n).item.style.hidden && n == root) }
+    ensures child { (at : ℕ → Node) (root : ℕ) (viewport : Inputs) (c p : ℕ) → (at c).parent ≡ Some p → depth_of at p ≤ levels →
+        is_some (inputs_in at root viewport c)
+        ≡ (not (at c).item.style.hidden && (is_block (at p).item.kind && is_some (inputs_in at root viewport p))) }
+{}
+
+/// The inputs of a node with a box are the viewport's for a root element, in flow what its parent hands down, and out of flow the size
+/// of the padding box of the element that holds it, or of the viewport where none does.
 pub fn inputs_go_down()
-    ensures root { (at : ℕ → Node) (root : ℕ) (viewport : Inputs) → (at root).parent ≡ None →
-        (at root).item.style.hidden ≡ false → inputs_in at root viewport root ≡ Some viewport }
-    ensures child { (at : ℕ → Node) (root : ℕ) (viewport inputs : Inputs) (c p : ℕ) → (at c).parent ≡ Some p →
-        depth_of at p ≤ levels → (at c).item.style.hidden ≡ false → (at p).item.kind ≡ BlockKind →
-        inputs_in at root viewport p ≡ Some inputs →
-        inputs_in at root viewport c ≡ Some (child_inputs ((at p).item) inputs) }
-    ensures hidden { (at : ℕ → Node) (root : ℕ) (viewport : Inputs) (n : ℕ) → (at n).item.style.hidden ≡ true →
-        inputs_in at root viewport n ≡ None }
-    ensures outside { (at : ℕ → Node) (root : ℕ) (viewport : Inputs) (c p : ℕ) → (at c).parent ≡ Some p →
-        depth_of at p ≤ levels → inputs_in at root viewport p ≡ None → inputs_in at root viewport c ≡ None }
-    ensures leaf { (at : ℕ → Node) (root : ℕ) (viewport : Inputs) (c p : ℕ) → (at c).parent ≡ Some p →
-        depth_of at p ≤ levels → (at p).item.kind ≢ BlockKind → inputs_in at root viewport c ≡ None }
-    ensures elsewhere { (at : ℕ → Node) (root : ℕ) (viewport : Inputs) (n : ℕ) → (at n).parent ≡ None → n ≢ root →
-        inputs_in at root viewport n ≡ None }
+    ensures root { (at : ℕ → Node) (root : ℕ) (viewport inputs : Inputs) (n : ℕ) → (at n).parent ≡ None →
+        inputs_in at root viewport n ≡ Some inputs → inputs ≡ record viewport { flow = true } }
+    ensures flow { (at : ℕ → Node) → IsShallow at → (root : ℕ) (viewport inputs above : Inputs) (c p : ℕ) → (at c).parent ≡ Some p →
+        is_in_flow (at c) ≡ true → inputs_in at root viewport c ≡ Some inputs → inputs_in at root viewport p ≡ Some above →
+        inputs ≡ child_inputs ((at p).item) above }
+    ensures element { (at : ℕ → Node) → IsShallow at → (root : ℕ) (viewport inputs above : Inputs) (n h : ℕ) →
+        is_in_flow (at n) ≡ false → holder at n ≡ HeldByElement h →
+        inputs_in at root viewport n ≡ Some inputs → inputs_in at root viewport h ≡ Some above →
+        inputs ≡ inputs_held (box_in at above h) }
+    ensures page { (at : ℕ → Node) (root : ℕ) (viewport inputs : Inputs) (n : ℕ) → is_in_flow (at n) ≡ false →
+        holder at n ≡ HeldByPage → inputs_in at root viewport n ≡ Some inputs → inputs ≡ record viewport { flow = false } }
+    ensures screen { (at : ℕ → Node) (root : ℕ) (viewport inputs : Inputs) (n : ℕ) → holder at n ≡ HeldByScreen →
+        inputs_in at root viewport n ≡ Some inputs → inputs ≡ record viewport { flow = false } }
 {}
 
 /// A box comes from those of its children alone, which are stacked in it.
@@ -105,13 +137,28 @@ pub fn used_sizes_keep_their_limits()
         border_height (computed item inputs inside) ≤ most }
 {}
 
-/// A block of automatic width, not limited, fills its containing width with its margins, where its edges leave room.
+/// A block of automatic width, not limited, fills its containing width with its margins, where its edges leave room; out of flow it does
+/// so with its insets. Between two vertical insets a block of automatic height out of flow fills its containing height so.
 pub fn automatic_blocks_fill_their_width()
-    ensures value { (item : Item) (inputs : Inputs) (inside : ℕ) → item.kind ≡ BlockKind →
+    ensures value { (item : Item) (inputs : Inputs) (inside : ℕ) → item.kind ≡ BlockKind → inputs.flow ≡ true →
         item.style.width ≡ Automatic → item.style.min_width ≡ Pixels 0 → item.style.max_width ≡ None →
         (computed item inputs inside).margin.left + border_width (computed item inputs inside) + (computed item inputs inside).margin.right ≤ inputs.width + (computed item inputs inside).width →
         inputs.width ≤ 2147483647 →
         (computed item inputs inside).margin.left + border_width (computed item inputs inside) + (computed item inputs inside).margin.right ≡ inputs.width }
+    ensures out_of_flow { (item : Item) (inputs : Inputs) (inside : ℕ) (left right : ℤ) → item.kind ≡ BlockKind → inputs.flow ≡ false →
+        item.style.width ≡ Automatic → item.style.min_width ≡ Pixels 0 → item.style.max_width ≡ None →
+        (used_insets item.style.inset inputs).left ≡ Some left → (used_insets item.style.inset inputs).right ≡ Some right →
+        let own = computed item inputs inside in
+        (left +ℤ pos (own.margin.left + border_width own + own.margin.right) +ℤ right) ≤ℤ pos (inputs.width + own.width) →
+        (computed item inputs inside).width < 2147483647 →
+        left +ℤ pos (own.margin.left + border_width own + own.margin.right) +ℤ right ≡ pos inputs.width }
+    ensures high { (item : Item) (inputs : Inputs) (inside height : ℕ) (top bottom : ℤ) → item.kind ≡ BlockKind → inputs.flow ≡ false →
+        item.style.height ≡ Automatic → item.style.min_height ≡ Pixels 0 → item.style.max_height ≡ None → inputs.height ≡ Some height →
+        (used_insets item.style.inset inputs).top ≡ Some top → (used_insets item.style.inset inputs).bottom ≡ Some bottom →
+        let own = computed item inputs inside in
+        (top +ℤ pos (own.margin.top + border_height own + own.margin.bottom) +ℤ bottom) ≤ℤ pos (height + own.height) →
+        (computed item inputs inside).height < 2147483647 →
+        top +ℤ pos (own.margin.top + border_height own + own.margin.bottom) +ℤ bottom ≡ pos height }
 {}
 
 /// No used size is greater than the largest length.
@@ -127,28 +174,63 @@ pub fn offsets_stay_in_range()
     ensures viewport { (at : ℕ → Node) (view : View) → IsWithin (view_in_force at view) (range_of_view at view) }
 {}
 
-/// An element's place is its parent's, moved by its own offset and back by what its parent is scrolled. That of a root
-/// element is its own offset, moved back by what the viewport is scrolled.
+/// A flat place is the parent's, moved by the own offset, and for a relative box by its shift too. Out of flow it is on each axis by
+/// the inset of the near side, else by that of the far one, from the padding box of what holds it; with neither it is the place in the
+/// flow. (CSS 2.2, 9.4.3, 10.3.7 and 10.6.4.)
+pub fn flat_places_go_down()
+    ensures root { (at : ℕ → Node) (view : View) (n : ℕ) → (at n).parent ≡ None →
+        flat_place at view n ≡ moved (pos 0, pos 0) (offset_of at view n) }
+    ensures unmoved { (at : ℕ → Node) → IsShallow at → (view : View) (c p : ℕ) → (at c).parent ≡ Some p → position_of (at c) ≡ StaticPosition →
+        flat_place at view c ≡ moved (flat_place at view p) (offset_of at view c) }
+    ensures relative { (at : ℕ → Node) → IsShallow at → (view : View) (inputs : Inputs) (c p : ℕ) → (at c).parent ≡ Some p →
+        position_of (at c) ≡ RelativePosition → inputs_in_view at view c ≡ Some inputs →
+        let shift = shift_of (used_insets (at c).item.style.inset inputs) in
+        flat_place at view c
+        ≡ ((flat_place at view p).0 +ℤ pos (offset_of at view c).0 +ℤ shift.0, (flat_place at view p).1 +ℤ pos (offset_of at view c).1 +ℤ shift.1) }
+    ensures near { (at : ℕ → Node) → IsShallow at → (view : View) (inputs : Inputs) (n h : ℕ) (left : ℤ) → is_in_flow (at n) ≡ false →
+        inputs_in_view at view n ≡ Some inputs → holder at n ≡ HeldByElement h → (used_insets (at n).item.style.inset inputs).left ≡ Some left →
+        (flat_place at view n).0
+        ≡ (moved (flat_place at view h) (border_corner (at h).item)).0 +ℤ clamped (left +ℤ pos (box_in at inputs n).margin.left) }
+    ensures far { (at : ℕ → Node) → IsShallow at → (view : View) (inputs : Inputs) (n h : ℕ) (right : ℤ) → is_in_flow (at n) ≡ false →
+        inputs_in_view at view n ≡ Some inputs → holder at n ≡ HeldByElement h → (used_insets (at n).item.style.inset inputs).left ≡ None →
+        (used_insets (at n).item.style.inset inputs).right ≡ Some right →
+        (flat_place at view n).0
+        ≡ (moved (flat_place at view h) (border_corner (at h).item)).0
+        +ℤ clamped (pos inputs.width -ℤ right -ℤ pos (box_in at inputs n).margin.right -ℤ pos (border_width (box_in at inputs n))) }
+    ensures neither { (at : ℕ → Node) → IsShallow at → (view : View) (inputs : Inputs) (c p : ℕ) → (at c).parent ≡ Some p →
+        inputs_in_view at view c ≡ Some inputs → is_in_flow (at c) ≡ false →
+        (used_insets (at c).item.style.inset inputs).left ≡ None → (used_insets (at c).item.style.inset inputs).right ≡ None →
+        (flat_place at view c).0 ≡ (flat_place at view p).0 +ℤ pos (offset_of at view c).0 }
+    ensures on_screen { (at : ℕ → Node) (view : View) (inputs : Inputs) (n : ℕ) (left : ℤ) → is_in_flow (at n) ≡ false →
+        inputs_in_view at view n ≡ Some inputs → (holder at n ≡ HeldByPage) ⊎ (holder at n ≡ HeldByScreen) →
+        (used_insets (at n).item.style.inset inputs).left ≡ Some left →
+        (flat_place at view n).0 ≡ clamped (left +ℤ pos (box_in at inputs n).margin.left) }
+{}
+
+/// A place is the flat one, moved back by what each element that holds the box is scrolled, and by what the viewport is where the screen
+/// holds none of them. So what one element holds moves with it.
 pub fn places_add_up()
-    ensures child { (at : ℕ → Node) (stored : ℕ → ℕ × ℕ) (view : View) (c p : ℕ) → (at c).parent ≡ Some p →
-        depth_of at p ≤ levels →
-        place_in at stored view c
-        ≡ moved_back (moved (place_in at stored view p) (offset_of at view c)) (offset_in_force at stored view p) }
-    ensures root { (at : ℕ → Node) (stored : ℕ → ℕ × ℕ) (view : View) (n : ℕ) → (at n).parent ≡ None →
-        place_in at stored view n ≡ moved_back (moved (pos 0, pos 0) (offset_of at view n)) (view_in_force at view) }
+    ensures element { (at : ℕ → Node) (stored : ℕ → ℕ × ℕ) (view : View) → IsShallow at → (n h : ℕ) → holder at n ≡ HeldByElement h →
+        let place = moved_back (place_in at stored view h) (offset_in_force at stored view h) in
+        place_in at stored view n
+        ≡ (place.0 +ℤ (flat_place at view n).0 -ℤ (flat_place at view h).0, place.1 +ℤ (flat_place at view n).1 -ℤ (flat_place at view h).1) }
+    ensures page { (at : ℕ → Node) (stored : ℕ → ℕ × ℕ) (view : View) (n : ℕ) → holder at n ≡ HeldByPage →
+        place_in at stored view n ≡ moved_back (flat_place at view n) (view_in_force at view) }
+    ensures screen { (at : ℕ → Node) (stored : ℕ → ℕ × ℕ) (view : View) (n : ℕ) → holder at n ≡ HeldByScreen →
+        place_in at stored view n ≡ flat_place at view n }
 {}
 
 /// The offset of an element in its parent, by their boxes: past the parent's left border and padding and the own left
-/// margin, and downwards past its earlier siblings too.
+/// margin, and downwards past its earlier siblings in flow too.
 pub fn offsets_come_from_boxes()
-    ensures across { (at : ℕ → Node) (view : View) (inputs : Inputs) (c p : ℕ) → (at c).parent ≡ Some p →
-        inputs_in_view at view p ≡ Some inputs →
+    ensures across { (at : ℕ → Node) (view : View) (inputs own : Inputs) (c p : ℕ) → (at c).parent ≡ Some p →
+        inputs_in_view at view p ≡ Some inputs → inputs_in_view at view c ≡ Some own →
         (offset_of at view c).0
-        ≡ cap ((box_in at inputs p).border.left + (box_in at inputs p).padding.left + (box_in at (child_inputs ((at p).item) inputs) c).margin.left) }
-    ensures down { (at : ℕ → Node) (view : View) (inputs : Inputs) (c p : ℕ) → (at c).parent ≡ Some p →
-        inputs_in_view at view p ≡ Some inputs →
+        ≡ cap ((box_in at inputs p).border.left + (box_in at inputs p).padding.left + (box_in at own c).margin.left) }
+    ensures down { (at : ℕ → Node) (view : View) (inputs own : Inputs) (c p : ℕ) → (at c).parent ≡ Some p →
+        inputs_in_view at view p ≡ Some inputs → inputs_in_view at view c ≡ Some own →
         (offset_of at view c).1
-        ≡ cap ((box_in at inputs p).border.top + (box_in at inputs p).padding.top + height_above at (child_inputs ((at p).item) inputs) (at p) c + (box_in at (child_inputs ((at p).item) inputs) c).margin.top) }
+        ≡ cap ((box_in at inputs p).border.top + (box_in at inputs p).padding.top + height_above at (child_inputs ((at p).item) inputs) (at p) c + (box_in at own c).margin.top) }
     ensures root { (at : ℕ → Node) (view : View) (inputs : Inputs) (n : ℕ) → (at n).parent ≡ None →
         inputs_in_view at view n ≡ Some inputs →
         offset_of at view n ≡ capped ((box_in at inputs n).margin.left, (box_in at inputs n).margin.top) }
@@ -163,51 +245,50 @@ pub fn reaches_cover_the_padding_box()
     ensures viewport { (at : ℕ → Node) (view : View) → IsWithin (capped (view_size view)) (reach_of_view at view) }
 {}
 
-/// A scroll container reaches at least as far as the border box of each descendant with no clipping box in between, and
-/// a viewport as far as those of its root element and the like descendants.
+/// A scroll container reaches at least as far as each box that it is the nearest clipping one to hold, and a viewport as far as each
+/// box that none clips and the page holds, where each node with a parent is among its children.
 pub fn no_box_passes_the_reach()
-    ensures element { (at : ℕ → Node) → IsLinked at → IsShallow at → (view : View) (inputs : Inputs) (n : ℕ) →
-        inputs_in_view at view n ≡ Some inputs → (d : ℕ) (corner : ℕ × ℕ) (below : Inputs) →
-        Unclipped at n inputs (0, 0) d corner below →
-        IsWithin (capped (minus (plus corner (border_size (box_in at below d))) (padding_corner (box_in at inputs n)))) (reach_of at view n) }
-    ensures root { (at : ℕ → Node) (view : View) (root : ℕ) → view.root ≡ Some root →
-        (at root).item.style.hidden ≡ false →
-        IsWithin (capped (plus (margin_corner (view_inputs view) ((at root).item)) (border_size (box_in at (view_inputs view) root)))) (reach_of_view at view) }
-    ensures viewport { (at : ℕ → Node) → IsLinked at → IsShallow at → (view : View) (root : ℕ) →
-        view.root ≡ Some root → (at root).parent ≡ None → (at root).item.style.hidden ≡ false → (d : ℕ) (corner : ℕ × ℕ) (below : Inputs) →
-        Unclipped at root (view_inputs view) (margin_corner (view_inputs view) ((at root).item)) d corner below →
-        IsWithin (capped (plus corner (border_size (box_in at below d)))) (reach_of_view at view) }
+    ensures across { (at : ℕ → Node) → IsListed at → IsShallow at → (view : View) (inputs below : Inputs) (n d : ℕ) →
+        inputs_in_view at view n ≡ Some inputs → inputs_in_view at view d ≡ Some below → clipped_by at d ≡ Some n →
+        ((flat_place at view d).0 +ℤ pos (border_width (box_in at below d)) -ℤ (moved (flat_place at view n) (border_corner (at n).item)).0) ≤ℤ pos 2147483647 →
+        ((flat_place at view d).0 +ℤ pos (border_width (box_in at below d)) -ℤ (moved (flat_place at view n) (border_corner (at n).item)).0)
+        ≤ℤ pos (reach_of at view n).0 }
+    ensures down { (at : ℕ → Node) → IsListed at → IsShallow at → (view : View) (inputs below : Inputs) (n d : ℕ) →
+        inputs_in_view at view n ≡ Some inputs → inputs_in_view at view d ≡ Some below → clipped_by at d ≡ Some n →
+        ((flat_place at view d).1 +ℤ pos (border_height (box_in at below d)) -ℤ (moved (flat_place at view n) (border_corner (at n).item)).1) ≤ℤ pos 2147483647 →
+        ((flat_place at view d).1 +ℤ pos (border_height (box_in at below d)) -ℤ (moved (flat_place at view n) (border_corner (at n).item)).1)
+        ≤ℤ pos (reach_of at view n).1 }
+    ensures view_across { (at : ℕ → Node) → IsListed at → IsShallow at → (view : View) (below : Inputs) (d : ℕ) →
+        inputs_in_view at view d ≡ Some below → clipped_by at d ≡ None → is_on_screen at d ≡ false →
+        ((flat_place at view d).0 +ℤ pos (border_width (box_in at below d))) ≤ℤ pos 2147483647 →
+        ((flat_place at view d).0 +ℤ pos (border_width (box_in at below d))) ≤ℤ pos (reach_of_view at view).0 }
+    ensures view_down { (at : ℕ → Node) → IsListed at → IsShallow at → (view : View) (below : Inputs) (d : ℕ) →
+        inputs_in_view at view d ≡ Some below → clipped_by at d ≡ None → is_on_screen at d ≡ false →
+        ((flat_place at view d).1 +ℤ pos (border_height (box_in at below d))) ≤ℤ pos 2147483647 →
+        ((flat_place at view d).1 +ℤ pos (border_height (box_in at below d))) ≤ℤ pos (reach_of_view at view).1 }
 {}
 
-/// How far something reaches is met: by the padding box, or the viewport's own size, or by one of these border boxes.
+/// How far something reaches is met: by the padding box, or the viewport's own size, or by one of these border boxes, or it is the
+/// largest length.
 pub fn each_reach_is_met()
-    ensures across { (at : ℕ → Node) → IsDistinct at → (view : View) (inputs : Inputs) (n : ℕ) →
-        inputs_in_view at view n ≡ Some inputs → ((reach_of at view n).0 ≡ cap (padding_width (box_in at inputs n))) ⊎
-        ((d : ℕ) × (corner : ℕ × ℕ) × (below : Inputs) × Unclipped at n inputs (0, 0) d corner below ×
-        ((reach_of at view n).0
-        ≡ cap (corner.0 + border_width (box_in at below d) - (box_in at inputs n).border.left))) }
-    ensures down { (at : ℕ → Node) → IsDistinct at → (view : View) (inputs : Inputs) (n : ℕ) →
-        inputs_in_view at view n ≡ Some inputs →
-        ((reach_of at view n).1 ≡ cap (padding_height (box_in at inputs n))) ⊎
-        ((d : ℕ) × (corner : ℕ × ℕ) × (below : Inputs) × Unclipped at n inputs (0, 0) d corner below ×
-        ((reach_of at view n).1
-        ≡ cap (corner.1 + border_height (box_in at below d) - (box_in at inputs n).border.top))) }
+    ensures across { (at : ℕ → Node) (view : View) (inputs : Inputs) (n : ℕ) → inputs_in_view at view n ≡ Some inputs →
+        ((reach_of at view n).0 ≡ cap (padding_width (box_in at inputs n))) ⊎ ((reach_of at view n).0 ≡ 2147483647) ⊎
+        ((d : ℕ) × (below : Inputs) × (clipped_by at d ≡ Some n) × (inputs_in_view at view d ≡ Some below) ×
+        (pos (reach_of at view n).0
+        ≡ (flat_place at view d).0 +ℤ pos (border_width (box_in at below d)) -ℤ (moved (flat_place at view n) (border_corner (at n).item)).0)) }
+    ensures down { (at : ℕ → Node) (view : View) (inputs : Inputs) (n : ℕ) → inputs_in_view at view n ≡ Some inputs →
+        ((reach_of at view n).1 ≡ cap (padding_height (box_in at inputs n))) ⊎ ((reach_of at view n).1 ≡ 2147483647) ⊎
+        ((d : ℕ) × (below : Inputs) × (clipped_by at d ≡ Some n) × (inputs_in_view at view d ≡ Some below) ×
+        (pos (reach_of at view n).1
+        ≡ (flat_place at view d).1 +ℤ pos (border_height (box_in at below d)) -ℤ (moved (flat_place at view n) (border_corner (at n).item)).1)) }
     ensures nothing { (at : ℕ → Node) (view : View) → view.root ≡ None →
         reach_of_view at view ≡ capped (view_size view) }
-    ensures view_across { (at : ℕ → Node) → IsDistinct at → (view : View) (root : ℕ) → view.root ≡ Some root →
-        (at root).parent ≡ None → (at root).item.style.hidden ≡ false →
-        ((reach_of_view at view).0 ≡ cap (view.width)) ⊎
-        ((reach_of_view at view).0
-        ≡ cap ((margin_corner (view_inputs view) ((at root).item)).0 + border_width (box_in at (view_inputs view) root))) ⊎
-        ((d : ℕ) × (corner : ℕ × ℕ) × (below : Inputs) ×
-        Unclipped at root (view_inputs view) (margin_corner (view_inputs view) ((at root).item)) d corner below ×
-        ((reach_of_view at view).0 ≡ cap (corner.0 + border_width (box_in at below d)))) }
-    ensures view_down { (at : ℕ → Node) → IsDistinct at → (view : View) (root : ℕ) → view.root ≡ Some root →
-        (at root).parent ≡ None → (at root).item.style.hidden ≡ false →
-        ((reach_of_view at view).1 ≡ cap (view.height)) ⊎
-        ((reach_of_view at view).1
-        ≡ cap ((margin_corner (view_inputs view) ((at root).item)).1 + border_height (box_in at (view_inputs view) root))) ⊎
-        ((d : ℕ) × (corner : ℕ × ℕ) × (below : Inputs) ×
-        Unclipped at root (view_inputs view) (margin_corner (view_inputs view) ((at root).item)) d corner below ×
-        ((reach_of_view at view).1 ≡ cap (corner.1 + border_height (box_in at below d)))) }
+    ensures view_across { (at : ℕ → Node) (view : View) →
+        ((reach_of_view at view).0 ≡ cap view.width) ⊎ ((reach_of_view at view).0 ≡ 2147483647) ⊎
+        ((d : ℕ) × (below : Inputs) × (clipped_by at d ≡ None) × (is_on_screen at d ≡ false) × (inputs_in_view at view d ≡ Some below) ×
+        (pos (reach_of_view at view).0 ≡ (flat_place at view d).0 +ℤ pos (border_width (box_in at below d)))) }
+    ensures view_down { (at : ℕ → Node) (view : View) →
+        ((reach_of_view at view).1 ≡ cap view.height) ⊎ ((reach_of_view at view).1 ≡ 2147483647) ⊎
+        ((d : ℕ) × (below : Inputs) × (clipped_by at d ≡ None) × (is_on_screen at d ≡ false) × (inputs_in_view at view d ≡ Some below) ×
+        (pos (reach_of_view at view).1 ≡ (flat_place at view d).1 +ℤ pos (border_height (box_in at below d)))) }
 {}

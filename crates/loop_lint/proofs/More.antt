@@ -1,14 +1,16 @@
 -- Where elements and documents are made, the sizes of those that there were stay: nothing in their tree has changed.
 use Rattle.std.proofs.Common.{◌≡◌, refl, subst, ap, ◌∙◌, arith, ◌≤◌}
-use Rattle.std.specs.Prelude.{ℕ, zero, suc, ◌+◌, ◌<◌, ◌==◌, Bool, true, false, cond, List, [], ◌∷◌, ◌++◌, length, sum_by, unwrap_or, option_map, option_and_then, Option, Some, None, IfSome}
+use Rattle.std.specs.Prelude.{ℕ, zero, suc, ◌+◌, ◌<◌, ◌==◌, ◌&&◌, not, Bool, true, false, cond, List, [], ◌∷◌, ◌++◌, find, length, sum_by, unwrap_or, option_map, option_and_then, Option, Some, None, IfSome}
 use Rattle.std.specs.List.{AllByRecursion}
 use Rattle.std.proofs.lemmas.List.Sums.{sum_by-cons}
 use Rattle.px_units.specs.declared.BoxKind.{BoxKind}
 use Rattle.px_units.specs.Lengths.{cap}
 use Rattle.layout_model.specs.Items.{Kind, BlockKind, ImageKind, FrameKind}
-use Rattle.layout_model.specs.Nodes.{Node, path_above, path_up, path_of, levels}
-use Rattle.layout_model.specs.Boxes.{Inputs, Box, computed, child_inputs, inner_children, kids_of, shown_height, counted, margin_height, total, box_at, box_down, box_in, content_size, inputs_if_block, if_shown, inputs_along, inputs_in}
-use Rattle.layout_model.specs.Reach.{View, view_inputs, inputs_in_view}
+use Rattle.layout_model.specs.Styles.{Position, StaticPosition, RelativePosition, AbsolutePosition, FixedPosition}
+use Rattle.layout_model.specs.Clips.{is_block}
+use Rattle.layout_model.specs.Nodes.{Node, path_above, path_up, path_of, ancestors_of, levels, position_of, is_positioned, is_in_flow, Holder, HeldByElement, HeldByPage, HeldByScreen, held_by, holder_by, holder, element_of}
+use Rattle.layout_model.specs.Boxes.{Inputs, Box, computed, child_inputs, inner_children, kids_of, shown_height, is_passed, counted, margin_height, total, box_at, box_down, box_in, content_size, inputs_held, inputs_by_element, inputs_by, inputs_up, inputs_at, has_box_along, has_box_in, inputs_in}
+use Rattle.layout_model.specs.Views.{View, view_inputs, inputs_in_view}
 use Rattle.page_model.specs.World.{Screen, Element, Document, DocumentState, Fresh, Active, Dead, Tree}
 use Rattle.page_model.specs.Lookups.{entry_or, element_at, document_at, no_element, no_document}
 use Rattle.page_model.specs.Documents.{node_of, nodes_of, is_active, is_active_state, frame_levels}
@@ -98,39 +100,61 @@ module _ (counts : Counts) (tree after : Tree) (elements : counts.elements ≡ l
       (ap (λ (node : Node). path_above (path_up high (nodes_of after)) (node.parent)) (same-node n is)
       ∙ above-same high (path-same high) (nodes_of tree n).parent (element-in n is).parent)
 
-  -- inputs
+  -- what holds a box
 
-  abbrev under : Node → Node → Option Inputs → Option Inputs
-  under node parent found = if_shown (node.item.style.hidden) (inputs_if_block (parent.item.kind) (parent.item) found)
+  ancestors-same : (n : ℕ) → IsThere n → ancestors_of (nodes_of after) n ≡ ancestors_of (nodes_of tree) n
+  unfolding ancestors_of path_of
+  ancestors-same n is =
+      ap (λ (node : Node). path_above (path_up levels (nodes_of after)) (node.parent)) (same-node n is)
+      ∙ above-same levels (path-same levels) (nodes_of tree n).parent (element-in n is).parent
 
-  abbrev topmost : ℕ → Inputs → ℕ → Node → Option Inputs
-  topmost root viewport n node = if_shown (node.item.style.hidden) (cond (n == root) (Some viewport) None)
+  ancestors-in : (n : ℕ) → IsThere n → AllByRecursion IsThere (ancestors_of (nodes_of tree) n)
+  unfolding ancestors_of path_of
+  ancestors-in n is = above-in levels (path-in levels) (nodes_of tree n).parent (element-in n is).parent
 
-  along-same : (root : ℕ) (viewport : Inputs) (path : List ℕ) → AllByRecursion IsThere path →
-      inputs_along (nodes_of after) root viewport path ≡ inputs_along (nodes_of tree) root viewport path
-  unfolding inputs_along
-  along-same root viewport [] are = refl
-  along-same root viewport (n ∷ []) are = ap (topmost root viewport n) (same-node n (are.0))
-  along-same root viewport (n ∷ (parent ∷ above)) are =
-      ap (λ (node : Node). under node (nodes_of after parent) (inputs_along (nodes_of after) root viewport (parent ∷ above))) (same-node n (are.0))
-      ∙ ap (λ (node : Node). under (nodes_of tree n) node (inputs_along (nodes_of after) root viewport (parent ∷ above))) (same-node parent (are.1.0))
-      ∙ ap (under (nodes_of tree n) (nodes_of tree parent)) (along-same root viewport (parent ∷ above) (are.1))
+  found-same : (path : List ℕ) → AllByRecursion IsThere path →
+      find (λ a. is_positioned (nodes_of after a)) path ≡ find (λ a. is_positioned (nodes_of tree a)) path
+  found-same [] are = refl
+  found-same (a ∷ path) are =
+      ap (λ (node : Node). cond (is_positioned node) (Some a) (find (λ a. is_positioned (nodes_of after a)) path)) (same-node a (are.0))
+      ∙ ap (cond (is_positioned (nodes_of tree a)) (Some a)) (found-same path (are.1))
 
-  inputs-same : (root : ℕ) (viewport : Inputs) (n : ℕ) → IsThere n →
-      inputs_in (nodes_of after) root viewport n ≡ inputs_in (nodes_of tree) root viewport n
-  unfolding inputs_in path_of
-  inputs-same root viewport n is =
-      ap (inputs_along (nodes_of after) root viewport) (path-same levels n is)
-      ∙ along-same root viewport (path_up levels (nodes_of tree) n) (path-in levels n is)
+  first-in : (a : ℕ) (rest : Option ℕ) (test : Bool) → IsThere a → IfSome rest IsThere → IfSome (cond test (Some a) rest) IsThere
+  first-in a rest true is others = is
+  first-in a rest false is others = others
 
-  viewed-same : (view : View) (n : ℕ) → IsThere n → inputs_in_view (nodes_of after) view n ≡ inputs_in_view (nodes_of tree) view n
-  unfolding inputs_in_view
-  viewed-same view n is = by (view.root)
+  found-in : (test : ℕ → Bool) (path : List ℕ) → AllByRecursion IsThere path → IfSome (find test path) IsThere
+  found-in test [] are = tt
+  found-in test (a ∷ path) are = first-in a (find test path) (test a) (are.0) (found-in test path (are.1))
+
+  by-position : (n : ℕ) → IsThere n → (position : Position) → holder_by (nodes_of after) n position ≡ holder_by (nodes_of tree) n position
+  by-position n is StaticPosition = ap (λ (node : Node). held_by (node.parent)) (same-node n is)
+  by-position n is RelativePosition = ap (λ (node : Node). held_by (node.parent)) (same-node n is)
+  by-position n is AbsolutePosition =
+      ap (λ path. held_by (find (λ a. is_positioned (nodes_of after a)) path)) (ancestors-same n is)
+      ∙ ap held_by (found-same (ancestors_of (nodes_of tree) n) (ancestors-in n is))
+  by-position n is FixedPosition = refl
+
+  holder-same : (n : ℕ) → IsThere n → holder (nodes_of after) n ≡ holder (nodes_of tree) n
+  unfolding holder
+  holder-same n is =
+      ap (λ (node : Node). holder_by (nodes_of after) n (position_of node)) (same-node n is) ∙ by-position n is (position_of (nodes_of tree n))
+
+  held-in : (found : Option ℕ) → IfSome found IsThere → IfSome (element_of (held_by found)) IsThere
+  held-in None is = tt
+  held-in (Some element) is = is
+
+  holder-in : (n : ℕ) → IsThere n → IfSome (element_of (holder (nodes_of tree) n)) IsThere
+  unfolding holder
+  holder-in n is = by (position_of (nodes_of tree n))
     where
-      by : (root : Option ℕ) → option_and_then (λ root. inputs_in (nodes_of after) root (view_inputs view) n) root
-          ≡ option_and_then (λ root. inputs_in (nodes_of tree) root (view_inputs view) n) root
-      by None = refl
-      by (Some root) = inputs-same root (view_inputs view) n is
+      by : (position : Position) → IfSome (element_of (holder_by (nodes_of tree) n position)) IsThere
+      by StaticPosition = held-in (nodes_of tree n).parent (element-in n is).parent
+      by RelativePosition = held-in (nodes_of tree n).parent (element-in n is).parent
+      by AbsolutePosition =
+          held-in (find (λ a. is_positioned (nodes_of tree a)) (ancestors_of (nodes_of tree) n))
+          (found-in (λ a. is_positioned (nodes_of tree a)) (ancestors_of (nodes_of tree) n) (ancestors-in n is))
+      by FixedPosition = tt
 
   -- boxes
 
@@ -146,7 +170,7 @@ module _ (counts : Counts) (tree after : Tree) (elements : counts.elements ≡ l
   counted-same : (box box' : ℕ → Box) (c : ℕ) → IsThere c → box' c ≡ box c → counted (nodes_of after) box' c ≡ counted (nodes_of tree) box c
   unfolding counted
   counted-same box box' c is same =
-      ap (λ (node : Node). shown_height box' c (node.item.style.hidden)) (same-node c is) ∙ shown-same box box' c ((nodes_of tree c).item.style.hidden) same
+      ap (λ (node : Node). shown_height box' c (is_passed node)) (same-node c is) ∙ shown-same box box' c (is_passed (nodes_of tree c)) same
 
   all-counted : (box box' : ℕ → Box) → ((c : ℕ) → IsThere c → box' c ≡ box c) → (kids : List ℕ) → AllByRecursion IsThere kids →
       AllByRecursion (λ c. counted (nodes_of after) box' c ≡ counted (nodes_of tree) box c) kids
@@ -168,6 +192,65 @@ module _ (counts : Counts) (tree after : Tree) (elements : counts.elements ≡ l
   whole-same : (inputs : Inputs) (n : ℕ) → IsThere n → box_in (nodes_of after) inputs n ≡ box_in (nodes_of tree) inputs n
   unfolding box_in
   whole-same inputs n is = box-same levels inputs n is
+
+  -- who has a box, and its inputs
+
+  along-same : (root : ℕ) (path : List ℕ) → AllByRecursion IsThere path →
+      has_box_along (nodes_of after) root path ≡ has_box_along (nodes_of tree) root path
+  unfolding has_box_along
+  along-same root [] are = refl
+  along-same root (n ∷ []) are = ap (λ (node : Node). not (node.item.style.hidden) && n == root) (same-node n (are.0))
+  along-same root (n ∷ (parent ∷ above)) are =
+      ap (λ (node : Node). not (node.item.style.hidden) && (is_block (nodes_of after parent).item.kind && has_box_along (nodes_of after) root (parent ∷ above)))
+      (same-node n (are.0))
+      ∙ ap (λ (node : Node). not ((nodes_of tree n).item.style.hidden) && (is_block (node.item.kind) && has_box_along (nodes_of after) root (parent ∷ above)))
+      (same-node parent (are.1.0))
+      ∙ ap (λ boxed. not ((nodes_of tree n).item.style.hidden) && (is_block (nodes_of tree parent).item.kind && boxed))
+      (along-same root (parent ∷ above) (are.1))
+
+  boxed-same : (root n : ℕ) → IsThere n → has_box_in (nodes_of after) root n ≡ has_box_in (nodes_of tree) root n
+  unfolding has_box_in path_of
+  boxed-same root n is =
+      ap (has_box_along (nodes_of after) root) (path-same levels n is)
+      ∙ along-same root (path_up levels (nodes_of tree) n) (path-in levels n is)
+
+  by-element : (h : ℕ) → IsThere h → (inputs : Inputs) (flow : Bool) →
+      inputs_by_element (nodes_of after) h inputs flow ≡ inputs_by_element (nodes_of tree) h inputs flow
+  by-element h is inputs true = ap (λ (node : Node). child_inputs (node.item) inputs) (same-node h is)
+  by-element h is inputs false = ap inputs_held (whole-same inputs h is)
+
+  by-holder : (viewport : Inputs) (above above' : ℕ → Inputs) → ((h : ℕ) → IsThere h → above' h ≡ above h) → (flow : Bool) (by : Holder) →
+      IfSome (element_of by) IsThere → inputs_by (nodes_of after) viewport above' flow by ≡ inputs_by (nodes_of tree) viewport above flow by
+  by-holder viewport above above' same flow (HeldByElement h) is =
+      by-element h is (above' h) flow ∙ ap (λ inputs. inputs_by_element (nodes_of tree) h inputs flow) (same h is)
+  by-holder viewport above above' same flow HeldByPage is = refl
+  by-holder viewport above above' same flow HeldByScreen is = refl
+
+  up-same : (high : ℕ) (viewport : Inputs) (n : ℕ) → IsThere n → inputs_up high (nodes_of after) viewport n ≡ inputs_up high (nodes_of tree) viewport n
+  unfolding inputs_up
+  up-same zero viewport n is = refl
+  up-same (suc high) viewport n is =
+      let above = inputs_up high (nodes_of after) viewport in
+      ap (λ (node : Node). inputs_by (nodes_of after) viewport above (is_in_flow node) (holder (nodes_of after) n)) (same-node n is)
+      ∙ ap (inputs_by (nodes_of after) viewport above (is_in_flow (nodes_of tree n))) (holder-same n is)
+      ∙ by-holder viewport (inputs_up high (nodes_of tree) viewport) above (λ h there. up-same high viewport h there) (is_in_flow (nodes_of tree n))
+      (holder (nodes_of tree) n) (holder-in n is)
+
+  inputs-same : (root : ℕ) (viewport : Inputs) (n : ℕ) → IsThere n →
+      inputs_in (nodes_of after) root viewport n ≡ inputs_in (nodes_of tree) root viewport n
+  unfolding inputs_in inputs_at
+  inputs-same root viewport n is =
+      ap (λ (boxed : Bool). cond boxed (Some (inputs_at (nodes_of after) viewport n)) None) (boxed-same root n is)
+      ∙ ap (λ (inputs : Inputs). cond (has_box_in (nodes_of tree) root n) (Some inputs) None) (up-same levels viewport n is)
+
+  viewed-same : (view : View) (n : ℕ) → IsThere n → inputs_in_view (nodes_of after) view n ≡ inputs_in_view (nodes_of tree) view n
+  unfolding inputs_in_view
+  viewed-same view n is = by (view.root)
+    where
+      by : (root : Option ℕ) → option_and_then (λ root. inputs_in (nodes_of after) root (view_inputs view) n) root
+          ≡ option_and_then (λ root. inputs_in (nodes_of tree) root (view_inputs view) n) root
+      by None = refl
+      by (Some root) = inputs-same root (view_inputs view) n is
 
   -- views
 

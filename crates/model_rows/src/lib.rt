@@ -4,6 +4,7 @@
 mod commanding;
 mod counting;
 mod intersecting;
+mod positioning;
 mod resizing;
 mod ticking;
 
@@ -24,6 +25,10 @@ pub use intersecting::{
     a_target_that_is_apart_has_the_index_0, a_target_without_a_box_has_the_index_of_nothing_seen,
     an_edge_in_common_intersects, margins_and_thresholds_of_observers, scroll_margins_move_a_clip,
     taking_a_queue_before_it_is_notified,
+};
+pub use positioning::{
+    a_clip_is_of_what_the_box_holds, a_containing_block_is_the_nearest_positioned_ancestor,
+    a_fixed_box_stays_on_the_screen, a_root_element_counts_as_static,
 };
 pub use resizing::{
     a_box_that_comes_and_goes, a_document_that_dies_ends_the_loop, a_first_size_is_delivered,

@@ -1,13 +1,12 @@
 -- Whether a node has a box, by its parent.
-use Rattle.std.proofs.Common.{◌≡◌, ◌≤◌, ℕ, Bool, true, false, cond, Option, Some, None, refl, ap, sym, ◌∙◌, nat_eq, arith}
+use Rattle.std.proofs.Common.{◌≡◌, ◌≤◌, ℕ, Bool, true, false, Option, Some, None, refl, ap, sym, ◌∙◌, nat_eq, arith}
 use Rattle.std.proofs.lemmas.Bool.Decides.{nat_tests}
 use Rattle.std.specs.Prelude.{◌&&◌, not, is_some, option_and_then}
-use Rattle.layout_model.specs.Items.{Item, Kind, BlockKind, ImageKind, FrameKind}
 use Rattle.layout_model.specs.Nodes.{Node, levels, depth_of}
-use Rattle.layout_model.specs.Boxes.{Inputs, inputs_in, if_shown, inputs_if_block}
+use Rattle.layout_model.specs.Boxes.{Inputs, has_box_in, inputs_in}
 use Rattle.layout_model.specs.Clips.{is_block}
-use Rattle.layout_model.specs.Reach.{View, view_inputs, inputs_in_view}
-use Rattle.layout_model.proofs.Inputs.{inputs_child, inputs_top, none_shown, none_below}
+use Rattle.layout_model.specs.Views.{View, view_inputs, inputs_in_view}
+use Rattle.layout_model.proofs.Inputs.{box_child, box_top, is_some_inputs}
 use Rattle.page_model.specs.Documents.{is_number}
 
 abbrev pub found_in : (ℕ → Node) → Inputs → ℕ → Option ℕ → Option Inputs
@@ -17,56 +16,43 @@ pub found_is : (at : ℕ → Node) (view : View) (n : ℕ) → inputs_in_view at
 unfolding inputs_in_view
 found_is at view n = refl
 
-none_handed : (hidden : Bool) (kind : Kind) (item : Item) → if_shown hidden (inputs_if_block kind item None) ≡ None
-none_handed hidden kind item = none_shown hidden (inputs_if_block kind item None) (none_below kind item)
+none_of_three : (hidden block : Bool) → false ≡ (not hidden && block && false)
+none_of_three true block = refl
+none_of_three false true = refl
+none_of_three false false = refl
 
-found_child : (at : ℕ → Node) (viewport : Inputs) (root : Option ℕ) (c p : ℕ) → (at c).parent ≡ Some p → depth_of at p ≤ levels
-    → found_in at viewport c root ≡ if_shown ((at c).item.style.hidden) (inputs_if_block ((at p).item.kind) ((at p).item) (found_in at viewport p root))
-found_child at viewport None c p is short = sym (none_handed _ _ _)
-found_child at viewport (Some r) c p is short = inputs_child at r viewport c p is short
+regroup : (shown block boxed : Bool) → (shown && (block && boxed)) ≡ (shown && block && boxed)
+regroup true block boxed = refl
+regroup false block boxed = refl
 
-abbrev pub top_inputs : Inputs → Option ℕ → ℕ → Option Inputs
-top_inputs viewport root n = cond (is_number root n) (Some viewport) None
+none_of_two : (hidden : Bool) → false ≡ (not hidden && false)
+none_of_two true = refl
+none_of_two false = refl
 
-found_top : (at : ℕ → Node) (viewport : Inputs) (root : Option ℕ) (n : ℕ) → (at n).parent ≡ None
-    → found_in at viewport n root ≡ if_shown ((at n).item.style.hidden) (top_inputs viewport root n)
-found_top at viewport None n is = sym (none_shown _ None refl)
-found_top at viewport (Some r) n is =
-    let turned : nat_eq n r ≡ nat_eq r n = grind (arith, nat_tests) in
-    inputs_top at r viewport n is ∙ ap (λ same. if_shown ((at n).item.style.hidden) (cond same (Some viewport) None)) turned
+module _ (at : ℕ → Node) (viewport : Inputs) where
+  found_child : (root : Option ℕ) (c p : ℕ) → (at c).parent ≡ Some p → depth_of at p ≤ levels
+      → is_some (found_in at viewport c root) ≡ (not (at c).item.style.hidden && is_block (at p).item.kind && is_some (found_in at viewport p root))
+  found_child None c p is short = none_of_three (at c).item.style.hidden (is_block (at p).item.kind)
+  found_child (Some r) c p is short =
+      is_some_inputs at r viewport c ∙ box_child at r c p is short
+      ∙ regroup (not (at c).item.style.hidden) (is_block (at p).item.kind) (has_box_in at r p)
+      ∙ ap (λ b. not (at c).item.style.hidden && is_block (at p).item.kind && b) (sym (is_some_inputs at r viewport p))
 
--- the inputs of a child and of a node without a parent
-module _ (at : ℕ → Node) (view : View) where
-  pub inputs_below : (c p : ℕ) → (at c).parent ≡ Some p → depth_of at p ≤ levels
-      → inputs_in_view at view c ≡ if_shown ((at c).item.style.hidden) (inputs_if_block ((at p).item.kind) ((at p).item) (inputs_in_view at view p))
-  inputs_below c p is short =
-      found_is at view c ∙ found_child at (view_inputs view) (view.root) c p is short
-      ∙ ap (λ found. if_shown ((at c).item.style.hidden) (inputs_if_block ((at p).item.kind) ((at p).item) found)) (sym (found_is at view p))
-
-  pub inputs_on_top : (n : ℕ) → (at n).parent ≡ None
-      → inputs_in_view at view n ≡ if_shown ((at n).item.style.hidden) (top_inputs (view_inputs view) (view.root) n)
-  inputs_on_top n is = found_is at view n ∙ found_top at (view_inputs view) (view.root) n is
-
-pub some_handed : (hidden : Bool) (kind : Kind) (item : Item) (found : Option Inputs)
-    → is_some (if_shown hidden (inputs_if_block kind item found)) ≡ (not hidden && is_block kind && is_some found)
-some_handed true kind item found = refl
-some_handed false BlockKind item None = refl
-some_handed false BlockKind item (Some inputs) = refl
-some_handed false (ImageKind width height) item found = refl
-some_handed false FrameKind item found = refl
-
-pub some_top : (hidden top : Bool) (viewport : Inputs) → is_some (if_shown hidden (cond top (Some viewport) None)) ≡ (not hidden && top)
-some_top true top viewport = refl
-some_top false true viewport = refl
-some_top false false viewport = refl
+  found_top : (root : Option ℕ) (n : ℕ) → (at n).parent ≡ None → is_some (found_in at viewport n root) ≡ (not (at n).item.style.hidden && is_number root n)
+  found_top None n is = none_of_two (at n).item.style.hidden
+  found_top (Some r) n is =
+      let turned : nat_eq n r ≡ nat_eq r n = grind (arith, nat_tests) in
+      is_some_inputs at r viewport n ∙ box_top at r n is ∙ ap (λ b. not (at n).item.style.hidden && b) turned
 
 module _ (at : ℕ → Node) (view : View) where
   pub boxed_below : (c p : ℕ) → (at c).parent ≡ Some p → depth_of at p ≤ levels
       → is_some (inputs_in_view at view c) ≡ (not (at c).item.style.hidden && is_block (at p).item.kind && is_some (inputs_in_view at view p))
-  boxed_below c p is short = ap is_some (inputs_below at view c p is short) ∙ some_handed _ _ _ _
+  boxed_below c p is short =
+      ap is_some (found_is at view c) ∙ found_child at (view_inputs view) view.root c p is short
+      ∙ ap (λ found. not (at c).item.style.hidden && is_block (at p).item.kind && is_some found) (sym (found_is at view p))
 
   pub boxed_top : (n : ℕ) → (at n).parent ≡ None → is_some (inputs_in_view at view n) ≡ (not (at n).item.style.hidden && is_number view.root n)
-  boxed_top n is = ap is_some (inputs_on_top at view n is) ∙ some_top _ _ _
+  boxed_top n is = ap is_some (found_is at view n) ∙ found_top at (view_inputs view) view.root n is
 
   module _ (c p : ℕ) (is : (at c).parent ≡ Some p) (short : depth_of at p ≤ levels) (part : Bool)
       (says : part ≡ (not (at c).item.style.hidden && is_block (at p).item.kind)) where

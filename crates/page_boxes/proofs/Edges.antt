@@ -1,35 +1,41 @@
 -- What one box reaches by itself is no more than what all boxes reach.
-use Rattle.std.proofs.Common.{◌≡◌, ◌≤◌, ◌+◌, ◌-◌, ℕ, ℤ, Bool, true, false, List, [], ◌∷◌, Some, None, nat_eq, eqb-true, refl, ap, sym, subst, ◌∙◌, arith}
+use Rattle.std.proofs.Common.{◌≡◌, ◌≤◌, ◌+◌, ◌-◌, ℕ, ℤ, Bool, true, false, cond, List, [], ◌∷◌, Some, None, nat_eq, eqb-true, refl, ap, sym, subst, ◌∙◌, arith}
+use Rattle.std.proofs.lemmas.Bool.Decides.{nat_tests}
 use Rattle.std.proofs.lemmas.Int.{ints}
-use Rattle.std.specs.Prelude.{◌||◌, ◌&&◌, not, option_map, unwrap_or, is_some, pos, negsuc, ◌≤ℤ◌, unsigned_abs, min, Contains}
-use Rattle.px_units.specs.Lengths.{cap}
+use Rattle.std.specs.Prelude.{◌||◌, ◌&&◌, not, is_some, pos, negsuc, ◌+ℤ◌, ◌-ℤ◌, ◌≤ℤ◌, unsigned_abs, min, Contains}
+use Rattle.px_units.specs.Lengths.{cap, at_least_zero}
 use Rattle.px_units.specs.declared.Size.{Size}
 use Rattle.px_units.specs.declared.Point.{Point}
-use Rattle.layout_model.specs.Items.{Item, Kind, BlockKind, ImageKind, FrameKind}
-use Rattle.layout_model.specs.Nodes.{Node, IsLinked, IsShallow}
-use Rattle.layout_model.specs.Boxes.{Inputs, Box, if_shown, inputs_if_block, kids_of, inner_children, child_inputs, box_in, border_size, padding_size, padding_corner}
-use Rattle.layout_model.specs.Clips.{is_block, is_visible, is_clip, is_scroll_container}
-use Rattle.layout_model.specs.Points.{plus, minus, capped, IsWithin}
-use Rattle.layout_model.specs.Reach.{View, view_size, view_inputs, inputs_in_view, margin_corner, reach_of, reach_of_view, range_of, range_of_view}
-use Rattle.layout_model.specs.Places.{offset_of, offset_from, offset_in}
-use Rattle.layout_model.specs.Unclipped.{Unclipped, Child}
-use Rattle.layout_model.proofs.Reaches.{edge_far, own_under, reach_found, view_found}
+use Rattle.layout_model.specs.Styles.{Position, StaticPosition, RelativePosition, AbsolutePosition, FixedPosition}
+use Rattle.layout_model.specs.Nodes.{Node, position_of, is_static, is_flow, holder, element_of, is_screen, IsListed, IsShallow}
+use Rattle.layout_model.specs.Boxes.{Inputs, Box, box_in, border_size, padding_size, padding_corner}
+use Rattle.layout_model.specs.Clips.{is_block, is_visible, is_clip, clips, is_scroll_container}
+use Rattle.layout_model.specs.Points.{plus, minus, capped, moved, IsWithin}
+use Rattle.layout_model.specs.Views.{View, view_size, inputs_in_view}
+use Rattle.layout_model.specs.FlatPlaces.{offset_of, border_corner, flat_place}
+use Rattle.layout_model.specs.Reach.{clipped_by, reached_by, reached_by_view, edges_with, edges_from, reach_of, reach_of_view, range_of, range_of_view}
+use Rattle.layout_model.proofs.Holders.{holder_of_child, holder_of_top, on_screen_unheld}
+use Rattle.layout_model.proofs.Clipped.{clipped_unheld, clipped_held}
+use Rattle.layout_model.proofs.FlatPlaces.{flat_of_top, flat_of_static}
+use Rattle.layout_model.proofs.Farthest.{edges_within}
+use Rattle.layout_model.proofs.Reaches.{reach_is, view_is, capped_order, reached, reached_in_view}
 use Rattle.layout_model.proofs.Trees.{contains_next}
 use Rattle.element_tree.specs.Forest.{has}
 use Rattle.page_model.specs.World.{Extent}
+use Rattle.page_model.specs.Documents.{is_number}
 use Rattle.page_model.specs.Scrolls.{lesser_extent}
 use Rattle.page_model.specs.PageBoxes.{extent_of, view_with}
 use Rattle.scrolling.specs.Seen.{point_of}
 use Rattle.block_layout.specs.Seen.{as_size, as_point}
-use Rattle.block_layout.proofs.Reaching.{view_top}
 use Rattle.kept_layout.specs.declared.slots.Slot.{Slot}
 use Rattle.kept_layout.specs.Slots.{held_in}
 use Rattle.kept_layout.proofs.Exact.{held_fresh}
+use Rattle.kept_layout.proofs.Climbed.{pair_is}
 use Rattle.page_boxes.specs.Fresh.{HoldsAll}
 use Rattle.page_boxes.specs.Pages.{seen_pair}
-use Rattle.kept_layout.proofs.Climbed.{pair_is}
-use Rattle.page_boxes.proofs.Boxed.{inputs_below}
-use Rattle.page_boxes.proofs.Parents.{same_box}
+use Rattle.page_boxes.proofs.Boxed.{boxed_below, boxed_top}
+use Rattle.page_boxes.proofs.Unscrolled.{edges_at}
+use Rattle.page_boxes.proofs.Parents.{some_found, same_box}
 use Rattle.page_boxes.proofs.Reaching.{range_found}
 
 pub nothing_within : (far : ℕ × ℕ) → IsWithin (0, 0) far
@@ -81,23 +87,31 @@ block_of : (block visible inner clip : Bool) → ((block && not visible && inner
 block_of true visible inner clip is = refl
 block_of false visible inner clip is = cc
 
-block_kids : (kind : Kind) (children : List ℕ) → is_block kind ≡ true → inner_children kind children ≡ children
-block_kids BlockKind children is = refl
-block_kids (ImageKind width height) children is = cc
-block_kids FrameKind children is = cc
-
 scroller_block : (node : Node) → is_scroll_container node ≡ true → is_block node.item.kind ≡ true
 scroller_block node is = block_of (is_block node.item.kind) (is_visible node.item.style.overflow) (is_some node.parent) (is_clip node.item.style.overflow) is
 
-scroller_kids : (node : Node) → is_scroll_container node ≡ true → kids_of node ≡ node.children
-scroller_kids node is = block_kids node.item.kind node.children (scroller_block node is)
+first_true : (first second : Bool) → (first && second) ≡ true → first ≡ true
+first_true true second is = refl
+first_true false second is = cc
 
-handed_in : (kind : Kind) (item : Item) (inputs : Inputs) → is_block kind ≡ true → inputs_if_block kind item (Some inputs) ≡ Some (child_inputs item inputs)
-handed_in BlockKind item inputs is = refl
-handed_in (ImageKind width height) item inputs is = cc
-handed_in FrameKind item inputs is = cc
+static_is : (position : Position) → is_static position ≡ true → position ≡ StaticPosition
+static_is StaticPosition is = refl
+static_is RelativePosition is = cc
+static_is AbsolutePosition is = cc
+static_is FixedPosition is = cc
 
-listed_in : (xs : List ℕ) (c : ℕ) → has xs c ≡ true → Contains xs c
+-- an edge that isn't beyond the corner counts as at it
+less_is : (z : ℤ) (x y : ℕ) → z ≡ pos x -ℤ pos y → at_least_zero z ≡ x - y
+less_is (pos n) x y is = omega (arith, ints, is)
+less_is (negsuc n) x y is = omega (arith, ints, is)
+
+edge_along : (z : ℤ) (offset size border : ℕ) → at_least_zero (z +ℤ pos offset +ℤ pos size -ℤ (z +ℤ pos border)) ≡ offset + size - border
+edge_along z offset size border = less_is (z +ℤ pos offset +ℤ pos size -ℤ (z +ℤ pos border)) (offset + size) border (omega (arith, ints))
+
+edge_on_top : (offset size : ℕ) → at_least_zero (pos 0 +ℤ pos offset +ℤ pos size -ℤ pos 0) ≡ offset + size - 0
+edge_on_top offset size = less_is (pos 0 +ℤ pos offset +ℤ pos size -ℤ pos 0) (offset + size) 0 (omega (arith, ints))
+
+pub listed_in : (xs : List ℕ) (c : ℕ) → has xs c ≡ true → Contains xs c
 listed_in [] c kid = cc
 listed_in (x ∷ xs) c kid = by_test (nat_eq c x) refl (listed_in xs c)
   where
@@ -110,85 +124,105 @@ module _ (at : ℕ → Node) (view : View) (kept : List Slot) (holds : HoldsAll 
   own_box n inputs own found its = same_box (held_in kept n) own (box_in at inputs n) its (held_fresh at kept n inputs (holds.boxes n inputs found))
 
   -- the viewport of a root element
-  module _ (root : ℕ) (top : (at root).parent ≡ None) (hidden : (at root).item.style.hidden ≡ false) (pair : ℕ × ℕ) (is : view ≡ view_with (Some root) (Some pair)) where
-    rooted : view.root ≡ Some root
-    rooted = ap (λ (v : View). v.root) is
-
-    root_found : inputs_in_view at view root ≡ Some (view_inputs view)
-    root_found = view_top at view root rooted top hidden
-
+  module _ (listed : IsListed at) (shallow : IsShallow at) (root : ℕ) (top : (at root).parent ≡ None) (hidden : (at root).item.style.hidden ≡ false) (pair : ℕ × ℕ)
+      (is : view ≡ view_with (Some root) (Some pair)) where
     pub root_boxed : is_some (inputs_in_view at view root) ≡ true
-    root_boxed = ap is_some root_found
+    root_boxed =
+        let itself : nat_eq root root ≡ true = grind (arith, nat_tests) in
+        boxed_top at view root top ∙ ap (λ h. not h && is_number view.root root) hidden ∙ ap (λ (v : View). is_number v.root root) is ∙ itself
 
-    root_corner : offset_of at view root ≡ margin_corner (view_inputs view) ((at root).item)
-    unfolding offset_of
-    root_corner =
-        ap (offset_from at view root) top
-        ∙ ap (λ found. unwrap_or (option_map (λ inputs. margin_corner inputs ((at root).item)) found) (0, 0)) root_found
+    root_unheld : element_of (holder at root) ≡ None
+    root_unheld = ap element_of (holder_of_top at root top)
 
     view_range : range_of_view at view ≡ minus (reach_of_view at view) (view_size view)
     unfolding range_of_view
     view_range = refl
 
-    root_passes : IsWithin (capped (plus (margin_corner (view_inputs view) ((at root).item)) (border_size (box_in at (view_inputs view) root)))) (reach_of_view at view)
-    root_passes = view_found at view root _ rooted hidden (own_under at 65535 root (view_inputs view) (margin_corner (view_inputs view) ((at root).item)))
+    module _ (inputs : Inputs) (found : inputs_in_view at view root ≡ Some inputs) where
+      root_reached : Contains (reached_by_view at view) root
+      root_reached =
+          reached_in_view at listed shallow view inputs root found (clipped_unheld at root root_unheld)
+          (on_screen_unheld at root root_unheld ∙ ap is_screen (holder_of_top at root top))
+
+      root_edges : edges_from at view (pos 0, pos 0) root ≡ minus (plus (offset_of at view root) (border_size (box_in at inputs root))) (0, 0)
+      root_edges =
+          ap (edges_with at view (pos 0, pos 0) root) found
+          ∙ ap (λ place. edges_at (pos 0, pos 0) place (border_size (box_in at inputs root))) (flat_of_top at view root top)
+          ∙ pair_is _ _ (minus (plus (offset_of at view root) (border_size (box_in at inputs root))) (0, 0)) (edge_on_top _ _) (edge_on_top _ _)
+
+      root_passes : IsWithin (capped (minus (plus (offset_of at view root) (border_size (box_in at inputs root))) (0, 0))) (reach_of_view at view)
+      root_passes =
+          subst (λ e. IsWithin (capped e) (reach_of_view at view)) root_edges
+          (capped_order (edges_from at view (pos 0, pos 0) root) _ (reach_of_view at view)
+          (edges_within at view (pos 0, pos 0) (view_size view) (reached_by_view at view) root root_reached) (view_is at view))
 
     pub root_within : (own : Box) → Some own ≡ held_in kept root → (corner : ℕ × ℕ) → corner ≡ offset_of at view root → (reach inside found : Size)
         → reach ≡ as_size (capped (minus (plus corner (border_size own)) (0, 0))) → seen_pair inside ≡ pair
         → found ≡ as_size (capped (minus (seen_pair reach) (seen_pair inside))) → IsWithin (seen_pair found) (range_of_view at view)
     root_within own its corner placed reach inside found reached shows left =
-        let edge : plus (margin_corner (view_inputs view) ((at root).item)) (border_size (box_in at (view_inputs view) root)) ≡ minus (plus corner (border_size own)) (0, 0)
-        = ap (λ c. plus c (border_size (box_in at (view_inputs view) root))) (sym (placed ∙ root_corner))
-        ∙ ap (λ (b : Box). plus corner (border_size b)) (sym (own_box root (view_inputs view) own root_found its))
-        ∙ pair_is _ _ (minus (plus corner (border_size own)) (0, 0)) (omega arith) (omega arith) in
+        let there = some_found (inputs_in_view at view root) root_boxed in
+        let edge : minus (plus (offset_of at view root) (border_size (box_in at there.0 root))) (0, 0) ≡ minus (plus corner (border_size own)) (0, 0)
+        = ap (λ c. minus (plus c (border_size (box_in at there.0 root))) (0, 0)) (sym placed)
+        ∙ ap (λ (b : Box). minus (plus corner (border_size b)) (0, 0)) (sym (own_box root there.0 own there.1 its)) in
         subst (IsWithin (seen_pair found)) (sym view_range)
         (within_range (minus (plus corner (border_size own)) (0, 0)) (view_size view) (reach_of_view at view) reach inside found reached (shows ∙ sym (ap view_size is)) left
-        (subst (λ e. IsWithin (capped e) (reach_of_view at view)) edge root_passes))
+        (subst (λ e. IsWithin (capped e) (reach_of_view at view)) edge (root_passes there.0 there.1)))
 
-  -- a scroll container and one of its children
-  module _ (linked : IsLinked at) (shallow : IsShallow at) (n c : ℕ) (up : (at c).parent ≡ Some n) (listed : has (at n).children c ≡ true) (scroller : is_scroll_container (at n) ≡ true)
-      (hidden : (at c).item.style.hidden ≡ false) (inputs : Inputs) (found : inputs_in_view at view n ≡ Some inputs) where
-    abbrev within : Inputs
-    within = child_inputs ((at n).item) inputs
-
-    unclipped_kid : Unclipped at n inputs (0, 0) c (plus (0, 0) (offset_in at (at n) inputs c)) within
-    unclipped_kid = Child c (listed_in (kids_of (at n)) c (ap (λ kids. has kids c) (scroller_kids (at n) scroller) ∙ listed)) hidden
-
-    kid_inputs : inputs_in_view at view c ≡ Some within
-    kid_inputs =
-        inputs_below at view c n up (shallow n)
-        ∙ ap (λ h. if_shown h (inputs_if_block ((at n).item.kind) ((at n).item) (inputs_in_view at view n))) hidden
-        ∙ ap (inputs_if_block ((at n).item.kind) ((at n).item)) found
-        ∙ handed_in ((at n).item.kind) ((at n).item) inputs (scroller_block (at n) scroller)
-
+  -- a scroll container and one of its children, which is static
+  module _ (listed : IsListed at) (shallow : IsShallow at) (n c : ℕ) (up : (at c).parent ≡ Some n) (scroller : is_scroll_container (at n) ≡ true)
+      (hidden : (at c).item.style.hidden ≡ false) (still : is_static ((at c).item.style.position) ≡ true) (inputs : Inputs) (found : inputs_in_view at view n ≡ Some inputs) where
     pub kid_boxed : is_some (inputs_in_view at view c) ≡ true
-    kid_boxed = ap is_some kid_inputs
+    kid_boxed =
+        boxed_below at view c n up (shallow n)
+        ∙ ap (λ h. not h && is_block (at n).item.kind && is_some (inputs_in_view at view n)) hidden
+        ∙ ap (λ b. b && is_some (inputs_in_view at view n)) (scroller_block (at n) scroller) ∙ ap is_some found
 
-    kid_corner : offset_of at view c ≡ offset_in at (at n) inputs c
-    unfolding offset_of
-    kid_corner =
-        ap (offset_from at view c) up
-        ∙ ap (λ given. unwrap_or (option_map (λ i. offset_in at (at n) i c) given) (0, 0)) found
+    kid_static : position_of (at c) ≡ StaticPosition
+    kid_static = ap (λ o. cond (is_some o) ((at c).item.style.position) StaticPosition) up ∙ static_is ((at c).item.style.position) still
 
-    kid_passes : IsWithin (capped (minus (plus (plus (0, 0) (offset_in at (at n) inputs c)) (border_size (box_in at within c))) (padding_corner (box_in at inputs n)))) (reach_of at view n)
-    unfolding reach_of
-    kid_passes =
-        reach_found at n inputs (inputs_in_view at view n) (plus (plus (0, 0) (offset_in at (at n) inputs c)) (border_size (box_in at within c))) found
-        (edge_far at linked shallow 65535 n (omega arith) inputs (0, 0) c (plus (0, 0) (offset_in at (at n) inputs c)) within unclipped_kid)
+    kid_clipped : clipped_by at c ≡ Some n
+    kid_clipped =
+        clipped_held at shallow c n (holder_of_child at c n up (ap is_flow kid_static))
+        ∙ ap (λ b. cond b (Some n) (clipped_by at n)) (first_true (clips (at n)) (not (is_clip (at n).item.style.overflow)) scroller)
+
+    corner_same : padding_corner (box_in at inputs n) ≡ border_corner (at n).item
+    unfolding box_in
+    corner_same = refl
+
+    abbrev corner_in : ℤ × ℤ
+    corner_in = moved (flat_place at view n) (border_corner (at n).item)
+
+    module _ (below : Inputs) (its : inputs_in_view at view c ≡ Some below) where
+      abbrev kid_edge : ℕ × ℕ
+      kid_edge = minus (plus (offset_of at view c) (border_size (box_in at below c))) (border_corner (at n).item)
+
+      kid_edges : edges_from at view corner_in c ≡ kid_edge
+      kid_edges =
+          ap (edges_with at view corner_in c) its
+          ∙ ap (λ place. edges_at corner_in place (border_size (box_in at below c))) (flat_of_static at shallow view c n up kid_static)
+          ∙ pair_is _ _ kid_edge (edge_along (flat_place at view n).0 _ _ _) (edge_along (flat_place at view n).1 _ _ _)
+
+      kid_passes : IsWithin (capped kid_edge) (reach_of at view n)
+      kid_passes =
+          subst (λ e. IsWithin (capped e) (reach_of at view n)) kid_edges
+          (capped_order (edges_from at view corner_in c) _ (reach_of at view n)
+          (edges_within at view corner_in (padding_size (box_in at inputs n)) (reached_by at view n) c (reached at listed shallow view below n c its kid_clipped))
+          (reach_is at view inputs n found))
 
     pub child_within : (outer own : Box) → Some outer ≡ held_in kept n → Some own ≡ held_in kept c → (corner : ℕ × ℕ) → corner ≡ offset_of at view c
         → (from : Point) → from ≡ as_point (padding_corner outer) → (reach inside size : Size)
         → reach ≡ as_size (capped (minus (plus corner (border_size own)) (unsigned_abs from.left, unsigned_abs from.top))) → inside ≡ as_size (padding_size outer)
         → size ≡ as_size (capped (minus (seen_pair reach) (seen_pair inside))) → IsWithin (seen_pair size) (range_of at view n)
     child_within outer own its kid_its corner placed from begins reach inside size reached shows left =
+        let there = some_found (inputs_in_view at view c) kid_boxed in
         let outer_is = own_box n inputs outer found its in
-        let own_is = own_box c within own kid_inputs kid_its in
+        let own_is = own_box c there.0 own there.1 kid_its in
         let edge : ℕ × ℕ = minus (plus corner (border_size own)) (padding_corner outer) in
-        let far : IsWithin (capped edge) (reach_of at view n)
-        = subst (λ (b : Box). IsWithin (capped (minus (plus corner (border_size b)) (padding_corner outer))) (reach_of at view n)) (sym own_is)
-        (subst (λ (b : Box). IsWithin (capped (minus (plus corner (border_size (box_in at within c))) (padding_corner b))) (reach_of at view n)) (sym outer_is)
-        (subst (λ p. IsWithin (capped (minus (plus p (border_size (box_in at within c))) (padding_corner (box_in at inputs n)))) (reach_of at view n))
-        (pair_is _ _ (offset_in at (at n) inputs c) (omega arith) (omega arith) ∙ sym (placed ∙ kid_corner)) kid_passes)) in
+        let same : kid_edge there.0 there.1 ≡ edge
+        = ap (λ o. minus (plus o (border_size (box_in at there.0 c))) (border_corner (at n).item)) (sym placed)
+        ∙ ap (λ (b : Box). minus (plus corner (border_size b)) (border_corner (at n).item)) (sym own_is)
+        ∙ ap (minus (plus corner (border_size own))) (sym (ap padding_corner outer_is ∙ corner_same)) in
+        let far : IsWithin (capped edge) (reach_of at view n) = subst (λ e. IsWithin (capped e) (reach_of at view n)) same (kid_passes there.0 there.1) in
         let less : reach ≡ as_size (capped edge)
         = reached ∙ ap (λ (p : Point). as_size (capped (minus (plus corner (border_size own)) (unsigned_abs p.left, unsigned_abs p.top)))) begins in
         let range : minus (reach_of at view n) (padding_size outer) ≡ range_of at view n

@@ -5,7 +5,8 @@ use Rattle.px_units.specs.declared.Size.{Size}
 use Rattle.px_units.specs.declared.Point.{Point}
 use Rattle.layout_model.specs.Nodes.{Node}
 use Rattle.layout_model.specs.Clips.{is_scroll_container}
-use Rattle.layout_model.specs.Reach.{View, range_of, offset_in_force, view_in_force}
+use Rattle.layout_model.specs.Views.{View}
+use Rattle.layout_model.specs.Reach.{range_of, offset_in_force, view_in_force}
 use Rattle.page_model.specs.World.{Extent, Screen, ScrolledElement, ScrolledDocument, Scrolls, Tree}
 use Rattle.page_model.specs.Lookups.{no_extent}
 use Rattle.page_model.specs.Documents.{nodes_of}

@@ -1,10 +1,13 @@
 pub mod Boxed
 pub mod Parents
+pub mod Unscrolled
 pub mod Shown
 pub mod Views
+pub mod Sized
 pub mod Pages
 pub mod Marks
 pub mod Rooted
+pub mod Owners
 pub mod Renewed
 pub mod Undue
 pub mod Going

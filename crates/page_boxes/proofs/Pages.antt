@@ -1,16 +1,16 @@
 -- What a page tells of boxes and viewports.
-use Rattle.std.proofs.Common.{◌≡◌, ◌<◌, ◌≤◌, ℕ, zero, suc, Bool, true, false, List, [], ◌∷◌, length, Option, Some, None, option_map, unwrap_or, slice_get, refl, ap, sym, ◌∙◌, arith, nat_lt}
+use Rattle.std.proofs.Common.{◌≡◌, ◌<◌, ◌≤◌, ℕ, zero, suc, ℤ, Bool, true, false, cond, List, [], ◌∷◌, length, Option, Some, None, option_map, unwrap_or, slice_get, refl, ap, sym, ◌∙◌, arith, nat_lt}
 use Rattle.std.proofs.lemmas.Bool.Decides.{nat_tests}
 use Rattle.std.proofs.lemmas.List.{length-map}
 use Rattle.std.specs.Prelude.{is_some, not, ◌&&◌, pos, unsigned_abs}
 use Rattle.px_units.specs.declared.Size.{Size}
 use Rattle.px_units.specs.declared.Point.{Point}
 use Rattle.layout_model.specs.Boxes.{Inputs, box_in, content_size}
-use Rattle.layout_model.specs.Reach.{View, inputs_in_view}
+use Rattle.layout_model.specs.Views.{View, inputs_in_view}
 use Rattle.page_model.specs.World.{Screen, Element, Tree}
 use Rattle.page_model.specs.Lookups.{element_at, no_element, document_at, no_extent}
 use Rattle.page_model.specs.Documents.{nodes_of, is_number}
-use Rattle.page_model.specs.PageBoxes.{pair_of, framed_size, view_of, viewport_of, view_at, inputs_of, has_box, box_of}
+use Rattle.page_model.specs.PageBoxes.{pair_of, framed_size, view_of, viewport_of, view_at, inputs_of, has_box, box_of, point_of}
 use Rattle.block_layout.specs.Seen.{as_size, as_point}
 use Rattle.element_tree.specs.Forest.{Forest}
 use Rattle.page_documents.specs.Seen.{element_of}
@@ -104,6 +104,14 @@ pub as_pair : (point : Point) (pair : ℕ × ℕ) → point ≡ as_point pair �
     → ◌≡◌ {A = ℕ × ℕ} (across, down) pair
 as_pair point pair is across down one two =
     pair_is across down pair (one ∙ ap (λ (p : Point). unsigned_abs p.left) is) (two ∙ ap (λ (p : Point). unsigned_abs p.top) is)
+
+pub place_pair : (point : Point) (pair : ℤ × ℤ) → point ≡ point_of pair → ◌≡◌ {A = ℤ × ℤ} (point.left, point.top) pair
+place_pair point pair is = ap {B = ℤ × ℤ} (λ (p : Point). (p.left, p.top)) is
+
+-- no length at all, or these
+pub shift_pair : (none : Bool) (left top across down : ℕ) → across ≡ cond none 0 left → down ≡ cond none 0 top → ◌≡◌ {A = ℕ × ℕ} (across, down) (cond none (0, 0) (left, top))
+shift_pair true left top across down one two = pair_is across down (0, 0) one two
+shift_pair false left top across down one two = pair_is across down (left, top) one two
 
 -- a page whose tree holds these nodes
 pub count_here : (page : PageElements) (forest : Forest Described) → seen_with page.version forest page.tree.documents ≡ page → length forest.nodes ≡ length page.tree.elements

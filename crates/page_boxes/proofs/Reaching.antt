@@ -8,15 +8,16 @@ use Rattle.layout_model.specs.Items.{Kind}
 use Rattle.layout_model.specs.Nodes.{Node}
 use Rattle.layout_model.specs.Boxes.{Inputs, Box, box_in, padding_size}
 use Rattle.layout_model.specs.Clips.{is_block, is_visible, is_clip, is_scroll_container}
-use Rattle.layout_model.specs.Points.{minus, capped, larger, IsWithin}
-use Rattle.layout_model.specs.Reach.{View, view_size, view_inputs, inputs_in_view, reach_at, reach_of, reach_of_view, far_root, range_at, range_of, range_of_view}
+use Rattle.layout_model.specs.Points.{minus, capped, IsWithin}
+use Rattle.layout_model.specs.Views.{View, view_size, inputs_in_view}
+use Rattle.layout_model.specs.Reach.{reach_at, reach_of, reach_of_view, range_at, range_of, range_of_view}
+use Rattle.layout_model.proofs.Attained.{view_alone}
 use Rattle.element_tree.specs.declared.node.NodeId.{NodeId}
 use Rattle.element_tree.specs.Links.{node_ids}
 use Rattle.element_tree.specs.Forest.{Knot, parent_of}
 use Rattle.page_model.specs.World.{Screen, ScrolledElement, ScrolledDocument, Tree}
 use Rattle.page_model.specs.Documents.{nodes_of}
 use Rattle.page_model.specs.PageBoxes.{pair_of, view_of, view_at, has_box, is_scroller, range_if, scroll_range}
-use Rattle.block_layout.specs.Held.{HoldsBoxes}
 use Rattle.block_layout.specs.Seen.{as_size}
 use Rattle.block_layout.specs.Trees.{layout_tree}
 use Rattle.block_layout.proofs.Nodes.{item_is, parent_is, some_ids}
@@ -83,7 +84,7 @@ left_of reach shown found far inside reached wide tall shows is =
     ∙ ap as_size (capped_less far inside wide tall)
 
 module _ (at : ℕ → Node) (view : View) (n : ℕ) where
-  low_at : (found : Option Inputs) → ((reach_at at n found).0 ≤ 2147483647) × ((reach_at at n found).1 ≤ 2147483647)
+  low_at : (found : Option Inputs) → ((reach_at at view n found).0 ≤ 2147483647) × ((reach_at at view n found).1 ≤ 2147483647)
   low_at None = (omega arith, omega arith)
   low_at (Some inputs) = (low _, low _)
 
@@ -107,9 +108,6 @@ module _ (at : ℕ → Node) (view : View) (n : ℕ) where
   low_boxed true = low_range
   low_boxed false = (omega arith, omega arith)
 
-  pub holds_boxes : (kept : List Slot) → HoldsAll at view kept → HoldsBoxes at view n (held_in kept)
-  holds_boxes kept holds d inputs inside is = held_fresh at kept d inputs (holds.boxes d inputs is)
-
   -- a node that is no scroll container, and one that is
   pub range_none : is_scroll_container (at n) ≡ false → as_size (0, 0) ≡ as_size (cond (is_scroll_container (at n)) (range_of at view n) (0, 0))
   range_none none = sym (ap (λ b. as_size (cond b (range_of at view n) (0, 0))) none)
@@ -121,23 +119,22 @@ module _ (at : ℕ → Node) (view : View) (n : ℕ) where
         none_held (held_in kept n) (box_in at found.0 n) none (held_fresh at kept n found.0 (holds.boxes n found.0 found.1))
 
     pub range_boxed : is_scroll_container (at n) ≡ true → (own : Box) → Some own ≡ held_in kept n → (reach shown found : Size)
-        → ((inputs : Inputs) → inputs_in_view at view n ≡ Some inputs → HoldsBoxes at view n (held_in kept) → reach ≡ as_size (reach_of at view n))
+        → ((inputs : Inputs) → inputs_in_view at view n ≡ Some inputs → reach ≡ as_size (reach_of at view n))
         → shown ≡ as_size (padding_size own) → found ≡ as_size (capped (minus (seen_pair reach) (seen_pair shown)))
         → found ≡ as_size (cond (is_scroll_container (at n)) (range_of at view n) (0, 0))
     range_boxed scrolls own its reach shown found reached shows is =
         let there = some_found (inputs_in_view at view n) boxed in
         let same : own ≡ box_in at there.0 n = same_box (held_in kept n) own (box_in at there.0 n) its (held_fresh at kept n there.0 (holds.boxes n there.0 there.1)) in
-        left_of reach shown found (reach_of at view n) (padding_size (box_in at there.0 n)) (reached there.0 there.1 (holds_boxes kept holds)) low_reach.0 low_reach.1
+        left_of reach shown found (reach_of at view n) (padding_size (box_in at there.0 n)) (reached there.0 there.1) low_reach.0 low_reach.1
         (ap seen_pair shows ∙ ap padding_size same) is
         ∙ ap as_size (sym (range_found there.0 there.1))
         ∙ sym (ap (λ b. as_size (cond b (range_of at view n) (0, 0))) scrolls)
 
 -- viewports
 rootless_range : (at : ℕ → Node) (view : View) → view.root ≡ None → (0, 0) ≡ range_of_view at view
-unfolding range_of_view reach_of_view
+unfolding range_of_view
 rootless_range at view none =
-    pair_is 0 0 (minus (capped (larger (view_size view) (0, 0))) (view_size view)) (omega arith) (omega arith)
-    ∙ sym (ap (λ root. minus (capped (larger (view_size view) (far_root at (view_inputs view) root))) (view_size view)) none)
+    pair_is 0 0 (minus (capped (view_size view)) (view_size view)) (omega arith) (omega arith) ∙ sym (ap (λ reach. minus reach (view_size view)) (view_alone at view none))
 
 low_view : (at : ℕ → Node) (view : View) → ((reach_of_view at view).0 ≤ 2147483647) × ((reach_of_view at view).1 ≤ 2147483647)
 unfolding reach_of_view

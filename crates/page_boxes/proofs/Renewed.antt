@@ -1,17 +1,16 @@
 -- What laying out the tree of a document's root element does: to the document, to the others and to what is kept.
-use Rattle.std.proofs.Common.{◌≡◌, ◌≢◌, ◌<◌, ◌≤◌, ℕ, Bool, true, false, cond, List, length, Option, Some, None, option_map, nat_eq, nat_lt, eqb-true, refl, ap, sym, subst, ◌∙◌, arith}
+use Rattle.std.proofs.Common.{◌≡◌, ◌≢◌, ◌<◌, ◌≤◌, ℕ, Bool, true, false, List, length, Option, Some, None, option_map, nat_eq, nat_lt, eqb-true, refl, ap, sym, subst, ◌∙◌, arith}
 use Rattle.std.proofs.lemmas.Bool.Decides.{nat_tests}
 use Rattle.std.specs.Prelude.{◌||◌, is_some}
 use Rattle.layout_model.specs.Nodes.{Node, is_among, is_in_path}
-use Rattle.layout_model.specs.Boxes.{Inputs, inputs_in, if_shown, inputs_if_block}
-use Rattle.layout_model.specs.Reach.{View, view_inputs, inputs_in_view}
+use Rattle.layout_model.specs.Boxes.{Inputs, inputs_in}
+use Rattle.layout_model.specs.Views.{View, inputs_in_view}
 use Rattle.layout_model.proofs.Paths.{path_top}
 use Rattle.page_model.specs.World.{Element, Screen, Tree}
 use Rattle.page_model.specs.Lookups.{element_at, document_at}
 use Rattle.page_model.specs.Documents.{nodes_of, is_active}
 use Rattle.page_model.specs.PageBoxes.{view_with, framed_size, view_of, inputs_of}
 use Rattle.page_documents.specs.Frames.{AreFramed}
-use Rattle.block_layout.specs.Filling.{GoesDown}
 use Rattle.block_layout.specs.Seen.{seen_inputs}
 use Rattle.kept_layout.specs.declared.slots.Slot.{Slot}
 use Rattle.kept_layout.specs.Fresh.{IsFresh as IsFreshAt}
@@ -21,7 +20,8 @@ use Rattle.kept_layout.specs.Due.{is_due_at, is_due as is_due_with}
 use Rattle.page_boxes.specs.Fresh.{IsFreshIn}
 use Rattle.page_boxes.specs.Kept.{AreKept, is_due}
 use Rattle.page_boxes.specs.LaidOut.{IsLaidOut}
-use Rattle.page_boxes.proofs.Boxed.{inputs_below, inputs_on_top}
+use Rattle.page_boxes.proofs.Parents.{some_found, child_boxed}
+use Rattle.page_boxes.proofs.Owners.{owner_inside}
 use Rattle.page_boxes.proofs.Rooted.{boxed_inside, inputs_from, rootless, rooted_in, top_only}
 use Rattle.page_boxes.proofs.Views.{view_is, view_idle, view_whole, view_root}
 use Rattle.page_boxes.proofs.Pages.{missing_element, absent_unboxed}
@@ -35,13 +35,16 @@ none_is : (found : Option Inputs) → is_some found ≡ false → found ≡ None
 none_is None none = refl
 none_is (Some inputs) none = cc
 
--- what is held for a node is as it is now where its slot is the same
-same_fresh : (at : ℕ → Node) (before after : ℕ → Slot) (n : ℕ) (own : Inputs) → after n ≡ before n → IsFreshAt at before n own → IsFreshAt at after n own
-same_fresh at before after n own same was = record {
+-- what is held for a node is as it is now where its slot and its parent's are the same
+same_fresh : (at : ℕ → Node) (before after : ℕ → Slot) (n : ℕ) (own : Inputs) → after n ≡ before n → ((p : ℕ) → (at n).parent ≡ Some p → after p ≡ before p)
+    → IsFreshAt at before n own → IsFreshAt at after n own
+same_fresh at before after n own same around was = record {
   unmarked = ap (λ (slot : Slot). slot.marked) same ∙ was.unmarked;
   box = ap (λ (slot : Slot). option_map (λ found. found.own) slot.found) same ∙ was.box;
   from = ap (λ (slot : Slot). option_map (λ found. seen_inputs found.inputs) slot.found) same ∙ was.from;
-  above = λ p up. ap (λ (slot : Slot). option_map (λ found. found.above) slot.found) same ∙ was.above p up;
+  above = λ p outer up held.
+      ap (λ (slot : Slot). slot.above) same
+      ∙ was.above p outer up (sym (ap (λ (slot : Slot). option_map (λ found. seen_inputs found.inputs) slot.found) (around p up)) ∙ held);
 }
 
 module _ (tree : Tree) (screen : Screen) where
@@ -86,15 +89,6 @@ pub no_root : (root : Option ℕ) (found : Option (ℕ × ℕ)) → root ≡ Non
 no_root root None none = refl
 no_root root (Some pair) none = none
 
--- an element has the inputs that its parent hands down
-module _ (tree : Tree) (framed : AreFramed tree) (screen : Screen) where
-  pub inputs_go_down : (depth : ℕ) → GoesDown (nodes_of tree) depth (inputs_of tree screen)
-  inputs_go_down depth c p is deep =
-      inputs_found tree screen c (element_at tree p).document (framed.owners.owned c p is)
-      ∙ inputs_below (nodes_of tree) (view_of tree screen (element_at tree p).document) c p is (framed.trees.shallow p)
-      ∙ ap (λ found. if_shown (nodes_of tree c).item.style.hidden (inputs_if_block (nodes_of tree p).item.kind (nodes_of tree p).item found))
-      (sym (inputs_found tree screen p (element_at tree p).document refl))
-
 -- an Active document that shows its root element
 module _ (tree : Tree) (framed : AreFramed tree) (screen : Screen) (document : ℕ) (active : is_active tree document ≡ true)
     (pair : ℕ × ℕ) (shown : Some pair ≡ framed_size tree screen (view_of tree screen) (document_at tree document).frame)
@@ -105,7 +99,7 @@ module _ (tree : Tree) (framed : AreFramed tree) (screen : Screen) (document : �
   pub view_shown : view_of tree screen document ≡ shown_view
   view_shown = view_here tree framed screen document active (Some pair) shown ∙ ap (λ found. view_with found (Some pair)) rooted
 
-  module _ (inputs : Inputs) (from : inputs ≡ record { width = pair.0; height = Some (pair.1) }) where
+  module _ (inputs : Inputs) (from : inputs ≡ record { width = pair.0; height = Some (pair.1); flow = true }) where
     inputs_shown : (n : ℕ) → inputs_in at root inputs n ≡ inputs_in_view (nodes_of tree) (view_of tree screen document) n
     inputs_shown n =
         ap (λ given. inputs_in at root given n) from
@@ -148,11 +142,19 @@ module _ (tree : Tree) (framed : AreFramed tree) (screen : Screen) (document : �
       pub others_here : (other : ℕ) → other ≢ document → IsLaidOut tree screen before other → IsLaidOut tree screen after other
       others_here other differs was = record {
         fresh = record {
-          boxes = λ n own is. same_fresh (nodes_of tree) (slot_in before) (slot_in after) n own (same n (elsewhere other n own differs is)) (was.fresh.boxes n own is);
+          boxes = λ n own is.
+              same_fresh (nodes_of tree) (slot_in before) (slot_in after) n own (same n (elsewhere other n own differs is))
+              (λ p up. let outer = over n p own up is in same p (elsewhere other p outer.0 differs outer.1)) (was.fresh.boxes n own is);
         };
         done = λ n owner. by_inputs n owner (inputs_of tree screen n) refl;
       }
         where
+          over : (n p : ℕ) (own : Inputs) → (nodes_of tree n).parent ≡ Some p → inputs_in_view (nodes_of tree) (view_of tree screen other) n ≡ Some own
+              → (outer : Inputs) × (inputs_in_view (nodes_of tree) (view_of tree screen other) p ≡ Some outer)
+          over n p own up is =
+              some_found (inputs_in_view (nodes_of tree) (view_of tree screen other) p)
+              (child_boxed (nodes_of tree) (view_of tree screen other) n p up (framed.trees.shallow p) (ap is_some is)).2
+
           by_inputs : (n : ℕ) → (element_at tree n).document ≡ other → (found : Option Inputs) → inputs_of tree screen n ≡ found → is_due tree screen after n ≡ false
           by_inputs n owner None none = not_due tree screen after n none
           by_inputs n owner (Some own) is =
@@ -172,17 +174,11 @@ module _ (tree : Tree) (framed : AreFramed tree) (screen : Screen) (document : �
         unmade = λ n past. ap (λ (slot : Slot). slot.found) (same n (unmade n past)) ∙ kept.unmade n past;
       }
 
-    -- the inputs of the root element are those that it is laid out with
-    pub inputs_on_root : inputs_of tree screen root ≡ if_shown (at root).item.style.hidden (Some inputs)
-    inputs_on_root =
+    -- in the tree of the root element each has the inputs of that
+    pub inputs_inside : (n : ℕ) → is_in_path at root n ≡ true → inputs_of tree screen n ≡ inputs_in at root inputs n
+    inputs_inside n inside =
         let own = framed.owners.roots document root rooted in
-        let itself : nat_eq root root ≡ true = grind (arith, nat_tests) in
-        inputs_found tree screen root document own.owner
-        ∙ ap (λ view. inputs_in_view (nodes_of tree) view root) view_shown
-        ∙ inputs_on_top (nodes_of tree) shown_view root own.top
-        ∙ ap (λ same. if_shown (nodes_of tree root).item.style.hidden (cond same (Some (view_inputs shown_view)) None)) itself
-        ∙ ap (λ at. if_shown (at root).item.style.hidden (Some (view_inputs shown_view))) nodes
-        ∙ ap (λ given. if_shown (at root).item.style.hidden (Some given)) (sym from)
+        inputs_found tree screen n document (owner_inside tree framed root n (ap (λ at. is_in_path at root n) nodes ∙ inside) ∙ own.owner) ∙ sym (inputs_shown n)
 
   -- each node in the tree of the root element is an element
   alone : (n : ℕ) → (nodes_of tree n).parent ≡ None → is_in_path (nodes_of tree) root n ≡ true → n ≡ root

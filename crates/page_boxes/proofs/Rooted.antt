@@ -3,15 +3,16 @@ use Rattle.std.proofs.Common.{◌≡◌, ℕ, Bool, true, false, List, [], ◌�
 use Rattle.std.proofs.lemmas.Bool.Decides.{nat_tests}
 use Rattle.std.specs.Prelude.{◌||◌, ◌==◌, ◌&&◌, not, is_some}
 use Rattle.layout_model.specs.Nodes.{Node, path_above, path_up, path_of, is_among, is_in_path, last_of}
-use Rattle.layout_model.specs.Boxes.{Inputs, inputs_in, inputs_along}
-use Rattle.layout_model.specs.Reach.{View, view_inputs, inputs_in_view}
-use Rattle.page_boxes.proofs.Boxed.{found_in, found_is, some_handed, some_top}
-use Rattle.page_boxes.proofs.Parents.{all_three}
+use Rattle.layout_model.specs.Boxes.{Inputs, has_box_along, has_box_in, inputs_in}
+use Rattle.layout_model.specs.Clips.{is_block}
+use Rattle.layout_model.specs.Views.{View, view_inputs, inputs_in_view}
+use Rattle.layout_model.proofs.Inputs.{is_some_inputs}
+use Rattle.page_boxes.proofs.Boxed.{found_in, found_is}
 
 -- a node with a box is in the tree of the root
-both_true : (hidden top : Bool) → (not hidden && top) ≡ true → top ≡ true
-both_true true top e = cc
-both_true false top e = e
+second_true : (first second : Bool) → (first && second) ≡ true → second ≡ true
+second_true true second e = e
+second_true false second e = cc
 
 or_true : (a b : Bool) → b ≡ true → (a || b) ≡ true
 or_true true b e = refl
@@ -20,21 +21,23 @@ or_true false b e = e
 among_alone : (root n : ℕ) → (n == root) ≡ true → (root == n || false) ≡ true
 among_alone root n e = let turned : nat_eq root n ≡ true = grind (arith, nat_tests) in ap (λ b. b || false) turned
 
-along_among : (at : ℕ → Node) (root : ℕ) (viewport : Inputs) (path : List ℕ) → is_some (inputs_along at root viewport path) ≡ true → is_among root path ≡ true
-unfolding inputs_along is_among
-along_among at root viewport [] boxed = cc
-along_among at root viewport (n ∷ []) boxed =
-    among_alone root n (both_true ((at n).item.style.hidden) (n == root) (sym (some_top ((at n).item.style.hidden) (n == root) viewport) ∙ boxed))
-along_among at root viewport (n ∷ (p ∷ above)) boxed =
+along_among : (at : ℕ → Node) (root : ℕ) (path : List ℕ) → has_box_along at root path ≡ true → is_among root path ≡ true
+unfolding has_box_along is_among
+along_among at root [] boxed = cc
+along_among at root (n ∷ []) boxed = among_alone root n (second_true (not ((at n).item.style.hidden)) (n == root) boxed)
+along_among at root (n ∷ (p ∷ above)) boxed =
     or_true (root == n) (is_among root (p ∷ above))
-    (along_among at root viewport (p ∷ above)
-    (all_three ((at n).item.style.hidden) ((at p).item.kind) (is_some (inputs_along at root viewport (p ∷ above)))
-    (sym (some_handed ((at n).item.style.hidden) ((at p).item.kind) ((at p).item) (inputs_along at root viewport (p ∷ above))) ∙ boxed)).2)
+    (along_among at root (p ∷ above)
+    (second_true (is_block ((at p).item.kind)) (has_box_along at root (p ∷ above))
+    (second_true (not ((at n).item.style.hidden)) (is_block ((at p).item.kind) && has_box_along at root (p ∷ above)) boxed)))
 
 module _ (at : ℕ → Node) (root : ℕ) where
+  inside_boxed : (n : ℕ) → has_box_in at root n ≡ true → is_in_path at root n ≡ true
+  unfolding has_box_in is_in_path
+  inside_boxed n boxed = along_among at root (path_of at n) boxed
+
   pub boxed_inside : (viewport : Inputs) (n : ℕ) → is_some (inputs_in at root viewport n) ≡ true → is_in_path at root n ≡ true
-  unfolding inputs_in is_in_path
-  boxed_inside viewport n boxed = along_among at root viewport (path_of at n) boxed
+  boxed_inside viewport n boxed = inside_boxed n (sym (is_some_inputs at root viewport n) ∙ boxed)
 
   pub inputs_from : (view : View) → view.root ≡ Some root → (n : ℕ) → inputs_in_view at view n ≡ inputs_in at root (view_inputs view) n
   inputs_from view is n = found_is at view n ∙ ap (found_in at (view_inputs view) n) is

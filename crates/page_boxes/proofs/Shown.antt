@@ -1,14 +1,16 @@
 -- Sizes, corners and places that are read of a world.
-use Rattle.std.proofs.Common.{◌≡◌, ℕ, zero, suc, ℤ, Bool, true, false, Some, None, option_map, unwrap_or, refl, ap, sym, ◌∙◌, arith, min}
+use Rattle.std.proofs.Common.{◌≡◌, ℕ, zero, suc, ℤ, Bool, true, false, cond, Some, None, option_map, unwrap_or, refl, ap, sym, ◌∙◌, arith, min}
 use Rattle.std.proofs.lemmas.Int.{ints}
 use Rattle.std.specs.Prelude.{pos, negsuc, ◌≤ℤ◌, unsigned_abs, ⊤}
 use Rattle.px_units.specs.declared.BoxKind.{BoxKind}
-use Rattle.layout_model.specs.Nodes.{Node, path_of, ancestors_of}
+use Rattle.layout_model.specs.Nodes.{Node, holders_of, is_on_screen}
 use Rattle.layout_model.specs.Boxes.{Box, content_corner}
 use Rattle.layout_model.specs.Clips.{is_scroll_container}
-use Rattle.layout_model.specs.Points.{plus, moved, moved_back, sum_points}
-use Rattle.layout_model.specs.Reach.{View, inputs_in_view, in_force, force_if, range_of, range_of_view, reach_of, reach_of_view, offset_in_force, view_in_force}
-use Rattle.layout_model.specs.Places.{offset_of, place_in}
+use Rattle.layout_model.specs.Points.{plus, moved_back, sum_points}
+use Rattle.layout_model.specs.Views.{View}
+use Rattle.layout_model.specs.FlatPlaces.{flat_place}
+use Rattle.layout_model.specs.Reach.{in_force, force_if, range_of, range_of_view, offset_in_force, view_in_force}
+use Rattle.layout_model.specs.Places.{view_scroll, place_in}
 use Rattle.page_model.specs.World.{Screen, Scrolls, Tree}
 use Rattle.page_model.specs.Lookups.{element_at}
 use Rattle.page_model.specs.Documents.{nodes_of}
@@ -16,6 +18,7 @@ use Rattle.page_model.specs.PageBoxes.{pair_of, stored_in, scrolled_view, has_bo
 use Rattle.page_model.specs.Readings.{point_at}
 use Rattle.block_layout.specs.Seen.{as_size, as_point}
 use Rattle.kept_layout.proofs.Climbed.{pair_is}
+use Rattle.page_boxes.proofs.Unscrolled.{flat_same, force_same, view_range_same}
 
 module _ (tree : Tree) (screen : Screen) (n : ℕ) where
   pub size_found : (kind : BoxKind) (own : Box) → Some own ≡ box_of tree screen n → as_size (size_by (screen.ratio) kind own) ≡ as_size (pair_of (size_of tree screen n kind))
@@ -54,38 +57,30 @@ force_is zero zero range = pair_is 0 0 (min 0 (range tt).0, min 0 (range tt).1) 
 force_is zero (suc y) range = refl
 force_is (suc x) y range = refl
 
--- how far a viewport is scrolled makes no difference to boxes and ranges
 module _ (at : ℕ → Node) (stored : ℕ → ℕ × ℕ) (view : View) (scrolled : ℕ × ℕ) where
-  offsets_same : offset_of at (record view { scrolled = scrolled }) ≡ offset_of at view
-  unfolding offset_of inputs_in_view
-  offsets_same = refl
-
-  forces_same : offset_in_force at stored (record view { scrolled = scrolled }) ≡ offset_in_force at stored view
-  unfolding offset_in_force range_of reach_of inputs_in_view
-  forces_same = refl
-
-  range_same : range_of_view at (record view { scrolled = scrolled }) ≡ range_of_view at view
-  unfolding range_of_view reach_of_view
-  range_same = refl
-
   pub view_force : view_in_force at (record view { scrolled = scrolled }) ≡ (min (scrolled.0) (range_of_view at view).0, min (scrolled.1) (range_of_view at view).1)
   unfolding view_in_force
   view_force =
       force_is (scrolled.0) (scrolled.1) (λ u. range_of_view at (record view { scrolled = scrolled }))
-      ∙ ap {B = ℕ × ℕ} (λ range. (min (scrolled.0) range.0, min (scrolled.1) range.1)) range_same
+      ∙ ap {B = ℕ × ℕ} (λ range. (min (scrolled.0) range.0, min (scrolled.1) range.1)) (view_range_same at view scrolled)
 
-  -- a place is the sum of the offsets, less what is scrolled
-  pub place_found : (n x y across down left top : ℕ) → ◌≡◌ {A = ℕ × ℕ} (x, y) (sum_points (offset_of at view) (path_of at n))
-      → ◌≡◌ {A = ℕ × ℕ} (across, down) (sum_points (offset_in_force at stored view) (ancestors_of at n))
-      → ◌≡◌ {A = ℕ × ℕ} (left, top) (view_in_force at (record view { scrolled = scrolled }))
-      → moved_back (moved (pos 0, pos 0) (x, y)) (plus (across, down) (left, top)) ≡ place_in at stored (record view { scrolled = scrolled }) n
+  view_shift : (screen : Bool) (left top : ℕ) → ◌≡◌ {A = ℕ × ℕ} (left, top) (view_in_force at (record view { scrolled = scrolled }))
+      → ◌≡◌ {A = ℕ × ℕ} (cond screen (0, 0) (left, top)) (view_scroll at (record view { scrolled = scrolled }) screen)
+  view_shift true left top is = refl
+  view_shift false left top is = is
+
+  -- a place is the flat one, less what is scrolled
+  pub place_found : (n : ℕ) (flat : ℤ × ℤ) (on_screen : Bool) (shift around : ℕ × ℕ) (left top : ℕ) → flat ≡ flat_place at view n → on_screen ≡ is_on_screen at n
+      → shift ≡ sum_points (offset_in_force at stored view) (holders_of at n)
+      → ◌≡◌ {A = ℕ × ℕ} (left, top) (view_in_force at (record view { scrolled = scrolled })) → around ≡ cond on_screen (0, 0) (left, top)
+      → moved_back flat (plus shift around) ≡ place_in at stored (record view { scrolled = scrolled }) n
   unfolding place_in
-  place_found n x y across down left top sum above around =
-      ap (λ p. moved_back (moved (pos 0, pos 0) p) (plus (across, down) (left, top))) (sum ∙ ap (λ f. sum_points f (path_of at n)) (sym offsets_same))
-      ∙ ap (λ p. moved_back (moved (pos 0, pos 0) (sum_points (offset_of at (record view { scrolled = scrolled })) (path_of at n))) (plus p (left, top)))
-      (above ∙ ap (λ f. sum_points f (ancestors_of at n)) (sym forces_same))
-      ∙ ap (λ p. moved_back (moved (pos 0, pos 0) (sum_points (offset_of at (record view { scrolled = scrolled })) (path_of at n)))
-      (plus (sum_points (offset_in_force at stored (record view { scrolled = scrolled })) (ancestors_of at n)) p)) around
+  place_found n flat on_screen shift around left top placed ends sums forced moves =
+      ap (λ p. moved_back p (plus shift around)) (placed ∙ sym (flat_same at view scrolled n))
+      ∙ ap (λ s. moved_back (flat_place at (record view { scrolled = scrolled }) n) (plus s around))
+      (sums ∙ ap (λ f. sum_points f (holders_of at n)) (sym (force_same at view scrolled stored)))
+      ∙ ap (λ v. moved_back (flat_place at (record view { scrolled = scrolled }) n) (plus (sum_points (offset_in_force at stored (record view { scrolled = scrolled })) (holders_of at n)) v))
+      (moves ∙ view_shift on_screen left top forced ∙ ap (view_scroll at (record view { scrolled = scrolled })) ends)
 
 pub offset_force : (at : ℕ → Node) (stored : ℕ → ℕ × ℕ) (view : View) (n : ℕ) → is_scroll_container (at n) ≡ true
     → offset_in_force at stored view n ≡ (min (stored n).0 (range_of at view n).0, min (stored n).1 (range_of at view n).1)

@@ -1,14 +1,14 @@
 -- That a computation only fills what is kept, and that what is held and isn't due is as it is now.
-use Rattle.std.proofs.Common.{◌≡◌, ℕ, zero, suc, Bool, true, false, List, Option, Some, None, option_map, nat_eq, refl, ap, sym, subst, ◌∙◌, arith}
-use Rattle.std.proofs.lemmas.Bool.Decides.{nat_tests}
-use Rattle.std.specs.Prelude.{◌||◌, is_some}
+use Rattle.std.proofs.Common.{◌≡◌, ℕ, true, false, List, Option, Some, None, option_map, refl, ap, sym, subst, ◌∙◌}
+use Rattle.std.proofs.lemmas.Bool.{false≢true}
+use Rattle.std.specs.Prelude.{is_some}
 use Rattle.layout_model.specs.Styles.{Style}
-use Rattle.layout_model.specs.Items.{Kind}
-use Rattle.layout_model.specs.Nodes.{Node, IsLinked, IsShallow, path_above, path_up, is_among, is_in_path}
+use Rattle.layout_model.specs.Items.{Kind, BlockKind, ImageKind, FrameKind}
+use Rattle.layout_model.specs.Nodes.{Node, IsLinked, IsShallow}
 use Rattle.layout_model.specs.Boxes.{Inputs, Box, box_in, inner_children}
-use Rattle.layout_model.specs.Reach.{inputs_in_view}
+use Rattle.layout_model.specs.Clips.{is_block}
+use Rattle.layout_model.specs.Views.{inputs_in_view}
 use Rattle.page_model.specs.World.{Screen, Tree}
-use Rattle.page_model.specs.Lookups.{element_at}
 use Rattle.page_model.specs.Documents.{nodes_of}
 use Rattle.page_model.specs.PageBoxes.{view_of, inputs_of}
 use Rattle.page_documents.specs.Frames.{AreFramed}
@@ -19,15 +19,16 @@ use Rattle.kept_layout.specs.declared.slots.Slot.{Slot}
 use Rattle.kept_layout.specs.declared.slots.Found.{Found}
 use Rattle.kept_layout.specs.Slots.{slot_in}
 use Rattle.kept_layout.specs.Sound.{IsSound}
-use Rattle.kept_layout.specs.Walks.{IsSettled}
+use Rattle.kept_layout.specs.Walks.{IsSettled, IsSoundInFlow}
 use Rattle.kept_layout.specs.Due.{is_due_at}
 use Rattle.kept_layout.specs.Fresh.{IsFresh as IsFreshAt}
 use Rattle.kept_layout.proofs.Counts.{settled_so}
-use Rattle.kept_layout.proofs.Exact.{Around, handed, exact, fresh_under}
+use Rattle.kept_layout.proofs.Exact.{Around, sound_in_flow, exact_settled, fresh_under}
 use Rattle.kept_layout.proofs.Shapes.{IsShaped, shaped as shaped_tree}
 use Rattle.page_boxes.specs.Fresh.{IsFresh}
 use Rattle.page_boxes.specs.Kept.{AreKept, FillsOnly, IsExact, is_due}
-use Rattle.page_boxes.proofs.Boxed.{inputs_below}
+use Rattle.page_boxes.proofs.Parents.{some_found, child_boxed}
+use Rattle.page_boxes.proofs.Owners.{owner_inside}
 use Rattle.page_boxes.proofs.Renewed.{inputs_found}
 use Rattle.page_boxes.proofs.Rooted.{rooted_in}
 use Rattle.page_boxes.proofs.Views.{view_root}
@@ -57,32 +58,6 @@ fills_fresh at wanted first last others fresh = record { marks = λ n is. unmark
     found n is None none = ap (λ (slot : Slot). is_some slot.found) (others n none) ∙ is
     found n is (Some inputs) some = holds_some (slot_in last n).found (fresh n inputs some).box
 
--- all that stands in the tree of an element belongs to its document
-module _ (tree : Tree) (framed : AreFramed tree) (root : ℕ) where
-  alone : (n : ℕ) (same : Bool) → nat_eq root n ≡ same → (same || false) ≡ true → (element_at tree n).document ≡ (element_at tree root).document
-  alone n true is e = let it : root ≡ n = grind (arith, nat_tests) in ap (λ m. (element_at tree m).document) (sym it)
-  alone n false is e = cc
-
-  owner_up : (high n : ℕ) → is_among root (path_up high (nodes_of tree) n) ≡ true → (element_at tree n).document ≡ (element_at tree root).document
-  unfolding path_up is_among
-  owner_up zero n among = alone n (nat_eq root n) refl among
-  owner_up (suc high) n among = up (owner_up high) (element_at tree n).parent refl among
-    where
-      up : ((p : ℕ) → is_among root (path_up high (nodes_of tree) p) ≡ true → (element_at tree p).document ≡ (element_at tree root).document)
-          → (found : Option ℕ) → (element_at tree n).parent ≡ found → (nat_eq root n || is_among root (path_above (path_up high (nodes_of tree)) found)) ≡ true
-          → (element_at tree n).document ≡ (element_at tree root).document
-      up so_far None none e = alone n (nat_eq root n) refl e
-      up so_far (Some p) some e = above (nat_eq root n) refl e
-        where
-          above : (same : Bool) → nat_eq root n ≡ same → (same || is_among root (path_up high (nodes_of tree) p)) ≡ true
-              → (element_at tree n).document ≡ (element_at tree root).document
-          above true is e = alone n true is refl
-          above false is e = framed.owners.owned n p some ∙ so_far p e
-
-  owner_inside : (n : ℕ) → is_in_path (nodes_of tree) root n ≡ true → (element_at tree n).document ≡ (element_at tree root).document
-  unfolding is_in_path
-  owner_inside n inside = owner_up 65536 n inside
-
 module _ (tree : Tree) (framed : AreFramed tree) (screen : Screen) where
   -- what has a box in a document's view belongs to that document
   in_own : (document n : ℕ) (inputs : Inputs) → inputs_in_view (nodes_of tree) (view_of tree screen document) n ≡ Some inputs → inputs_of tree screen n ≡ Some inputs
@@ -96,19 +71,22 @@ pub exact_here : (tree : Tree) (screen : Screen) (kept : List Slot) {P : Type 0}
     → IsForest most nodes → nodes_of tree ≡ layout_tree style kind nodes → AreKept tree kept → IsExact tree screen kept
 exact_here tree screen kept style kind {most} {nodes} forest same fits n inputs is undue =
     let settled = settled_so (slot_in kept n) inputs (ap (λ found. is_due_at found (slot_in kept n)) (sym is) ∙ undue) in
-    let sound = subst (λ at. IsSound at (slot_in kept)) same fits.sound in
+    let at = layout_tree style kind nodes in
+    let sound = sound_in_flow at (slot_in kept) (subst (λ at. IsSound at (slot_in kept)) same fits.sound) in
     ap (option_map (λ (found : Found). found.own)) settled.held
-    ∙ ap Some
-    (exact (layout_tree style kind nodes) (shaped_tree style kind forest) (linked_tree style kind forest) (shallow_tree style kind forest) (slot_in kept) sound n
-    settled.found settled.unmarked settled.held)
-    ∙ ap (λ given. Some (box_in (layout_tree style kind nodes) given n)) settled.from
+    ∙ ap Some (exact_settled at (shaped_tree style kind forest) (linked_tree style kind forest) (shallow_tree style kind forest) (slot_in kept) sound n inputs settled)
     ∙ ap (λ at. Some (box_in at inputs n)) (sym same)
+
+block_kids : (kind : Kind) (children : List ℕ) → is_block kind ≡ true → inner_children kind children ≡ children
+block_kids BlockKind children is = refl
+block_kids (ImageKind width height) children is = absurd (false≢true is)
+block_kids FrameKind children is = absurd (false≢true is)
 
 -- where none is due, all boxes are held as they are now
 module _ (tree : Tree) (framed : AreFramed tree) (screen : Screen) (kept : List Slot) (none : (n : ℕ) → is_due tree screen kept n ≡ false)
     (at : ℕ → Node) (same : nodes_of tree ≡ at) (shaped : IsShaped at) (linked : IsLinked at) (shallow : IsShallow at) (fits : AreKept tree kept) where
-  sound : IsSound at (slot_in kept)
-  sound = subst (λ at. IsSound at (slot_in kept)) same fits.sound
+  sound : IsSoundInFlow at (slot_in kept)
+  sound = sound_in_flow at (slot_in kept) (subst (λ at. IsSound at (slot_in kept)) same fits.sound)
 
   settled_in : (document n : ℕ) (inputs : Inputs) → inputs_in_view at (view_of tree screen document) n ≡ Some inputs → IsSettled (slot_in kept n) inputs
   settled_in document n inputs is =
@@ -116,15 +94,14 @@ module _ (tree : Tree) (framed : AreFramed tree) (screen : Screen) (kept : List 
       (ap (λ found. is_due_at found (slot_in kept n)) (sym (in_own tree framed screen document n inputs (ap (λ at. inputs_in_view at (view_of tree screen document) n) same ∙ is)))
       ∙ none n)
 
-  around : (document n : ℕ) (inputs : Inputs) → inputs_in_view at (view_of tree screen document) n ≡ Some inputs → (p : ℕ) → (at n).parent ≡ Some p → Around at (slot_in kept) p n inputs
+  around : (document n : ℕ) (inputs : Inputs) → inputs_in_view at (view_of tree screen document) n ≡ Some inputs → (p : ℕ) → (at n).parent ≡ Some p → Around at (slot_in kept) p n
   around document n inputs is p up =
-      let parts = handed (at n).item.style.hidden (at p).item.kind (at p).item (inputs_in_view at (view_of tree screen document) p) inputs
-      (sym (inputs_below at (view_of tree screen document) n p up (shallow p)) ∙ is) in
+      let parts = child_boxed at (view_of tree screen document) n p up (shallow p) (ap is_some is) in
+      let outer = some_found (inputs_in_view at (view_of tree screen document) p) parts.2 in
       record {
-        above = parts.2.0;
-        settled = settled_in document p parts.2.0 parts.2.1;
-        counted = record { listed = ap (λ k. has (inner_children k (at p).children) n) parts.1 ∙ shaped.listed n p up; shown = parts.0 };
-        handed = parts.2.2;
+        above = outer.0;
+        settled = settled_in document p outer.0 outer.1;
+        shown = record { listed = ap (λ kids. has kids n) (block_kids (at p).item.kind (at p).children parts.1) ∙ shaped.listed n p up; shown = parts.0 };
       }
 
   boxes_in : (document n : ℕ) (inputs : Inputs) → inputs_in_view at (view_of tree screen document) n ≡ Some inputs → IsFreshAt at (slot_in kept) n inputs

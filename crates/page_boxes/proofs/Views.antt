@@ -4,7 +4,7 @@
 use Rattle.std.proofs.Common.{◌≡◌, ◌≢◌, ◌<◌, ◌≤◌, ℕ, zero, suc, Bool, true, false, cond, List, [], ◌∷◌, ◌++◌, length, Option, Some, None, option_map, unwrap_or, slice_get, refl, ap, sym, ◌∙◌, arith}
 use Rattle.std.specs.Prelude.{is_some}
 use Rattle.layout_model.specs.Boxes.{Inputs, box_in, content_size}
-use Rattle.layout_model.specs.Reach.{View, inputs_in_view}
+use Rattle.layout_model.specs.Views.{View, inputs_in_view}
 use Rattle.page_model.specs.World.{DocumentState, Fresh, Active, Dead, Element, Screen, Tree}
 use Rattle.page_model.specs.Lookups.{element_at, document_at, no_element}
 use Rattle.page_model.specs.Documents.{first_of_list, is_active_state, is_active, nodes_of}

@@ -12,13 +12,13 @@ IsOffset point = IsLength point.left × IsLength point.top
 abbrev pub IsSpan : ℤ → Type 0
 IsSpan units = (pos 0 ≤ℤ units) × (units ≤ℤ pos 1099511627776)
 
--- from -2 ^ 40 to 2 ^ 40 units
-abbrev pub IsPlace : ℤ → Type 0
-IsPlace units = (negsuc 1099511627775 ≤ℤ units) × (units ≤ℤ pos 1099511627776)
-
 -- from -2 ^ 41 to 2 ^ 41 units
+abbrev pub IsPlace : ℤ → Type 0
+IsPlace units = (negsuc 2199023255551 ≤ℤ units) × (units ≤ℤ pos 2199023255552)
+
+-- from -2 ^ 42 to 2 ^ 42 units
 abbrev pub IsEdge : ℤ → Type 0
-IsEdge units = (negsuc 2199023255551 ≤ℤ units) × (units ≤ℤ pos 2199023255552)
+IsEdge units = (negsuc 4398046511103 ≤ℤ units) × (units ≤ℤ pos 4398046511104)
 
 -- each edge of a rectangle at a place, with a span on each axis
 pub record AreEdges (r : Rect) : Type 0 where

@@ -2,7 +2,7 @@
 
 ghost use Rattle.std.specs.Prelude.{◌≡◌, ◌<◌, ◌&&◌, not, length, option_map, is_some};
 ghost use Rattle.layout_model.specs.Clips.{is_block};
-ghost use Rattle.layout_model.specs.Reach.{View, inputs_in_view};
+ghost use Rattle.layout_model.specs.Views.{View, inputs_in_view};
 ghost use Rattle.element_tree.specs.Links.{number};
 ghost use Rattle.page_model.specs.Documents.{is_number};
 ghost use Rattle.block_layout.specs.Trees.{layout_tree};

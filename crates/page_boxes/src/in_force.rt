@@ -3,13 +3,16 @@
 
 ghost use Rattle.std.specs.Prelude.{◌≡◌, ◌<◌, ℕ, true, Some, None, IfSome, length, is_some};
 ghost use Rattle.layout_model.specs.Points.{IsWithin};
-ghost use Rattle.layout_model.specs.Reach.{View, inputs_in_view, offset_in_force, range_of_view};
+ghost use Rattle.layout_model.specs.Views.{View, inputs_in_view};
+ghost use Rattle.layout_model.specs.Reach.{offset_in_force, range_of_view};
 ghost use Rattle.page_model.specs.Lookups.{no_extent};
 ghost use Rattle.page_model.specs.Scrolls.{position_of, lesser_extent};
 ghost use Rattle.page_model.specs.PageBoxes.{extent_of, view_with, stored_in};
 ghost use Rattle.scrolling.specs.Seen.{seen_target, point_of};
 ghost use Rattle.block_layout.specs.Seen.{as_point};
 ghost use Rattle.block_layout.specs.Trees.{layout_tree};
+ghost use Rattle.kept_layout.specs.Measures.{IsSized};
+ghost use Rattle.page_tree.specs.Items.{IsNatural};
 ghost use Rattle.page_boxes.specs.Fresh.{HoldsAll};
 ghost use Rattle.page_boxes.specs.Pages.{seen_pair};
 ghost use Rattle.page_boxes.specs.Ranges.{IsOffset};
@@ -54,7 +57,8 @@ fn stored_within(scrolls: &Scrolls, target: ScrollTarget, least: Size) -> Option
 }
 
 /// The scroll offset in force of a node that has a box (CSSOM View, 6: `scrollTop`): on each axis the lesser of the stored position
-/// and of how far it can be scrolled. It is so where the boxes in its view are held as they are now. No memory.
+/// and of how far it can be scrolled. It is so where the boxes in its view are held as they are now, and no length of that is above the
+/// largest one. No memory.
 pub fn boxed_offset<P: Styled>(
     tree: &Tree<P>,
     boxes: &Kept,
@@ -62,7 +66,7 @@ pub fn boxed_offset<P: Styled>(
     node: NodeId,
 ) -> Point
     requires { node.0 < length tree.now.nodes }
-    ensures value { let at = layout_tree P.style P.kind tree.now.nodes in (view : View) →
+    ensures value { let at = layout_tree P.style P.kind tree.now.nodes in (view : View) → IsSized view →
         HoldsAll at view boxes.now → is_some (inputs_in_view at view node.0) ≡ true →
         result ≡ as_point (offset_in_force at (stored_in scrolls.now) view node.0) }
     ensures range { IsOffset result }
@@ -89,7 +93,8 @@ pub fn shown_offset<P: Styled>(
     target: ScrollTarget,
     shown: ShownRoot,
 ) -> Point
-    requires { shown.root.0 < length tree.now.nodes }
+    requires root { shown.root.0 < length tree.now.nodes }
+    requires size { IsNatural shown.size }
     ensures value { let at = layout_tree P.style P.kind tree.now.nodes in (at shown.root.0).parent ≡ None → (view : View) →
         view ≡ view_with (Some shown.root.0) (Some (seen_pair shown.size)) → HoldsAll at view boxes.now →
         result ≡ point_of (lesser_extent (position_of (seen_target target) scrolls.now) (extent_of (range_of_view at view))) }

@@ -23,11 +23,13 @@ use step_count::Steps;
 
 // What a root element takes from the viewport (CSS 2.2, 10.1).
 fn root_inputs(viewport: Size) -> Inputs
-    ensures { seen_inputs result ≡ record { width = unsigned_abs viewport.width; height = Some (unsigned_abs viewport.height) } }
+    ensures seen { seen_inputs result ≡ record { width = unsigned_abs viewport.width; height = Some (unsigned_abs viewport.height); flow = true } }
+    ensures flow { result.flow ≡ true }
 {
     Inputs {
         width: viewport.width,
         height: Some(viewport.height),
+        flow: true,
     }
 }
 

@@ -3,10 +3,12 @@
 
 ghost use Rattle.std.specs.Prelude.{◌≡◌, ◌+◌, ◌-◌, ◌<◌, ◌≤◌, pos, cond, true, Some, None, length, is_some, unsigned_abs};
 ghost use Rattle.px_units.specs.Lengths.{cap};
+ghost use Rattle.layout_model.specs.Nodes.{is_static};
 ghost use Rattle.layout_model.specs.Boxes.{border_size};
 ghost use Rattle.layout_model.specs.Clips.{is_scroll_container};
 ghost use Rattle.layout_model.specs.Points.{plus, minus, capped, IsWithin};
-ghost use Rattle.layout_model.specs.Reach.{View, inputs_in_view, range_of, range_of_view};
+ghost use Rattle.layout_model.specs.Views.{View, inputs_in_view};
+ghost use Rattle.layout_model.specs.Reach.{range_of, range_of_view};
 ghost use Rattle.page_model.specs.PageBoxes.{view_with};
 ghost use Rattle.scrolling.specs.Ranges.{IsRange};
 ghost use Rattle.element_tree.specs.Forest.{has, children_of};
@@ -23,6 +25,7 @@ use element_tree::{NodeId, Tree};
 use kept_layout::{Kept, Shift};
 use layout_model::capped;
 use px_units::{BoxKind, Point, Size};
+use style_values::Position;
 
 const ORIGIN: Point = Point { left: 0, top: 0 };
 
@@ -70,7 +73,18 @@ pub(crate) fn root_range<P: Styled>(tree: &Tree<P>, boxes: &Kept, shown: ShownRo
     range_between(edges(corner, &own, ORIGIN), shown.size)
 }
 
-// The range of a node that has a box by the border box of its last child alone.
+// Whether the style of a node says `position: static`, which leaves its box in the flow where it stands.
+fn is_static<P: Styled>(tree: &Tree<P>, node: NodeId) -> bool
+    requires { node.0 < length tree.now.nodes }
+    ensures { result ≡ is_static ((layout_tree P.style P.kind tree.now.nodes node.0).item.style.position) }
+{
+    match tree.payload(node).style().position {
+        Position::Static => true,
+        Position::Relative | Position::Absolute | Position::Fixed => false,
+    }
+}
+
+// The range of a node that has a box by the border box of its last child alone, where that one is static.
 pub(crate) fn last_range<P: Styled>(tree: &Tree<P>, boxes: &Kept, node: NodeId) -> Size
     requires { node.0 < length tree.now.nodes }
     ensures within { let at = layout_tree P.style P.kind tree.now.nodes in (view : View) →
@@ -87,7 +101,7 @@ pub(crate) fn last_range<P: Styled>(tree: &Tree<P>, boxes: &Kept, node: NodeId) 
     }
 }
 
-// The range of a scroll container by the border box of a child alone.
+// The range of a scroll container by the border box of a child alone, where that one is static.
 fn range_to<P: Styled>(tree: &Tree<P>, boxes: &Kept, node: NodeId, child: NodeId) -> Size
     requires node { node.0 < length tree.now.nodes }
     requires child { child.0 < length tree.now.nodes }
@@ -99,6 +113,9 @@ fn range_to<P: Styled>(tree: &Tree<P>, boxes: &Kept, node: NodeId, child: NodeId
     ensures range { IsRange result }
 {
     if is_hidden(tree, child) {
+        return NO_SIZE;
+    }
+    if !is_static(tree, child) {
         return NO_SIZE;
     }
     let Some(outer) = boxes.box_of(node) else {

@@ -1,12 +1,15 @@
-//! How far what lies around a box is scrolled, and where it is then (CSS 2.2, 9.4.1; CSSOM View, 6).
+//! How far what holds a box is scrolled, and where it is then (CSS 2.2, 9.4.1 and 10.1; CSSOM View, 6).
 
-ghost use Rattle.std.specs.Prelude.{◌≡◌, ◌*◌, ◌<◌, ◌≤◌, ℕ, true, pos, length, is_some, unsigned_abs};
-ghost use Rattle.layout_model.specs.Nodes.{ancestors_of};
-ghost use Rattle.layout_model.specs.Points.{plus, moved, moved_back, sum_points};
+ghost use Rattle.std.specs.Prelude.{◌≡◌, ◌*◌, ◌<◌, ◌≤◌, ℕ, true, cond, length, is_some, unsigned_abs};
+ghost use Rattle.layout_model.specs.Nodes.{holders_of, is_on_screen};
+ghost use Rattle.layout_model.specs.Points.{plus, moved_back, sum_points};
+ghost use Rattle.layout_model.specs.Views.{View, inputs_in_view};
+ghost use Rattle.layout_model.specs.Reach.{offset_in_force, view_in_force};
 ghost use Rattle.layout_model.specs.Places.{place_in};
-ghost use Rattle.layout_model.specs.Reach.{View, inputs_in_view, offset_in_force, view_in_force};
 ghost use Rattle.block_layout.specs.Seen.{as_point};
 ghost use Rattle.block_layout.specs.Trees.{layout_tree};
+ghost use Rattle.positioned_layout.specs.Seen.{IsNear};
+ghost use Rattle.kept_layout.specs.Measures.{IsSized};
 ghost use Rattle.page_model.specs.PageBoxes.{point_of, stored_in};
 ghost use Rattle.page_boxes.specs.Fresh.{HoldsAll};
 ghost use Rattle.page_boxes.specs.Ranges.{IsOffset, IsPlace};
@@ -15,6 +18,7 @@ use crate::in_force::boxed_offset;
 use block_layout::Styled;
 use element_tree::{NodeId, Tree};
 use kept_layout::{Kept, Shift};
+use positioned_layout::{Holder, holder_of};
 use px_units::Point;
 use scrolling::Scrolls;
 
@@ -31,7 +35,7 @@ fn unsigned(offset: Point) -> Shift
 // The scroll offset in force of a node that has a box.
 fn own_scroll<P: Styled>(tree: &Tree<P>, boxes: &Kept, scrolls: &Scrolls, node: NodeId) -> Shift
     requires { node.0 < length tree.now.nodes }
-    ensures value { let at = layout_tree P.style P.kind tree.now.nodes in (view : View) →
+    ensures value { let at = layout_tree P.style P.kind tree.now.nodes in (view : View) → IsSized view →
         HoldsAll at view boxes.now → is_some (inputs_in_view at view node.0) ≡ true →
         (result.across, result.down) ≡ offset_in_force at (stored_in scrolls.now) view node.0 }
     ensures across { result.across ≤ 2147483647 }
@@ -40,50 +44,82 @@ fn own_scroll<P: Styled>(tree: &Tree<P>, boxes: &Kept, scrolls: &Scrolls, node: 
     unsigned(boxed_offset(tree, boxes, scrolls, node))
 }
 
-// How far the ancestors of a node are scrolled.
-fn scrolled<P: Styled>(tree: &Tree<P>, boxes: &Kept, scrolls: &Scrolls, node: NodeId) -> Shift
-    ensures value { let at = layout_tree P.style P.kind tree.now.nodes in (view : View) →
-        HoldsAll at view boxes.now → is_some (inputs_in_view at view node.0) ≡ true →
-        (result.across, result.down) ≡ sum_points (offset_in_force at (stored_in scrolls.now) view) (ancestors_of at node.0) }
-    ensures across { result.across ≤ 2147483647 * tree.now.most_depth }
-    ensures down { result.down ≤ 2147483647 * tree.now.most_depth }
-{
-    let mut scrolled = Shift::NONE;
-    let mut at = node;
-    while let Some(parent) = tree.parent(at) {
-        let more = own_scroll(tree, boxes, scrolls, parent);
-        scrolled = Shift {
-            across: scrolled.across + more.across,
-            down: scrolled.down + more.down,
-        };
-        at = parent;
-    }
-    scrolled
+// How far the elements that hold a box are scrolled, and whether the screen holds the last of them.
+#[derive(Clone, Copy)]
+struct HolderScroll {
+    shift: Shift,
+    on_screen: bool,
 }
 
-// A place from the corner of a viewport, where what it is in and the viewport are scrolled so far.
-fn moved_back(place: Shift, inner: Shift, view: Shift) -> Point
-    requires across { place.across ≤ 2147483647 * 256 }
-    requires down { place.down ≤ 2147483647 * 256 }
+fn scrolled<P: Styled>(
+    tree: &Tree<P>,
+    boxes: &Kept,
+    scrolls: &Scrolls,
+    node: NodeId,
+) -> HolderScroll
+    requires { node.0 < length tree.now.nodes }
+    ensures value { let at = layout_tree P.style P.kind tree.now.nodes in (view : View) → IsSized view →
+        HoldsAll at view boxes.now → is_some (inputs_in_view at view node.0) ≡ true →
+        (result.shift.across, result.shift.down) ≡ sum_points (offset_in_force at (stored_in scrolls.now) view) (holders_of at node.0) }
+    ensures ends { result.on_screen ≡ is_on_screen (layout_tree P.style P.kind tree.now.nodes) node.0 }
+    ensures across { result.shift.across ≤ 2147483647 * tree.now.most_depth }
+    ensures down { result.shift.down ≤ 2147483647 * tree.now.most_depth }
+{
+    let mut shift = Shift::NONE;
+    let mut held = holder_of(tree, node);
+    while let Holder::Node(element) = held {
+        let more = own_scroll(tree, boxes, scrolls, element);
+        shift = Shift {
+            across: shift.across + more.across,
+            down: shift.down + more.down,
+        };
+        held = holder_of(tree, element);
+    }
+    let on_screen = match held {
+        Holder::Screen => true,
+        Holder::Node(_) | Holder::Page => false,
+    };
+    HolderScroll { shift, on_screen }
+}
+
+// A place from the corner of a viewport, where what holds it and the viewport are scrolled so far.
+fn moved_back(place: Point, inner: Shift, view: Shift) -> Point
+    requires left { IsNear 256 place.left }
+    requires top { IsNear 256 place.top }
     requires inner_across { inner.across ≤ 2147483647 * 256 }
     requires inner_down { inner.down ≤ 2147483647 * 256 }
     requires view_across { view.across ≤ 2147483647 }
     requires view_down { view.down ≤ 2147483647 }
-    ensures value { result ≡ point_of (moved_back (moved (pos 0, pos 0) (place.across, place.down))
-        (plus (inner.across, inner.down) (view.across, view.down))) }
+    ensures value { result ≡ point_of (moved_back (place.left, place.top) (plus (inner.across, inner.down) (view.across, view.down))) }
     ensures left { IsPlace result.left }
     ensures top { IsPlace result.top }
 {
     Point {
-        left: place.across as i64 - (inner.across + view.across) as i64,
-        top: place.down as i64 - (inner.down + view.down) as i64,
+        left: place.left - (inner.across + view.across) as i64,
+        top: place.top - (inner.down + view.down) as i64,
+    }
+}
+
+// What a viewport's scroll offset moves a box by: nothing that the screen holds.
+fn view_shift(view: Point, on_screen: bool) -> Shift
+    requires { IsOffset view }
+    ensures left { result.across ≡ cond on_screen 0 (unsigned_abs view.left) }
+    ensures top { result.down ≡ cond on_screen 0 (unsigned_abs view.top) }
+    ensures across { result.across ≤ 2147483647 }
+    ensures down { result.down ≤ 2147483647 }
+{
+    if on_screen {
+        Shift::NONE
+    } else {
+        unsigned(view)
     }
 }
 
 /// The place of the border box of a node that has a box, in its document's viewport that is scrolled so far (CSSOM View, 6:
-/// `getBoundingClientRect`). It is so where the boxes in its view are held as they are now. No memory.
+/// `getBoundingClientRect`). It is so where the boxes in its view are held as they are now, and no length of that is above the largest
+/// one. No memory.
 ///
-/// It goes up to the root by the boxes of the node and its ancestors alone, with the heights that are kept above each; what is
+/// It goes up by the boxes of the node, its ancestors and those that hold it alone, with the heights that are kept above each; what is
 /// scrolled on the way is measured.
 pub fn place_in<P: Styled>(
     tree: &Tree<P>,
@@ -94,16 +130,17 @@ pub fn place_in<P: Styled>(
 ) -> Point
     requires depth { tree.now.most_depth ≤ 256 }
     requires view { IsOffset view }
-    ensures value { let at = layout_tree P.style P.kind tree.now.nodes in (inside : View) (scrolled : ℕ × ℕ) →
+    ensures value { let at = layout_tree P.style P.kind tree.now.nodes in (inside : View) (scrolled : ℕ × ℕ) → IsSized inside →
         HoldsAll at inside boxes.now → is_some (inputs_in_view at inside node.0) ≡ true →
         view ≡ as_point (view_in_force at (record inside { scrolled = scrolled })) →
         result ≡ point_of (place_in at (stored_in scrolls.now) (record inside { scrolled = scrolled }) node.0) }
     ensures left { IsPlace result.left }
     ensures top { IsPlace result.top }
 {
-    moved_back(
-        boxes.unscrolled_place_of(tree, node),
-        scrolled(tree, boxes, scrolls, node),
-        unsigned(view),
-    )
+    let place = boxes.flat_place_of(tree, node);
+    if !tree.holds(node) {
+        return place;
+    }
+    let scrolled = scrolled(tree, boxes, scrolls, node);
+    moved_back(place, scrolled.shift, view_shift(view, scrolled.on_screen))
 }

@@ -4,23 +4,27 @@ ghost use Rattle.std.specs.Prelude.{◌≡◌, ◌<◌, ◌-◌, ◌&&◌, pos, 
 ghost use Rattle.px_units.specs.Lengths.{cap};
 ghost use Rattle.layout_model.specs.Clips.{is_visible, is_clip, is_scroll_container};
 ghost use Rattle.layout_model.specs.Points.{minus, capped};
-ghost use Rattle.layout_model.specs.Reach.{View, inputs_in_view, range_of as range_in, range_of_view};
+ghost use Rattle.layout_model.specs.Views.{View, inputs_in_view};
+ghost use Rattle.layout_model.specs.Reach.{range_of as range_in, range_of_view};
 ghost use Rattle.style_values.specs.Seen.{seen_style};
 ghost use Rattle.page_model.specs.World.{Screen as WorldScreen};
 ghost use Rattle.page_model.specs.PageBoxes.{view_with, is_scroller};
 ghost use Rattle.scrolling.specs.Ranges.{IsLength, IsRange};
 ghost use Rattle.block_layout.specs.Seen.{as_size};
 ghost use Rattle.block_layout.specs.Trees.{layout_tree};
+ghost use Rattle.kept_layout.specs.Measures.{IsSized};
+ghost use Rattle.page_tree.specs.Items.{IsNatural};
 ghost use Rattle.page_boxes.specs.Fresh.{HoldsAll};
 ghost use Rattle.page_boxes.specs.Pages.{seen_pair};
 
 use crate::climb::has_kids;
 use crate::documents::{ShownRoot, has_box};
-use block_layout::{Boxes, Styled, overflow_reach};
+use block_layout::{Boxes, Styled};
 use element_tree::{NodeId, Tree};
 use kept_layout::Kept;
 use layout_model::capped;
 use page_tree::PageTree;
+use positioned_layout::reach;
 use px_units::Size;
 use style_values::{Overflow, Style};
 
@@ -81,13 +85,13 @@ pub(crate) fn range_between(reach: Size, shown: Size) -> Size
 }
 
 /// The scrolling range of a node that has a box (CSS Overflow 3, 2.2; CSSOM View: scrolling area): how far its content reaches
-/// beyond its padding box, 0 by 0 where it isn't a scroll container. It is so where the boxes in its view are held as they are now.
-/// No memory.
+/// beyond its padding box, 0 by 0 where it isn't a scroll container. It is so where the boxes in its view are held as they are now, and
+/// no length of that is above the largest one. No memory.
 ///
 /// It calls itself once a level of the tree below.
 pub fn boxed_range<P: Styled>(tree: &Tree<P>, boxes: &Kept, node: NodeId) -> Size
     requires { node.0 < length tree.now.nodes }
-    ensures value { let at = layout_tree P.style P.kind tree.now.nodes in (view : View) →
+    ensures value { let at = layout_tree P.style P.kind tree.now.nodes in (view : View) → IsSized view →
         HoldsAll at view boxes.now → is_some (inputs_in_view at view node.0) ≡ true →
         result ≡ as_size (cond (is_scroll_container (at node.0)) (range_in at view node.0) (0, 0)) }
     ensures range { IsRange result }
@@ -98,7 +102,8 @@ pub fn boxed_range<P: Styled>(tree: &Tree<P>, boxes: &Kept, node: NodeId) -> Siz
     let Some(own) = boxes.box_of(node) else {
         return NO_SIZE;
     };
-    range_between(overflow_reach(tree, boxes, node, None), own.padding_size())
+    let reach = reach(tree, &boxes.measures(tree), node, Some(node), NO_SIZE);
+    range_between(reach, own.padding_size())
 }
 
 /// The scrolling range of the viewport in which a root element is shown (CSSOM View: scrolling area): how far the content reaches
@@ -106,12 +111,13 @@ pub fn boxed_range<P: Styled>(tree: &Tree<P>, boxes: &Kept, node: NodeId) -> Siz
 ///
 /// It calls itself once a level of the tree below.
 pub fn shown_range<P: Styled>(tree: &Tree<P>, boxes: &Kept, shown: ShownRoot) -> Size
-    requires { shown.root.0 < length tree.now.nodes }
+    requires root { shown.root.0 < length tree.now.nodes }
+    requires size { IsNatural shown.size }
     ensures value { let at = layout_tree P.style P.kind tree.now.nodes in (at shown.root.0).parent ≡ None → (view : View) →
         view ≡ view_with (Some shown.root.0) (Some (seen_pair shown.size)) → HoldsAll at view boxes.now →
         result ≡ as_size (range_of_view at view) }
     ensures range { IsRange result }
 {
-    let reach = overflow_reach(tree, boxes, shown.root, Some(shown.size));
+    let reach = reach(tree, &boxes.measures(tree), shown.root, None, shown.size);
     range_between(reach, shown.size)
 }

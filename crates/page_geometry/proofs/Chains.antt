@@ -2,13 +2,16 @@
 use Rattle.std.proofs.Common.{◌≡◌, ◌≤◌, ◌⊎◌, inl, inr, ℕ, zero, suc, Bool, true, false, cond, List, [], ◌∷◌, ◌++◌, length, Option, Some, None, refl, ap, sym, subst, ◌∙◌, nat_eq, eqb-true, arith}
 use Rattle.std.proofs.lemmas.Bool.Decides.{nat_tests}
 use Rattle.std.specs.Prelude.{◌||◌, not, ◌==◌, option_map}
-use Rattle.layout_model.specs.Nodes.{path_of, is_among, is_in_path}
-use Rattle.layout_model.proofs.Paths.{path_child, path_top, depth_child, depth_least}
+use Rattle.layout_model.specs.Nodes.{Holder, HeldByElement, HeldByPage, HeldByScreen, holder, element_of, held, is_in_path}
+use Rattle.layout_model.proofs.Ancestors.{in_child, in_top}
+use Rattle.layout_model.proofs.Holders.{holder_less, holder_cases, held_shallow}
+use Rattle.layout_model.proofs.Paths.{depth_least}
 use Rattle.page_model.specs.World.{Screen, Tree, Scrolls, Root, ImplicitRoot, DocumentRoot, ElementRoot}
 use Rattle.page_model.specs.Lookups.{element_at, document_at}
-use Rattle.page_model.specs.Documents.{InElement, container_by, container_of, is_root_element, first_of_list, nodes_of, element_depth}
+use Rattle.page_model.specs.Documents.{InElement, first_of_list, nodes_of, tree_document, element_depth}
 use Rattle.page_model.specs.PageBoxes.{has_box}
 use Rattle.page_model.specs.Shown.{shown_with}
+use Rattle.page_model.specs.Chains.{container_held, holding}
 use Rattle.page_model.specs.Findings.{is_on_chain, is_apart}
 use Rattle.page_documents.specs.Paths.{owner_of, way_above, way_down}
 use Rattle.page_documents.specs.Frames.{AreFramed}
@@ -18,7 +21,7 @@ use Rattle.clip_chain.specs.Scenes.{Scene}
 use Rattle.clip_chain.specs.Chains.{Leads, IsAbove}
 use Rattle.clip_chain.specs.Worlds.{element_spot, spot_of, spot_of_root, scene_of}
 use Rattle.clip_chain.proofs.Leading.{above_inwards}
-use Rattle.page_geometry.proofs.Standing.{active, parent_boxed, root_is, frame_boxed}
+use Rattle.page_geometry.proofs.Standing.{active, boxed_document, holder_boxed, holder_document, frame_boxed}
 use Rattle.page_geometry.proofs.Levels.{count_is}
 use Rattle.page_boxes.proofs.Views.{way_less, no_way}
 
@@ -79,79 +82,90 @@ module _ (tree : Tree) (screen : Screen) (scrolls : Scrolls) (framed : AreFramed
   abbrev own : ℕ → ℕ
   own n = (element_at tree n).document
 
-  -- what an element with a box stands in
+  -- what holds an element's box
   module _ (n : ℕ) (boxed : has_box tree screen n ≡ true) where
-    pub in_parent : (p : ℕ) → (element_at tree n).parent ≡ Some p → scene.container (element_spot n) ≡ Some (element_spot p)
-    in_parent p is =
-        ap (λ b. cond b (option_map spot_of (container_of tree n)) None) boxed
-        ∙ ap (λ o. option_map spot_of (container_by o (is_root_element tree n) (own n))) is
+    pub in_holder : (h : ℕ) → holder (nodes_of tree) n ≡ HeldByElement h → scene.container (element_spot n) ≡ Some (element_spot h)
+    in_holder h is =
+        ap (λ b. cond b (option_map spot_of (holding tree n)) None) boxed
+        ∙ ap (λ by. option_map spot_of (container_held by (tree_document tree n))) is
 
-    pub in_view : (element_at tree n).parent ≡ None → scene.container (element_spot n) ≡ Some (View (own n))
-    in_view is =
-        ap (λ b. cond b (option_map spot_of (container_of tree n)) None) boxed
-        ∙ ap (λ o. option_map spot_of (container_by o (is_root_element tree n) (own n))) is
-        ∙ ap (λ b. option_map spot_of (container_by None b (own n))) (root_is tree screen n boxed framed is)
+    viewport_by : (by : Holder) → element_of by ≡ None → option_map spot_of (container_held by (Some (own n))) ≡ Some (View (own n))
+    viewport_by (HeldByElement h) none = cc
+    viewport_by HeldByPage none = refl
+    viewport_by HeldByScreen none = refl
+
+    pub in_view : element_of (holder (nodes_of tree) n) ≡ None → scene.container (element_spot n) ≡ Some (View (own n))
+    in_view none =
+        ap (λ b. cond b (option_map spot_of (holding tree n)) None) boxed
+        ∙ ap (λ o. option_map spot_of (container_held (holder (nodes_of tree) n) o)) (boxed_document tree screen framed n boxed)
+        ∙ viewport_by (holder (nodes_of tree) n) none
 
   pub in_frame : (document frame : ℕ) → (document_at tree document).frame ≡ Some frame → scene.container (View document) ≡ Some (element_spot frame)
   in_frame document frame is = ap (λ o. option_map spot_of (option_map InElement o)) is
 
-  -- the viewport of its document is above it
-  view_step : (n : ℕ) → has_box tree screen n ≡ true → ((p : ℕ) → (element_at tree n).parent ≡ Some p → IsAbove scene (View (own p)) (element_spot p))
-      → (parent : Option ℕ) → (element_at tree n).parent ≡ parent → IsAbove scene (View (own n)) (element_spot n)
-  view_step n boxed below None is = ([], in_view n boxed is)
-  view_step n boxed below (Some p) is =
-      above_inwards scene (View (own n)) (element_spot n) (element_spot p) (in_parent n boxed p is) (λ same. cc)
-      (subst (λ d. IsAbove scene (View d) (element_spot p)) (sym (framed.owners.owned n p is)) (below p is))
-
-  depth_falls : (most n p : ℕ) → element_depth tree n ≤ suc most → (element_at tree n).parent ≡ Some p → element_depth tree p ≤ most
+  depth_falls : (most n h : ℕ) → element_depth tree n ≤ suc most → holder (nodes_of tree) n ≡ HeldByElement h → element_depth tree h ≤ most
   unfolding element_depth
-  depth_falls most n p short is = omega (arith, depth_child (nodes_of tree) n p is (framed.trees.shallow p))
+  depth_falls most n h short is = omega (arith, holder_less (nodes_of tree) framed.trees.shallow n h is)
 
   depth_some : (n : ℕ) → 1 ≤ element_depth tree n
   unfolding element_depth
   depth_some n = depth_least (nodes_of tree) n
 
+  -- the viewport of its document is above it
   to_view : (most n : ℕ) → element_depth tree n ≤ most → has_box tree screen n ≡ true → IsAbove scene (View (own n)) (element_spot n)
   to_view zero n short boxed = absurd (omega (arith, depth_some n))
   to_view (suc most) n short boxed =
-      view_step n boxed (λ p is. to_view most p (depth_falls most n p short is) (parent_boxed tree screen n boxed framed p is)) (element_at tree n).parent refl
+      elim (holder_cases (nodes_of tree) n) [
+        | inl none ↦ ([], in_view n boxed none)
+        | inr h ↦ above_inwards scene (View (own n)) (element_spot n) (element_spot h.0) (in_holder n boxed h.0 h.1) (λ same. cc)
+            (subst (λ d. IsAbove scene (View d) (element_spot h.0)) (holder_document tree screen framed n h.0 h.1)
+            (to_view most h.0 (depth_falls most n h.0 short h.1) (holder_boxed tree screen framed n h.0 h.1 boxed)))
+      ]
 
-  -- so is an element that is an ancestor
-  ancestor_step : (a n : ℕ) → is_in_path (nodes_of tree) a n ≡ true → nat_eq a n ≡ false
-      → (parent : Option ℕ) → (element_at tree n).parent ≡ parent → (p : ℕ) × (parent ≡ Some p) × (is_in_path (nodes_of tree) a p ≡ true)
-  unfolding is_in_path is_among
-  ancestor_step a n inside differs None is =
-      let clash : true ≡ false =
-      sym inside ∙ ap (is_among a) (path_top (nodes_of tree) n is) ∙ ap (λ b. b || false) differs in absurd (let no : ⊥ = cc in no)
-  ancestor_step a n inside differs (Some p) is = (
-    p,
-    refl,
-    sym (ap (λ b. b || is_among a (path_of (nodes_of tree) p)) differs)
-        ∙ sym (ap (is_among a) (path_child (nodes_of tree) n p is (framed.trees.shallow p))) ∙ inside,
-  )
+  -- so is an element among those that hold it
+  or_false : (b : Bool) → (b || false) ≡ b
+  or_false true = refl
+  or_false false = refl
 
-  below_step : (a n : ℕ) → has_box tree screen n ≡ true → is_in_path (nodes_of tree) a n ≡ true
-      → ((p : ℕ) → (element_at tree n).parent ≡ Some p → is_in_path (nodes_of tree) a p ≡ true → (a ≡ p) ⊎ IsAbove scene (element_spot a) (element_spot p))
+  held_step : (a n : ℕ) → is_in_path (held (nodes_of tree)) a n ≡ true → nat_eq a n ≡ false
+      → (h : ℕ) × (holder (nodes_of tree) n ≡ HeldByElement h) × (is_in_path (held (nodes_of tree)) a h ≡ true)
+  held_step a n inside differs =
+      elim (holder_cases (nodes_of tree) n) [
+        | inl none ↦
+            let clash : true ≡ false =
+            sym inside ∙ in_top (held (nodes_of tree)) (held_shallow (nodes_of tree) framed.trees.shallow) a n none ∙ or_false (nat_eq a n) ∙ differs in
+            absurd (let no : ⊥ = cc in no)
+        | inr h ↦ (
+          h.0,
+          h.1,
+          sym (in_child (held (nodes_of tree)) (held_shallow (nodes_of tree) framed.trees.shallow) a n h.0 (ap element_of h.1)
+              ∙ ap (λ b. b || is_in_path (held (nodes_of tree)) a h.0) differs)
+              ∙ inside,
+        )
+      ]
+
+  below_step : (a n : ℕ) → has_box tree screen n ≡ true → is_in_path (held (nodes_of tree)) a n ≡ true
+      → ((h : ℕ) → holder (nodes_of tree) n ≡ HeldByElement h → is_in_path (held (nodes_of tree)) a h ≡ true → (a ≡ h) ⊎ IsAbove scene (element_spot a) (element_spot h))
       → (same : Bool) → nat_eq a n ≡ same → (a ≡ n) ⊎ IsAbove scene (element_spot a) (element_spot n)
   below_step a n boxed inside up true same = inl (eqb-true a n same)
   below_step a n boxed inside up false differs =
-      let found = ancestor_step a n inside differs (element_at tree n).parent refl in
-      let p = found.0 in
-      let out = in_parent n boxed p found.1 in
-      elim (up p found.1 found.2) [
+      let found = held_step a n inside differs in
+      let h = found.0 in
+      let out = in_holder n boxed h found.1 in
+      elim (up h found.1 found.2) [
         | inl same ↦ inr ([], out ∙ ap (λ m. Some (element_spot m)) (sym same))
-        | inr above ↦ inr (elim (spot_same (element_spot p) (element_spot a)) [
+        | inr above ↦ inr (elim (spot_same (element_spot h) (element_spot a)) [
           | inl same ↦ ([], out ∙ ap Some same)
-          | inr apart ↦ above_inwards scene (element_spot a) (element_spot n) (element_spot p) out apart above
+          | inr apart ↦ above_inwards scene (element_spot a) (element_spot n) (element_spot h) out apart above
         ])
       ]
 
-  to_ancestor : (most a n : ℕ) → element_depth tree n ≤ most → has_box tree screen n ≡ true → is_in_path (nodes_of tree) a n ≡ true
+  to_holder : (most a n : ℕ) → element_depth tree n ≤ most → has_box tree screen n ≡ true → is_in_path (held (nodes_of tree)) a n ≡ true
       → (a ≡ n) ⊎ IsAbove scene (element_spot a) (element_spot n)
-  to_ancestor zero a n short boxed inside = absurd (omega (arith, depth_some n))
-  to_ancestor (suc most) a n short boxed inside =
+  to_holder zero a n short boxed inside = absurd (omega (arith, depth_some n))
+  to_holder (suc most) a n short boxed inside =
       below_step a n boxed inside
-      (λ p is. to_ancestor most a p (depth_falls most n p short is) (parent_boxed tree screen n boxed framed p is))
+      (λ h is. to_holder most a h (depth_falls most n h short is) (holder_boxed tree screen framed n h is boxed))
       (nat_eq a n) refl
 
   -- and the viewport of `top`
@@ -194,8 +208,8 @@ module _ (tree : Tree) (screen : Screen) (scrolls : Scrolls) (framed : AreFramed
       (to_view (element_depth tree n) n (omega arith) boxed)
   above (ElementRoot a) n boxed near =
       let proper : is_on_chain tree a n ≡ true = second_true (own n == own a) (is_on_chain tree a n) (not (has_box tree screen a)) (not (has_box tree screen n)) near in
-      let kept = proper_is (a == n) (is_in_path (nodes_of tree) a n) proper in
-      elim (to_ancestor (element_depth tree n) a n (omega arith) boxed kept.1) [
+      let kept = proper_is (a == n) (is_in_path (held (nodes_of tree)) a n) proper in
+      elim (to_holder (element_depth tree n) a n (omega arith) boxed kept.1) [
         | inl same ↦ absurd (let clash : true ≡ false = sym (number_same a n same) ∙ kept.0 in let no : ⊥ = cc in no)
         | inr found ↦ found
       ]

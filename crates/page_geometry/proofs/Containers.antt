@@ -6,10 +6,10 @@ use Rattle.layout_model.specs.Clips.{is_block, is_visible, is_clip, clips, is_sc
 use Rattle.layout_model.specs.Nodes.{Node as LayoutNode}
 use Rattle.page_model.specs.World.{Screen, Element, Tree, Scrolls}
 use Rattle.page_model.specs.Lookups.{document_at}
-use Rattle.page_model.specs.Documents.{InElement, container_of, nodes_of, element_depth}
+use Rattle.page_model.specs.Documents.{InElement, nodes_of, element_depth}
 use Rattle.page_model.specs.PageBoxes.{has_box}
 use Rattle.page_model.specs.Shown.{shown_with}
-use Rattle.page_model.specs.Chains.{zero_rect, border_rect, padding_rect}
+use Rattle.page_model.specs.Chains.{holding, zero_rect, border_rect, padding_rect}
 use Rattle.page_documents.specs.Frames.{AreFramed}
 use Rattle.clip_chain.specs.declared.spot.Spot.{Spot}
 use Rattle.clip_chain.specs.declared.spot.Spot.TheVariants.{View}
@@ -39,10 +39,10 @@ module _ (tree : Tree) (screen : Screen) (scrolls : Scrolls) where
 
   module _ (n : ℕ) where
     pub no_container : has_box tree screen n ≡ false → None ≡ scene.container (element_spot n)
-    no_container none = sym (ap (λ b. cond b (option_map spot_of (container_of tree n)) None) none)
+    no_container none = sym (ap (λ b. cond b (option_map spot_of (holding tree n)) None) none)
 
-    pub container_is : (found : Option Spot) → has_box tree screen n ≡ true → found ≡ option_map spot_of (container_of tree n) → found ≡ scene.container (element_spot n)
-    container_is found there is = is ∙ sym (ap (λ b. cond b (option_map spot_of (container_of tree n)) None) there)
+    pub container_is : (found : Option Spot) → has_box tree screen n ≡ true → found ≡ option_map spot_of (holding tree n) → found ≡ scene.container (element_spot n)
+    container_is found there is = is ∙ sym (ap (λ b. cond b (option_map spot_of (holding tree n)) None) there)
 
     pub no_clip : (has_box tree screen n && clips (nodes_of tree n)) ≡ false → None ≡ scene.clip (element_spot n)
     no_clip none = by_box (has_box tree screen n) (clips (nodes_of tree n)) none

@@ -1,12 +1,15 @@
 -- Chains on a page end: a container stands lower than what stands in it.
-use Rattle.std.proofs.Common.{◌≡◌, ◌≤◌, ◌<◌, ◌+◌, ◌*◌, ℕ, Bool, true, false, cond, List, [], ◌∷◌, length, Option, Some, None, refl, ap, subst, arith}
+use Rattle.std.proofs.Common.{◌≡◌, ◌≤◌, ◌<◌, ◌+◌, ◌*◌, ℕ, Bool, true, false, cond, List, [], ◌∷◌, length, Option, Some, None, refl, ap, sym, ◌∙◌, subst, arith}
 use Rattle.std.specs.Prelude.{option_map}
-use Rattle.layout_model.proofs.Paths.{depth_child, depth_least}
+use Rattle.layout_model.specs.Nodes.{Holder, HeldByElement, HeldByPage, HeldByScreen, holder}
+use Rattle.layout_model.proofs.Holders.{holder_less}
+use Rattle.layout_model.proofs.Paths.{depth_least}
 use Rattle.page_model.specs.World.{Screen, Tree, Scrolls}
 use Rattle.page_model.specs.Lookups.{element_at, document_at}
-use Rattle.page_model.specs.Documents.{InElement, container_by, container_of, is_root_element, nodes_of, element_depth}
+use Rattle.page_model.specs.Documents.{InElement, InDocument, nodes_of, tree_document, element_depth}
 use Rattle.page_model.specs.PageBoxes.{has_box}
 use Rattle.page_model.specs.Shown.{shown_with}
+use Rattle.page_model.specs.Chains.{container_held, holding}
 use Rattle.page_documents.specs.Frames.{AreFramed}
 use Rattle.clip_chain.specs.declared.spot.Spot.{Spot}
 use Rattle.clip_chain.specs.declared.spot.Spot.TheVariants.{Node, View}
@@ -14,7 +17,7 @@ use Rattle.clip_chain.specs.Scenes.{Scene}
 use Rattle.clip_chain.specs.Chains.{Leads}
 use Rattle.clip_chain.specs.Worlds.{element_spot, spot_of, scene_of}
 use Rattle.page_geometry.specs.Ranks.{level_of, rank_of}
-use Rattle.page_geometry.proofs.Standing.{active, parent_boxed}
+use Rattle.page_geometry.proofs.Standing.{active, boxed_document, holder_boxed, holder_document}
 use Rattle.page_geometry.proofs.Levels.{level_more, level_some, level_most}
 
 pub leads_on : (b : Bool) (o : Option Spot) (next : Spot) → cond b o None ≡ Some next → (b ≡ true) × (o ≡ Some next)
@@ -38,24 +41,29 @@ module _ (tree : Tree) (screen : Screen) (scrolls : Scrolls) (framed : AreFramed
   unranked : (n : ℕ) → has_box tree screen n ≡ false → rank_of tree screen (element_spot n) ≡ 0
   unranked n none = ap (λ b. cond b (257 * level_of tree (own n) + element_depth tree n) 0) none
 
-  depth_more : (n p : ℕ) → (element_at tree n).parent ≡ Some p → element_depth tree n ≡ element_depth tree p + 1
+  depth_less : (n h : ℕ) → holder (nodes_of tree) n ≡ HeldByElement h → element_depth tree h < element_depth tree n
   unfolding element_depth
-  depth_more n p is = depth_child (nodes_of tree) n p is (framed.trees.shallow p)
+  depth_less n h is = holder_less (nodes_of tree) framed.trees.shallow n h is
 
   depth_some : (n : ℕ) → 1 ≤ element_depth tree n
   unfolding element_depth
   depth_some n = depth_least (nodes_of tree) n
 
-  outwards : (n : ℕ) → has_box tree screen n ≡ true → (parent : Option ℕ) (is_root : Bool) (next : Spot) → (element_at tree n).parent ≡ parent
-      → option_map spot_of (container_by parent is_root (own n)) ≡ Some next → rank_of tree screen next < rank_of tree screen (element_spot n)
-  outwards n boxed None true next is leads =
-      subst (λ spot. rank_of tree screen spot < rank_of tree screen (element_spot n)) (same_next (View (own n)) next leads)
+  to_viewport : (n : ℕ) → has_box tree screen n ≡ true → (next : Spot) → option_map spot_of (option_map InDocument (tree_document tree n)) ≡ Some next
+      → rank_of tree screen next < rank_of tree screen (element_spot n)
+  to_viewport n boxed next leads =
+      subst (λ spot. rank_of tree screen spot < rank_of tree screen (element_spot n))
+      (same_next (View (own n)) next (ap (λ o. option_map spot_of (option_map InDocument o)) (sym (boxed_document tree screen framed n boxed)) ∙ leads))
       (omega (arith, ranked n boxed, depth_some n))
-  outwards n boxed None false next is leads = absurd (let no : ⊥ = cc in no)
-  outwards n boxed (Some p) is_root next is leads =
-      let level : level_of tree (own n) ≡ level_of tree (own p) = ap (level_of tree) (framed.owners.owned n p is) in
-      subst (λ spot. rank_of tree screen spot < rank_of tree screen (element_spot n)) (same_next (element_spot p) next leads)
-      (omega (arith, ranked n boxed, ranked p (parent_boxed tree screen n boxed framed p is), level, depth_more n p is))
+
+  outwards : (n : ℕ) → has_box tree screen n ≡ true → (by : Holder) (next : Spot) → holder (nodes_of tree) n ≡ by
+      → option_map spot_of (container_held by (tree_document tree n)) ≡ Some next → rank_of tree screen next < rank_of tree screen (element_spot n)
+  outwards n boxed (HeldByElement h) next is leads =
+      let level : level_of tree (own h) ≡ level_of tree (own n) = ap (level_of tree) (holder_document tree screen framed n h is) in
+      subst (λ spot. rank_of tree screen spot < rank_of tree screen (element_spot n)) (same_next (element_spot h) next leads)
+      (omega (arith, ranked n boxed, ranked h (holder_boxed tree screen framed n h is boxed), level, depth_less n h is))
+  outwards n boxed HeldByPage next is leads = to_viewport n boxed next leads
+  outwards n boxed HeldByScreen next is leads = to_viewport n boxed next leads
 
   frame_lower : (document frame : ℕ) → (document_at tree document).frame ≡ Some frame → (boxed : Bool) → has_box tree screen frame ≡ boxed
       → rank_of tree screen (element_spot frame) < rank_of tree screen (View document)
@@ -73,8 +81,8 @@ module _ (tree : Tree) (screen : Screen) (scrolls : Scrolls) (framed : AreFramed
 
   pub falls : (from next : Spot) → scene.container from ≡ Some next → rank_of tree screen next < rank_of tree screen from
   falls (Node node) next leads =
-      let found = leads_on (has_box tree screen (node.0)) (option_map spot_of (container_of tree (node.0))) next leads in
-      outwards (node.0) found.0 (element_at tree (node.0)).parent (is_root_element tree (node.0)) next refl found.1
+      let found = leads_on (has_box tree screen (node.0)) (option_map spot_of (holding tree (node.0))) next leads in
+      outwards (node.0) found.0 (holder (nodes_of tree) (node.0)) next refl found.1
   falls (View document) next leads = beyond document (document_at tree document).frame next refl leads
 
   short : (from root : Spot) (between : List Spot) → Leads scene from between root → length between ≤ rank_of tree screen from

@@ -10,16 +10,16 @@ use Rattle.page_model.specs.Chains.{added, moved_by, moved_back}
 use Rattle.clip_chain.specs.Ranges.{IsEdge as IsFar, IsSide, IsBounds}
 use Rattle.thresholds.specs.Roots.{IsRootEdge, IsRootRect, IsMargin, IsNear}
 use Rattle.page_boxes.specs.Ranges.{IsSpan, IsEdge, AreEdges}
-use Rattle.page_geometry.specs.Ranges.{IsOrigin, IsMovedEdge, IsMoved, IsRectReached}
+use Rattle.page_geometry.specs.Ranges.{IsCorner, IsOrigin, IsMovedEdge, IsMoved, IsRectReached}
 
 pub shifted_as : (r moved : Rect) (left top left' top' : ℤ) → moved ≡ shifted r left top → left ≡ left' → top ≡ top' → moved ≡ shifted r left' top'
 shifted_as r moved left top left' top' is one two = is ∙ ap (λ l. shifted r l top) one ∙ ap (λ t. shifted r left' t) two
 
 -- how far a viewport begins, as 64 bits
-pub fits : (m : ℤ) → neg_ℤ (pos 140737488355328) ≤ℤ m → m ≤ℤ pos 140737488355328 → cast_signed w64 (cast_unsigned w64 m) ≡ m
+pub fits : (m : ℤ) → neg_ℤ (pos 211106232532992) ≤ℤ m → m ≤ℤ pos 211106232532992 → cast_signed w64 (cast_unsigned w64 m) ≡ m
 fits m low high = omega (arith, ints)
 
-pub negated : (m : ℤ) → neg_ℤ (pos 140737488355328) ≤ℤ m → m ≤ℤ pos 140737488355328
+pub negated : (m : ℤ) → neg_ℤ (pos 211106232532992) ≤ℤ m → m ≤ℤ pos 211106232532992
     → cast_signed w64 (cast_unsigned w64 (pos 0 -ℤ cast_signed w64 (cast_unsigned w64 m))) ≡ neg_ℤ m
 negated m low high = omega (arith, ints)
 
@@ -27,7 +27,7 @@ negated m low high = omega (arith, ints)
 width_kept : (a b m : ℤ) → (b +ℤ m) -ℤ (a +ℤ m) ≡ b -ℤ a
 width_kept a b m = omega (arith, ints)
 
-edge_moved : (a m : ℤ) → IsEdge a → neg_ℤ (pos 140737488355328) ≤ℤ m → m ≤ℤ pos 140737488355328 → IsFar (a +ℤ m)
+edge_moved : (a m : ℤ) → IsEdge a → neg_ℤ (pos 211106232532992) ≤ℤ m → m ≤ℤ pos 211106232532992 → IsFar (a +ℤ m)
 edge_moved a m edge low high = let one = edge.0 in let two = edge.1 in record { low = omega (arith, ints); high = omega (arith, ints) }
 
 side_of : (w : ℤ) → IsSpan w → IsSide w
@@ -45,7 +45,7 @@ bounds_moved by r at edges width height = record {
   height = subst IsSide (sym (width_kept r.top r.bottom by.top)) (side_of (r.bottom -ℤ r.top) height);
 }
 
-edge_back : (a m : ℤ) → IsMovedEdge a → neg_ℤ (pos 140737488355328) ≤ℤ m → m ≤ℤ pos 140737488355328 → InReach (a +ℤ neg_ℤ m)
+edge_back : (a m : ℤ) → IsMovedEdge a → neg_ℤ (pos 211106232532992) ≤ℤ m → m ≤ℤ pos 211106232532992 → InReach (a +ℤ neg_ℤ m)
 edge_back a m edge low high = let one = edge.low in let two = edge.high in record { low = omega (arith, ints); high = omega (arith, ints) }
 
 pub reach_back : (from : Point) (r : Rect) → IsOrigin 64 from → IsMoved r → IsRectReached (moved_back from r)
@@ -117,13 +117,13 @@ moved_near r moved bounds near = record {
 pub origin_none : (frames : ℕ) → IsOrigin frames (record { left = pos 0; top = pos 0 })
 origin_none frames = record { left_low = omega (arith, ints); left_high = omega (arith, ints); top_low = omega (arith, ints); top_high = omega (arith, ints) }
 
-step_low : (frames : ℕ) (a b : ℤ) → IsEdge a → neg_ℤ (pos (frames * 2199023255552)) ≤ℤ b → neg_ℤ (pos ((frames + 1) * 2199023255552)) ≤ℤ (a +ℤ b)
+step_low : (frames : ℕ) (a b : ℤ) → IsCorner a → neg_ℤ (pos (frames * 3298534883328)) ≤ℤ b → neg_ℤ (pos ((frames + 1) * 3298534883328)) ≤ℤ (a +ℤ b)
 step_low frames a b edge low = let one = edge.0 in omega (arith, ints)
 
-step_high : (frames : ℕ) (a b : ℤ) → IsEdge a → b ≤ℤ pos (frames * 2199023255552) → (a +ℤ b) ≤ℤ pos ((frames + 1) * 2199023255552)
+step_high : (frames : ℕ) (a b : ℤ) → IsCorner a → b ≤ℤ pos (frames * 3298534883328) → (a +ℤ b) ≤ℤ pos ((frames + 1) * 3298534883328)
 step_high frames a b edge high = let one = edge.1 in omega (arith, ints)
 
-pub origin_added : (frames : ℕ) (corner around : Point) → IsEdge corner.left → IsEdge corner.top → IsOrigin frames around → IsOrigin (frames + 1) (added corner around)
+pub origin_added : (frames : ℕ) (corner around : Point) → IsCorner corner.left → IsCorner corner.top → IsOrigin frames around → IsOrigin (frames + 1) (added corner around)
 origin_added frames corner around left top at = record {
   left_low = step_low frames corner.left around.left left at.left_low;
   left_high = step_high frames corner.left around.left left at.left_high;
@@ -131,10 +131,10 @@ origin_added frames corner around left top at = record {
   top_high = step_high frames corner.top around.top top at.top_high;
 }
 
-wider_low : (frames most : ℕ) (a : ℤ) → frames ≤ most → neg_ℤ (pos (frames * 2199023255552)) ≤ℤ a → neg_ℤ (pos (most * 2199023255552)) ≤ℤ a
+wider_low : (frames most : ℕ) (a : ℤ) → frames ≤ most → neg_ℤ (pos (frames * 3298534883328)) ≤ℤ a → neg_ℤ (pos (most * 3298534883328)) ≤ℤ a
 wider_low frames most a more low = omega (arith, ints)
 
-wider_high : (frames most : ℕ) (a : ℤ) → frames ≤ most → a ≤ℤ pos (frames * 2199023255552) → a ≤ℤ pos (most * 2199023255552)
+wider_high : (frames most : ℕ) (a : ℤ) → frames ≤ most → a ≤ℤ pos (frames * 3298534883328) → a ≤ℤ pos (most * 3298534883328)
 wider_high frames most a more high = omega (arith, ints)
 
 pub origin_wider : (frames most : ℕ) (at : Point) → frames ≤ most → IsOrigin frames at → IsOrigin most at
@@ -145,7 +145,7 @@ origin_wider frames most at more it = record {
   top_high = wider_high frames most at.top more it.top_high;
 }
 
-pub sum_fits : (a b : ℤ) → IsEdge a → neg_ℤ (pos 140737488355328) ≤ℤ b → b ≤ℤ pos 140737488355328
+pub sum_fits : (a b : ℤ) → IsCorner a → neg_ℤ (pos 211106232532992) ≤ℤ b → b ≤ℤ pos 211106232532992
     → cast_signed w64 (cast_unsigned w64 (cast_signed w64 (cast_unsigned w64 a) +ℤ cast_signed w64 (cast_unsigned w64 b))) ≡ a +ℤ b
 sum_fits a b edge low high = let one = edge.0 in let two = edge.1 in omega (arith, ints)
 

@@ -3,13 +3,17 @@
 use Rattle.std.proofs.Common.{◌≡◌, ◌∙◌, ◌≤◌, ◌<◌, ℕ, Bool, true, false, cond, List, [], ◌∷◌, length, Option, Some, None, unwrap_or, refl, ap, sym, subst, nat_lt, arith, tests}
 use Rattle.std.specs.Prelude.{option_map}
 use Rattle.script_model.specs.Margins.{Margins}
+use Rattle.layout_model.specs.Nodes.{Holder, HeldByElement, HeldByPage, HeldByScreen, holder}
+use Rattle.layout_model.proofs.Ancestors.{up_path, proper_parent}
+use Rattle.layout_model.proofs.Holders.{holder_proper}
 use Rattle.page_model.specs.World.{Element, Document, Tree, Root, IntersectionObserver}
 use Rattle.page_model.specs.Lookups.{element_at, document_at, no_element, no_document, is_listed}
-use Rattle.page_model.specs.Documents.{InElement, container_by, container_of, is_root_element}
+use Rattle.page_model.specs.Documents.{InElement, InDocument, nodes_of, tree_document}
 use Rattle.page_model.specs.Shown.{Shown, has_box}
-use Rattle.page_model.specs.Chains.{most_containers}
+use Rattle.page_model.specs.Chains.{container_held, holding, most_containers}
 use Rattle.page_model.specs.Findings.{Apart, Boxless, Chained, is_apart, finding}
-use Rattle.page_documents.proofs.Lists.{number_is, its_number}
+use Rattle.page_documents.proofs.Lists.{its_number}
+use Rattle.page_documents.proofs.Standing.{rooted}
 use Rattle.clip_chain.specs.declared.spot.Spot.{Spot}
 use Rattle.clip_chain.specs.declared.spot.Spot.TheVariants.{Node, View}
 use Rattle.clip_chain.specs.Scenes.{Scene}
@@ -23,6 +27,7 @@ use Rattle.candidate_index.proofs.Worlds.{world_finding}
 use Rattle.kept_findings.specs.Walks.{EachAlong, AreChained, between_by, chain_between, found_in}
 use Rattle.page_geometry.specs.Scenes.{IsPageTree, IsThere, standings_of, telling_of}
 use Rattle.page_geometry.proofs.Chains.{above}
+use Rattle.page_boxes.proofs.Pages.{made_if_boxed}
 use Rattle.page_geometry.proofs.Ends.{leads_on, same_next, few_between}
 use Rattle.page_geometry.proofs.Missing.{at_least, past_end}
 
@@ -71,14 +76,24 @@ module _ (shown : Shown) (page : IsPageTree (shown.tree)) where
 
   -- what stands in something is there, and so is what it stands in
 
-  in_element : (n : ℕ) (parent : Option ℕ) (is_root : Bool) (next : Spot) → (element_at tree n).parent ≡ parent → is_root_element tree n ≡ is_root
-      → option_map spot_of (container_by parent is_root (element_at tree n).document) ≡ Some next → IsThere tree (element_spot n) × IsThere tree next
-  in_element n (Some p) is_root next is root leads = (child_there n p is, subst (IsThere tree) (same_next (element_spot p) next leads) (parent_there n p is))
-  in_element n None true next is root leads =
-      let own = (element_at tree n).document in
-      let rooted = number_is (document_at tree own).root n root in
-      ((page.framed.owners.roots own n rooted).known, subst (IsThere tree) (same_next (View own) next leads) (rooted_there own n rooted))
-  in_element n None false next is root leads = absurd (let no : ⊥ = cc in no)
+  holder_there : (n h : ℕ) → holder (nodes_of tree) n ≡ HeldByElement h → h < length tree.elements
+  holder_there n h is =
+      let up = proper_parent (nodes_of tree) page.framed.trees.shallow h n (holder_proper (nodes_of tree) n h is) in
+      up_path (nodes_of tree) page.framed.trees.shallow (λ m. m < length tree.elements) (λ c p out there. parent_there c p out) h up.0 up.2 (parent_there n up.0 up.1)
+
+  tree_there : (n d : ℕ) → tree_document tree n ≡ Some d → d < length tree.documents
+  tree_there n d is = let it = rooted tree page.framed.trees page.framed.owners n d is in rooted_there d it.root it.is
+
+  in_viewport : (document : Option ℕ) (next : Spot) → ((d : ℕ) → document ≡ Some d → d < length tree.documents)
+      → option_map spot_of (option_map InDocument document) ≡ Some next → IsThere tree next
+  in_viewport None next there leads = absurd (let no : ⊥ = cc in no)
+  in_viewport (Some d) next there leads = subst (IsThere tree) (same_next (View d) next leads) (there d refl)
+
+  in_element : (n : ℕ) (by : Holder) (next : Spot) → holder (nodes_of tree) n ≡ by
+      → option_map spot_of (container_held by (tree_document tree n)) ≡ Some next → IsThere tree next
+  in_element n (HeldByElement h) next is leads = subst (IsThere tree) (same_next (element_spot h) next leads) (holder_there n h is)
+  in_element n HeldByPage next is leads = in_viewport (tree_document tree n) next (tree_there n) leads
+  in_element n HeldByScreen next is leads = in_viewport (tree_document tree n) next (tree_there n) leads
 
   in_document : (document : ℕ) (frame : Option ℕ) (next : Spot) → (document_at tree document).frame ≡ frame
       → option_map spot_of (option_map InElement frame) ≡ Some next → IsThere tree (View document) × IsThere tree next
@@ -87,8 +102,8 @@ module _ (shown : Shown) (page : IsPageTree (shown.tree)) where
 
   both_there : (from next : Spot) → scene.container from ≡ Some next → IsThere tree from × IsThere tree next
   both_there (Node node) next leads =
-      in_element (node.0) (element_at tree (node.0)).parent (is_root_element tree (node.0)) next refl refl
-      (leads_on (has_box shown (node.0)) (option_map spot_of (container_of tree (node.0))) next leads).1
+      let found = leads_on (has_box shown (node.0)) (option_map spot_of (holding tree (node.0))) next leads in
+      (made_if_boxed tree shown.screen (node.0) found.0, in_element (node.0) (holder (nodes_of tree) (node.0)) next refl found.1)
   both_there (View document) next leads = in_document document (document_at tree document).frame next refl leads
 
   pub there_along : (from root : Spot) → EachAlong (IsThere tree) scene from root

@@ -1,6 +1,6 @@
 -- What a document shows, by its root element, and the size of its viewport.
 use Rattle.std.proofs.Common.{◌≡◌, ◌∙◌, ℕ, Bool, true, false, Option, Some, None, unwrap_or, refl, ap, sym}
-use Rattle.layout_model.specs.Reach.{View}
+use Rattle.layout_model.specs.Views.{View}
 use Rattle.page_model.specs.World.{Screen, Tree}
 use Rattle.page_model.specs.Lookups.{document_at}
 use Rattle.page_model.specs.Documents.{is_active}

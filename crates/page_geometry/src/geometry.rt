@@ -70,10 +70,7 @@ impl Geometry for Shown<'_> {
                 if !self.has_box(node) {
                     return None;
                 }
-                match self.container_of(node) {
-                    Some(container) => Some(spot_of(container)),
-                    None => None,
-                }
+                Some(spot_of(self.holding(node)))
             }
             Spot::View(document) => match self.frame_of(document) {
                 Some(frame) => Some(Spot::Node(frame)),

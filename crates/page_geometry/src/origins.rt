@@ -2,8 +2,7 @@
 
 ghost use Rattle.std.specs.Prelude.{◌≡◌, ◌≤◌, ◌+◌};
 ghost use Rattle.page_model.specs.Chains.{added, origin, origin_up};
-ghost use Rattle.page_boxes.specs.Ranges.{IsEdge};
-ghost use Rattle.page_geometry.specs.Ranges.{IsOrigin};
+ghost use Rattle.page_geometry.specs.Ranges.{IsCorner, IsOrigin};
 
 use crate::shown::Shown;
 use px_units::Point;
@@ -11,8 +10,8 @@ use px_units::Point;
 pub(crate) const NOWHERE: Point = Point { left: 0, top: 0 };
 
 fn added(corner: Point, around: Point, frames: u32) -> Point
-    requires left { IsEdge corner.left }
-    requires top { IsEdge corner.top }
+    requires left { IsCorner corner.left }
+    requires top { IsCorner corner.top }
     requires around { IsOrigin frames around }
     requires few { frames ≤ 64 }
     ensures value { result ≡ added corner around }

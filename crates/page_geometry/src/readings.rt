@@ -14,6 +14,7 @@ ghost use Rattle.page_tree.specs.Items.{IsNatural};
 ghost use Rattle.page_tree.specs.Steps.{seen_container};
 ghost use Rattle.page_boxes.specs.Pages.{text_in};
 ghost use Rattle.page_boxes.specs.Ranges.{IsOffset, IsSpan, IsPlace, IsEdge, AreEdges};
+ghost use Rattle.page_geometry.specs.Ranges.{IsCorner};
 
 use crate::origins::NOWHERE;
 use crate::rects::NO_RECT;
@@ -46,8 +47,8 @@ fn beside(place: Point, by: Point) -> Point
     requires down { IsSpan by.top }
     ensures left { result.left ≡ place.left +ℤ by.left }
     ensures top { result.top ≡ place.top +ℤ by.top }
-    ensures left_edge { IsEdge result.left }
-    ensures top_edge { IsEdge result.top }
+    ensures left_corner { IsCorner result.left }
+    ensures top_corner { IsCorner result.top }
 {
     Point {
         left: place.left + by.left,
@@ -57,8 +58,8 @@ fn beside(place: Point, by: Point) -> Point
 
 // The rectangle at a corner and of a size.
 fn rect_at(corner: Point, size: Size) -> Rect
-    requires left { IsEdge corner.left }
-    requires top { IsEdge corner.top }
+    requires left { IsCorner corner.left }
+    requires top { IsCorner corner.top }
     requires right { IsEdge (corner.left +ℤ size.width) }
     requires bottom { IsEdge (corner.top +ℤ size.height) }
     requires width { IsSpan size.width }
@@ -165,8 +166,8 @@ impl Shown<'_> {
     /// viewport of the document in it begins; zeros without a box.
     pub fn content_origin(&self, node: NodeId) -> Point
         ensures value { result ≡ content_corner_at (place_of self.now node.0) (box_of self.now node.0) }
-        ensures left { IsEdge result.left }
-        ensures top { IsEdge result.top }
+        ensures left { IsCorner result.left }
+        ensures top { IsCorner result.top }
     {
         let place = self.place_of(node);
         match self.box_of(node) {

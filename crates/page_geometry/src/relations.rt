@@ -10,6 +10,7 @@ use clip_chain::Spot;
 use element_tree::NodeId;
 use intersection_observer::Root;
 use page_tree::PageTree;
+use positioned_layout::{Holder, holder_of};
 
 // The implicit root is the viewport of `top`.
 pub(crate) fn spot_of_root(root: Root) -> Spot
@@ -22,15 +23,25 @@ pub(crate) fn spot_of_root(root: Root) -> Spot
     }
 }
 
-// Whether an element lies on the chain of those that hold the target's box (CSS 2.2, 10.1: containing block), which are its ancestors.
+// Whether an element is among those that hold the target's box, one in the other (CSS 2.2, 10.1: containing block).
 fn is_on_chain(page: &PageTree, element: NodeId, target: NodeId) -> bool
     ensures { result ≡ is_on_chain page.now.tree element.0 target.0 }
 {
-    let tree = page.tree();
-    match tree.parent(target) {
-        Some(parent) => element != target && tree.is_ancestor(element, parent),
-        None => false,
+    if element == target {
+        return false;
     }
+    if !page.holds(target) {
+        return false;
+    }
+    let tree = page.tree();
+    let mut held = holder_of(tree, target);
+    while let Holder::Node(holder) = held {
+        if holder == element {
+            return true;
+        }
+        held = holder_of(tree, holder);
+    }
+    false
 }
 
 // Whether a target is apart from a root: of another document, or an element that isn't on its chain, or one of the two has no box.

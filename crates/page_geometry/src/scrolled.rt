@@ -8,6 +8,7 @@ ghost use Rattle.page_model.specs.Shown.{scroll_range, scroll_offset};
 ghost use Rattle.scrolling.specs.Seen.{seen_target};
 ghost use Rattle.scrolling.specs.Ranges.{IsRange};
 ghost use Rattle.block_layout.specs.Seen.{as_size, as_point};
+ghost use Rattle.page_tree.specs.Items.{IsNatural};
 ghost use Rattle.page_boxes.specs.Pages.{seen_pair};
 ghost use Rattle.page_boxes.specs.Ranges.{IsOffset};
 
@@ -26,6 +27,7 @@ impl Shown<'_> {
         ensures shown { IfSome result (λ shown. view_of self.now.tree self.now.screen document ≡ view_with (Some shown.root.0) (Some (seen_pair shown.size))) }
         ensures top { IfSome result (λ shown. (element_at self.now.tree shown.root.0).parent ≡ None) }
         ensures made { IfSome result (λ shown. shown.root.0 < length self.now.tree.elements) }
+        ensures size { IfSome result (λ shown. IsNatural shown.size) }
     {
         // It tells that root elements have no parents.
         self.document_count();

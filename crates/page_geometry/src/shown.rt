@@ -1,12 +1,14 @@
 //! What is shown of a page, lent to whoever reads it.
 
-ghost use Rattle.std.specs.Prelude.{◌≡◌, ◌<◌, ◌≤◌, length, option_map, IfSome};
+ghost use Rattle.std.specs.Prelude.{◌≡◌, ◌<◌, ◌≤◌, ℕ, true, Some, length, option_map, IfSome};
 ghost use Rattle.page_model.specs.Lookups.{element_at, document_at};
-ghost use Rattle.page_model.specs.Documents.{container_of, nodes_of};
+ghost use Rattle.page_model.specs.Documents.{nodes_of};
 ghost use Rattle.page_model.specs.PageBoxes.{view_of};
 ghost use Rattle.page_model.specs.Shown.{has_box, box_of};
+ghost use Rattle.page_model.specs.Chains.{holding};
 ghost use Rattle.element_tree.specs.Links.{number};
 ghost use Rattle.block_layout.specs.Trees.{layout_tree};
+ghost use Rattle.kept_layout.specs.Measures.{IsSized};
 ghost use Rattle.page_tree.specs.Items.{style_in, kind_in};
 ghost use Rattle.page_tree.specs.Steps.{seen_container};
 ghost use Rattle.page_boxes.specs.Fresh.{IsFresh};
@@ -21,6 +23,7 @@ use element_tree::{NodeId, Tree};
 use kept_layout::Kept;
 use page_boxes::{Screen, box_below, has_box_below};
 use page_tree::{Container, Element, PageTree};
+use positioned_layout::{Holder, holder_of};
 use scrolling::Scrolls;
 use std::marker::Model;
 
@@ -123,8 +126,10 @@ impl<'a> Shown<'a> {
         self.page.tree()
     }
 
+    // The boxes that are kept, in viewports of at most the largest length.
     pub(crate) fn boxes(&self) -> &Kept
-        ensures { IsFresh self.now.tree self.now.screen result.now }
+        ensures fresh { IsFresh self.now.tree self.now.screen result.now }
+        ensures sized { (document : ℕ) → IsSized (view_of self.now.tree self.now.screen document) }
     {
         self.boxes
     }
@@ -166,13 +171,6 @@ impl<'a> Shown<'a> {
         self.page.document_of(node)
     }
 
-    /// What an element stands in.
-    pub fn container_of(&self, node: NodeId) -> Option<Container>
-        ensures { option_map seen_container result ≡ container_of self.now.tree node.0 }
-    {
-        self.page.container_of(node)
-    }
-
     // The root element that a document shows, none where it isn't shown.
     pub(crate) fn shown_root(&self, document: u32) -> Option<NodeId>
         ensures { option_map number result ≡ (view_of self.now.tree self.now.screen document).root }
@@ -189,6 +187,20 @@ impl<'a> Shown<'a> {
     {
         let root = self.shown_root(self.document_of(node));
         has_box_below(self.page, root, node)
+    }
+
+    /// What holds the box of an element: an element's box, or the viewport of its document, for the page and for the screen (CSS 2.2,
+    /// 10.1: containing block).
+    pub fn holding(&self, node: NodeId) -> Container
+        requires { has_box self.now node.0 ≡ true }
+        ensures { Some (seen_container result) ≡ holding self.now.tree node.0 }
+    {
+        // It tells that a box stands in its document's tree.
+        self.document_count();
+        match holder_of(self.elements(), node) {
+            Holder::Node(element) => Container::Element(element),
+            Holder::Page | Holder::Screen => Container::Document(self.document_of(node)),
+        }
     }
 
     // The box of an element, none where it has none.

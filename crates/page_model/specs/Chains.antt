@@ -7,11 +7,11 @@ use Rattle.px_units.specs.declared.Point.{Point}
 use Rattle.px_units.specs.Rects.{has_points, overlap, shifted}
 use Rattle.layout_model.specs.Boxes.{Box, padding_size, padding_corner, inner_corner}
 use Rattle.layout_model.specs.Clips.{clips, is_scroll_container}
-use Rattle.layout_model.specs.Nodes.{holder}
+use Rattle.layout_model.specs.Nodes.{Holder, HeldByElement, HeldByPage, HeldByScreen, holder}
 use Rattle.script_model.specs.Margins.{MarginPart, MarginPixels, MarginPercentage, Margins}
 use Rattle.page_model.specs.World.{Tree, Root, ImplicitRoot, DocumentRoot, ElementRoot}
 use Rattle.page_model.specs.Lookups.{element_at, document_at}
-use Rattle.page_model.specs.Documents.{frame_levels, Container, InElement, InDocument, container_by, is_root_element, nodes_of}
+use Rattle.page_model.specs.Documents.{frame_levels, Container, InElement, InDocument, nodes_of, tree_document}
 use Rattle.page_model.specs.PageBoxes.{extent_of}
 use Rattle.page_model.specs.PageBoxes as boxes
 use Rattle.page_model.specs.Shown.{Shown, viewport_of, has_box, box_of, size_of, place_of}
@@ -83,9 +83,15 @@ padding_rect shown element = moved_by (origin_of_element shown element) (padding
 abbrev pub clips_in : Shown → ℕ → Bool
 clips_in shown element = clips (nodes_of (shown.tree) element)
 
--- what an element's box is held by: the element that is its holder, or the document whose root element it is
+abbrev pub container_held : Holder → Option ℕ → Option Container
+container_held (HeldByElement element) document = Some (InElement element)
+container_held HeldByPage document = option_map InDocument document
+container_held HeldByScreen document = option_map InDocument document
+
+-- what an element's box is held by: an element's box, or the viewport of the document in whose tree it stands, for the page and for the
+-- screen
 abbrev pub holding : Tree → ℕ → Option Container
-holding tree element = container_by (holder (nodes_of tree element)) (is_root_element tree element) (element_at tree element).document
+holding tree element = container_held (holder (nodes_of tree) element) (tree_document tree element)
 
 -- what lies beyond a container: what holds an element, and the frame of a document
 abbrev pub container_beyond : Tree → Container → Option Container
@@ -97,6 +103,7 @@ containers_by outwards None = []
 containers_by outwards (Some container) = outwards container
 
 unfoldable pub containers_from : ℕ → Tree → Container → List Container
+unfolding holder tree_document
 containers_from zero tree container = []
 containers_from (suc most) tree container =
     container ∷ containers_by (containers_from most tree) (container_beyond tree container)

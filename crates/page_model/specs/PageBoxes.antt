@@ -7,7 +7,8 @@ use Rattle.px_units.specs.declared.BoxKind.TheVariants.{Content, Border, Device}
 use Rattle.px_units.specs.declared.Point.{Point}
 use Rattle.layout_model.specs.Boxes.{Inputs, Box, box_in, content_size, content_corner, border_size}
 use Rattle.layout_model.specs.Clips.{is_scroll_container}
-use Rattle.layout_model.specs.Reach.{View, inputs_in_view, range_of, range_of_view}
+use Rattle.layout_model.specs.Views.{View, inputs_in_view}
+use Rattle.layout_model.specs.Reach.{range_of, range_of_view}
 use Rattle.layout_model.specs.Places.{place_in}
 use Rattle.page_model.specs.World.{Extent, Screen, DocumentState, Fresh, Active, Dead, ScrollTarget, ScrolledElement, ScrolledDocument, Scrolls, Tree}
 use Rattle.page_model.specs.Lookups.{element_at, document_at}

@@ -323,8 +323,8 @@ impl Page {
         self.laid.refresh(self.screen, steps);
     }
 
-    /// What is kept of the boxes. What is held for an element that has a box and isn't due is that box as it is now, and a mark on an
-    /// element that counts in its parent stands on the parent too.
+    /// What is kept of the boxes. What is held for an element that has a box and isn't due is that box as it is now, and a mark on a
+    /// displayed child of a block, in flow or not, stands on the block too.
     pub fn boxes(&self) -> &kept_layout::Kept
         ensures value { result.now ≡ self.now.kept }
         ensures kept { AreKept self.now.world.tree self.now.kept }

@@ -19,8 +19,15 @@ use std::test::Fail;
 use text_io::Version;
 use thresholds::Margins;
 
-/// Where elements are put: 1 is the frame of document 1. All are made in `top`.
-const PLACES: [(Container, u32); 9] = [
+/// Where an element is put. All are made in `top`, and 1 is the frame of document 1.
+type Place = (Container, u32);
+
+type Style = (u32, &'static str, &'static str);
+
+/// The root and root margin of an observer.
+type Watched = (Root, &'static str);
+
+const PLACES: [Place; 9] = [
     (Container::Document(0), 0),
     (Container::Element(NodeId(0)), 2),
     (Container::Element(NodeId(2)), 3),
@@ -32,7 +39,7 @@ const PLACES: [(Container, u32); 9] = [
     (Container::Element(NodeId(6)), 7),
 ];
 
-const STYLES: [(u32, &str, &str); 24] = [
+const STYLES: [Style; 25] = [
     (0, "padding", "5px"),
     (0, "border", "1px"),
     (2, "width", "300px"),
@@ -57,10 +64,10 @@ const STYLES: [(u32, &str, &str); 24] = [
     (7, "height", "120px"),
     (7, "width", "50%"),
     (7, "margin-top", "10px"),
+    (8, "display", "none"),
 ];
 
-/// The roots and root margins of the observers.
-const WATCHED: [(Root, &str); 6] = [
+const WATCHED: [Watched; 6] = [
     (Root::Implicit, ""),
     (Root::Document(1), "10px 0px"),
     (Root::Node(NodeId(6)), "-10px"),
@@ -79,6 +86,8 @@ type Edges = (i64, i64, i64, i64);
 enum Step {
     /// An element is scrolled downwards, as far as it can be.
     Scroll(u32, i64),
+    /// The viewport of a document is.
+    ScrollView(u32, i64),
     Set(u32, &'static str, &'static str),
     Remove(u32),
     /// Of an observer and a target: the index and whether they meet, the part and the whole, and the edges of the root
@@ -357,33 +366,32 @@ const STEPS: [Step; 32] = [
     ),
 ];
 
-fn place_and_style(rt: &impl Abort, page: &mut PageTree) {
-    for (container, node) in PLACES {
-        put(rt, page, container, node);
+fn place_and_style(rt: &impl Abort, page: &mut PageTree, places: &[Place], styles: &[Style]) {
+    for (container, node) in places {
+        put(rt, page, *container, *node);
     }
-    for (node, property, value) in STYLES {
-        set(rt, page, node, property, value);
+    for (node, property, value) in styles {
+        set(rt, page, *node, property, value);
     }
-    set(rt, page, 8, "display", "none");
 }
 
 fn page_of(rt: &impl Abort, alloc: Global) -> Result<PageTree, Fail> {
     let mut page = PageTree::new(alloc, Version::First)?;
     make_elements(rt, &mut page, 9, &[1])?;
-    place_and_style(rt, &mut page);
+    place_and_style(rt, &mut page, &PLACES, &STYLES);
     Ok(page)
 }
 
-fn watch_all(alloc: Global, watchers: &mut Watchers) -> Result<(), Fail> {
-    for (root, margins) in WATCHED {
-        watch(alloc, watchers, 0, root, margins, &THRESHOLDS)?;
+fn watch_all(alloc: Global, watchers: &mut Watchers, watched: &[Watched]) -> Result<(), Fail> {
+    for (root, margins) in watched {
+        watch(alloc, watchers, 0, *root, margins, &THRESHOLDS)?;
     }
     Ok(())
 }
 
-fn watchers_of(alloc: Global) -> Result<Watchers, Fail> {
+fn watchers_of(alloc: Global, watched: &[Watched]) -> Result<Watchers, Fail> {
     let mut watchers = Watchers::new(alloc, 6, 6);
-    watch_all(alloc, &mut watchers)?;
+    watch_all(alloc, &mut watchers, watched)?;
     Ok(watchers)
 }
 
@@ -392,11 +400,10 @@ fn scroll(
     alloc: Global,
     page: &PageTree,
     scrolls: &mut Scrolls,
-    node: u32,
+    target: ScrollTarget,
     down: i64,
 ) -> Result<(), Fail> {
     let boxes = all_boxes(rt, alloc, page, SCREEN)?;
-    let target = ScrollTarget::Node(NodeId(node));
     let range = Shown::new(page, &boxes, scrolls, SCREEN).range_of(target);
     let _outcome = scrolls.scroll_to(0, target, Point { left: 0, top: down }, range)?;
     Ok(())
@@ -474,7 +481,14 @@ fn take_step(
     step: Step,
 ) -> Result<(), Fail> {
     match step {
-        Step::Scroll(node, down) => scroll(rt, alloc, page, scrolls, node, down)?,
+        Step::Scroll(node, down) => {
+            let target = ScrollTarget::Node(NodeId(node));
+            scroll(rt, alloc, page, scrolls, target, down)?;
+        }
+        Step::ScrollView(document, down) => {
+            let target = ScrollTarget::Document(document);
+            scroll(rt, alloc, page, scrolls, target, down)?;
+        }
         Step::Set(node, property, value) => set(rt, page, node, property, value),
         Step::Remove(node) => remove(rt, page, node),
         Step::Find(watcher, target, counts, areas, edges) => {
@@ -500,16 +514,202 @@ fn take_steps(
     Ok(())
 }
 
-fn follow(rt: &impl Abort, alloc: Global, steps: &[Step]) -> Result<(), Fail> {
-    let watchers = watchers_of(alloc)?;
-    let mut page = page_of(rt, alloc)?;
+fn follow(
+    rt: &impl Abort,
+    alloc: Global,
+    page: &mut PageTree,
+    watched: &[Watched],
+    steps: &[Step],
+) -> Result<(), Fail> {
+    let watchers = watchers_of(alloc, watched)?;
     let mut scrolls = Scrolls::new(alloc);
-    take_steps(rt, alloc, &mut page, &mut scrolls, &watchers, steps)
+    take_steps(rt, alloc, page, &mut scrolls, &watchers, steps)
 }
 
 #[test]
 fn targets_are_found_as_they_are(rt: HostRuntime) -> Result<(), Fail> {
-    follow(&rt, rt.alloc(), &STEPS)
+    let mut page = page_of(&rt, rt.alloc())?;
+    follow(&rt, rt.alloc(), &mut page, &WATCHED, &STEPS)
+}
+
+/// In the frame: 3 clips, and in it stand an absolute box, 4, a fixed one, 5, and a relative one, 6.
+const HELD_PLACES: [Place; 8] = [
+    (Container::Document(0), 0),
+    (Container::Element(NodeId(0)), 1),
+    (Container::Document(1), 2),
+    (Container::Element(NodeId(2)), 3),
+    (Container::Element(NodeId(3)), 4),
+    (Container::Element(NodeId(3)), 5),
+    (Container::Element(NodeId(3)), 6),
+    (Container::Element(NodeId(2)), 7),
+];
+
+const HELD_STYLES: [Style; 20] = [
+    (1, "width", "200px"),
+    (1, "height", "150px"),
+    (1, "border", "2px"),
+    (1, "margin-left", "10px"),
+    (3, "height", "50px"),
+    (3, "overflow", "hidden"),
+    (4, "position", "absolute"),
+    (4, "top", "100px"),
+    (4, "width", "300px"),
+    (4, "height", "80px"),
+    (5, "position", "fixed"),
+    (5, "top", "120px"),
+    (5, "right", "10px"),
+    (5, "width", "40px"),
+    (5, "height", "60px"),
+    (6, "position", "relative"),
+    (6, "top", "20px"),
+    (6, "left", "-5px"),
+    (6, "height", "40px"),
+    (7, "height", "1000px"),
+];
+
+const HELD_WATCHED: [Watched; 4] = [
+    (Root::Implicit, ""),
+    (Root::Document(1), ""),
+    (Root::Node(NodeId(3)), ""),
+    (Root::Node(NodeId(2)), ""),
+];
+
+const HELD_STEPS: [Step; 15] = [
+    // 3 clips what it holds, and the viewport of the frame's document all
+    Step::Find(
+        0,
+        4,
+        (2, true),
+        (40960000, 98304000),
+        [
+            (0, 0, 51200, 38400),
+            (0, 6400, 19200, 11520),
+            (0, 6400, 12800, 9600),
+        ],
+    ),
+    Step::Find(
+        0,
+        5,
+        (3, true),
+        (4915200, 9830400),
+        [
+            (0, 0, 51200, 38400),
+            (9600, 7680, 12160, 11520),
+            (9600, 7680, 12160, 9600),
+        ],
+    ),
+    Step::Find(
+        0,
+        6,
+        (3, true),
+        (23961600, 32768000),
+        [
+            (0, 0, 51200, 38400),
+            (-320, 1280, 12480, 3840),
+            (0, 1280, 12480, 3200),
+        ],
+    ),
+    Step::Find(
+        1,
+        4,
+        (2, true),
+        (40960000, 98304000),
+        [
+            (0, 0, 12800, 9600),
+            (0, 6400, 19200, 11520),
+            (0, 6400, 12800, 9600),
+        ],
+    ),
+    Step::Find(
+        1,
+        5,
+        (3, true),
+        (4915200, 9830400),
+        [
+            (0, 0, 12800, 9600),
+            (9600, 7680, 12160, 11520),
+            (9600, 7680, 12160, 9600),
+        ],
+    ),
+    // an ancestor that doesn't hold a box is no root of it
+    Step::Find(
+        2,
+        4,
+        (0, false),
+        (0, 1),
+        [(0, 0, 12800, 3200), (0, 0, 0, 0), (0, 0, 0, 0)],
+    ),
+    Step::Find(
+        2,
+        5,
+        (0, false),
+        (0, 1),
+        [(0, 0, 12800, 3200), (0, 0, 0, 0), (0, 0, 0, 0)],
+    ),
+    Step::Find(
+        2,
+        6,
+        (3, true),
+        (23961600, 32768000),
+        [
+            (0, 0, 12800, 3200),
+            (-320, 1280, 12480, 3840),
+            (0, 1280, 12480, 3200),
+        ],
+    ),
+    Step::Find(
+        3,
+        4,
+        (0, false),
+        (0, 1),
+        [(0, 0, 12800, 67200), (0, 0, 0, 0), (0, 0, 0, 0)],
+    ),
+    Step::ScrollView(1, 3840),
+    Step::Set(3, "position", "relative"),
+    Step::Find(
+        0,
+        4,
+        (1, false),
+        (0, 98304000),
+        [(0, 0, 51200, 38400), (0, 2560, 19200, 7680), (0, 0, 0, 0)],
+    ),
+    Step::Find(
+        0,
+        5,
+        (3, true),
+        (4915200, 9830400),
+        [
+            (0, 0, 51200, 38400),
+            (9600, 7680, 12160, 11520),
+            (9600, 7680, 12160, 9600),
+        ],
+    ),
+    Step::Find(
+        2,
+        4,
+        (1, false),
+        (0, 98304000),
+        [
+            (0, -3840, 12800, -640),
+            (0, 2560, 19200, 7680),
+            (0, 0, 0, 0),
+        ],
+    ),
+    Step::Find(
+        2,
+        5,
+        (0, false),
+        (0, 1),
+        [(0, -3840, 12800, -640), (0, 0, 0, 0), (0, 0, 0, 0)],
+    ),
+];
+
+#[test]
+fn boxes_are_clipped_by_what_holds_them(rt: HostRuntime) -> Result<(), Fail> {
+    let mut page = PageTree::new(rt.alloc(), Version::Second)?;
+    make_elements(&rt, &mut page, 8, &[1])?;
+    place_and_style(&rt, &mut page, &HELD_PLACES, &HELD_STYLES);
+    follow(&rt, rt.alloc(), &mut page, &HELD_WATCHED, &HELD_STEPS)
 }
 
 /// Scroll margins, an observer and a target, and what is found as in `Step::Find`.
@@ -618,7 +818,7 @@ fn see_through(
 
 #[test]
 fn scroll_margins_move_the_clips_of_scroll_containers(rt: HostRuntime) -> Result<(), Fail> {
-    let watchers = watchers_of(rt.alloc())?;
+    let watchers = watchers_of(rt.alloc(), &WATCHED)?;
     let page = page_of(&rt, rt.alloc())?;
     for row in THROUGH {
         see_through(&rt, rt.alloc(), &page, &watchers, row)?;

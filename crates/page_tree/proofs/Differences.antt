@@ -1,14 +1,13 @@
 -- At which elements writing an element or making one changes what is laid out.
-use Rattle.std.proofs.Common.{◌≡◌, ◌≢◌, ℕ, List, [], ◌∷◌, ◌++◌, length, map, Option, Some, None, true, false, nat_eq, ◌||◌, inl, inr, refl, ap, sym, subst, ◌∙◌}
-use Rattle.std.specs.Cmp.{nat_eq_equiv}
-use Rattle.std.proofs.lemmas.Bool.{false≢true, cases_eq}
-use Rattle.layout_model.specs.Items.{Item, Kind, BlockKind, ImageKind, FrameKind}
-use Rattle.layout_model.specs.Boxes.{inner_children, kids_of}
+use Rattle.std.proofs.Common.{◌≡◌, ◌≢◌, ℕ, List, [], ◌∷◌, ◌++◌, length, map, true, false, nat_eq, ◌||◌, inl, inr, refl, ap, subst, ◌∙◌}
+use Rattle.layout_model.specs.Items.{Item}
+use Rattle.layout_model.specs.Nodes.{is_in_flow}
+use Rattle.layout_model.specs.Boxes.{kids_of}
 use Rattle.element_tree.specs.Forest.{Forest, has, names}
 use Rattle.element_tree.specs.Edits.{lone}
 use Rattle.page_model.specs.World.{Element, Document, Tree}
-use Rattle.page_model.specs.Lookups.{element_at, no_element, entry_or, is_listed}
-use Rattle.page_model.specs.Documents.{nodes_of, is_number}
+use Rattle.page_model.specs.Lookups.{element_at, no_element, entry_or}
+use Rattle.page_model.specs.Documents.{node_of, nodes_of}
 use Rattle.page_model.specs.Edits.{change_item}
 use Rattle.page_documents.specs.Seen.{element_of, seen_tree}
 use Rattle.page_documents.specs.Frames.{AreFramed}
@@ -16,34 +15,12 @@ use Rattle.page_documents.proofs.Entries.{unchanged, append_cases}
 use Rattle.page_tree.specs.Items.{Described, carried_in}
 use Rattle.page_tree.specs.Changes.{is_parent, ChangesAtNext, ChangesAtElement}
 use Rattle.page_tree.proofs.Making.{last_seen}
-use Rattle.page_tree.proofs.Moves.{differs, neither}
-
--- a child that counts is listed
-kid_listed : (kind : Kind) (children : List ℕ) (c : ℕ) → has (inner_children kind children) c ≡ true → has children c ≡ true
-kid_listed BlockKind children c is = is
-kid_listed (ImageKind width height) children c is = cc
-kid_listed FrameKind children c is = cc
-
-has_listed : (n : ℕ) (xs : List ℕ) → has xs n ≡ is_listed n xs
-has_listed n [] = refl
-has_listed n (x ∷ xs) = ap (λ b. b || has xs n) (nat_eq_equiv.symm n x) ∙ ap (λ b. nat_eq x n || b) (has_listed n xs)
-
-number_names : (found : Option ℕ) (n : ℕ) → is_number found n ≡ names found n
-number_names None n = refl
-number_names (Some m) n = nat_eq_equiv.symm m n
+use Rattle.page_tree.proofs.Moves.{differs, neither, kid_differs}
 
 -- where one element alone differs by itself
 module _ (old new : Tree) (n : ℕ) (framed : AreFramed old) (others : (m : ℕ) → m ≢ n → element_at new m ≡ element_at old m) where
-  kid_parent : (m c : ℕ) → has (kids_of (nodes_of old m)) c ≡ true → is_parent old c m ≡ true
-  kid_parent m c kid =
-      sym (number_names ((element_at old c).parent) m) ∙ sym (framed.trees.children m c) ∙ sym (has_listed c ((element_at old m).children))
-      ∙ kid_listed ((element_at old m).item.kind) ((element_at old m).children) c kid
-
-  kid_shown : (m c : ℕ) → is_parent old n m ≡ false → has (kids_of (nodes_of old m)) c ≡ true → (element_at new c).item.style.hidden ≡ (element_at old c).item.style.hidden
-  kid_shown m c elsewhere kid = elim (cases_eq c n) [
-    | inl same ↦ absurd (false≢true (sym elsewhere ∙ ap (λ k. is_parent old k m) (sym same) ∙ kid_parent m c kid))
-    | inr other ↦ ap (λ (it : Element). it.item.style.hidden) (others c other)
-  ]
+  kid_same : (m c : ℕ) → is_parent old n m ≡ false → has (kids_of (nodes_of old m)) c ≡ true → element_at new c ≡ element_at old c
+  kid_same m c elsewhere kid = others c (kid_differs old framed.trees n m c elsewhere kid)
 
   changes_there : ChangesAtElement n old new
   changes_there m other =
@@ -52,7 +29,8 @@ module _ (old new : Tree) (n : ℕ) (framed : AreFramed old) (others : (m : ℕ)
       record {
         item = ap (λ (it : Element). it.item) same;
         children = ap (λ (it : Element). it.children) same;
-        shown = λ c kid. kid_shown m c parts.1 kid;
+        shown = λ c kid. ap (λ (it : Element). it.item.style.hidden) (kid_same m c parts.1 kid);
+        flow = λ c kid. ap (λ (it : Element). is_in_flow (node_of it)) (kid_same m c parts.1 kid);
       }
 
 pub written_only : (tree : Tree) → AreFramed tree → (change : Item → Item) (n : ℕ) → ChangesAtElement n tree (change_item change n tree)

@@ -1,13 +1,20 @@
 -- Lengths of a style, resolved against a basis (CSS 2.2, 10.2 to 10.7). All numbers are units of 1/64 pixel.
-use Rattle.std.specs.Prelude.{ℕ, ◌*◌, ◌/◌, min, unsigned_abs, Option, Some, None, pos, ◌≤ℤ◌}
+use Rattle.std.specs.Prelude.{ℕ, ◌*◌, ◌/◌, min, ℤ, pos, negsuc, neg_ℤ, ◌*ℤ◌, int_div, unsigned_abs, Option, Some, None, option_map, ◌≤ℤ◌}
+use Rattle.std.specs.Int.{int_min, int_max}
 use Rattle.px_units.specs.declared.Length.{Length}
 use Rattle.px_units.specs.declared.Length.TheVariants.{Auto, Px, Percent}
 
--- `auto`, units, or hundredths of a percent. A style has no negative length
+-- `auto`, units, or hundredths of a percent, none of them negative
 pub data LengthValue : Type 0 where
   Automatic : LengthValue
   Pixels : (units : ℕ) → LengthValue
   Percentage : (hundredths : ℕ) → LengthValue
+
+-- an inset of a positioned box: `auto`, units, or hundredths of a percent, which may be negative (CSS Positioned Layout 3, 3.1)
+pub data InsetValue : Type 0 where
+  AutomaticInset : InsetValue
+  InsetPixels : (units : ℤ) → InsetValue
+  InsetPercentage : (hundredths : ℤ) → InsetValue
 
 -- at most the largest length, a bound of this project
 abbrev pub cap : ℕ → ℕ
@@ -23,13 +30,38 @@ resolved Automatic basis = None
 resolved (Pixels units) basis = Some (cap units)
 resolved (Percentage hundredths) basis = Some (cap (part hundredths basis))
 
--- what a `Length` stands for
+-- as far from 0 as the largest length at most, a bound of this project
+abbrev pub clamped : ℤ → ℤ
+clamped units = int_max (neg_ℤ (pos 2147483647)) (int_min (pos 2147483647) units)
+
+-- the part of a basis that so many hundredths of a percent are, cut toward zero
+abbrev pub signed_part : ℤ → ℕ → ℤ
+signed_part hundredths basis = int_div (pos basis *ℤ hundredths) (pos 10000)
+
+-- what an inset gives against a basis, which may be indefinite: none for `auto`, and for a percentage without a basis
+abbrev pub inset_against : InsetValue → Option ℕ → Option ℤ
+inset_against AutomaticInset basis = None
+inset_against (InsetPixels units) basis = Some units
+inset_against (InsetPercentage hundredths) basis = option_map (λ size. clamped (signed_part hundredths size)) basis
+
+-- a difference of lengths, and 0 for a negative one
+abbrev pub at_least_zero : ℤ → ℕ
+at_least_zero (pos units) = units
+at_least_zero (negsuc units) = 0
+
+-- what a `Length` stands for where it is none of an inset
 abbrev pub seen_length : Length → LengthValue
 seen_length Auto = Automatic
 seen_length (Px px) = Pixels (unsigned_abs px.0)
 seen_length (Percent percent) = Percentage (unsigned_abs percent.0)
 
--- no length of a style is negative
+-- what a `Length` stands for where it is one of an inset
+abbrev pub seen_inset : Length → InsetValue
+seen_inset Auto = AutomaticInset
+seen_inset (Px px) = InsetPixels (px.0)
+seen_inset (Percent percent) = InsetPercentage (percent.0)
+
+-- no length of a style but its insets is negative
 abbrev pub IsNotNegative : Length → Type 0
 IsNotNegative Auto = Unit {0}
 IsNotNegative (Px px) = pos 0 ≤ℤ px.0

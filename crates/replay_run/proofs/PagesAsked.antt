@@ -1,13 +1,17 @@
 -- What is written of a source with several pages, by its bytes.
 use Rattle.std.proofs.Common.{◌≡◌, ◌≤◌, ◌<◌, ◌∙◌, ◌+◌, refl, ap, sym, subst, arith, tests, ℕ, List, [], length, take, Option}
+use Rattle.std.proofs.lemmas.Bool.{true≢false}
 use Rattle.std.proofs.lemmas.List.{drop_all}
+use Rattle.std.proofs.lemmas.Option.{none-some}
 use Rattle.std.specs.Prelude.{Some, None, Err, IfSome, Bool, cond, count_by, false, true, nat_lt, ◌==◌}
 use Rattle.text_io.specs.Streams.{PassesLimit}
 use Rattle.text_io.specs.declared.kinds.LimitKind.TheVariants as limits
 use Rattle.script_model.specs.Reading.{SyntaxAt, LimitAt, last_line}
 use Rattle.page_stream.specs.Pages.{is_stream, page_line_past}
-use Rattle.replay_run.specs.Answers.{Ends, IsTaken, Tells}
+use Rattle.replay_run.specs.Answers.{Ends, IsolatesPages, IsTaken, Tells}
 use Rattle.replay_run.specs.Replies.{Reply, few_pages_reply, pages_reply, read_reply, refused_with, run_reply}
+use Rattle.replay_run.specs.Statuses.{is_whole}
+use Rattle.stream_runs.specs.Alone.{TellsAlone}
 use Rattle.stream_runs.specs.StreamRuns.{stream_run}
 use Rattle.replay_run.specs.declared.status.Status.{Status}
 use Rattle.replay_run.specs.declared.words.Job.TheVariants.{Replay}
@@ -88,3 +92,36 @@ pages_taken_past status (Some source) rest feeds passes = taken status 16777217 
 pub syntax_reply : (line column : ℕ) → read_reply Replay (Err (SyntaxAt line column)) ≡ refused_with (SyntaxAt line column)
 unfolding read_reply
 syntax_reply line column = refl
+
+-- ---- each page as if it ran alone
+
+-- a stream that is run
+pub run_alone : (status : Status) (stream source : List ℕ) → stream ≡ source → length source ≤ 16777216 → is_stream source ≡ true → page_line_past 8 source ≡ None
+    → (is_whole status ≡ true → TellsAlone stream (stream_run stream).text) → IsolatesPages status source
+run_alone status stream source is fits begins few alone = λ whole accepted.
+    subst (λ (reply : Reply). TellsAlone source reply.text) (pages_run source fits begins few)
+    (subst (λ (it : List ℕ). TellsAlone it (stream_run it).text) is (alone whole))
+
+-- those that are refused
+pub none_alone : (status : Status) (source : List ℕ) → is_stream source ≡ false → IsolatesPages status source
+none_alone status source other = λ whole accepted. absurd (true≢false (sym accepted.1 ∙ other))
+
+pub many_alone : (status : Status) (source : List ℕ) (line : ℕ) → page_line_past 8 source ≡ Some line → IsolatesPages status source
+many_alone status source line many = λ whole accepted. absurd (none-some line (sym accepted.2 ∙ many))
+
+pub past_alone : (status : Status) (left rest : Option (List ℕ)) (feeds : ℕ) → IfSome left (λ source. PassesLimit source rest 16777216 feeds) → IfSome left (λ source. IsolatesPages status source)
+past_alone status None rest feeds passes = tt
+past_alone status (Some source) rest feeds passes = λ whole accepted.
+    let long : 16777216 < length source = passes.longer in
+    let short : length source ≤ 16777216 = accepted.0 in
+    absurd (omega arith)
+
+-- and one of which not all was written
+pub unwhole_alone : (status : Status) (left : Option (List ℕ)) → is_whole status ≡ false → IfSome left (λ source. IsolatesPages status source)
+unwhole_alone status None part = tt
+unwhole_alone status (Some source) part = λ whole accepted. absurd (true≢false (sym whole ∙ part))
+
+-- the source that was read
+pub alone_end : (status : Status) (left : Option (List ℕ)) (bytes : List ℕ) → IfSome left (λ source. bytes ≡ source) → IsolatesPages status bytes → IfSome left (λ source. IsolatesPages status source)
+alone_end status None bytes all alone = tt
+alone_end status (Some source) bytes all alone = subst (λ (it : List ℕ). IsolatesPages status it) all alone

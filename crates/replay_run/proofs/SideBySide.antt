@@ -1,14 +1,14 @@
 -- Pages of a stream side by side: how they are opened, and how they take their turns.
-use Rattle.std.proofs.Common.{◌≡◌, ◌∙◌, refl, sym, ap, subst, ℕ, zero, suc, ◌+◌, ◌<◌, ◌≤◌, Bool, true, false, cond, ◌||◌, List, [], ◌∷◌, ◌++◌, length, map, drop, get_or, Option, append_assoc, arith, tests}
-use Rattle.std.specs.Prelude.{Some, None, Result, Ok, Err, OnOk, OnErr, flat_map, fold, slice_get, slice_set, is_some, nat_lt}
+use Rattle.std.proofs.Common.{◌≡◌, ◌∙◌, refl, sym, ap, subst, ℕ, zero, suc, ◌+◌, ◌<◌, ◌≤◌, Bool, true, false, cond, ◌||◌, List, [], ◌∷◌, ◌++◌, length, map, drop, get_or, Option, append_assoc, arith}
+use Rattle.std.specs.Prelude.{Some, None, Result, Ok, Err, OnOk, OnErr, flat_map, fold, slice_get, slice_set}
 use Rattle.std.specs.Io.KnownBytes.{Appends}
 use Rattle.std.specs.List.{All, list_any}
-use Rattle.std.proofs.lemmas.List.{append-nil, map-append, drop_all}
+use Rattle.std.proofs.lemmas.Bool.{false≢true}
+use Rattle.std.proofs.lemmas.List.{append-nil, drop_all}
 use Rattle.std.proofs.lemmas.List.Elements.{All-append, All-cons, All-nil}
 use Rattle.text_io.specs.declared.kinds.Version.{Version}
 use Rattle.script_model.specs.Reading.{Reading, Refusal, reading, refusal_line}
 use Rattle.script_model.specs.Syntax.{Item, Script}
-use Rattle.script_model.specs.TraceLines.{TraceLine}
 use Rattle.page_model.specs.World.{World}
 use Rattle.page_model.specs.Outcome.{opening_world, Ending}
 use Rattle.trace_runs.specs.declared.faults.RunFault.{RunFault}
@@ -20,14 +20,16 @@ use Rattle.page_stream.specs.declared.stream.Part.{Part}
 use Rattle.page_stream.specs.Pages.{pages_of}
 use Rattle.page_stream.specs.Parts.{parts_of, script_of}
 use Rattle.replay_run.specs.Answers.{Tells}
-use Rattle.stream_runs.specs.PageRuns.{PageScript, PageRun, Standing, Turn, ending_at, opened, refused_lines, turn_at}
+use Rattle.stream_runs.specs.Alone.{IsOneLine, lines_from, opening_lines, stream_lines}
+use Rattle.stream_runs.specs.PageRuns.{PageScript, PageRun, ending_at, opened, refused_lines, turn_at}
 use Rattle.replay_run.specs.Replies.{Reply, run_reply}
 use Rattle.stream_runs.specs.StreamRuns.{StreamRun, named_text, refused_text, scripts_from, scripts_of, stream_opened, stream_step, turned, with_turn, parts_run, stream_run}
+use Rattle.stream_runs.proofs.Said.{fit_none, fit_more}
 use Rattle.replay_run.specs.StreamStatuses.{is_faulty, met_limit, stream_status}
 use Rattle.replay_run.specs.StreamPages.{progress_ending, seen_page, seen_standing, IsReadyBy, IsReadyPage}
 use Rattle.replay_run.specs.declared.stream_page.Progress.{Progress}
 use Rattle.replay_run.specs.declared.stream_page.Progress.TheVariants as progresses
-use Rattle.replay_run.specs.Statuses.{status_after, status_of}
+use Rattle.replay_run.specs.Statuses.{is_whole, status_after, status_of}
 use Rattle.replay_run.specs.declared.stream_page.StreamPage.{StreamPage}
 use Rattle.replay_run.specs.declared.status.Status.{Status}
 use Rattle.replay_run.specs.declared.status.Status.TheVariants.{Done, Syntax, Limit}
@@ -50,6 +52,7 @@ scripts_left place source = scripts_from place (drop place (pages_of source)) so
 pub record Opening (source : List ℕ) (place : ℕ) (pages : List StreamPage) (before now : Option (List ℕ)) (f g : ℕ) : Type 0 where
   pub so_far : map seen_page pages ++ map opened (scripts_left place source) ≡ (stream_opened (scripts_of source)).pages
   pub text : Writing before now f g (stream_opened (scripts_of source)).text (flat_map refused_text (scripts_left place source))
+  pub lines : All IsOneLine (opening_lines (scripts_left place source)) → All IsOneLine (opening_lines (scripts_of source))
   pub ready : All IsReadyPage pages
 
 pub opening_none : (source : List ℕ) (pages : List StreamPage) (now : Option (List ℕ)) (f : ℕ) → pages ≡ [] → Opening source 0 pages now now f f
@@ -57,6 +60,7 @@ unfolding stream_opened scripts_of
 opening_none source pages now f none = record {
   so_far = ap (λ (ps : List StreamPage). map seen_page ps ++ map opened (scripts_left 0 source)) none;
   text = record { part = []; makes = refl; written = nothing now; unfailed = refl };
+  lines = λ fit. fit;
   ready = subst (λ (ps : List StreamPage). All IsReadyPage ps) (sym none) (All-nil IsReadyPage);
 }
 
@@ -71,8 +75,8 @@ next_left source place name d inside is =
 
 pub opening_more : {source : List ℕ} {place : ℕ} {pages longer : List StreamPage} {before mid after : Option (List ℕ)} {f fm g : ℕ} (name d : List ℕ) → Opening source place pages before mid f fm
     → place < length (pages_of source) → name ≡ get_or (pages_of source) place d → Appends mid after (refused_text (script_at source place name)) → g ≡ fm
-    → map seen_page longer ≡ map seen_page pages ++ (opened (script_at source place name) ∷ []) → All IsReadyPage longer → Opening source (place + 1) longer before after f g
-opening_more {source} {place} {pages} {longer} {before} {mid} {after} {f} {fm} {g} name d here inside is wrote unfailed more ready = record {
+    → All IsOneLine (refused_lines (reading (script_of place source))) → map seen_page longer ≡ map seen_page pages ++ (opened (script_at source place name) ∷ []) → All IsReadyPage longer → Opening source (place + 1) longer before after f g
+opening_more {source} {place} {pages} {longer} {before} {mid} {after} {f} {fm} {g} name d here inside is wrote unfailed fit more ready = record {
   so_far =
       ap (λ ps. ps ++ map opened (scripts_left (place + 1) source)) more
       ∙ append_assoc (map seen_page pages) (opened (script_at source place name) ∷ []) (map opened (scripts_left (place + 1) source))
@@ -87,6 +91,10 @@ opening_more {source} {place} {pages} {longer} {before} {mid} {after} {f} {fm} {
     written = both before mid after here.text.part (refused_text (script_at source place name)) here.text.written wrote;
     unfailed = unfailed ∙ here.text.unfailed;
   };
+  lines = λ later.
+      here.lines
+      (subst (λ (scripts : List PageScript). All IsOneLine (opening_lines scripts)) (sym (next_left source place name d inside is))
+      (All-append IsOneLine (refused_lines (reading (script_of place source))) (opening_lines (scripts_left (place + 1) source)) fit later));
   ready = ready;
 }
 
@@ -109,6 +117,11 @@ opening_end {source = source} {place = place} {pages = pages} {before = before} 
       sym (append-nil (map seen_page pages)) ∙ ap (λ scripts. map seen_page pages ++ map opened scripts) (sym none) ∙ here.so_far,
     )
 
+pub opening_fit : {source : List ℕ} {place : ℕ} {pages : List StreamPage} {before now : Option (List ℕ)} {f g : ℕ} → Opening source place pages before now f g → length (pages_of source) ≤ place
+    → All IsOneLine (opening_lines (scripts_of source))
+opening_fit {source = source} {place = place} here past =
+    here.lines (subst (λ (scripts : List PageScript). All IsOneLine (opening_lines scripts)) (sym (none_left source place past)) (All-nil IsOneLine))
+
 -- ---- lines, one after another
 
 -- so many lines were taken
@@ -117,11 +130,12 @@ pub record Turning (start : List PageRun) (parts : List Part) (place : ℕ) (pag
   pub so_far : fold stream_step (record { text = text; pages = map seen_page pages }) (drop place parts) ≡ parts_run start parts
   pub written : Appends before now text
   pub unfailed : g ≡ f
+  pub lines : All IsOneLine (lines_from (map seen_page pages) (drop place parts)) → All IsOneLine (lines_from start parts)
   pub ready : All IsReadyPage pages
 
 pub turning_none : (pages : List StreamPage) (parts : List Part) (now : Option (List ℕ)) (f : ℕ) → All IsReadyPage pages → Turning (map seen_page pages) parts 0 pages now now f f
 unfolding parts_run
-turning_none pages parts now f ready = record { text = []; so_far = refl; written = nothing now; unfailed = refl; ready = ready }
+turning_none pages parts now f ready = record { text = []; so_far = refl; written = nothing now; unfailed = refl; lines = λ fit. fit; ready = ready }
 
 step-some : (run : StreamRun) (part : Part) (page : PageRun) → slice_get run.pages part.page ≡ Some page → stream_step run part ≡ with_turn part.page page.name run (turn_at part.line page.standing)
 unfolding stream_step
@@ -147,13 +161,16 @@ get-none [] k past = refl
 get-none (y ∷ ys) zero past = absurd (omega arith)
 get-none (y ∷ ys) (suc k) past = get-none ys k (omega arith)
 
+next_part : (parts : List Part) (place : ℕ) (part d : Part) → place < length parts → part ≡ get_or parts place d → drop place parts ≡ part ∷ drop (place + 1) parts
+next_part parts place part d inside is = drop_from parts place d inside ∙ ap (λ (p : Part). p ∷ drop (place + 1) parts) (sym is)
+
 -- the page whose line it is took its turn
 pub turning_more : {start : List PageRun} {parts : List Part} {place : ℕ} {pages : List StreamPage} {before mid after : Option (List ℕ)} {f fm g : ℕ} (part d : Part) (page new : StreamPage)
     → Turning start parts place pages before mid f fm → place < length parts → part ≡ get_or parts place d → slice_get pages part.page ≡ Some page
-    → Appends mid after (named_text page.name (turn_at part.line (seen_page page).standing).lines) → g ≡ fm
+    → Appends mid after (named_text page.name (turn_at part.line (seen_page page).standing).lines) → g ≡ fm → All IsOneLine (turn_at part.line (seen_page page).standing).lines
     → seen_page new ≡ record { name = page.name; standing = (turn_at part.line (seen_page page).standing).standing } → All IsReadyPage (slice_set pages part.page new)
     → Turning start parts (place + 1) (slice_set pages part.page new) before after f g
-turning_more {start} {parts} {place} {pages} {before} {mid} {after} {f} {fm} {g} part d page new here inside is at wrote unfailed seen ready = record {
+turning_more {start} {parts} {place} {pages} {before} {mid} {after} {f} {fm} {g} part d page new here inside is at wrote unfailed fit seen ready = record {
   text = here.text ++ named_text page.name (turn_at part.line (seen_page page).standing).lines;
   so_far =
       ap (λ ps. fold stream_step (record { text = here.text ++ named_text page.name (turn_at part.line (seen_page page).standing).lines; pages = ps }) (drop (place + 1) parts))
@@ -164,6 +181,12 @@ turning_more {start} {parts} {place} {pages} {before} {mid} {after} {f} {fm} {g}
       ∙ here.so_far;
   written = both before mid after here.text (named_text page.name (turn_at part.line (seen_page page).standing).lines) here.written wrote;
   unfailed = unfailed ∙ here.unfailed;
+  lines = λ later.
+      here.lines
+      (subst (λ (ps : List Part). All IsOneLine (lines_from (map seen_page pages) ps)) (sym (next_part parts place part d inside is))
+      (fit_more (map seen_page pages) part (drop (place + 1) parts) (Some (seen_page page)) (get-some pages part.page page at) fit
+      (subst (λ (ps : List PageRun). All IsOneLine (lines_from ps (drop (place + 1) parts)))
+      (map-set seen_page pages part.page new ∙ ap (λ p. slice_set (map seen_page pages) part.page p) seen) later)));
   ready = ready;
 }
 
@@ -179,6 +202,10 @@ turning_same {start} {parts} {place} {pages} {before} {now} {f} {g} part d here 
       ∙ here.so_far;
   written = here.written;
   unfailed = here.unfailed;
+  lines = λ later.
+      here.lines
+      (subst (λ (ps : List Part). All IsOneLine (lines_from (map seen_page pages) ps)) (sym (next_part parts place part d inside is))
+      (fit_more (map seen_page pages) part (drop (place + 1) parts) None (get-none pages part.page past) (All-nil IsOneLine) later));
   ready = here.ready;
 }
 
@@ -242,6 +269,11 @@ turning_end {start = start} {parts = parts} {place = place} {pages = pages} {bef
     ap (λ ps. fold stream_step (record { text = here.text; pages = map seen_page pages }) ps) (sym (drop_all place parts past)) ∙ here.so_far in
     ((subst (λ (t : List ℕ). Appends before now t) (ap (λ (r : StreamRun). r.text) end) here.written, here.unfailed), ap (λ (r : StreamRun). r.pages) end)
 
+pub turning_fit : {start : List PageRun} {parts : List Part} {place : ℕ} {pages : List StreamPage} {before now : Option (List ℕ)} {f g : ℕ} → Turning start parts place pages before now f g → length parts ≤ place
+    → All IsOneLine (lines_from start parts)
+turning_fit {parts = parts} {place = place} {pages = pages} here past =
+    here.lines (subst (λ (ps : List Part). All IsOneLine (lines_from (map seen_page pages) ps)) (sym (drop_all place parts past)) (fit_none (map seen_page pages)))
+
 -- ---- the whole stream
 
 pub stream_parts : (source : List ℕ) → stream_run source ≡ behind_text (stream_opened (scripts_of source)).text (parts_run (stream_opened (scripts_of source)).pages (parts_of source))
@@ -299,6 +331,24 @@ stream_tells r source status start parts after_pages before mid after f fm g ope
         (subst (λ (t : List ℕ). Wrote {A = Unit {0}} (Err it) before after f g t) (ap (λ (run : StreamRun). run.text) run-is)
         (wrote_behind {A = Unit {0}} (Err it) before mid after f fm g (stream_opened (scripts_of source)).text (parts_run start parts).text begun unfailed wrote))
 
+-- what is said before the first line and behind it, where all was written
+pub stream_fit : (r : Result (Unit {0}) RunFault) (source : List ℕ) (status : Status) (start : List PageRun) (parts : List Part) (before after : Option (List ℕ)) (f g : ℕ)
+    → start ≡ (stream_opened (scripts_of source)).pages → parts ≡ parts_of source → All IsOneLine (opening_lines (scripts_of source))
+    → Wrote r before after f g (parts_run start parts).text → OnOk r (All IsOneLine (lines_from start parts)) → is_whole (status_after r status) ≡ true → All IsOneLine (stream_lines source)
+unfolding stream_lines
+stream_fit (Ok done) source status start parts before after f g opens has opening wrote fit whole =
+    All-append IsOneLine (opening_lines (scripts_of source)) (lines_from (stream_opened (scripts_of source)).pages (parts_of source)) opening
+    (subst (λ (ps : List Part). All IsOneLine (lines_from (stream_opened (scripts_of source)).pages ps)) has (subst (λ (pages : List PageRun). All IsOneLine (lines_from pages parts)) opens fit))
+stream_fit (Err (fault.Limit kind line number)) source status start parts before after f g opens has opening wrote fit whole = absurd wrote
+stream_fit (Err fault.Memory) source status start parts before after f g opens has opening wrote fit whole = absurd (false≢true whole)
+stream_fit (Err fault.WriteFault) source status start parts before after f g opens has opening wrote fit whole = absurd (false≢true whole)
+
+-- a stream that was cut off before its first line
+pub cut_whole : (A B : Type 0) (it : RunFault) (before after : Option (List ℕ)) (f g : ℕ) (text : List ℕ) → Wrote {A = A} (Err it) before after f g text → is_whole (status_of it) ≡ true → B
+cut_whole A B (fault.Limit kind line number) before after f g text cut whole = absurd cut
+cut_whole A B fault.Memory before after f g text cut whole = absurd (false≢true whole)
+cut_whole A B fault.WriteFault before after f g text cut whole = absurd (false≢true whole)
+
 pub cut_tells : (A : Type 0) (it : RunFault) (source : List ℕ) (before after : Option (List ℕ)) (f g : ℕ) → Wrote {A = A} (Err it) before after f g (stream_opened (scripts_of source)).text
     → Tells (status_of it) (run_reply (stream_run source)) before after f g
 cut_tells A (fault.Limit kind line number) source before after f g cut = absurd cut
@@ -347,6 +397,17 @@ then_wrote (Err fault.WriteFault) before after f g text memory written unfailed 
 
 pub memory_cut : (it : RunFault) (now : Option (List ℕ)) (f : ℕ) (text : List ℕ) → it ≡ fault.Memory → Wrote {A = Unit {0}} (Err it) now now f f text
 memory_cut it now f text is = subst (λ (e : RunFault). Wrote {A = Unit {0}} (Err e) now now f f text) (sym is) (no_part now text)
+
+-- what holds whatever is answered
+pub on_ok : {A P : Type 0} (r : Result A RunFault) → P → OnOk r P
+on_ok (Ok value) holds = holds
+on_ok (Err it) holds = tt
+
+pub refused_fit : (read : Reading) (refusal : Refusal) → read ≡ Err refusal → IsOneLine (refusal_line refusal) → All IsOneLine (refused_lines read)
+refused_fit read refusal is one = subst (λ (it : Reading). All IsOneLine (refused_lines it)) (sym is) (All-cons IsOneLine (refusal_line refusal) [] one (All-nil IsOneLine))
+
+pub unrefused_fit : (read : Reading) (script : Script) → read ≡ Ok script → All IsOneLine (refused_lines read)
+unrefused_fit read script is = subst (λ (it : Reading). All IsOneLine (refused_lines it)) (sym is) (All-nil IsOneLine)
 
 -- what is said of a script by its reading
 pub refused_none : (name : List ℕ) (read : Reading) (script : Script) → read ≡ Ok script → refused_text (record { name = name; read = read }) ≡ []

@@ -1,9 +1,11 @@
 -- What each status says of a call, of whose reply all was written, or a first part, or nothing.
-use Rattle.std.specs.Prelude.{◌≡◌, ℕ, List, [], drop, take, IfSome, Option, Some}
+use Rattle.std.specs.Prelude.{◌≡◌, ℕ, true, List, [], drop, take, IfSome, Option, Some}
 use Rattle.std.specs.Io.KnownBytes.{Appends}
 use Rattle.text_io.specs.Streams.{Rose}
 use Rattle.trace_runs.specs.Writes.{AppendsPart, FailsWithin}
-use Rattle.replay_run.specs.Replies.{Reply}
+use Rattle.stream_runs.specs.Alone.{TellsAlone}
+use Rattle.replay_run.specs.Replies.{IsAccepted, Reply, pages_reply}
+use Rattle.replay_run.specs.Statuses.{is_whole}
 use Rattle.replay_run.specs.declared.status.Status.{Status}
 use Rattle.replay_run.specs.declared.status.Status.TheVariants.{NoMemory, ReadFault, WriteFault, Usage}
 
@@ -19,6 +21,10 @@ Tells status reply before after faults faults_after = (reply.status ≡ status) 
 abbrev pub Ends : Status → Reply → Option (List ℕ) → Option (List ℕ) → ℕ → ℕ → Type 0
 Ends ReadFault reply before after faults faults_after = Appends before after []
 Ends status reply before after faults faults_after = Tells status reply before after faults faults_after
+
+-- where the text of a stream was written whole, each page's lines in it are the trace of the page's script alone
+abbrev pub IsolatesPages : Status → List ℕ → Type 0
+IsolatesPages status source = is_whole status ≡ true → IsAccepted source → TellsAlone source (pages_reply source).text
 
 -- what was taken of a source of which so many bytes are looked at: these, or all where it has fewer
 abbrev pub IsTaken : Status → ℕ → List ℕ → Option (List ℕ) → Type 0

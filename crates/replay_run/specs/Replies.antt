@@ -1,6 +1,6 @@
 -- The reply to the words of a command line: the text that is written, and the status once it is. It is one function of the words and
 -- of the source's bytes. All of this is this project's own choice.
-use Rattle.std.specs.Prelude.{ℕ, cond, nat_lt, List, length, Option, Some, None, Ok, Err}
+use Rattle.std.specs.Prelude.{◌≡◌, ℕ, ◌≤◌, true, cond, nat_lt, List, length, Option, Some, None, Ok, Err}
 use Rattle.text_io.specs.declared.kinds.LimitKind.TheVariants as limits
 use Rattle.text_io.specs.Limits.{common_limit}
 use Rattle.script_model.specs.Syntax as syntax
@@ -108,6 +108,11 @@ pages_reply source =
     cond (nat_lt (common_limit limits.Script) (length source))
     (refused_with (LimitAt limits.Script (last_line (common_limit limits.Script) source)))
     (cond (is_stream source) (few_pages_reply (page_line_past (common_limit limits.Pages) source) source) (refused_with (SyntaxAt 1 1)))
+
+-- a stream that isn't refused: it is no longer than it may be, its first line is a page line, and no page is one too many
+abbrev pub IsAccepted : List ℕ → Type 0
+IsAccepted source =
+    (length source ≤ common_limit limits.Script) × (is_stream source ≡ true) × (page_line_past (common_limit limits.Pages) source ≡ None)
 
 -- the text of the script that the words speak of
 abbrev pub script_text : Words → List ℕ → List ℕ

@@ -1,6 +1,6 @@
 //! The top call.
 
-ghost use Rattle.std.specs.Prelude.{◌≡◌, ◌↔◌, ◌<◌, ◌&&◌, None, Ok, Err, is_some, true, false, map, string_bytes, IfSome, [], ◌∷◌};
+ghost use Rattle.std.specs.Prelude.{◌≡◌, ◌↔◌, ◌<◌, ◌&&◌, None, Some, Ok, Err, is_some, true, false, map, string_bytes, IfSome, [], ◌∷◌};
 ghost use Rattle.text_io.specs.Streams.{Rose};
 ghost use Rattle.script_model.specs.Generator.{generated};
 ghost use Rattle.script_model.specs.TraceLines.{LimitLine};
@@ -8,7 +8,7 @@ ghost use Rattle.script_model.specs.Reading.{Reading, reading, LimitAt};
 ghost use Rattle.script_syntax.specs.Parsing.{Parses};
 ghost use Rattle.page_model.specs.Outcome.{opening_world, outcome_read};
 ghost use Rattle.trace_runs.specs.Writes.{Told};
-ghost use Rattle.replay_run.specs.Answers.{Ends, IsTaken, Tells};
+ghost use Rattle.replay_run.specs.Answers.{Ends, IsolatesPages, IsTaken, Tells};
 ghost use Rattle.replay_run.specs.Replies.{outcome_reply, read_reply, refused_with, reply, script_reply, script_text};
 ghost use Rattle.replay_run.specs.Statuses.{is_done};
 ghost use Rattle.replay_run.specs.Words.{asked, has_page, is_run, looked_at, seen};
@@ -272,6 +272,8 @@ fn perform_on_number<K: Sink, L: Ledger>(
 ///
 /// - `Done`, `Syntax`, `Limit` and `Differs`: exactly by the reply to the words and the source's bytes, and all of its text was written.
 ///   A source that was read is at its end then; of more bytes than it may have one more than that many were taken.
+/// - With `--pages` and one of these statuses, each page's lines in what was written are the trace of its script alone, unless one line
+///   refuses the stream.
 /// - `ReadFault` and `WriteFault`: only where that count of faults rose in this call.
 /// - `Usage`: exactly for any other words; nothing is read or written, and no memory is asked for.
 pub fn run<S: Source, K: Sink, L: Ledger>(
@@ -286,6 +288,8 @@ pub fn run<S: Source, K: Sink, L: Ledger>(
     // What the status says of the reply, by the bytes of the source where they are told, and of what was written.
     ensures ends { IfSome (asked (map string_bytes words.now)) (λ asks. IfSome (seen asks (S.left source.old)) (λ text.
         Ends result.status (reply asks text) (K.taken sink.old) (K.taken sink.new) (K.faults sink.old) (K.faults sink.new))) }
+    // Of several pages each is as if its script ran alone.
+    ensures alone { asked (map string_bytes words.now) ≡ Some Words.Pages → IfSome (S.left source.old) (λ text. IsolatesPages result.status text) }
     ensures read { IfSome (asked (map string_bytes words.now)) (λ asks. IfSome (S.left source.old) (λ text. IsTaken result.status (looked_at asks) text (S.left source.new))) }
     ensures unread { IfSome (asked (map string_bytes words.now)) (λ asks. looked_at asks ≡ 0 → source.new ≡ source.old) }
     // The causes, also where neither tells its bytes.
@@ -327,6 +331,8 @@ pub fn run_uncounted<S: Source, K: Sink, L: Ledger>(
     // What the status says of the reply, by the bytes of the source where they are told, and of what was written.
     ensures ends { IfSome (asked (map string_bytes words.now)) (λ asks. IfSome (seen asks (S.left source.old)) (λ text.
         Ends result.status (reply asks text) (K.taken sink.old) (K.taken sink.new) (K.faults sink.old) (K.faults sink.new))) }
+    // Of several pages each is as if its script ran alone.
+    ensures alone { asked (map string_bytes words.now) ≡ Some Words.Pages → IfSome (S.left source.old) (λ text. IsolatesPages result.status text) }
     ensures read { IfSome (asked (map string_bytes words.now)) (λ asks. IfSome (S.left source.old) (λ text. IsTaken result.status (looked_at asks) text (S.left source.new))) }
     ensures unread { IfSome (asked (map string_bytes words.now)) (λ asks. looked_at asks ≡ 0 → source.new ≡ source.old) }
     // The causes, also where neither tells its bytes.

@@ -1,7 +1,7 @@
 //! Several pages of one stream, side by side.
 
 ghost use Rattle.std.specs.Io.KnownBytes.{Appends};
-ghost use Rattle.std.specs.Prelude.{ℕ, List, Option, ◌≡◌, ◌≤◌, ◌++◌, ◌∷◌, [], length, map, ◌<◌, Ok, Err, IfOk, IfSome, OnOk, OnErr};
+ghost use Rattle.std.specs.Prelude.{ℕ, List, Option, ◌≡◌, ◌≤◌, ◌++◌, ◌∷◌, [], length, map, ◌<◌, true, Ok, Err, IfOk, IfSome, OnOk, OnErr};
 ghost use Rattle.std.specs.List.{All, list_any};
 ghost use Rattle.text_io.specs.Streams.{Rose};
 ghost use Rattle.text_io.specs.declared.kinds.Version.TheVariants.{First};
@@ -12,8 +12,10 @@ ghost use Rattle.trace_text.specs.Ranges.{HasReach};
 ghost use Rattle.trace_text.specs.Seen.{seen_line};
 ghost use Rattle.page_stream.specs.Pages.{pages_of};
 ghost use Rattle.page_stream.specs.Parts.{script_of};
-ghost use Rattle.replay_run.specs.Answers.{Ends, IsTaken, Tells};
-ghost use Rattle.stream_runs.specs.PageRuns.{opened};
+ghost use Rattle.replay_run.specs.Answers.{Ends, IsolatesPages, IsTaken, Tells};
+ghost use Rattle.replay_run.specs.Statuses.{is_whole};
+ghost use Rattle.stream_runs.specs.Alone.{IsOneLine, TellsAlone, lines_from, opening_lines, stream_lines};
+ghost use Rattle.stream_runs.specs.PageRuns.{opened, refused_lines};
 ghost use Rattle.replay_run.specs.Replies.{pages_reply, run_reply};
 ghost use Rattle.stream_runs.specs.StreamRuns.{named_text, parts_run, refused_text, scripts_of, stream_opened, stream_run};
 ghost use Rattle.replay_run.specs.StreamStatuses.{is_faulty, met_limit, stream_status};
@@ -32,10 +34,13 @@ use script_text::laws::printed_script_reads_back;
 use std::alloc::Global;
 use std::sync::ledger::Ledger;
 use step_count::Steps;
+use stream_runs::laws::{
+    each_page_is_as_if_it_ran_alone, lines_of_the_stream_are_those_of_its_pages,
+};
 use text_io::{LimitKind, Name, Sink, Source, TextFault, read_all};
 use trace_runs::{RunFault, write_one};
 use trace_summary::GatherSink;
-use trace_text::TraceLine;
+use trace_text::{TraceLine, line_ends_once, value_is_a_line};
 
 /// The most bytes of a stream.
 const MOST_STREAM: usize = 16_777_216;
@@ -121,6 +126,15 @@ fn refuse_page<K: Sink>(
     }
 }
 
+// The laws by which a line ends in its only line feed.
+fn ends_once(line: &TraceLine)
+    requires { HasReach (seen_line line.now) }
+    ensures { IsOneLine (seen_line line.now) }
+{
+    value_is_a_line(line);
+    line_ends_once();
+}
+
 // A page with the text of its script.
 fn open_page<K: Sink>(
     alloc: Global,
@@ -130,6 +144,7 @@ fn open_page<K: Sink>(
     sink: &mut K,
 ) -> Result<(), RunFault>
     ensures wrote { Wrote result (K.taken sink.old) (K.taken sink.new) (K.faults sink.old) (K.faults sink.new) (refused_text (record { name = name; read = reading text })) }
+    ensures lines { OnOk result (All IsOneLine (refused_lines (reading text))) }
     ensures pages { OnOk result (map seen_page pages.new.items ≡ map seen_page pages.old.items ++ (opened (record { name = name; read = reading text }) ∷ [])) }
     ensures ready { OnOk result (All IsReadyPage pages.old.items → All IsReadyPage pages.new.items) }
 {
@@ -137,10 +152,12 @@ fn open_page<K: Sink>(
         Ok(script) => add_page(alloc, name, script, Progress::Going, pages),
         Err(ParseFault::Syntax { line, column }) => {
             let line = TraceLine::Syntax(line, column);
+            ends_once(&line);
             refuse_page(alloc, name, &line, Progress::Faulty, pages, sink)
         }
         Err(ParseFault::ScriptLimit { kind, line }) => {
             let line = TraceLine::Limit(kind, line, kind.common());
+            ends_once(&line);
             refuse_page(alloc, name, &line, Progress::LimitMet, pages, sink)
         }
         Err(ParseFault::Memory) => Err(RunFault::Memory),
@@ -172,6 +189,7 @@ fn open_pages<K: Sink>(
 ) -> Result<(), RunFault>
     requires { pages.old.items ≡ [] }
     ensures wrote { Wrote result (K.taken sink.old) (K.taken sink.new) (K.faults sink.old) (K.faults sink.new) (stream_opened (scripts_of stream.now)).text }
+    ensures lines { OnOk result (All IsOneLine (opening_lines (scripts_of stream.now))) }
     ensures pages { OnOk result (map seen_page pages.new.items ≡ (stream_opened (scripts_of stream.now)).pages) }
     ensures ready { OnOk result (All IsReadyPage pages.new.items) }
 {
@@ -198,6 +216,7 @@ fn run_parts<K: Sink, L: Ledger>(
 ) -> Result<(), RunFault>
     requires { All IsReadyPage pages.old }
     ensures wrote { Wrote result (K.taken sink.old) (K.taken sink.new) (K.faults sink.old) (K.faults sink.new) (parts_run (map seen_page pages.old) parts.now).text }
+    ensures lines { OnOk result (All IsOneLine (lines_from (map seen_page pages.old) parts.now)) }
     ensures pages { OnOk result (map seen_page pages.new ≡ (parts_run (map seen_page pages.old) parts.now).pages) }
 {
     for part in parts {
@@ -247,9 +266,11 @@ fn run_opened<K: Sink, L: Ledger>(
 ) -> Status
     requires opened { map seen_page pages.old ≡ (stream_opened (scripts_of stream.now)).pages }
     requires ready { All IsReadyPage pages.old }
+    requires lines { All IsOneLine (opening_lines (scripts_of stream.now)) }
     // behind what was written when the pages were opened
-    ensures { (before : Option (List ℕ)) (faults : ℕ) → Appends before (K.taken sink.old) (stream_opened (scripts_of stream.now)).text → K.faults sink.old ≡ faults
+    ensures tells { (before : Option (List ℕ)) (faults : ℕ) → Appends before (K.taken sink.old) (stream_opened (scripts_of stream.now)).text → K.faults sink.old ≡ faults
         → Tells result (run_reply (stream_run stream.now)) before (K.taken sink.new) faults (K.faults sink.new) }
+    ensures lines { is_whole result ≡ true → All IsOneLine (stream_lines stream.now) }
 {
     let wrote = run_parts(alloc, pages, stream.parts(), sink, steps);
     status_of(wrote, status_by(pages))
@@ -264,7 +285,8 @@ fn run_with<K: Sink, L: Ledger>(
     steps: &mut Steps<L>,
 ) -> Status
     requires { pages.old.items ≡ [] }
-    ensures { Tells result (run_reply (stream_run stream.now)) (K.taken sink.old) (K.taken sink.new) (K.faults sink.old) (K.faults sink.new) }
+    ensures tells { Tells result (run_reply (stream_run stream.now)) (K.taken sink.old) (K.taken sink.new) (K.faults sink.old) (K.faults sink.new) }
+    ensures lines { is_whole result ≡ true → All IsOneLine (stream_lines stream.now) }
 {
     match open_pages(alloc, stream, pages, sink) {
         Ok(()) => run_opened(alloc, stream, pages, sink, steps),
@@ -279,8 +301,12 @@ fn run_stream<K: Sink, L: Ledger>(
     sink: &mut K,
     steps: &mut Steps<L>,
 ) -> Status
-    ensures { Tells result (run_reply (stream_run stream.now)) (K.taken sink.old) (K.taken sink.new) (K.faults sink.old) (K.faults sink.new) }
+    ensures tells { Tells result (run_reply (stream_run stream.now)) (K.taken sink.old) (K.taken sink.new) (K.faults sink.old) (K.faults sink.new) }
+    ensures alone { is_whole result ≡ true → TellsAlone stream.now (stream_run stream.now).text }
 {
+    // the laws by which lines that end in their only line feed tell each page apart
+    lines_of_the_stream_are_those_of_its_pages();
+    each_page_is_as_if_it_ran_alone();
     let mut pages = Vec::new(alloc);
     run_with(alloc, stream, &mut pages, sink, steps)
 }
@@ -293,7 +319,8 @@ fn run_bytes<K: Sink, L: Ledger>(
     steps: &mut Steps<L>,
 ) -> Status
     requires { length source.now ≤ 16777216 }
-    ensures { Tells result (pages_reply source.now) (K.taken sink.old) (K.taken sink.new) (K.faults sink.old) (K.faults sink.new) }
+    ensures tells { Tells result (pages_reply source.now) (K.taken sink.old) (K.taken sink.new) (K.faults sink.old) (K.faults sink.new) }
+    ensures alone { IsolatesPages result source.now }
 {
     match split(alloc, source, MOST_PAGES) {
         Ok(stream) => run_stream(alloc, &stream, sink, steps),
@@ -316,6 +343,7 @@ pub fn run_pages<S: Source, K: Sink, L: Ledger>(
     ensures usage { result ≡ Status.Usage → ⊥ }
     ensures ends { IfSome (S.left source.old) (λ text.
         Ends result (pages_reply text) (K.taken sink.old) (K.taken sink.new) (K.faults sink.old) (K.faults sink.new)) }
+    ensures alone { IfSome (S.left source.old) (λ text. IsolatesPages result text) }
     ensures read { IfSome (S.left source.old) (λ text. IsTaken result 16777217 text (S.left source.new)) }
     ensures read_fault { result ≡ Status.ReadFault → Rose (S.faults source.old) (S.faults source.new) × (sink.new ≡ sink.old) }
     ensures write_fault { result ≡ Status.WriteFault → Rose (K.faults sink.old) (K.faults sink.new) }

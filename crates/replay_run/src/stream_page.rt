@@ -1,12 +1,14 @@
 //! A page of a stream, as it runs.
 
 ghost use Rattle.std.specs.Prelude.{◌≡◌, ◌<◌, ◌++◌, ◌∷◌, [], true, IfOk, OnOk, OnErr, Err};
+ghost use Rattle.std.specs.List.{All};
 ghost use Rattle.script_model.specs.Syntax.{Item as ItemModel};
 ghost use Rattle.script_model.specs.Reading.{Reading, reading};
 ghost use Rattle.script_syntax.specs.Seen.{item_of};
 ghost use Rattle.page_model.specs.Outcome.{opening_world};
 ghost use Rattle.trace_runs.specs.Writes.{Wrote};
 ghost use Rattle.trace_summary.specs.Counts.{IsTrace};
+ghost use Rattle.stream_runs.specs.Alone.{IsOneLine};
 ghost use Rattle.stream_runs.specs.PageRuns.{item_line, turn_at};
 ghost use Rattle.stream_runs.specs.StreamRuns.{named_text};
 ghost use Rattle.replay_run.specs.StreamStatuses.{is_faulty, met_limit};
@@ -23,6 +25,7 @@ use step_count::Steps;
 use text_io::{Name, Sink};
 use trace_runs::RunFault;
 use trace_summary::GatherSink;
+use trace_text::line_ends_once;
 
 /// Whether a page of a stream goes on.
 #[derive(Clone, Copy, Debug, PartialEq, Eq)]
@@ -144,9 +147,12 @@ pub fn take_turn<K: Sink, L: Ledger>(
     requires { IsReadyPage page.old }
     ensures wrote { Wrote result (K.taken sink.old) (K.taken sink.new) (K.faults sink.old) (K.faults sink.new)
         (named_text page.old.name (turn_at line (seen_page page.old).standing).lines) }
+    ensures lines { OnOk result (All IsOneLine (turn_at line (seen_page page.old).standing).lines) }
     ensures page { OnOk result (seen_page page.new ≡ record { name = page.old.name; standing = (turn_at line (seen_page page.old).standing).standing }) }
     ensures ready { OnOk result (IsReadyPage page.new) }
 {
+    // the law by which each line that is gathered ends in its only line feed
+    line_ends_once();
     if !next_begins(page, line) {
         return Ok(());
     }

@@ -8,3 +8,4 @@ mod Spaces
 mod Impossible
 mod ReadLater
 mod ReadLaw
+pub mod Named

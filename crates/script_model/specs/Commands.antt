@@ -65,7 +65,7 @@ heads version =
     ∷ keyword (codes "append") (ActionHead (NodeForm ∷ NodeForm ∷ []) Append)
     ∷ keyword (codes "before") (ActionHead (NodeForm ∷ NodeForm ∷ NodeForm ∷ []) Before)
     ∷ keyword (codes "remove") (ActionHead (NodeForm ∷ []) Remove)
-    ∷ keyword (codes "set") (ActionHead (NodeForm ∷ DeclarationForm ∷ []) SetStyle)
+    ∷ keyword (codes "set") (ActionHead (NodeForm ∷ DeclarationForm version ∷ []) SetStyle)
     ∷ keyword (codes "grow") (ActionHead (NodeForm ∷ DimensionForm ∷ SignedForm ∷ []) Grow)
     ∷ keyword (codes "load") (ActionHead (NodeForm ∷ LengthForm ∷ LengthForm ∷ []) Load)
     ∷ keyword (codes "ro") (ActionHead (NameForm ∷ NameForm ∷ HandlerForm ∷ []) MakeResizeObserver)

@@ -46,10 +46,10 @@ unfoldable pub none_left : Row → Result (Unit {0}) ℕ
 unfolding none_in
 none_left row = none_in row.left
 
--- a property and a value of it
-unfoldable pub declaration_as : Row → Taken Declaration
+-- a property that the version has, and a value of it
+unfoldable pub declaration_as : Version → Row → Taken Declaration
 unfolding word_as property_of
-declaration_as row = word_as property_of row >>= λ property. word_as property.0 property.1
+declaration_as version row = word_as (property_of version) row >>= λ property. word_as property.0 property.1
 
 -- the words before the first one at which a test holds
 unfoldable pub words_before : (List ℕ → Bool) → List Word → List (List ℕ)
@@ -134,7 +134,7 @@ pub data Form : Type 0 where
   EventForm : Form
   BoxForm : (version : Version) → Form
   DimensionForm : Form
-  DeclarationForm : Form
+  DeclarationForm : (version : Version) → Form
   JustForm : (word : List ℕ) → Form
   MarginForm : (version : Version) → Form
   NumbersForm : Form
@@ -154,7 +154,7 @@ Meant WholeForm = ℕ
 Meant EventForm = EventKind
 Meant (BoxForm version) = BoxKind
 Meant DimensionForm = Dimension
-Meant DeclarationForm = Declaration
+Meant (DeclarationForm version) = Declaration
 Meant (JustForm word) = Unit {0}
 Meant (MarginForm version) = MarginTexts
 Meant NumbersForm = List ℤ
@@ -175,7 +175,7 @@ part_as WholeForm row = word_as whole_of row
 part_as EventForm row = word_as (lookup events) row
 part_as (BoxForm version) row = word_as (lookup (boxes version)) row
 part_as DimensionForm row = word_as (lookup dimensions) row
-part_as DeclarationForm row = declaration_as row
+part_as (DeclarationForm version) row = declaration_as version row
 part_as (JustForm word) row = word_as (just word) row
 part_as (MarginForm version) row = margins_as version row
 part_as NumbersForm row = numbers_as row

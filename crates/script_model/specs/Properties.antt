@@ -1,9 +1,11 @@
--- The properties of a style with their values (CSS 2.2, 8 to 11; CSS Box Sizing 3, 3.3). Which values a property has here is
+-- The properties of a style with their values (CSS 2.2, 8 to 11; CSS Box Sizing 3, 3.3; CSS Positioned Layout 3). Which values a property has here is
 -- this project's own choice.
-use Rattle.std.specs.Prelude.{ℕ, Bool, true, false, cond, List, [], ◌∷◌, Option, Some, None, option_map, bytes_eq, codes}
-use Rattle.word_model.specs.Numbers.{length_of, percent_of}
-use Rattle.px_units.specs.Lengths.{LengthValue, Automatic, Pixels, Percentage}
-use Rattle.layout_model.specs.Styles.{Declaration, SetDisplay, SetWidth, SetHeight, SetMinWidth, SetMinHeight, SetMaxWidth, SetMaxHeight, SetMargin, SetPadding, SetBorder, SetBoxSizing, SetOverflow, TopSide, RightSide, BottomSide, LeftSide, AllSides, BoxSizing, ContentBox, BorderBox, Overflow, OverflowVisible, OverflowHidden, OverflowClip, OverflowScroll, OverflowAuto}
+use Rattle.std.specs.Prelude.{ℕ, Bool, true, false, cond, List, [], ◌∷◌, ◌++◌, Option, Some, None, option_map, bytes_eq, codes}
+use Rattle.word_model.specs.Numbers.{length_of, percent_of, signed_of, signed_percent_of}
+use Rattle.px_units.specs.Lengths.{LengthValue, Automatic, Pixels, Percentage, InsetValue, AutomaticInset, InsetPixels, InsetPercentage}
+use Rattle.layout_model.specs.Styles.{Declaration, SetDisplay, SetWidth, SetHeight, SetMinWidth, SetMinHeight, SetMaxWidth, SetMaxHeight, SetMargin, SetPadding, SetBorder, SetBoxSizing, SetOverflow, SetPosition, SetTop, SetRight, SetBottom, SetLeft, TopSide, RightSide, BottomSide, LeftSide, AllSides, BoxSizing, ContentBox, BorderBox, Overflow, OverflowVisible, OverflowHidden, OverflowClip, OverflowScroll, OverflowAuto, Position, StaticPosition, RelativePosition, AbsolutePosition, FixedPosition}
+use Rattle.text_io.specs.declared.kinds.Version.{Version}
+use Rattle.text_io.specs.declared.kinds.Version.TheVariants.{First, Second}
 use Rattle.script_model.specs.Keywords.{Keyword, keyword, lookup}
 
 -- a value of the first reader, or of the second where the first has none
@@ -26,6 +28,13 @@ unfoldable pub none_or_size_of : List ℕ → Option (Option LengthValue)
 unfolding size_of
 none_or_size_of text = cond (bytes_eq text (codes "none")) (Some None) (option_map Some (size_of text))
 
+-- `auto`, or a length or a percentage with an optional `-`
+unfoldable pub inset_of : List ℕ → Option InsetValue
+unfolding either_of signed_of signed_percent_of
+inset_of text =
+    cond (bytes_eq text (codes "auto")) (Some AutomaticInset)
+    (either_of (option_map InsetPixels (signed_of text)) (option_map InsetPercentage (signed_percent_of text)))
+
 abbrev pub displays : List (Keyword Bool)
 displays = keyword (codes "block") false ∷ keyword (codes "none") true ∷ []
 
@@ -41,6 +50,14 @@ overflows =
     ∷ keyword (codes "auto") OverflowAuto
     ∷ []
 
+abbrev pub positions : List (Keyword Position)
+positions =
+    keyword (codes "static") StaticPosition
+    ∷ keyword (codes "relative") RelativePosition
+    ∷ keyword (codes "absolute") AbsolutePosition
+    ∷ keyword (codes "fixed") FixedPosition
+    ∷ []
+
 -- what reads the value of a property
 abbrev pub ValueReader : Type 0
 ValueReader = List ℕ → Option Declaration
@@ -49,7 +66,7 @@ ValueReader = List ℕ → Option Declaration
 abbrev pub sets : {A : Type 0} → (A → Declaration) → (List ℕ → Option A) → ValueReader
 sets declare of text = option_map declare (of text)
 
--- each property with the values that it has
+-- each property of the first version with the values that it has
 abbrev pub properties : List (Keyword ValueReader)
 properties =
     keyword (codes "display") (sets SetDisplay (lookup displays))
@@ -78,7 +95,21 @@ properties =
     ∷ keyword (codes "overflow") (sets SetOverflow (lookup overflows))
     ∷ []
 
--- what reads the values of the property with this name
-unfoldable pub property_of : List ℕ → Option ValueReader
-unfolding lookup auto_or_size_of none_or_size_of size_of length_of
-property_of name = lookup properties name
+-- those that scripts of the second version have besides
+abbrev pub positioned_properties : List (Keyword ValueReader)
+positioned_properties =
+    keyword (codes "position") (sets SetPosition (lookup positions))
+    ∷ keyword (codes "top") (sets SetTop inset_of)
+    ∷ keyword (codes "right") (sets SetRight inset_of)
+    ∷ keyword (codes "bottom") (sets SetBottom inset_of)
+    ∷ keyword (codes "left") (sets SetLeft inset_of)
+    ∷ []
+
+abbrev pub properties_in : Version → List (Keyword ValueReader)
+properties_in First = properties
+properties_in Second = positioned_properties ++ properties
+
+-- what reads the values of the property with this name in a version
+unfoldable pub property_of : Version → List ℕ → Option ValueReader
+unfolding lookup auto_or_size_of none_or_size_of size_of length_of inset_of
+property_of version name = lookup (properties_in version) name

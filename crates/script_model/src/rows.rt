@@ -4,10 +4,12 @@
 ghost use Rattle.std.specs.Prelude.{◌≡◌, ◌++◌, [], ◌∷◌, Ok, Err, Some, None, true, pos, negsuc, replicate, codes};
 ghost use Rattle.std.specs.List.{concat};
 ghost use Rattle.px_units.specs.declared.BoxKind.TheVariants.{Device};
+ghost use Rattle.px_units.specs.Lengths.{AutomaticInset, InsetPixels, InsetPercentage};
+ghost use Rattle.layout_model.specs.Styles.{SetPosition, SetTop, SetRight, SetBottom, SetLeft, AbsolutePosition};
 ghost use Rattle.text_io.specs.declared.kinds.LimitKind.TheVariants as limits;
 ghost use Rattle.text_io.specs.declared.kinds.Version.TheVariants.{First, Second};
 ghost use Rattle.script_model.specs.Reading.{SyntaxAt, LimitAt, HandlerBlock, nothing_read, opened, open_handler, reading};
-ghost use Rattle.script_model.specs.Syntax.{Tick, Handler, Outside, Then, NoMore, Simple, Each, When, Say, Seen, Named, SetRatio, ObserveResize, MakeIntersectionObserver};
+ghost use Rattle.script_model.specs.Syntax.{Tick, Handler, Outside, Then, NoMore, Simple, Each, When, Say, Seen, Named, SetRatio, SetStyle, ObserveResize, MakeIntersectionObserver};
 
 /// A text without a byte lacks its first line.
 pub fn empty_text()
@@ -317,4 +319,24 @@ pub fn second_version_in_the_first()
               })))
               ∷ [];
         }) }
+{}
+
+/// A property that the first version hasn't is a fault at its word there, whatever its value; the second version has it, and its value
+/// may be negative.
+pub fn positioned_properties()
+    ensures in_the_first { reading (codes "script 1\nset r position absolute\n") ≡ Err (SyntaxAt 2 7) }
+    ensures with_a_bad_value { reading (codes "script 1\nset r top 1\n") ≡ Err (SyntaxAt 2 7) }
+    ensures position { reading (codes "script 2\nset r position absolute\n") ≡
+        Ok (record { version = Second; items = Outside (Simple 2 (SetStyle (Named (codes "r")) (SetPosition AbsolutePosition))) ∷ [] }) }
+    ensures units { reading (codes "script 2\nset r left -1.5px\n") ≡
+        Ok (record { version = Second; items = Outside (Simple 2 (SetStyle (Named (codes "r")) (SetLeft (InsetPixels (negsuc 95))))) ∷ [] }) }
+    ensures percentage { reading (codes "script 2\nset r bottom -10.5%\n") ≡
+        Ok (record { version = Second; items = Outside (Simple 2 (SetStyle (Named (codes "r")) (SetBottom (InsetPercentage (negsuc 1049))))) ∷ [] }) }
+    ensures automatic { reading (codes "script 2\nset r top auto\n") ≡
+        Ok (record { version = Second; items = Outside (Simple 2 (SetStyle (Named (codes "r")) (SetTop AutomaticInset))) ∷ [] }) }
+    ensures zero { reading (codes "script 2\nset r right -0px\n") ≡
+        Ok (record { version = Second; items = Outside (Simple 2 (SetStyle (Named (codes "r")) (SetRight (InsetPixels (pos 0))))) ∷ [] }) }
+    ensures without_unit { reading (codes "script 2\nset r top 0\n") ≡ Err (SyntaxAt 2 11) }
+    ensures another_position { reading (codes "script 2\nset r position sticky\n") ≡ Err (SyntaxAt 2 16) }
+    ensures no_negative_width { reading (codes "script 2\nset r width -1px\n") ≡ Err (SyntaxAt 2 13) }
 {}

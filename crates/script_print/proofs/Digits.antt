@@ -6,9 +6,9 @@ use Rattle.word_model.specs.Numbers.{decimal}
 use Rattle.media_queries.specs.LengthText.{last_digit, length_text}
 use Rattle.media_queries.proofs.Appends.{two_parts}
 use Rattle.script_print.specs.Minus.{minus_text}
-use Rattle.px_units.specs.Lengths.{Pixels, Percentage}
-use Rattle.script_text.specs.DeclarationText.{size_text}
-use Rattle.script_text.specs.NumberText.{all_places, places_text, percent_text, signed_text, number_text}
+use Rattle.px_units.specs.Lengths.{Pixels, Percentage, InsetPixels, InsetPercentage}
+use Rattle.script_text.specs.DeclarationText.{size_text, inset_text}
+use Rattle.script_text.specs.NumberText.{all_places, places_text, percent_text, signed_text, signed_percent_text, number_text}
 
 -- with all places: the last place is appended behind the others
 with_behind : (places number : ℕ) (behind : List ℕ) → all_places places number behind ≡ all_places places number [] ++ behind
@@ -80,6 +80,16 @@ pub signed_pushed : (units : ℤ) (old middle new : List ℕ) → middle ≡ old
 signed_pushed units old middle new e f =
     two_parts old (minus_text units) (length_text (unsigned_abs units)) middle new e f ∙ ap (λ l. old ++ l) (signed_is units)
 
+signed_percent_is : (hundredths : ℤ) → minus_text hundredths ++ percent_text (unsigned_abs hundredths) ≡ signed_percent_text hundredths
+unfolding signed_percent_text
+signed_percent_is (pos hundredths) = ap (λ b. cond b (45 ∷ []) [] ++ percent_text hundredths) (not_below hundredths)
+signed_percent_is (negsuc hundredths) = refl
+
+pub signed_percent_pushed : (hundredths : ℤ) (old middle new : List ℕ) → middle ≡ old ++ minus_text hundredths → new ≡ middle ++ percent_text (unsigned_abs hundredths)
+    → new ≡ old ++ signed_percent_text hundredths
+signed_percent_pushed hundredths old middle new e f =
+    two_parts old (minus_text hundredths) (percent_text (unsigned_abs hundredths)) middle new e f ∙ ap (λ l. old ++ l) (signed_percent_is hundredths)
+
 number_is : (number : ℤ) → minus_text number ++ places_text 4 (unsigned_abs number) ≡ number_text number
 unfolding number_text
 number_is (pos number) = ap (λ b. cond b (45 ∷ []) [] ++ places_text 4 number) (not_below number)
@@ -98,3 +108,11 @@ pixels_pushed units old new e = e
 pub percentage_pushed : (hundredths : ℕ) (old new : List ℕ) → new ≡ old ++ percent_text hundredths → new ≡ old ++ size_text (Percentage hundredths)
 unfolding size_text
 percentage_pushed hundredths old new e = e
+
+pub inset_pixels_pushed : (units : ℤ) (old new : List ℕ) → new ≡ old ++ signed_text units → new ≡ old ++ inset_text (InsetPixels units)
+unfolding inset_text
+inset_pixels_pushed units old new e = e
+
+pub inset_percentage_pushed : (hundredths : ℤ) (old new : List ℕ) → new ≡ old ++ signed_percent_text hundredths → new ≡ old ++ inset_text (InsetPercentage hundredths)
+unfolding inset_text
+inset_percentage_pushed hundredths old new e = e

@@ -8,8 +8,8 @@ use Rattle.script_text.specs.Parts.{Part, PartOf}
 use Rattle.script_print.specs.declared.operands.Entry.{Entry}
 use Rattle.script_print.specs.declared.operands.Entry.TheVariants as entry
 
--- lengths and percentages without a sign are seen by what they are without one; a box has the words of the second version, which has
--- them all
+-- lengths and percentages without a sign are seen by what they are without one; a box and a declaration have the words of the second
+-- version, which has them all
 abbrev pub part_of : Entry → Part
 part_of (entry.Word name) = PartOf NameForm name
 part_of (entry.Node operand) = PartOf NodeForm (operand_of operand)
@@ -23,4 +23,4 @@ part_of (entry.Whole number) = PartOf WholeForm number
 part_of (entry.Event event) = PartOf EventForm event
 part_of (entry.Observed box) = PartOf (BoxForm Second) box
 part_of (entry.Dimension axis) = PartOf DimensionForm (dimension_of axis)
-part_of (entry.Declared declaration) = PartOf DeclarationForm (seen_declaration declaration)
+part_of (entry.Declared declaration) = PartOf (DeclarationForm Second) (seen_declaration declaration)

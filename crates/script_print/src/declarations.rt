@@ -1,15 +1,15 @@
 //! Declarations: the words of a property and of its value.
 
 ghost use Rattle.std.specs.Prelude.{◌≡◌, ◌++◌, ◌∷◌, [], option_map, unsigned_abs, OnOk};
-ghost use Rattle.px_units.specs.Lengths.{Automatic, Pixels, Percentage, seen_length};
+ghost use Rattle.px_units.specs.Lengths.{Automatic, Pixels, Percentage, AutomaticInset, InsetPixels, InsetPercentage, seen_length, seen_inset};
 ghost use Rattle.script_print.specs.Spaced.{spaced};
-ghost use Rattle.script_text.specs.DeclarationText.{side_text, display_text, size_text, none_or_text, box_sizing_text, overflow_text, property_text, value_text};
-ghost use Rattle.style_values.specs.Seen.{seen_display, seen_box_sizing, seen_overflow, seen_sides, seen_declaration};
+ghost use Rattle.script_text.specs.DeclarationText.{side_text, display_text, size_text, none_or_text, box_sizing_text, overflow_text, position_text, inset_text, property_text, value_text};
+ghost use Rattle.style_values.specs.Seen.{seen_display, seen_box_sizing, seen_overflow, seen_position, seen_sides, seen_declaration};
 
-use crate::numbers::{push_length, push_percent};
+use crate::numbers::{push_length, push_percent, push_signed, push_signed_percent};
 use px_units::{Length, Percent, Px};
 use std::alloc::AllocError;
-use style_values::{BoxSizing, Declaration, Display, Overflow, Sides};
+use style_values::{BoxSizing, Declaration, Display, Overflow, Position, Sides};
 
 fn side_text(sides: Sides) -> &'static [u8]
     ensures { result.now ≡ side_text (seen_sides sides) }
@@ -50,6 +50,17 @@ fn overflow_text(overflow: Overflow) -> &'static [u8]
         Overflow::Clip => b"clip",
         Overflow::Scroll => b"scroll",
         Overflow::Auto => b"auto",
+    }
+}
+
+fn position_text(position: Position) -> &'static [u8]
+    ensures { result.now ≡ position_text (seen_position position) }
+{
+    match position {
+        Position::Static => b"static",
+        Position::Relative => b"relative",
+        Position::Absolute => b"absolute",
+        Position::Fixed => b"fixed",
     }
 }
 
@@ -98,6 +109,38 @@ fn push_none_or_size(into: &mut Vec<u8>, value: Option<Length>) -> Result<(), Al
     }
 }
 
+#[tactic(auto, using(crate::proofs::Digits::inset_pixels_pushed))]
+fn push_inset_pixels(into: &mut Vec<u8>, px: Px) -> Result<(), AllocError>
+    ensures { OnOk result (into.new.items ≡ into.old.items ++ inset_text (InsetPixels px.0)) }
+{
+    push_signed(into, px.0)
+}
+
+#[tactic(auto, using(crate::proofs::Digits::inset_percentage_pushed))]
+fn push_inset_percentage(into: &mut Vec<u8>, percent: Percent) -> Result<(), AllocError>
+    ensures { OnOk result (into.new.items ≡ into.old.items ++ inset_text (InsetPercentage percent.0)) }
+{
+    push_signed_percent(into, i64::from(percent.0))
+}
+
+#[tactic(auto, unfolding(script_text::specs::DeclarationText::inset_text))]
+fn push_automatic_inset(into: &mut Vec<u8>) -> Result<(), AllocError>
+    ensures { OnOk result (into.new.items ≡ into.old.items ++ inset_text AutomaticInset) }
+{
+    into.extend_from_slice(b"auto")
+}
+
+/// Appends `auto`, or a length or a percentage with its sign.
+fn push_inset(into: &mut Vec<u8>, value: Length) -> Result<(), AllocError>
+    ensures { OnOk result (into.new.items ≡ into.old.items ++ inset_text (seen_inset value)) }
+{
+    match value {
+        Length::Auto => push_automatic_inset(into),
+        Length::Px(px) => push_inset_pixels(into, px),
+        Length::Percent(percent) => push_inset_percentage(into, percent),
+    }
+}
+
 /// Appends the name of a property that has sides.
 #[tactic(auto, using(media_queries::proofs::Appends::two_parts))]
 fn push_sided(into: &mut Vec<u8>, name: &[u8], sides: Sides) -> Result<(), AllocError>
@@ -123,6 +166,11 @@ fn push_property(into: &mut Vec<u8>, declaration: Declaration) -> Result<(), All
         Declaration::Border(sides, _) => push_sided(into, b"border", sides),
         Declaration::BoxSizing(_) => into.extend_from_slice(b"box-sizing"),
         Declaration::Overflow(_) => into.extend_from_slice(b"overflow"),
+        Declaration::Position(_) => into.extend_from_slice(b"position"),
+        Declaration::Top(_) => into.extend_from_slice(b"top"),
+        Declaration::Right(_) => into.extend_from_slice(b"right"),
+        Declaration::Bottom(_) => into.extend_from_slice(b"bottom"),
+        Declaration::Left(_) => into.extend_from_slice(b"left"),
     }
 }
 
@@ -143,6 +191,11 @@ fn push_value(into: &mut Vec<u8>, declaration: Declaration) -> Result<(), AllocE
         Declaration::Border(_, width) => push_length(into, width.0.unsigned_abs()),
         Declaration::BoxSizing(value) => into.extend_from_slice(box_sizing_text(value)),
         Declaration::Overflow(value) => into.extend_from_slice(overflow_text(value)),
+        Declaration::Position(value) => into.extend_from_slice(position_text(value)),
+        Declaration::Top(value)
+        | Declaration::Right(value)
+        | Declaration::Bottom(value)
+        | Declaration::Left(value) => push_inset(into, value),
     }
 }
 

@@ -4,7 +4,7 @@ ghost use Rattle.std.specs.Prelude.{◌≡◌, ◌++◌, [], OnOk, codes};
 ghost use Rattle.word_model.specs.Numbers.{decimal};
 ghost use Rattle.media_queries.specs.LengthText.{tenths_text, hundredths_text, length_text};
 ghost use Rattle.script_print.specs.Minus.{minus_text};
-ghost use Rattle.script_text.specs.NumberText.{all_places, places_text, percent_text, signed_text, number_text};
+ghost use Rattle.script_text.specs.NumberText.{all_places, places_text, percent_text, signed_text, signed_percent_text, number_text};
 
 use std::alloc::AllocError;
 use word_model::push_decimal;
@@ -110,6 +110,15 @@ pub fn push_percent(into: &mut Vec<u8>, hundredths: u64) -> Result<(), AllocErro
     push_places(into, 2, hundredths)?;
     into.push(b'%')?;
     Ok(())
+}
+
+/// Appends a percentage with a sign, in hundredths of a percent.
+#[tactic(auto, using(crate::proofs::Digits::signed_percent_pushed))]
+pub fn push_signed_percent(into: &mut Vec<u8>, hundredths: i64) -> Result<(), AllocError>
+    ensures { OnOk result (into.new.items ≡ into.old.items ++ signed_percent_text hundredths) }
+{
+    push_minus(into, hundredths)?;
+    push_percent(into, hundredths.unsigned_abs())
 }
 
 /// Appends a number in ten-thousandths.

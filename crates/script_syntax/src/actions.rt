@@ -35,7 +35,7 @@ pub fn action(
         Verb::Append => append(words),
         Verb::Before => before(words),
         Verb::Remove => remove(words),
-        Verb::Set => set(words),
+        Verb::Set => set(version, words),
         Verb::Grow => grow(words),
         Verb::Load => load(words),
         Verb::Ro => ro(words),
@@ -172,12 +172,12 @@ fn remove(words: &mut Words<'_>) -> Result<What, LineFault>
 
 /// `set NODE PROPERTY VALUE`
 #[tactic(auto, unfolding(script_model::specs::Forms::made, crate::specs::Acts::Acts))]
-fn set(words: &mut Words<'_>) -> Result<What, LineFault>
-    ensures value { Acts result First verb.Set words.old }
+fn set(version: Version, words: &mut Words<'_>) -> Result<What, LineFault>
+    ensures value { Acts result version verb.Set words.old }
     ensures allowed { IfOk result (λ what. ActionAllowed what) }
 {
     let node = words.node()?;
-    let declaration = words.declaration()?;
+    let declaration = words.declaration(version)?;
     words.end()?;
     Ok(What::Set(node, declaration))
 }

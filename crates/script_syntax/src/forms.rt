@@ -6,6 +6,7 @@ ghost use Rattle.script_model.specs.Words.{node_of, aim_of as aim_read};
 ghost use Rattle.script_model.specs.Properties.{property_of};
 ghost use Rattle.style_values.specs.Ranges.{IsAllowed};
 ghost use Rattle.style_values.specs.Seen.{seen_declaration};
+ghost use Rattle.style_values.specs.Versions.{reads};
 ghost use Rattle.script_syntax.specs.Allowed.{IsUnits, IsSignedUnits, IsPercent, IsTime};
 ghost use Rattle.script_syntax.specs.Lines.{Gives};
 ghost use Rattle.script_syntax.specs.Seen.{operand_of, aim_of, dimension_of};
@@ -18,7 +19,7 @@ use crate::words::{Word, Words};
 use media_queries::{Query, QueryFault};
 use px_units::{BoxKind, Percent, Px};
 use std::alloc::Global;
-use style_values::{Declaration, StyleFault};
+use style_values::{Declaration, first_version};
 use text_io::{EventKind, Name, Version};
 use word_model::{length, number, percent, signed_length, whole};
 
@@ -46,14 +47,27 @@ fn aim_named(text: &[u8]) -> Option<Aim>
     node_named(text).map(Aim::Plain)
 }
 
-/// Whether there is a property of this name: its fault with an empty value isn't its own.
-fn is_property(name: &[u8]) -> bool
-    ensures { result ≡ is_some (property_of name.now) }
+/// Whether a version has what this is the first version of.
+fn has(version: Version, first: Option<Version>) -> bool
+    ensures { result ≡ reads version first }
 {
-    !matches!(
-        Declaration::read(name, b""),
-        Err(StyleFault::UnknownProperty)
-    )
+    let Some(first) = first else {
+        return false;
+    };
+    match version {
+        Version::First => match first {
+            Version::First => true,
+            Version::Second => false,
+        },
+        Version::Second => true,
+    }
+}
+
+/// Whether there is a property of this name in scripts of this version.
+fn is_property(version: Version, name: &[u8]) -> bool
+    ensures { result ≡ is_some (property_of version name.now) }
+{
+    has(version, first_version(name))
 }
 
 impl Words<'_> {
@@ -235,14 +249,14 @@ impl Words<'_> {
         }
     }
 
-    /// A property and a value that it has.
+    /// A property that scripts of this version have, and a value that it has.
     #[tactic(auto, unfolding(script_model::specs::Forms::part_as, script_model::specs::Forms::declaration_as))]
-    pub fn declaration(&mut self) -> Result<Declaration, LineFault>
-        ensures value { Gives (λ declaration. (seen_declaration declaration, self.new)) result (part_as DeclarationForm self.old) }
+    pub fn declaration(&mut self, version: Version) -> Result<Declaration, LineFault>
+        ensures value { Gives (λ declaration. (seen_declaration declaration, self.new)) result (part_as (DeclarationForm version) self.old) }
         ensures allowed { IfOk result (λ declaration. IsAllowed declaration) }
     {
         let property = self.next()?;
-        if !is_property(property.text) {
+        if !is_property(version, property.text) {
             return Err(LineFault::At {
                 column: property.column,
             });

@@ -67,9 +67,9 @@ part_good WholeForm number h rest follows = (whole_word number h, tt)
 part_good EventForm event h rest follows = ((event_again event).word, tt)
 part_good (BoxForm version) box h rest follows = ((box_again version box h).word, tt)
 part_good DimensionForm dimension h rest follows = ((dimension_again dimension).word, tt)
-part_good DeclarationForm declaration h rest follows =
-    let again = declaration_again declaration h in
-    (property_word (property_text declaration) again.reader again.named, (again.again.word, tt))
+part_good (DeclarationForm version) declaration h rest follows =
+    let again = declaration_again version declaration h in
+    (property_word version (property_text declaration) again.reader again.named, (again.again.word, tt))
 part_good (JustForm word) value h rest follows = (follows, tt)
 part_good (MarginForm version) margins h rest follows =
     words_append (parts_of margins.0) (scroll_words margins.1) (margin_words version (parts_of margins.0) h.0) (scroll_good version margins.1 h.1)

@@ -2,13 +2,13 @@
 use Rattle.std.proofs.Common.{◌≡◌, ℕ, suc, ◌+◌, ◌-◌, ◌*◌, ◌/◌, ◌%◌, ◌^◌, ◌<◌, ◌≤◌, ℤ, pos, negsuc, Bool, true, false, cond, ◌&&◌, ◌==◌, nat_lt, nat_le, List, [], ◌∷◌, ◌++◌, length, drop, Some, None, refl, ap, sym, ◌∙◌, arith, subst, append_assoc}
 use Rattle.std.specs.Prelude.{Option, option_map, unsigned_abs, bytes_eq, codes}
 use Rattle.std.proofs.lemmas.Bool.{eqb-true, and_from}
-use Rattle.word_model.specs.Numbers.{begins_with, unsigned, decimal, digits_value, leading_digits, fraction_digits, at_most, has_form, scaled, form_of, with_sign, signed_by, length_of, signed_of, percent_of, ten_thousandths_of, number_of}
+use Rattle.word_model.specs.Numbers.{begins_with, unsigned, decimal, digits_value, leading_digits, fraction_digits, at_most, has_form, scaled, form_of, with_sign, signed_by, length_of, signed_of, percent_of, signed_percent_of, ten_thousandths_of, number_of}
 use Rattle.word_model.proofs.Digits.{unsigned_is}
 use Rattle.word_model.proofs.Forms.{form_of_is, has_form_is, length_of_is, percent_of_is, ten_thousandths_of_is}
 use Rattle.media_queries.specs.LengthText.{tenths_of, hundredths_of, last_digit, tenths_text, hundredths_text, length_text}
 use Rattle.word_model.proofs.RoundTrip.{digit_is, decimal_value, decimal_digits, decimal_length}
 use Rattle.media_queries.proofs.LengthAgain.{length_text_is, tenths_text_is, hundredths_text_is}
-use Rattle.script_text.specs.NumberText.{places_text, percent_text, with_minus, signed_text, number_text}
+use Rattle.script_text.specs.NumberText.{places_text, percent_text, with_minus, signed_text, signed_percent_text, number_text}
 use Rattle.script_text.proofs.Decimals.{AreDigits, decimal_short}
 use Rattle.script_text.proofs.FormParts.{IsUnit, pointed, HasParts, has_parts, form_is, scaled_value, form_read}
 use Rattle.script_text.proofs.Places.{Written, written, pointed_unit, no_value}
@@ -176,18 +176,40 @@ minus_read : (of : List ℕ → Option ℕ) (number : ℕ) (text : List ℕ) →
 unfolding signed_by with_sign begins_with unsigned
 minus_read of number text read = ap (option_map (with_sign true)) read
 
+minus_none : (of : List ℕ → Option ℕ) (text : List ℕ) → of text ≡ None → signed_by of (45 ∷ text) ≡ None
+unfolding signed_by with_sign begins_with unsigned
+minus_none of text none = ap (option_map (with_sign true)) none
+
 -- a text with an optional `-` before a word that begins with a digit
 pub record SignedReads (of : List ℕ → Option ℤ) (value : ℤ) (text : List ℕ) : Type 0 where
   pub read : of text ≡ Some value
   pub word : IsWord text
+  pub low : word.first ≤ 57
 
 sign_again : (of : List ℕ → Option ℕ) (number : ℤ) (text : List ℕ) → Reads of (unsigned_abs number) text → SignedReads (signed_by of) number (with_minus number text)
-sign_again of (pos n) text reads = record { read = plus_read of n text reads; word = reads.numeral.word }
-sign_again of (negsuc n) text reads = record { read = minus_read of n text reads.read; word = minus_word text reads.numeral.word }
+sign_again of (pos n) text reads = record { read = plus_read of n text reads; word = reads.numeral.word; low = reads.numeral.low }
+sign_again of (negsuc n) text reads = record { read = minus_read of n text reads.read; word = minus_word text reads.numeral.word; low = omega arith }
 
 pub signed_again : (units : ℤ) → unsigned_abs units ≤ 64000000 → SignedReads signed_of units (signed_text units)
 unfolding signed_of signed_text
 signed_again units within = sign_again length_of units (length_text (unsigned_abs units)) (length_again (unsigned_abs units) within)
+
+pub signed_percent_again : (hundredths : ℤ) → unsigned_abs hundredths ≤ 1000000 → SignedReads signed_percent_of hundredths (signed_percent_text hundredths)
+unfolding signed_percent_of signed_percent_text
+signed_percent_again hundredths within = sign_again percent_of hundredths (percent_text (unsigned_abs hundredths)) (percent_again (unsigned_abs hundredths) within)
+
+none_signed : (of : List ℕ → Option ℕ) (number : ℤ) (text : List ℕ) → IsNumeral text → of text ≡ None → signed_by of (with_minus number text) ≡ None
+none_signed of (pos n) text numeral none =
+    signed_by_is of text
+    ∙ ap (λ (t : List ℕ). option_map (with_sign (begins_with 45 text)) (of t)) (unsigned_is text ∙ ap (λ b. cond b (drop 1 text) text) numeral.no_minus)
+    ∙ ap (option_map (with_sign (begins_with 45 text))) none
+none_signed of (negsuc n) text numeral none = minus_none of text none
+
+-- a percentage with a sign is no length
+pub signed_percent_no_length : (hundredths : ℤ) → unsigned_abs hundredths ≤ 1000000 → signed_of (signed_percent_text hundredths) ≡ None
+unfolding signed_of signed_percent_text
+signed_percent_no_length hundredths within =
+    none_signed length_of hundredths (percent_text (unsigned_abs hundredths)) (percent_again (unsigned_abs hundredths) within).numeral (percent_no_length (unsigned_abs hundredths) within)
 
 pub number_again : (number : ℤ) → unsigned_abs number ≤ 9999999999999 → SignedReads number_of number (number_text number)
 unfolding number_of number_text

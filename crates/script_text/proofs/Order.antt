@@ -3,20 +3,20 @@ use Rattle.std.proofs.Common.{◌≡◌, ℕ, zero, suc, ◌+◌, ◌-◌, ◌*�
 use Rattle.std.specs.Prelude.{Option, option_map, unsigned_abs, codes}
 use Rattle.std.proofs.lemmas.Bool.{and_parts, ltb-true, ltb-false, lt-ltb, le-ltb, eq-eqb, eqb-true, eqb-false}
 use Rattle.std.proofs.Math.Nat.{pow-suc}
-use Rattle.word_model.specs.Numbers.{begins_with, decimal, digits_value, form_of, has_form, scaled, with_sign, signed_by, length_of, signed_of, percent_of, ten_thousandths_of, number_of}
+use Rattle.word_model.specs.Numbers.{begins_with, decimal, digits_value, form_of, has_form, scaled, with_sign, signed_by, length_of, signed_of, percent_of, signed_percent_of, ten_thousandths_of, number_of}
 use Rattle.word_model.proofs.Digits.{unsigned_is}
 use Rattle.word_model.proofs.Forms.{length_of_is, percent_of_is, ten_thousandths_of_is}
 use Rattle.word_model.proofs.Values.{value_from, value_from_zero, value_large, value_small, digit_range, nine_digits}
 use Rattle.media_queries.specs.LengthText.{tenths_of, hundredths_of, last_digit, tenths_text, hundredths_text, length_text}
 use Rattle.word_model.proofs.RoundTrip.{decimal_value, decimal_digits}
-use Rattle.script_text.specs.NumberText.{places_text, percent_text, with_minus, signed_text, number_text}
+use Rattle.script_text.specs.NumberText.{places_text, percent_text, with_minus, signed_text, signed_percent_text, number_text}
 use Rattle.script_text.specs.ByteOrder.{is_not_after}
 use Rattle.script_text.proofs.Decimals.{AreDigits}
 use Rattle.script_text.proofs.FormParts.{pointed}
 use Rattle.script_text.proofs.Places.{Written, written, no_value}
 use Rattle.media_queries.proofs.LengthAgain.{length_text_is, tenths_text_is, hundredths_text_is}
 use Rattle.script_text.proofs.NumbersAgain.{percent_spelled, one_value, two_value, digit_all, signed_by_is}
-use Rattle.script_text.proofs.Shortness.{Shorter, some_units, length_shorter, ten_thousandths_shorter, tenths_long, hundredths_long, plus_is, minus_zero, minus_suc, some_same, FormRead, pointed_long, pointed_some, form_found, form_read, in_bound, last_or, digits_short, fraction_small, places_short}
+use Rattle.script_text.proofs.Shortness.{Shorter, some_units, length_shorter, percent_shorter, ten_thousandths_shorter, tenths_long, hundredths_long, plus_is, minus_zero, minus_suc, some_same, FormRead, pointed_long, pointed_some, form_found, form_read, in_bound, last_or, digits_short, fraction_small, places_short}
 
 same_text : (text : List ℕ) → is_not_after text text ≡ true
 unfolding is_not_after
@@ -350,6 +350,10 @@ signed_ordered_by of text_of shorter order text number h =
 pub signed_ordered : (text : List ℕ) (units : ℤ) → signed_of text ≡ Some units → length text ≡ length (signed_text units) → is_not_after (signed_text units) text ≡ true
 unfolding signed_of signed_text
 signed_ordered text units h long = signed_ordered_by length_of length_text length_shorter length_ordered text units h long
+
+pub signed_percent_ordered : (text : List ℕ) (hundredths : ℤ) → signed_percent_of text ≡ Some hundredths → length text ≡ length (signed_percent_text hundredths) → is_not_after (signed_percent_text hundredths) text ≡ true
+unfolding signed_percent_of signed_percent_text
+signed_percent_ordered text hundredths h long = signed_ordered_by percent_of percent_text percent_shorter percent_ordered text hundredths h long
 
 pub number_ordered : (text : List ℕ) (number : ℤ) → number_of text ≡ Some number → length text ≡ length (number_text number) → is_not_after (number_text number) text ≡ true
 unfolding number_of number_text

@@ -57,13 +57,13 @@ unfolding word_as next_of next_in
 word_read {A} of value column text rest h after bytes =
     ap (λ (found : Option A). or_fault column found >>= λ value. Ok (value, row rest after bytes)) h
 
-declaration_read : (declaration : Declaration) → IsDeclaration declaration → (column : ℕ) (rest : List Word)
-    → Gives declaration_as declaration (words_at column (property_text declaration ∷ value_text declaration ∷ []) ++ rest) rest
+declaration_read : (version : Version) (declaration : Declaration) → IsDeclaration version declaration → (column : ℕ) (rest : List Word)
+    → Gives (declaration_as version) declaration (words_at column (property_text declaration ∷ value_text declaration ∷ []) ++ rest) rest
 unfolding declaration_as words_at
-declaration_read declaration h column rest after bytes =
-    let again = declaration_again declaration h in
+declaration_read version declaration h column rest after bytes =
+    let again = declaration_again version declaration h in
     let second : List Word = words_at (column + length (property_text declaration) + 1) (value_text declaration ∷ []) ++ rest in
-    ap (λ (r : Taken ValueReader). r >>= λ property. word_as property.0 property.1) (word_read property_of again.reader column (property_text declaration) second again.named after bytes)
+    ap (λ (r : Taken ValueReader). r >>= λ property. word_as property.0 property.1) (word_read (property_of version) again.reader column (property_text declaration) second again.named after bytes)
     ∙ word_read again.reader declaration (column + length (property_text declaration) + 1) (value_text declaration) rest again.again.read after bytes
 
 -- Margins.
@@ -253,7 +253,7 @@ part_again WholeForm number h column rest follows = word_read whole_of number co
 part_again EventForm event h column rest follows = word_read (lookup events) event column (event_word event) rest (event_again event).read
 part_again (BoxForm version) box h column rest follows = word_read (lookup (boxes version)) box column (box_text box) rest (box_again version box h).read
 part_again DimensionForm dimension h column rest follows = word_read (lookup dimensions) dimension column (dimension_text dimension) rest (dimension_again dimension).read
-part_again DeclarationForm declaration h column rest follows = declaration_read declaration h column rest
+part_again (DeclarationForm version) declaration h column rest follows = declaration_read version declaration h column rest
 part_again (JustForm word) value h column rest follows = word_read (just word) tt column word rest (just_read word)
 part_again (MarginForm version) margins h column rest follows = margins_read version margins h.0 h.1 column rest follows
 part_again NumbersForm numbers h column rest follows = no_more numbers_as numbers (words_at column (map number_text numbers)) rest follows (all_numbers numbers h column)

@@ -59,25 +59,25 @@ word_part form of text_of reads words column last r row =
 -- Declarations.
 
 -- what reads a property's values, and the row behind the property's word
-record PropertyRead (column last : ℕ) (read : ValueReader × Row) : Type 0 where
+record PropertyRead (version : Version) (column last : ℕ) (read : ValueReader × Row) : Type 0 where
   property : List ℕ
-  fits : ReaderFits property read.0
+  fits : ReaderFits version property read.0
   row : IsRow (column + (length property + 1)) last read.1
 
-property_read : (column last : ℕ) (r : Row) → IsRow column last r → OnValue (PropertyRead column last) (word_as property_of r)
-property_read column last r row =
-    word_on property_of (PropertyRead column last) r (λ w ws e. some w ws e (property_of w.text) (property_fits w.text)) where
-      some : (w : Word) (ws : List Word) → r.left ≡ w ∷ ws → (found : Option ValueReader) → IfSome (ReaderFits w.text) found
-          → IfSome (λ reader. PropertyRead column last (reader, record r { left = ws })) found
+property_read : (version : Version) (column last : ℕ) (r : Row) → IsRow column last r → OnValue (PropertyRead version column last) (word_as (property_of version) r)
+property_read version column last r row =
+    word_on (property_of version) (PropertyRead version column last) r (λ w ws e. some w ws e (property_of version w.text) (property_fits version w.text)) where
+      some : (w : Word) (ws : List Word) → r.left ≡ w ∷ ws → (found : Option ValueReader) → IfSome (ReaderFits version w.text) found
+          → IfSome (λ reader. PropertyRead version column last (reader, record r { left = ws })) found
       some w ws e None fits = tt
       some w ws e (Some reader) fits = record { property = w.text; fits = fits; row = row_behind column last r w ws (length w.text) (omega arith) row e }
 
-value_read : (column last : ℕ) (reader : ValueReader) (r : Row) → PropertyRead column last (reader, r) → OnValue (PartRead DeclarationForm column last) (word_as reader r)
+value_read : (version : Version) (column last : ℕ) (reader : ValueReader) (r : Row) → PropertyRead version column last (reader, r) → OnValue (PartRead (DeclarationForm version) column last) (word_as reader r)
 unfolding room
-value_read column last reader r p =
-    word_on reader (PartRead DeclarationForm column last) r (λ w ws e. some w ws e (reader w.text) (p.fits w.text)) where
-      some : (w : Word) (ws : List Word) → r.left ≡ w ∷ ws → (found : Option Declaration) → IfSome (DeclarationFits p.property w.text) found
-          → IfSome (λ declaration. PartRead DeclarationForm column last (declaration, record r { left = ws })) found
+value_read version column last reader r p =
+    word_on reader (PartRead (DeclarationForm version) column last) r (λ w ws e. some w ws e (reader w.text) (p.fits w.text)) where
+      some : (w : Word) (ws : List Word) → r.left ≡ w ∷ ws → (found : Option Declaration) → IfSome (DeclarationFits version p.property w.text) found
+          → IfSome (λ declaration. PartRead (DeclarationForm version) column last (declaration, record r { left = ws })) found
       some w ws e None fits = tt
       some w ws e (Some declaration) fits =
           let first = fits.property_short in
@@ -88,11 +88,11 @@ value_read column last reader r p =
             row = row_earlier (column + room (property_text declaration ∷ value_text declaration ∷ [])) (column + (length p.property + 1) + (length w.text + 1)) last (record r { left = ws }) (omega arith) behind;
           }
 
-declaration_read : (column last : ℕ) (r : Row) → IsRow column last r → OnValue (PartRead DeclarationForm column last) (declaration_as r)
+declaration_read : (version : Version) (column last : ℕ) (r : Row) → IsRow column last r → OnValue (PartRead (DeclarationForm version) column last) (declaration_as version r)
 unfolding declaration_as
-declaration_read column last r row =
-    then_on (PropertyRead column last) (PartRead DeclarationForm column last) (word_as property_of r) (λ property. word_as property.0 property.1) (property_read column last r row)
-    (λ property p. value_read column last property.0 property.1 p)
+declaration_read version column last r row =
+    then_on (PropertyRead version column last) (PartRead (DeclarationForm version) column last) (word_as (property_of version) r) (λ property. word_as property.0 property.1) (property_read version column last r row)
+    (λ property p. value_read version column last property.0 property.1 p)
 
 -- Margins.
 
@@ -303,7 +303,7 @@ part_read EventForm column last r row =
 part_read (BoxForm version) column last r row = word_part (BoxForm version) (lookup (boxes version)) box_text (box_fits version) (λ value. refl) column last r row
 part_read DimensionForm column last r row =
     word_part DimensionForm (lookup dimensions) dimension_text (keyword_fits dimension_text dimensions assumption) (λ value. refl) column last r row
-part_read DeclarationForm column last r row = declaration_read column last r row
+part_read (DeclarationForm version) column last r row = declaration_read version column last r row
 part_read (JustForm word) column last r row = word_part (JustForm word) (just word) (λ unit. word) (just_fits word) (λ value. refl) column last r row
 part_read (MarginForm version) column last r row = margins_read version column last r row
 part_read NumbersForm column last r row = numbers_read column last r row

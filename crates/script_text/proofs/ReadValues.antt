@@ -4,20 +4,20 @@ use Rattle.std.specs.Prelude.{Option, option_map, unsigned_abs, bytes_eq, codes}
 use Rattle.std.proofs.lemmas.Bool.{and_parts, ltb-true, leb-true}
 use Rattle.std.proofs.lemmas.Slice.Eq.{bytes_eq-Decides}
 use Rattle.word_model.specs.Names.{is_name}
-use Rattle.word_model.specs.Numbers.{begins_with, unsigned, decimal, digits_value, at_most, has_form, scaled, form_of, is_whole, whole_of, with_sign, signed_by, length_of, signed_of, percent_of, ten_thousandths_of, number_of}
+use Rattle.word_model.specs.Numbers.{begins_with, unsigned, decimal, digits_value, at_most, has_form, scaled, form_of, is_whole, whole_of, with_sign, signed_by, length_of, signed_of, percent_of, signed_percent_of, ten_thousandths_of, number_of}
 use Rattle.word_model.proofs.Forms.{is_whole_is, whole_of_is, length_of_is, percent_of_is, ten_thousandths_of_is}
 use Rattle.word_model.proofs.Values.{nine_digits}
 use Rattle.script_model.specs.Keywords.{Keyword, lookup}
 use Rattle.script_model.specs.Syntax.{Named, Target, PlainAim, WindowAim}
 use Rattle.script_model.specs.Words.{name_of, node_of, aim_of, or_dash, just}
 use Rattle.media_queries.specs.LengthText.{length_text}
-use Rattle.script_text.specs.NumberText.{percent_text, signed_text, number_text}
+use Rattle.script_text.specs.NumberText.{percent_text, signed_text, signed_percent_text, number_text}
 use Rattle.script_text.specs.WordText.{operand_text, aim_text, dash_or}
 use Rattle.script_text.specs.WellFormed.{IsName, IsOperand, IsAim, IfSome, IsLength, IsPercentage, IsNumber}
 use Rattle.script_text.proofs.Decimals.{decimal_short}
 use Rattle.script_text.proofs.NumbersAgain.{signed_by_is}
 use Rattle.script_text.proofs.Tables.{Each, looked_up}
-use Rattle.script_text.proofs.Shortness.{FormRead, form_read, in_bound, fraction_small, plus_is, minus_zero, minus_suc, length_shorter, signed_shorter, percent_shorter, number_shorter}
+use Rattle.script_text.proofs.Shortness.{FormRead, form_read, in_bound, fraction_small, plus_is, minus_zero, minus_suc, length_shorter, signed_shorter, percent_shorter, signed_percent_shorter, number_shorter}
 
 -- What holds of each value that a reader of words gives.
 
@@ -122,6 +122,17 @@ unfolding signed_of
 signed_fits text =
     if_some (Fits (λ units. IsLength (unsigned_abs units)) signed_text text) (signed_of text)
     (λ units found. (subst (IfSome (λ (number : ℤ). unsigned_abs number ≤ 64000000)) found (signed_within length_of 64000000 lengths_within text), signed_shorter text units found))
+
+percents_within : (text : List ℕ) → IfSome (λ number. number ≤ 1000000) (percent_of text)
+percents_within text =
+    if_some (λ number. number ≤ 1000000) (percent_of text)
+    (λ hundredths found. (subst (IfSome (Fits IsPercentage percent_text text)) found (percent_fits text)).0)
+
+pub signed_percent_fits : ReadsFit signed_percent_of (λ hundredths. IsPercentage (unsigned_abs hundredths)) signed_percent_text
+unfolding signed_percent_of
+signed_percent_fits text =
+    if_some (Fits (λ hundredths. IsPercentage (unsigned_abs hundredths)) signed_percent_text text) (signed_percent_of text)
+    (λ hundredths found. (subst (IfSome (λ (number : ℤ). unsigned_abs number ≤ 1000000)) found (signed_within percent_of 1000000 percents_within text), signed_percent_shorter text hundredths found))
 
 -- Numbers with at most four decimals.
 

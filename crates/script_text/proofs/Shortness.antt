@@ -7,13 +7,13 @@ use Rattle.std.proofs.Math.Nat.{pow-suc}
 use Rattle.std.proofs.lemmas.Slice.Eq.{bytes_eq-Decides}
 use Rattle.std.proofs.lemmas.Bool.Decides.{nat_tests}
 use Rattle.word_model.specs.Names.{is_digit}
-use Rattle.word_model.specs.Numbers.{begins_with, unsigned, decimal, digits_value, leading_digits, behind_digits, fraction_digits, unit_of, spelled, has_form, scaled, at_most, form_of, with_sign, signed_by, length_of, signed_of, percent_of, ten_thousandths_of, number_of}
+use Rattle.word_model.specs.Numbers.{begins_with, unsigned, decimal, digits_value, leading_digits, behind_digits, fraction_digits, unit_of, spelled, has_form, scaled, at_most, form_of, with_sign, signed_by, length_of, signed_of, percent_of, signed_percent_of, ten_thousandths_of, number_of}
 use Rattle.word_model.proofs.Digits.{unsigned_is, point_digits_are}
 use Rattle.word_model.proofs.Forms.{form_of_is, has_form_is, scaled_is, length_of_is, percent_of_is, ten_thousandths_of_is}
 use Rattle.word_model.proofs.Values.{value_from, value_from_zero, value_small, nine_digits, leading_all}
 use Rattle.word_model.proofs.Spelled.{spelled_again}
 use Rattle.media_queries.specs.LengthText.{tenths_of, hundredths_of, last_digit, tenths_text, hundredths_text, length_text}
-use Rattle.script_text.specs.NumberText.{all_places, places_text, percent_text, with_minus, signed_text, number_text}
+use Rattle.script_text.specs.NumberText.{all_places, places_text, percent_text, with_minus, signed_text, signed_percent_text, number_text}
 use Rattle.script_text.proofs.Decimals.{AreDigits, decimal_short}
 use Rattle.script_text.proofs.FormParts.{pointed}
 use Rattle.script_text.proofs.Places.{zero_text, suc_text, places_zero, places_suc}
@@ -377,6 +377,10 @@ signed_shorter_by of text_of shorter text number h =
 pub signed_shorter : (text : List ℕ) (units : ℤ) → signed_of text ≡ Some units → length (signed_text units) ≤ length text
 unfolding signed_of signed_text
 signed_shorter text units h = signed_shorter_by length_of length_text length_shorter text units h
+
+pub signed_percent_shorter : (text : List ℕ) (hundredths : ℤ) → signed_percent_of text ≡ Some hundredths → length (signed_percent_text hundredths) ≤ length text
+unfolding signed_percent_of signed_percent_text
+signed_percent_shorter text hundredths h = signed_shorter_by percent_of percent_text percent_shorter text hundredths h
 
 pub number_shorter : (text : List ℕ) (number : ℤ) → number_of text ≡ Some number → length (number_text number) ≤ length text
 unfolding number_of number_text

@@ -127,5 +127,5 @@ numeral whole fraction unit text is small all bytes quiet =
 minus_bytes : (text : List ℕ) → AreWordBytes text → AreWordBytes (45 ∷ text)
 minus_bytes text h = h
 
-pub minus_word : (text : List ℕ) → IsWord text → IsWord (45 ∷ text)
+abbrev pub minus_word : (text : List ℕ) → IsWord text → IsWord (45 ∷ text)
 minus_word text word = record { first = 45; others = text; text_is = refl; bytes = ap (list_all is_word_byte) word.text_is ∙ word.bytes; no_comment = refl }

@@ -32,6 +32,11 @@ unfoldable pub signed_text : ℤ → List ℕ
 unfolding length_text
 signed_text units = with_minus units (length_text (unsigned_abs units))
 
+-- hundredths of a percent with a sign
+unfoldable pub signed_percent_text : ℤ → List ℕ
+unfolding percent_text
+signed_percent_text hundredths = with_minus hundredths (percent_text (unsigned_abs hundredths))
+
 -- ten-thousandths
 unfoldable pub number_text : ℤ → List ℕ
 unfolding places_text

@@ -6,7 +6,7 @@ use Rattle.script_model.specs.MarginText.{parts_of}
 use Rattle.media_queries.specs.LengthText.{length_text}
 use Rattle.media_queries.specs.QueryText.{list_text}
 use Rattle.script_text.specs.NumberText.{signed_text, number_text}
-use Rattle.script_text.specs.DeclarationText.{size_text}
+use Rattle.script_text.specs.DeclarationText.{size_text, inset_text}
 use Rattle.script_text.specs.Phrases.{action_words, condition_words}
 
 pub record NumberedLine : Type 0 where
@@ -21,7 +21,7 @@ end_line number = numbered number (codes "end" ∷ [])
 
 -- a command's line, and where it has a block the block's lines and that of its `end`
 unfoldable mutual
-  unfolding decimal parts_of length_text list_text signed_text number_text size_text
+  unfolding decimal parts_of length_text list_text signed_text number_text size_text inset_text
 
   pub command_lines : Command → List NumberedLine
   command_lines (Simple line action) = numbered line (action_words action) ∷ []

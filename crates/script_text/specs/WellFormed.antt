@@ -5,8 +5,8 @@ use Rattle.std.specs.Prelude.{◌≡◌, ℕ, ◌<◌, ◌≤◌, ℤ, unsigned_
 use Rattle.std.specs.List.{list_all, list_any}
 use Rattle.word_model.specs.Names.{is_name}
 use Rattle.word_model.specs.Numbers.{begins_with}
-use Rattle.px_units.specs.Lengths.{LengthValue, Automatic, Pixels, Percentage}
-use Rattle.layout_model.specs.Styles.{Declaration, SetDisplay, SetWidth, SetHeight, SetMinWidth, SetMinHeight, SetMaxWidth, SetMaxHeight, SetMargin, SetPadding, SetBorder, SetBoxSizing, SetOverflow}
+use Rattle.px_units.specs.Lengths.{LengthValue, Automatic, Pixels, Percentage, InsetValue, AutomaticInset, InsetPixels, InsetPercentage}
+use Rattle.layout_model.specs.Styles.{Declaration, SetDisplay, SetWidth, SetHeight, SetMinWidth, SetMinHeight, SetMaxWidth, SetMaxHeight, SetMargin, SetPadding, SetBorder, SetBoxSizing, SetOverflow, SetPosition, SetTop, SetRight, SetBottom, SetLeft}
 use Rattle.px_units.specs.declared.BoxKind.{BoxKind}
 use Rattle.px_units.specs.declared.BoxKind.TheVariants.{Content, Border, Device}
 use Rattle.text_io.specs.declared.kinds.Version.{Version}
@@ -68,20 +68,35 @@ IsAutoOrSize Automatic = Unit {0}
 IsAutoOrSize (Pixels units) = IsLength units
 IsAutoOrSize (Percentage hundredths) = IsPercentage hundredths
 
--- each value is of its property's row
-abbrev pub IsDeclaration : Declaration → Type 0
-IsDeclaration (SetDisplay hidden) = Unit {0}
-IsDeclaration (SetWidth value) = IsAutoOrSize value
-IsDeclaration (SetHeight value) = IsAutoOrSize value
-IsDeclaration (SetMinWidth value) = IsSize value
-IsDeclaration (SetMinHeight value) = IsSize value
-IsDeclaration (SetMaxWidth value) = IfSome IsSize value
-IsDeclaration (SetMaxHeight value) = IfSome IsSize value
-IsDeclaration (SetMargin side value) = IsSize value
-IsDeclaration (SetPadding side value) = IsSize value
-IsDeclaration (SetBorder side units) = IsLength units
-IsDeclaration (SetBoxSizing value) = Unit {0}
-IsDeclaration (SetOverflow value) = Unit {0}
+abbrev pub IsInset : InsetValue → Type 0
+IsInset AutomaticInset = Unit {0}
+IsInset (InsetPixels units) = IsLength (unsigned_abs units)
+IsInset (InsetPercentage hundredths) = IsPercentage (unsigned_abs hundredths)
+
+-- scripts of the first version have no positioned properties
+abbrev pub IsOfSecond : Version → Type 0
+IsOfSecond First = ⊥
+IsOfSecond Second = Unit {0}
+
+-- each value is of its property's row, and the version has the property
+abbrev pub IsDeclaration : Version → Declaration → Type 0
+IsDeclaration version (SetDisplay hidden) = Unit {0}
+IsDeclaration version (SetWidth value) = IsAutoOrSize value
+IsDeclaration version (SetHeight value) = IsAutoOrSize value
+IsDeclaration version (SetMinWidth value) = IsSize value
+IsDeclaration version (SetMinHeight value) = IsSize value
+IsDeclaration version (SetMaxWidth value) = IfSome IsSize value
+IsDeclaration version (SetMaxHeight value) = IfSome IsSize value
+IsDeclaration version (SetMargin side value) = IsSize value
+IsDeclaration version (SetPadding side value) = IsSize value
+IsDeclaration version (SetBorder side units) = IsLength units
+IsDeclaration version (SetBoxSizing value) = Unit {0}
+IsDeclaration version (SetOverflow value) = Unit {0}
+IsDeclaration version (SetPosition value) = IsOfSecond version
+IsDeclaration version (SetTop value) = IsOfSecond version × IsInset value
+IsDeclaration version (SetRight value) = IsOfSecond version × IsInset value
+IsDeclaration version (SetBottom value) = IsOfSecond version × IsInset value
+IsDeclaration version (SetLeft value) = IsOfSecond version × IsInset value
 
 -- a word of a margin: any word that begins no comment, but those that end a margin
 unfoldable pub is_margin_word : Version → List ℕ → Bool
@@ -144,7 +159,7 @@ IsMeant WholeForm number = number ≤ 1000000000000
 IsMeant EventForm event = Unit {0}
 IsMeant (BoxForm version) box = IsBox version box
 IsMeant DimensionForm dimension = Unit {0}
-IsMeant DeclarationForm declaration = IsDeclaration declaration
+IsMeant (DeclarationForm version) declaration = IsDeclaration version declaration
 IsMeant (JustForm word) unit = Unit {0}
 IsMeant (MarginForm version) margins = IsMargin version margins.0 × IsScrollMargin version margins.1
 IsMeant NumbersForm numbers = AreNumbers numbers

@@ -1,15 +1,15 @@
 //! The printed texts of chosen scripts. Each function does nothing; its clauses are computed.
-#![tactic(auto, unfolding(crate::specs::ScriptText::printed, crate::specs::NumberText::signed_text, crate::specs::NumberText::percent_text, crate::specs::NumberText::number_text, media_queries::specs::LengthText::length_text, media_queries::specs::QueryText::list_text))]
+#![tactic(auto, unfolding(crate::specs::ScriptText::printed, crate::specs::NumberText::signed_text, crate::specs::NumberText::percent_text, crate::specs::NumberText::signed_percent_text, crate::specs::NumberText::number_text, media_queries::specs::LengthText::length_text, media_queries::specs::QueryText::list_text))]
 
 ghost use Rattle.std.specs.Prelude.{◌≡◌, ℕ, [], ◌∷◌, true, false, None, Some, pos, negsuc, codes};
-ghost use Rattle.px_units.specs.Lengths.{Pixels, Percentage};
+ghost use Rattle.px_units.specs.Lengths.{Pixels, Percentage, InsetPixels, InsetPercentage};
 ghost use Rattle.px_units.specs.declared.BoxKind.TheVariants.{Device};
 ghost use Rattle.text_io.specs.declared.kinds.Version.TheVariants.{First, Second};
-ghost use Rattle.layout_model.specs.Styles.{SetMargin, SetMaxWidth, TopSide, AllSides};
+ghost use Rattle.layout_model.specs.Styles.{SetMargin, SetMaxWidth, SetPosition, SetTop, SetLeft, TopSide, AllSides, FixedPosition};
 ghost use Rattle.media_queries.specs.LengthText.{length_text};
 ghost use Rattle.script_model.specs.Queries.{AtLeast, WidthFeature, OrientationFeature, ScreenMedia, OnlyPrefix, Typed, NotFeature};
 ghost use Rattle.script_model.specs.Syntax.{Named, Target, Outside, Tick, Handler, Then, NoMore, Simple, Each, When, SetRatio, ObserveResize, Remove, Say, Seen, SetStyle, MakeIntersectionObserver, MakeQueryList};
-ghost use Rattle.script_text.specs.NumberText.{percent_text, signed_text, number_text};
+ghost use Rattle.script_text.specs.NumberText.{percent_text, signed_text, signed_percent_text, number_text};
 ghost use Rattle.script_text.specs.ScriptText.{printed};
 ghost use Rattle.script_text.specs.WellFormed.{IsWellFormed};
 
@@ -41,6 +41,8 @@ pub fn shortest_texts()
     ensures minus { signed_text (negsuc 95) ≡ codes "-1.5px" }
     ensures percent { percent_text 5050 ≡ codes "50.5%" }
     ensures hundredths { percent_text 5 ≡ codes "0.05%" }
+    ensures signed_percent { signed_percent_text (negsuc 1049) ≡ codes "-10.5%" }
+    ensures no_minus_zero { signed_percent_text (pos 0) ≡ codes "0%" }
     ensures quarter { number_text (negsuc 2499) ≡ codes "-0.25" }
     ensures zero { number_text (pos 0) ≡ codes "0" }
 {}
@@ -53,6 +55,16 @@ pub fn declarations()
         codes "script 1\nset $target margin 1.5px\n" }
     ensures none { printed (record { version = First; items = Outside (Simple 2 (SetStyle Target (SetMaxWidth None))) ∷ [] }) ≡
         codes "script 1\nset $target max-width none\n" }
+{}
+
+/// Insets have their sign.
+pub fn positioned_declarations()
+    ensures position { printed (record { version = Second; items = Outside (Simple 2 (SetStyle Target (SetPosition FixedPosition))) ∷ [] }) ≡
+        codes "script 2\nset $target position fixed\n" }
+    ensures units { printed (record { version = Second; items = Outside (Simple 2 (SetStyle Target (SetTop (InsetPixels (negsuc 95))))) ∷ [] }) ≡
+        codes "script 2\nset $target top -1.5px\n" }
+    ensures percentage { printed (record { version = Second; items = Outside (Simple 2 (SetStyle Target (SetLeft (InsetPercentage (negsuc 1049))))) ∷ [] }) ≡
+        codes "script 2\nset $target left -10.5%\n" }
 {}
 
 /// A list of queries has one space for each gap and no other one.

@@ -2,6 +2,7 @@
 use Rattle.std.proofs.Common.{◌≡◌, ◌∙◌, refl, sym, ap, subst, ℕ, List, ◌++◌, length, Some}
 use Rattle.std.specs.Prelude.{slice_get, option_map, fold}
 use Rattle.std.specs.List.{All}
+use Rattle.std.proofs.lemmas.List.Elements.{All-append}
 use Rattle.script_model.specs.Reading.{reading}
 use Rattle.script_model.specs.TraceLines.{TraceLine}
 use Rattle.page_model.specs.Outcome.{Ending, Outcome, bytes_of, outcome, outcome_read, trace}
@@ -9,13 +10,14 @@ use Rattle.page_stream.specs.Pages.{pages_of}
 use Rattle.page_stream.specs.Parts.{parts_of, script_of}
 use Rattle.stream_runs.specs.PageRuns.{PageScript, PageRun, Turn, opened, opened_with, ending_at, refused_lines}
 use Rattle.stream_runs.specs.StreamRuns.{StreamRun, scripts_of, stream_opened, stream_step, stream_run, text_of_page}
-use Rattle.stream_runs.specs.Alone.{IsPage, IsOneLine, SayLines}
+use Rattle.stream_runs.specs.Alone.{IsPage, IsOneLine, SayLines, opening_lines, lines_from, stream_lines}
 use Rattle.stream_runs.proofs.Alone.{lines_run, IsOutcome, as_alone}
 use Rattle.stream_runs.proofs.PageLines.{of_page, numbers_at, page_numbers, script_few}
 use Rattle.stream_runs.proofs.ScriptLines.{FormLaw, LengthLaw, items_fit}
 use Rattle.stream_runs.proofs.Names.{IsName, page_name, page_place}
 use Rattle.stream_runs.proofs.PageTurns.{page_left}
 use Rattle.stream_runs.proofs.SideBySide.{Stands, bytes_both, lines_first, lines_then, page_said}
+use Rattle.stream_runs.proofs.Said.{refused_fit, says_from}
 use Rattle.stream_runs.proofs.Opening.{script_at, AreFit, script_there, page_there, opened_there, opened_page, opening_whole, opening_own}
 
 outcome-is : (text : List ℕ) → outcome text ≡ outcome_read (reading text)
@@ -48,6 +50,25 @@ module _ (form : FormLaw) (long : LengthLaw) (source : List ℕ) where
       (page_left place (parts_of source) (opened (script_at source place name)) (stream_opened (scripts_of source)) (opened_there source place name at))
       ∙ ap Some (whole-page place).ending
       ∙ ap (λ (it : Outcome). Some it.ending) (sym (outcome-is (script_of place source)))
+
+  -- ---- what the lines are that it says
+
+  module _ (fit : All IsOneLine (stream_lines source)) where
+    abbrev turns : List TraceLine
+    turns = lines_from (stream_opened (scripts_of source)).pages (parts_of source)
+
+    both-fit : All IsOneLine (opening_lines (scripts_of source) ++ turns)
+    unfolding stream_lines
+    both-fit = fit
+
+    pub lines_said : SayLines source
+    lines_said place name at =
+        let refused : List TraceLine = refused_lines (reading (script_of place source)) in
+        let turn : Turn = lines_run (numbers_at place (parts_of source)) (opened_with (reading (script_of place source))) in
+        subst (All IsOneLine) ((whole-page place).lines ∙ ap (λ (it : Outcome). it.lines) (sym (outcome-is (script_of place source))))
+        (All-append IsOneLine refused turn.lines
+        (refused_fit (scripts_of source) place (script_at source place name) (script_there source place name at) (lines_first (opening_lines (scripts_of source)) turns both-fit))
+        (says_from place (parts_of source) (stream_opened (scripts_of source)).pages (opened (script_at source place name)) (opened_there source place name at) (lines_then (opening_lines (scripts_of source)) turns both-fit)))
 
   -- ---- what is said of a page
 

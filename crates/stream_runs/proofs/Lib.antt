@@ -7,4 +7,5 @@ pub mod PageTexts
 pub mod PageTurns
 pub mod SideBySide
 pub mod Opening
+pub mod Said
 pub mod Isolation

@@ -1,11 +1,12 @@
 //! Laws of streams of pages, each the clause of a function that does nothing.
 
 ghost use Rattle.std.specs.Prelude.{◌≡◌, ℕ, List, Some, slice_get, option_map};
-ghost use Rattle.page_model.specs.Outcome.{outcome, trace};
+ghost use Rattle.std.specs.List.{All};
+ghost use Rattle.page_model.specs.Outcome.{outcome};
 ghost use Rattle.page_stream.specs.Parts.{script_of};
 ghost use Rattle.stream_runs.specs.PageRuns.{ending_at};
 ghost use Rattle.stream_runs.specs.StreamRuns.{stream_run, text_of_page};
-ghost use Rattle.stream_runs.specs.Alone.{IsPage, SayLines};
+ghost use Rattle.stream_runs.specs.Alone.{IsOneLine, IsPage, SayLines, TellsAlone, stream_lines};
 
 use script_text::laws::{printed_lines_are_no_longer, what_is_read_is_well_formed};
 
@@ -13,8 +14,17 @@ use script_text::laws::{printed_lines_are_no_longer, what_is_read_is_well_formed
 /// other page of the stream changes a byte of them. This is said of streams whose pages say lines that end in their only line
 /// feed, so that the text can be told apart by lines.
 pub fn each_page_is_as_if_it_ran_alone()
-    ensures { (source : List ℕ) → SayLines source → (place : ℕ) (name : List ℕ) → IsPage source place name
-        → text_of_page name (stream_run source).text ≡ trace (script_of place source) }
+    ensures { (source : List ℕ) → SayLines source → TellsAlone source (stream_run source).text }
+{
+    // the laws of scripts on which this one rests
+    what_is_read_is_well_formed();
+    printed_lines_are_no_longer();
+}
+
+/// Where each line that is said in a stream, line by line and of scripts that are refused, ends in its only line feed, so does each
+/// that a page's script says alone. So whoever runs a stream can see that its pages say such lines.
+pub fn lines_of_the_stream_are_those_of_its_pages()
+    ensures { (source : List ℕ) → All IsOneLine (stream_lines source) → SayLines source }
 {
     // the laws of scripts on which this one rests
     what_is_read_is_well_formed();

@@ -1,2 +1,4 @@
+pub mod Insets
+pub mod Named
 pub mod Sizes
 pub mod Tables

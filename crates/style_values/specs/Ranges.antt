@@ -1,5 +1,5 @@
--- Which values the properties have: no length is negative, and each has a bound, which is this project's own choice.
-use Rattle.std.specs.Prelude.{ℤ, pos, ◌≤ℤ◌, Option, Some, None}
+-- Which values the properties have: no length but an inset is negative, and each has a bound, which is this project's own choice.
+use Rattle.std.specs.Prelude.{ℤ, pos, neg_ℤ, ◌≤ℤ◌, Option, Some, None}
 use Rattle.px_units.specs.declared.Length.{Length}
 use Rattle.px_units.specs.declared.Length.TheVariants as values
 use Rattle.style_values.specs.declared.Style.{Style}
@@ -31,6 +31,12 @@ abbrev pub IsNoneOrSize : Option Length → Type 0
 IsNoneOrSize None = Unit {0}
 IsNoneOrSize (Some value) = IsSize value
 
+-- `auto`, or a length or a percentage with an optional `-`
+abbrev pub IsInset : Length → Type 0
+IsInset values.Auto = Unit {0}
+IsInset (values.Px px) = (neg_ℤ (pos 64000000) ≤ℤ px.0) × (px.0 ≤ℤ pos 64000000)
+IsInset (values.Percent percent) = (neg_ℤ (pos 1000000) ≤ℤ percent.0) × (percent.0 ≤ℤ pos 1000000)
+
 -- whether a declaration holds a value that its property has
 abbrev pub IsAllowed : Declaration → Type 0
 IsAllowed (declaration.Display value) = Unit {0}
@@ -45,6 +51,11 @@ IsAllowed (declaration.Padding sides value) = IsSize value
 IsAllowed (declaration.Border sides value) = IsUnits value.0
 IsAllowed (declaration.BoxSizing value) = Unit {0}
 IsAllowed (declaration.Overflow value) = Unit {0}
+IsAllowed (declaration.Position value) = Unit {0}
+IsAllowed (declaration.Top value) = IsInset value
+IsAllowed (declaration.Right value) = IsInset value
+IsAllowed (declaration.Bottom value) = IsInset value
+IsAllowed (declaration.Left value) = IsInset value
 
 -- whether each property of a style has a value of its own
 pub record IsStyle (style : Style) : Type 0 where
@@ -66,3 +77,7 @@ pub record IsStyle (style : Style) : Type 0 where
   pub border_right : IsUnits style.border_right.0
   pub border_bottom : IsUnits style.border_bottom.0
   pub border_left : IsUnits style.border_left.0
+  pub top : IsInset style.top
+  pub right : IsInset style.right
+  pub bottom : IsInset style.bottom
+  pub left : IsInset style.left

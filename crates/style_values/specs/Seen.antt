@@ -1,13 +1,15 @@
 -- What this crate's types stand for in the definitions of styles.
 use Rattle.std.specs.Prelude.{Bool, true, false, option_map, unsigned_abs}
-use Rattle.px_units.specs.Lengths.{seen_length}
-use Rattle.layout_model.specs.Styles.{Style as StyleModel, Declaration as DeclarationModel, BoxSizing as BoxSizingModel, Overflow as OverflowModel, ContentBox, BorderBox, OverflowVisible, OverflowHidden, OverflowClip, OverflowScroll, OverflowAuto, Side, TopSide, RightSide, BottomSide, LeftSide, AllSides, SetDisplay, SetWidth, SetHeight, SetMinWidth, SetMinHeight, SetMaxWidth, SetMaxHeight, SetMargin, SetPadding, SetBorder, SetBoxSizing, SetOverflow}
+use Rattle.px_units.specs.Lengths.{seen_length, seen_inset}
+use Rattle.layout_model.specs.Styles.{Style as StyleModel, Declaration as DeclarationModel, BoxSizing as BoxSizingModel, Overflow as OverflowModel, Position as PositionModel, StaticPosition, RelativePosition, AbsolutePosition, FixedPosition, ContentBox, BorderBox, OverflowVisible, OverflowHidden, OverflowClip, OverflowScroll, OverflowAuto, Side, TopSide, RightSide, BottomSide, LeftSide, AllSides, SetDisplay, SetWidth, SetHeight, SetMinWidth, SetMinHeight, SetMaxWidth, SetMaxHeight, SetMargin, SetPadding, SetBorder, SetBoxSizing, SetOverflow, SetPosition, SetTop, SetRight, SetBottom, SetLeft}
 use Rattle.style_values.specs.declared.Display.{Display}
 use Rattle.style_values.specs.declared.Display.TheVariants as display
 use Rattle.style_values.specs.declared.BoxSizing.{BoxSizing}
 use Rattle.style_values.specs.declared.BoxSizing.TheVariants as box_sizing
 use Rattle.style_values.specs.declared.Overflow.{Overflow}
 use Rattle.style_values.specs.declared.Overflow.TheVariants as overflow
+use Rattle.style_values.specs.declared.Position.{Position}
+use Rattle.style_values.specs.declared.Position.TheVariants as position
 use Rattle.style_values.specs.declared.Sides.{Sides}
 use Rattle.style_values.specs.declared.Sides.TheVariants.{Top, Right, Bottom, Left, All}
 use Rattle.style_values.specs.declared.Style.{Style}
@@ -30,6 +32,12 @@ seen_overflow overflow.Clip = OverflowClip
 seen_overflow overflow.Scroll = OverflowScroll
 seen_overflow overflow.Auto = OverflowAuto
 
+abbrev pub seen_position : Position → PositionModel
+seen_position position.Static = StaticPosition
+seen_position position.Relative = RelativePosition
+seen_position position.Absolute = AbsolutePosition
+seen_position position.Fixed = FixedPosition
+
 abbrev pub seen_sides : Sides → Side
 seen_sides Top = TopSide
 seen_sides Right = RightSide
@@ -37,7 +45,7 @@ seen_sides Bottom = BottomSide
 seen_sides Left = LeftSide
 seen_sides All = AllSides
 
--- lengths by what they are without a sign; specs/Ranges.antt says that none is negative
+-- lengths by what they are without a sign, but for insets; specs/Ranges.antt says that none of the others is negative
 abbrev pub seen_style : Style → StyleModel
 seen_style style = record {
   hidden = seen_display style.display;
@@ -52,6 +60,8 @@ seen_style style = record {
   border = record { top = unsigned_abs style.border_top.0; right = unsigned_abs style.border_right.0; bottom = unsigned_abs style.border_bottom.0; left = unsigned_abs style.border_left.0 };
   box_sizing = seen_box_sizing style.box_sizing;
   overflow = seen_overflow style.overflow;
+  position = seen_position style.position;
+  inset = record { top = seen_inset style.top; right = seen_inset style.right; bottom = seen_inset style.bottom; left = seen_inset style.left };
 }
 
 abbrev pub seen_declaration : Declaration → DeclarationModel
@@ -67,3 +77,8 @@ seen_declaration (declaration.Padding sides value) = SetPadding (seen_sides side
 seen_declaration (declaration.Border sides value) = SetBorder (seen_sides sides) (unsigned_abs value.0)
 seen_declaration (declaration.BoxSizing value) = SetBoxSizing (seen_box_sizing value)
 seen_declaration (declaration.Overflow value) = SetOverflow (seen_overflow value)
+seen_declaration (declaration.Position value) = SetPosition (seen_position value)
+seen_declaration (declaration.Top value) = SetTop (seen_inset value)
+seen_declaration (declaration.Right value) = SetRight (seen_inset value)
+seen_declaration (declaration.Bottom value) = SetBottom (seen_inset value)
+seen_declaration (declaration.Left value) = SetLeft (seen_inset value)

@@ -4,9 +4,11 @@ ghost use Rattle.std.specs.Prelude.{◌≡◌, IfOk, IfErr};
 ghost use Rattle.style_values.specs.Ranges.{IsAllowed};
 ghost use Rattle.style_values.specs.Reading.{declaration_of};
 ghost use Rattle.style_values.specs.Seen.{seen_declaration};
+ghost use Rattle.style_values.specs.Versions.{version_of};
 
 use crate::properties::{property_named, read_value};
 use crate::{Declaration, StyleFault};
+use text_io::Version;
 
 impl Declaration {
     /// The declaration of a property's word and a value's word. A length has 1 to 7 digits, optionally a point and 1 or
@@ -22,5 +24,19 @@ impl Declaration {
     {
         let known = property_named(property).ok_or(StyleFault::UnknownProperty)?;
         read_value(known, value).ok_or(StyleFault::BadValue)
+    }
+
+    /// The first version of the script language that has the property.
+    pub fn version(&self) -> Version
+        ensures { result ≡ version_of (seen_declaration self.now) }
+    {
+        match self {
+            Declaration::Position(_)
+            | Declaration::Top(_)
+            | Declaration::Right(_)
+            | Declaration::Bottom(_)
+            | Declaration::Left(_) => Version::Second,
+            _ => Version::First,
+        }
     }
 }

@@ -2,10 +2,10 @@
 
 ghost use Rattle.std.specs.Prelude.{◌≡◌, map, option_map};
 ghost use Rattle.script_model.specs.Keywords.{keyword, lookup};
-ghost use Rattle.script_model.specs.Properties.{displays, box_sizings, overflows};
-ghost use Rattle.style_values.specs.Seen.{seen_display, seen_box_sizing, seen_overflow};
+ghost use Rattle.script_model.specs.Properties.{displays, box_sizings, overflows, positions};
+ghost use Rattle.style_values.specs.Seen.{seen_display, seen_box_sizing, seen_overflow, seen_position};
 
-use crate::{BoxSizing, Display, Overflow};
+use crate::{BoxSizing, Display, Overflow, Position};
 
 const DISPLAYS: [(&[u8], Display); 2] = [(b"block", Display::Block), (b"none", Display::Hidden)];
 
@@ -20,6 +20,13 @@ const OVERFLOWS: [(&[u8], Overflow); 5] = [
     (b"clip", Overflow::Clip),
     (b"scroll", Overflow::Scroll),
     (b"auto", Overflow::Auto),
+];
+
+const POSITIONS: [(&[u8], Position); 4] = [
+    (b"static", Position::Static),
+    (b"relative", Position::Relative),
+    (b"absolute", Position::Absolute),
+    (b"fixed", Position::Fixed),
 ];
 
 /// What the word stands for in a table of fixed words, none where it isn't there.
@@ -55,4 +62,11 @@ pub fn overflow(word: &[u8]) -> Option<Overflow>
     ensures { option_map seen_overflow result ≡ lookup overflows word.now }
 {
     find(&OVERFLOWS, word)
+}
+
+/// The position that this word names.
+pub fn position(word: &[u8]) -> Option<Position>
+    ensures { option_map seen_position result ≡ lookup positions word.now }
+{
+    find(&POSITIONS, word)
 }

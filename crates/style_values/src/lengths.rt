@@ -1,10 +1,10 @@
 //! Lengths that properties have.
 
-ghost use Rattle.std.specs.Prelude.{◌≡◌, ◌≤◌, option_map, unsigned_abs, IfSome};
+ghost use Rattle.std.specs.Prelude.{◌≡◌, ◌≤◌, ◌≤ℤ◌, pos, neg_ℤ, option_map, unsigned_abs, IfSome};
 ghost use Rattle.word_model.specs.Numbers.{length_of};
-ghost use Rattle.px_units.specs.Lengths.{Pixels, Percentage, seen_length};
-ghost use Rattle.script_model.specs.Properties.{size_of, auto_or_size_of, none_or_size_of};
-ghost use Rattle.style_values.specs.Ranges.{IsUnits, IsSize, IsAutoOrSize, IsNoneOrSize};
+ghost use Rattle.px_units.specs.Lengths.{Pixels, Percentage, InsetPixels, InsetPercentage, seen_length, seen_inset};
+ghost use Rattle.script_model.specs.Properties.{size_of, auto_or_size_of, none_or_size_of, inset_of};
+ghost use Rattle.style_values.specs.Ranges.{IsUnits, IsSize, IsAutoOrSize, IsNoneOrSize, IsInset};
 
 use px_units::{Length, Percent, Px};
 
@@ -68,4 +68,37 @@ pub fn none_or_size(word: &[u8]) -> Option<Option<Length>>
         return Some(None);
     }
     Some(Some(size(word)?))
+}
+
+/// An inset of so many units.
+fn inset_units(count: i64) -> Length
+    requires { (neg_ℤ (pos 64000000) ≤ℤ count) × (count ≤ℤ pos 64000000) }
+    ensures value { seen_inset result ≡ InsetPixels count }
+    ensures range { IsInset result }
+{
+    Length::Px(Px(count))
+}
+
+/// An inset of so many hundredths of a percent.
+fn inset_hundredths(count: i64) -> Length
+    requires { (neg_ℤ (pos 1000000) ≤ℤ count) × (count ≤ℤ pos 1000000) }
+    ensures value { seen_inset result ≡ InsetPercentage count }
+    ensures range { IsInset result }
+{
+    Length::Percent(Percent(count as i32))
+}
+
+/// `auto`, or a length or a percentage with an optional `-`. None for any other word.
+#[tactic(auto, using(crate::proofs::Insets::inset_auto, crate::proofs::Insets::inset_units, crate::proofs::Insets::inset_percent))]
+pub fn inset(word: &[u8]) -> Option<Length>
+    ensures value { option_map seen_inset result ≡ inset_of word.now }
+    ensures range { IfSome result (λ length. IsInset length) }
+{
+    if word == b"auto".as_slice() {
+        return Some(Length::Auto);
+    }
+    if let Some(units) = word_model::signed_length(word) {
+        return Some(inset_units(units));
+    }
+    Some(inset_hundredths(word_model::signed_percent(word)?))
 }

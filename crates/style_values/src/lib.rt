@@ -7,6 +7,7 @@ mod lengths;
 mod properties;
 mod styles;
 
+pub use properties::first_version;
 use px_units::{Length, Px};
 use thiserror::Error;
 
@@ -43,6 +44,19 @@ pub enum Overflow {
     Auto,
 }
 
+/// How a box is positioned (CSS Positioned Layout 3, 2).
+#[derive(Clone, Copy, Debug, PartialEq, Eq)]
+pub enum Position {
+    /// `static`
+    Static,
+    /// `relative`: moved by its insets from where it is in the flow.
+    Relative,
+    /// `absolute`: out of flow, in its nearest positioned ancestor.
+    Absolute,
+    /// `fixed`: out of flow, on the screen.
+    Fixed,
+}
+
 /// The sides that a declaration sets: one of them, or by a shorthand all four (CSS 2.2, 8.3 to 8.5).
 #[derive(Clone, Copy, Debug, PartialEq, Eq)]
 pub enum Sides {
@@ -55,7 +69,7 @@ pub enum Sides {
 }
 
 /// The values of an element's properties (CSS 2.2, 8 to 11). Lengths are in units of 1/64 pixel, at most 64,000,000,
-/// percentages in hundredths of a percent, at most 1,000,000; none is negative.
+/// percentages in hundredths of a percent, at most 1,000,000; none but insets is negative, and those are at least the negatives of these.
 #[derive(Clone, Copy, Debug, PartialEq, Eq)]
 pub struct Style {
     /// First `block`.
@@ -91,6 +105,13 @@ pub struct Style {
     pub border_right: Px,
     pub border_bottom: Px,
     pub border_left: Px,
+    /// First `static`.
+    pub position: Position,
+    /// The insets of a positioned box are `auto`, as at first, or lengths or percentages, which may be negative.
+    pub top: Length,
+    pub right: Length,
+    pub bottom: Length,
+    pub left: Length,
 }
 
 /// One property with its value (CSS 2.2, 4.1.8).
@@ -120,6 +141,16 @@ pub enum Declaration {
     BoxSizing(BoxSizing),
     /// `overflow`
     Overflow(Overflow),
+    /// `position`
+    Position(Position),
+    /// `top`: `auto`, a length or a percentage, negative ones too.
+    Top(Length),
+    /// `right`: `auto`, a length or a percentage, negative ones too.
+    Right(Length),
+    /// `bottom`: `auto`, a length or a percentage, negative ones too.
+    Bottom(Length),
+    /// `left`: `auto`, a length or a percentage, negative ones too.
+    Left(Length),
 }
 
 /// Why two words are no declaration.

@@ -1,14 +1,19 @@
 //! The properties and what each reads.
 
-ghost use Rattle.std.specs.Prelude.{◌≡◌, option_map, IfSome};
-ghost use Rattle.script_model.specs.Properties.{property_of};
+ghost use Rattle.std.specs.Prelude.{◌≡◌, option_map, is_some, IfSome};
+ghost use Rattle.text_io.specs.declared.kinds.Version.{Version};
+ghost use Rattle.text_io.specs.declared.kinds.Version.TheVariants.{Second};
+ghost use Rattle.script_model.specs.Keywords.{lookup};
+ghost use Rattle.script_model.specs.Properties.{properties, positioned_properties, property_of};
 ghost use Rattle.style_values.specs.Properties.{reader_of};
 ghost use Rattle.style_values.specs.Ranges.{IsAllowed};
 ghost use Rattle.style_values.specs.Seen.{seen_declaration};
+ghost use Rattle.style_values.specs.Versions.{reads};
 
-use crate::keywords::{box_sizing, display, find, overflow};
-use crate::lengths::{auto_or_size, border, none_or_size, size};
+use crate::keywords::{box_sizing, display, find, overflow, position};
+use crate::lengths::{auto_or_size, border, inset, none_or_size, size};
 use crate::{Declaration, Sides};
+use text_io::Version;
 
 /// A property, with the sides that it is of.
 #[derive(Clone, Copy)]
@@ -25,8 +30,14 @@ pub enum Property {
     Border(Sides),
     BoxSizing,
     Overflow,
+    Position,
+    Top,
+    Right,
+    Bottom,
+    Left,
 }
 
+/// Those of the first version of the script language.
 const PROPERTIES: [(&[u8], Property); 24] = [
     (b"display", Property::Display),
     (b"width", Property::Width),
@@ -54,11 +65,50 @@ const PROPERTIES: [(&[u8], Property); 24] = [
     (b"overflow", Property::Overflow),
 ];
 
-/// The property of this name.
-pub fn property_named(name: &[u8]) -> Option<Property>
-    ensures { option_map reader_of result ≡ property_of name.now }
+/// Those that the second version has besides.
+const POSITIONED: [(&[u8], Property); 5] = [
+    (b"position", Property::Position),
+    (b"top", Property::Top),
+    (b"right", Property::Right),
+    (b"bottom", Property::Bottom),
+    (b"left", Property::Left),
+];
+
+/// The property of this name, of those that the first version has.
+fn unpositioned(name: &[u8]) -> Option<Property>
+    ensures { option_map reader_of result ≡ lookup properties name.now }
 {
     find(&PROPERTIES, name)
+}
+
+/// The property of this name, of those that the second version has besides.
+fn positioned(name: &[u8]) -> Option<Property>
+    ensures { option_map reader_of result ≡ lookup positioned_properties name.now }
+{
+    find(&POSITIONED, name)
+}
+
+/// The property of this name, of those that a version of the script language has.
+pub fn property_named(name: &[u8]) -> Option<Property>
+    ensures { option_map reader_of result ≡ property_of Second name.now }
+{
+    match positioned(name) {
+        Some(property) => Some(property),
+        None => unpositioned(name),
+    }
+}
+
+/// The first version of the script language that has a property of this name, None where none has.
+pub fn first_version(name: &[u8]) -> Option<Version>
+    ensures { (version : Version) → is_some (property_of version name.now) ≡ reads version result }
+{
+    if unpositioned(name).is_some() {
+        return Some(Version::First);
+    }
+    if positioned(name).is_some() {
+        return Some(Version::Second);
+    }
+    None
 }
 
 /// The declaration of a property with the value that the word is, none where the property has no such value.
@@ -79,5 +129,10 @@ pub fn read_value(property: Property, word: &[u8]) -> Option<Declaration>
         Property::Border(sides) => border(word).map(|value| Declaration::Border(sides, value)),
         Property::BoxSizing => box_sizing(word).map(Declaration::BoxSizing),
         Property::Overflow => overflow(word).map(Declaration::Overflow),
+        Property::Position => position(word).map(Declaration::Position),
+        Property::Top => inset(word).map(Declaration::Top),
+        Property::Right => inset(word).map(Declaration::Right),
+        Property::Bottom => inset(word).map(Declaration::Bottom),
+        Property::Left => inset(word).map(Declaration::Left),
     }
 }

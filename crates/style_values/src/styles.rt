@@ -7,7 +7,7 @@ ghost use Rattle.style_values.specs.Ranges.{IsUnits, IsSize, IsAllowed, IsStyle}
 ghost use Rattle.style_values.specs.Reading.{IsRead, declaration_of, set_if_read};
 ghost use Rattle.style_values.specs.Seen.{seen_sides, seen_style, seen_declaration};
 
-use crate::{BoxSizing, Declaration, Display, Overflow, Sides, Style, StyleFault};
+use crate::{BoxSizing, Declaration, Display, Overflow, Position, Sides, Style, StyleFault};
 use px_units::{Length, Px};
 
 /// No length.
@@ -41,6 +41,11 @@ impl Style {
             border_right: Px(0),
             border_bottom: Px(0),
             border_left: Px(0),
+            position: Position::Static,
+            top: Length::Auto,
+            right: Length::Auto,
+            bottom: Length::Auto,
+            left: Length::Auto,
         }
     }
 
@@ -117,6 +122,11 @@ impl Style {
             Declaration::Border(sides, value) => self.set_border(sides, value),
             Declaration::BoxSizing(value) => self.box_sizing = value,
             Declaration::Overflow(value) => self.overflow = value,
+            Declaration::Position(value) => self.position = value,
+            Declaration::Top(value) => self.top = value,
+            Declaration::Right(value) => self.right = value,
+            Declaration::Bottom(value) => self.bottom = value,
+            Declaration::Left(value) => self.left = value,
         }
     }
 

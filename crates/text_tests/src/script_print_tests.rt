@@ -31,7 +31,7 @@ tick 16
 ";
 
 /// A script in free form, and its text.
-const ROWS: [(&str, &str); 9] = [
+const ROWS: [(&str, &str); 10] = [
     (FREE, PRINTED),
     ("script 1", "script 1\n"),
     (
@@ -61,6 +61,10 @@ const ROWS: [(&str, &str); 9] = [
     (
         "script 2\nio o top - root - margin scroll 1.50px   5% threshold 0.0\nio p top - root - margin 1px scroll threshold",
         "script 2\nio o top - root - margin scroll 1.50px 5% threshold 0\nio p top - root - margin 1px scroll threshold\n",
+    ),
+    (
+        "script 2\nset a position  fixed\nset a top -0.50px\nset a right -012.50%\nset a bottom -0px\nset a left -0.00%\nset a top auto",
+        "script 2\nset a position fixed\nset a top -0.5px\nset a right -12.5%\nset a bottom 0px\nset a left 0%\nset a top auto\n",
     ),
 ];
 

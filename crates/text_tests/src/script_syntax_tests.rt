@@ -100,7 +100,22 @@ io q top - root - margin 1px threshold
 scroll top 0px 1px
 ";
 
-const TEXTS: [(&str, Outcome); 36] = [
+/// The positioned properties, which the second version has alone, with values at the ends of their ranges.
+const POSITIONED: &str = "script 2
+set a position static
+set a position relative
+set a position absolute
+set a position fixed
+set a top auto
+set a top 1000000px
+set a right -1000000px
+set a bottom 10000%
+set a left -10000%
+set a top -0px
+set a right -0%
+";
+
+const TEXTS: [(&str, Outcome); 50] = [
     ("", Syntax(1, 1)),
     ("# nothing\n\n", Syntax(3, 1)),
     ("script 1", Outcome::Script),
@@ -149,6 +164,20 @@ const TEXTS: [(&str, Outcome); 36] = [
         "script 2\nio o top - root - margin 1px scroll 2px\n",
         Syntax(2, 40),
     ),
+    (POSITIONED, Outcome::Script),
+    ("script 1\nset a position static\n", Syntax(2, 7)),
+    ("script 1\nset a top auto\n", Syntax(2, 7)),
+    ("script 1\nset a right 1\n", Syntax(2, 7)),
+    ("script 1\nset a bottom", Syntax(2, 7)),
+    ("script 1\nset a left -1px\n", Syntax(2, 7)),
+    ("script 2\nset a bottom", Syntax(2, 13)),
+    ("script 2\nset a position sticky\n", Syntax(2, 16)),
+    ("script 2\nset a top 1000000.01px\n", Syntax(2, 11)),
+    ("script 2\nset a top -1000000.01px\n", Syntax(2, 11)),
+    ("script 2\nset a left 10000.01%\n", Syntax(2, 12)),
+    ("script 2\nset a left -10000.01%\n", Syntax(2, 12)),
+    ("script 2\nset a right --1px\n", Syntax(2, 13)),
+    ("script 2\nset a width -1px\n", Syntax(2, 13)),
     (NESTED, Limit(LimitKind::Nesting, 19)),
 ];
 

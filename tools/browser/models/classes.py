@@ -11,7 +11,7 @@ from .traits import (CROSSED_IS_TURNED, DEAD_READS_THROW, FRAMES_IN_TIME, HIDDEN
 
 ALL_THREE = frozenset('''border-widths read-of-dead-frame hidden-frame-keeps-size frame-of-part-pixels reach-of-empty-boxes
     reach-with-margins reach-with-padding scroll-of-part-pixels observe-again first-size offset-of-moved-box frame-order stored-offset
-    sizes-of-last-layout root-removed root-rectangle-of-none is-intersecting margin-percentages'''.split())
+    sizes-of-last-layout shrink-to-fit root-removed root-rectangle-of-none is-intersecting margin-percentages'''.split())
 CHROMIUM = ALL_THREE | {LATE_SCROLLS} | set('''scroll-anchoring scroll-of-hidden-frame unobserve-in-delivery queue-after-unobserve
     listener-of-adopted-element frame-callback-late rounds-by-turns depth-at-gathering skipped-then-cured dead-frame-target
     target-of-dead-frame observers-in-any-order margin-of-part-pixels crossed-root cut-in-a-frame told-of-dead-root
@@ -22,14 +22,13 @@ FIREFOX = ALL_THREE | {HIDDEN_READS_NOTHING, DEAD_READS_THROW, SCROLLS_ARE_CUT, 
 WEBKIT = ALL_THREE | {SCROLLS_ARE_CUT, FRAMES_IN_TIME, CROSSED_IS_TURNED} | set('''depth-at-gathering crossed-root entries-before-tasks
     queries-of-empty-page resize-observers-by-use'''.split())
 CLASSES = {'chromium': CHROMIUM, 'firefox': FIREFOX, 'webkit': WEBKIT}
-FIRST_VERSION = grammar.Language((1,))
 NUMBER = re.compile(r'-?\d+(?:\.\d+)?(?:/\d+)?')
 NEAR = 0.15     # pixels, by which sums of sixtieths may differ
 
 
 def run(text, classes, told=(), order=None):
     """The model's run of a script."""
-    model = Model(grammar.parse(text.encode('latin-1'), FIRST_VERSION), classes, told, order)
+    model = Model(grammar.parse(text.encode('latin-1')), classes, told, order)
     model.run()
     return model
 
@@ -37,7 +36,7 @@ def run(text, classes, told=(), order=None):
 def by_rules(text):
     """The rules' trace."""
     lines = []
-    Page(grammar.parse(text.encode('latin-1'), FIRST_VERSION), lambda line, script_line, about: lines.append(line)).run()
+    Page(grammar.parse(text.encode('latin-1')), lambda line, script_line, about: lines.append(line)).run()
     return lines
 
 

@@ -1,5 +1,6 @@
 """The layout as an engine has it, and a world that tells the model what is put in and taken out."""
-from reference.layout import CONTENT, Layout
+from reference.layout import CONTENT, FRAME_WIDTH, Layout
+from reference.lengths import AUTO
 from reference.world import ACTIVE, Element, World, tree_document
 
 PIXEL = 64
@@ -13,6 +14,11 @@ def whole(units):
 def whole_border(units):
     """Cut to whole pixels, and one at least."""
     return units and max(PIXEL, units // PIXEL * PIXEL)
+
+
+def _pixels(length):
+    """The units of a length, None for a percentage and a keyword."""
+    return length[1] if isinstance(length, tuple) and length[0] == 'px' else None
 
 
 class EngineLayout(Layout):
@@ -50,6 +56,63 @@ class EngineLayout(Layout):
         rounded = (whole(size[0]), whole(size[1]))
         return rounded if rounded != size and self.differs('frame-of-part-pixels') else size
 
+    # --- widths out of flow -------------------------------------------------------------------------------------------------
+
+    def _auto_width(self, node, have, around):
+        width = super()._auto_width(node, have, around)
+        if self.in_flow(node) or node.kind != 'block' or all(self.inset(node, side) is not None for side in ('left', 'right')):
+            return width
+        fit = self._fit(node, have, around)
+        return fit if fit != width and self.differs('shrink-to-fit') else width
+
+    def _fit(self, node, have, around):
+        """As wide as what is in it, as far as there is room between its insets, or behind its place in the flow."""
+        margin, left, right = self.edges(node)[0], self.inset(node, 'left'), self.inset(node, 'right')
+        room = have - margin[1] - margin[3] - around - (left or 0) - (right or 0)
+        if left is None and right is None:
+            room -= self._flow_corner(node) - margin[3]
+        least, most = self._content_widths(node)
+        return max(min(max(least, room), most), 0)
+
+    def _flow_corner(self, node):
+        """Where its margin box would begin in the flow, from its containing block's corner."""
+        holder = self.holder(node)
+        corner = 0 if not isinstance(holder, Element) else self.flat_place(holder)[0] + self.edges(holder)[1][3]
+        margin, border, padding = self.edges(node.parent)
+        return self.flat_place(node.parent)[0] + border[3] + padding[3] + self.edges(node)[0][3] - corner
+
+    def _content_widths(self, node):
+        """The least and the greatest width that its children in flow ask for."""
+        asked = [self._asked(child) for child in node.children if self.in_flow(child) and self.has_box(child)]
+        return tuple([max([widths[way] for widths in asked] + [0]) for way in (0, 1)])
+
+    def _asked(self, node):
+        """What an element adds to those: a percentage counts as `auto`, and as 0 where it is one of an edge."""
+        style = node.style
+        edges = sum([_pixels(style['%s-%s' % (edge, side)]) or 0 for edge in ('padding', 'border') for side in ('left', 'right')])
+        if any(whole_border(style['border-%s' % side][1]) != style['border-%s' % side][1] for side in ('left', 'right')):
+            edges = sum([_pixels(style['padding-%s' % side]) or 0 for side in ('left', 'right')]) + sum(
+                [whole_border(style['border-%s' % side][1]) for side in ('left', 'right')])
+        given = _pixels(style['width'])
+        widths = [self._inner_width(node, given, edges)] * 2 if given is not None else list(self._asked_by_content(node))
+        most, least = _pixels(style['max-width']), _pixels(style['min-width'])
+        if most is not None:
+            widths = [min(width, self._inner_width(node, most, edges)) for width in widths]
+        if least is not None:
+            widths = [max(width, self._inner_width(node, least, edges)) for width in widths]
+        margins = sum([_pixels(style['margin-%s' % side]) or 0 for side in ('left', 'right')])
+        return tuple([width + edges + margins for width in widths])
+
+    def _asked_by_content(self, node):
+        if node.kind == 'block':
+            return self._content_widths(node)
+        natural = node.natural[0] if node.kind == 'image' else FRAME_WIDTH
+        return (natural if node.style['width'] is AUTO else 0, natural)
+
+    @staticmethod
+    def _inner_width(node, width, edges):
+        return width if node.style['box-sizing'] == 'content-box' else max(width - edges, 0)
+
     # --- places -----------------------------------------------------------------------------------------------------------
 
     def frame_corner(self, document):
@@ -77,6 +140,7 @@ class EngineLayout(Layout):
         known = self._reaches.get(document)
         if known is None:
             known = self._reaches[document] = {}
+            self._filled = self._around_areas(document)
             for node in self._boxes_of(document):
                 holder = self.holder(node)
                 while isinstance(holder, Element) and not self.clips(holder):
@@ -87,13 +151,23 @@ class EngineLayout(Layout):
                     known[holder] = (max(old[0], far[0]), max(old[1], far[1]))
         return known
 
+    def _around_areas(self, document):
+        """The elements that hold a box with an area, with no clip in between: their own boxes count with it."""
+        filled = set()
+        for node in self._boxes_of(document):
+            holder = self.holder(node) if all(self.border_size(node)) else None
+            while isinstance(holder, Element) and holder not in filled and not self.clips(holder):
+                filled.add(holder)
+                holder = self.holder(holder)
+        return filled
+
     def _far_corner(self, node, holder):
         """How far a box makes the range of what it scrolls with."""
         left, top = self.flat_place(node)
         width, height = self.border_size(node)
         right, bottom = left + width, top + height
         if node.root_of is None and node.parent is not holder:
-            return None if not (width and height) and self.differs('reach-of-empty-boxes') else (right, bottom)
+            return None if not (width and height) and node not in self._filled and self.differs('reach-of-empty-boxes') else (right, bottom)
         margin = self.edges(node)[0]
         if (margin[1] or margin[2]) and self.differs('reach-with-margins'):
             right, bottom = right + margin[1], bottom + margin[2]

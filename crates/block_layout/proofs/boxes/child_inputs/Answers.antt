@@ -8,4 +8,4 @@ pub returns-clause-value : goal.returns-clause-value
 returns-clause-value g c =
     c.handed_down.ensures.value
     ∙ ap (child_inputs (seen_item c.style.result.now c.kind.result)) c.unsigned.ensures
-    ∙ ap (λ item. child_inputs item (seen_inputs c.args.inputs)) (item_same _ _ _ _ c.style.ensures c.kind.ensures)
+    ∙ ap (λ item. child_inputs item (seen_inputs c.args.inputs)) (item_same _ _ _ _ c.style.ensures.value c.kind.ensures)

@@ -13,5 +13,5 @@ returns-clause-value g c =
     let same : to_z w64 (of_z w64 c.args.inside) ≡ c.args.inside = omega (arith, ints) in
     c.laid_out.ensures.value
     ∙ ap (λ inputs. computed (seen_item c.style.result.now c.kind.result) inputs c.unsigned_abs.result) c.unsigned.ensures
-    ∙ ap (λ item. computed item (seen_inputs c.args.inputs) c.unsigned_abs.result) (item_same _ _ _ _ c.style.ensures c.kind.ensures)
+    ∙ ap (λ item. computed item (seen_inputs c.args.inputs) c.unsigned_abs.result) (item_same _ _ _ _ c.style.ensures.value c.kind.ensures)
     ∙ ap (computed _ (seen_inputs c.args.inputs)) (c.unsigned_abs.ensures.value ∙ ap unsigned_abs same)

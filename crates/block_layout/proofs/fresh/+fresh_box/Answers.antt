@@ -9,11 +9,11 @@ use Rattle.element_tree.proofs.Levels.{kid_depth, low_enough}
 use Rattle.block_layout.specs.Seen.{seen_inputs}
 use Rattle.block_layout.specs.Trees.{layout_tree}
 use Rattle.block_layout.proofs.Forests.{linked, shallow}
-use Rattle.block_layout.proofs.Kids.{rest, rest_first, among_first, rest_none, kid_here, met, sums_begin, sums_hidden, sums_shown, box_done, steps_done}
+use Rattle.block_layout.proofs.Kids.{rest, rest_first, among_first, rest_none, kid_here, met, sums_begin, sums_passed, sums_stacked, box_done, steps_done}
 use Rattle.block_layout.proofs.Nodes.{item_is}
 use Rattle.block_layout.proofs.Parts.{unsigned_of}
 use Rattle.block_layout.proofs.fresh.+fresh_box.Goals as goal
-use Rattle.block_layout.proofs.fresh.+fresh_box.Goals.{then-not-is_hidden, else-not-is_hidden}
+use Rattle.block_layout.proofs.fresh.+fresh_box.Goals.{then-not-is_passed, else-not-is_passed}
 
 pub loop-next-init : goal.loop-next-init
 loop-next-init g t c =
@@ -23,8 +23,8 @@ loop-next-init g t c =
       sums = sums_begin at (box_in at (seen_inputs c.child_inputs-inner.result)) _ _ _ (rest_first _ _ c.first_inner-next.ensures.value);
     }
 
-pub is_hidden-requires : goal.is_hidden-requires
-is_hidden-requires g t c =
+pub is_passed-requires : goal.is_passed-requires
+is_passed-requires g t c =
     let forest = c.first_inner-next.ensures.forest in
     child_in_range forest (c.args.node.0) (c.in-Some.child.0)
     (kid_here g.P.Styled.style g.P.Styled.kind forest (c.args.node.0) c.loop-next.next c.in-Some.child c.in-Some.is c.loop-next.invariant.among)
@@ -52,13 +52,13 @@ loop-next-preserved g t c =
     let kid = met g.P.Styled.style g.P.Styled.kind c.first_inner-next.ensures.forest (c.args.node.0) c.loop-next.next c.in-Some.child c.in-Some.is c.loop-next.invariant.among c.next_sibling-next.result c.next_sibling-next.ensures.value in
     record {
       among = kid.among;
-      sums = elim c.if-not-is_hidden.branch [
-        | then-not-is_hidden w ↦
-            sums_shown at box _ _ _ (c.in-Some.child.0) _ _ _ kid.step c.loop-next.invariant.sums (sym c.is_hidden.ensures.value ∙ w.if-not-is_hidden.true) _ _
+      sums = elim c.if-not-is_passed.branch [
+        | then-not-is_passed w ↦
+            sums_stacked at box _ _ _ (c.in-Some.child.0) _ _ _ kid.step c.loop-next.invariant.sums (sym c.is_passed.ensures.value ∙ w.if-not-is_passed.true) _ _
             (w.inside-is ∙ w.added-inside.ensures.value ∙ ap (λ height. cap (c.loop-next.inside + height)) (w.margin_units.ensures.value ∙ ap margin_height w.fresh_box.ensures.value))
             (w.steps-is ∙ w.fresh_box.ensures.ticks)
-        | else-not-is_hidden w ↦
-            sums_hidden at box _ _ _ (c.in-Some.child.0) _ _ _ kid.step c.loop-next.invariant.sums (sym c.is_hidden.ensures.value ∙ w.if-not-is_hidden.false) _ _ w.inside-is w.steps-is
+        | else-not-is_passed w ↦
+            sums_passed at box _ _ _ (c.in-Some.child.0) _ _ _ kid.step c.loop-next.invariant.sums (sym c.is_passed.ensures.value ∙ w.if-not-is_passed.false) _ _ w.inside-is w.steps-is
       ];
     }
 

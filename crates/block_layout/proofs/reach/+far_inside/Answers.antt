@@ -2,7 +2,7 @@ use Rattle.std.proofs.Common.{◌≡◌, ◌+◌, suc, length, ap, sym, ◌∙�
 use Rattle.px_units.specs.Lengths.{cap}
 use Rattle.layout_model.specs.Boxes.{Inputs, kids_of, box_in, border_size, child_inputs, margin_height}
 use Rattle.layout_model.specs.Points.{larger, plus}
-use Rattle.layout_model.specs.Reach.{open_kids}
+use Rattle.block_layout.specs.Far.{open_kids}
 use Rattle.element_tree.proofs.Facts.{child_in_range}
 use Rattle.element_tree.proofs.Levels.{kid_depth, low_enough}
 use Rattle.block_layout.specs.Around.{seen_extent}
@@ -11,7 +11,7 @@ use Rattle.block_layout.specs.Trees.{layout_tree}
 use Rattle.block_layout.proofs.Far.{larger_nothing, far_none, far_of}
 use Rattle.block_layout.proofs.Forests.{linked, shallow}
 use Rattle.block_layout.proofs.Kids.{rest, rest_none, open_kid, open_child, open_met}
-use Rattle.block_layout.proofs.Reaching.{far_among, far_hidden, far_shown, kid_inputs, kid_holds, kid_box, kid_offset, some_same, shown_some, hidden_none}
+use Rattle.block_layout.proofs.Reaching.{far_among, kid_below, kid_still, far_hidden, far_shown, kid_inputs, kid_holds, kid_box, kid_offset, some_same, shown_some, hidden_none}
 use Rattle.block_layout.proofs.reach.+far_inside.Goals as goal
 use Rattle.block_layout.proofs.reach.+far_inside.Goals.{in-Some-shown_box, in_default-shown_box}
 
@@ -74,13 +74,13 @@ loop-next-preserved g t c =
     record {
       among = kid.among;
       capped = elim c.match-shown_box.branch [ in-Some-shown_box w ↦ omega arith | in_default-shown_box w ↦ omega arith ];
-      far = λ document inputs found holds own.
+      far = λ still document inputs found holds own.
           let item = (at (c.args.node.0)).item in
           let within : Inputs = child_inputs item inputs in
           let held = g.B.Boxes.held c.args.boxes.now in
-          let there = kid_box g.P.Styled.style g.P.Styled.kind forest (c.args.node.0) document inputs found held holds (c.in-Some.child.0) one own_child in
+          let there = kid_box g.P.Styled.style g.P.Styled.kind forest (c.args.node.0) still document inputs found held holds (c.in-Some.child.0) one own_child in
           let corner = seen_extent c.args.corner in
-          let so_far = c.loop-next.invariant.far document inputs found holds own in
+          let so_far = c.loop-next.invariant.far still document inputs found holds own in
           elim c.match-shown_box.branch [
             | in-Some-shown_box w ↦
                 let parts = shown_some _ (held (c.in-Some.child.0)) w.in-Some-shown_box.inner (sym c.shown_box.ensures.value ∙ w.in-Some-shown_box.is) in
@@ -89,14 +89,14 @@ loop-next-preserved g t c =
                 ap
                 (λ f. larger f (far_among at item inputs within corner c.match-shown_box.above (rest c.next_sibling-next.result (open_kids c.args.closed (kids_of (at (c.args.node.0)))))))
                 (ap seen_extent w.far-is ∙ w.larger-far.ensures)
-                ∙ far_shown at item inputs within corner _ _ (c.in-Some.child.0) c.loop-next.above kid.step (seen_extent c.loop-next.far) _ so_far parts.0 place (seen_extent w.far_edge.result)
-                (w.plus-place.ensures ∙ ap (plus corner) (w.offset.ensures.value ∙ kid_offset g.P.Styled.style g.P.Styled.kind forest (c.args.node.0) document inputs found held holds (c.in-Some.child.0) one own_child c.args.own _ c.loop-next.above own boxed))
+                ∙ far_shown at item inputs within corner _ _ (c.in-Some.child.0) c.loop-next.above kid.step (seen_extent c.loop-next.far) _ so_far (kid_still g.P.Styled.style g.P.Styled.kind forest (c.args.node.0) still document inputs found held holds (c.in-Some.child.0) one own_child) parts.0 place (seen_extent w.far_edge.result)
+                (w.plus-place.ensures ∙ ap (plus corner) (w.offset.ensures.value ∙ kid_offset g.P.Styled.style g.P.Styled.kind forest (c.args.node.0) still document inputs found held holds (c.in-Some.child.0) one own_child c.args.own _ c.loop-next.above own boxed))
                 (w.far_edge.ensures
                 ∙ ap (λ b. larger (plus place (border_size b)) (seen_extent w.far_inside-deeper.result)) boxed
                 ∙ ap
                 (larger (plus place (border_size (box_in at within (c.in-Some.child.0)))))
-                (w.far_inside-deeper.ensures document within (kid_inputs g.P.Styled.style g.P.Styled.kind forest (c.args.node.0) document inputs found held holds (c.in-Some.child.0) one own_child parts.0)
-                (kid_holds g.P.Styled.style g.P.Styled.kind forest (c.args.node.0) document inputs found held holds (c.in-Some.child.0) one own_child) boxed
+                (w.far_inside-deeper.ensures (kid_below g.P.Styled.style g.P.Styled.kind forest (c.args.node.0) still document inputs found held holds (c.in-Some.child.0) one own_child) document within (kid_inputs g.P.Styled.style g.P.Styled.kind forest (c.args.node.0) still document inputs found held holds (c.in-Some.child.0) one own_child parts.0)
+                (kid_holds g.P.Styled.style g.P.Styled.kind forest (c.args.node.0) still document inputs found held holds (c.in-Some.child.0) one own_child) boxed
                 ∙ ap (λ closed. far_in at (c.in-Some.child.0) within place (open_kids closed (kids_of (at (c.in-Some.child.0))))) w.is_clipping.ensures.value)
                 ∙ far_of at (linked g.P.Styled.style g.P.Styled.kind forest) (shallow g.P.Styled.style g.P.Styled.kind forest) within place (c.in-Some.child.0))
                 c.match-shown_box.above
@@ -114,10 +114,10 @@ loop-next-preserved g t c =
     }
 
 pub returns : goal.returns
-returns g t c document inputs found holds own =
+returns g t c still document inputs found holds own =
     let at = layout_tree g.P.Styled.style g.P.Styled.kind c.args.tree.now.nodes in
     let item = (at (c.args.node.0)).item in
     sym
     (ap (larger (seen_extent c.loop-next.far)) (far_none _ _ _ _ (rest_none _ _ c.in_default.is))
     ∙ larger_nothing (seen_extent c.loop-next.far))
-    ∙ c.loop-next.invariant.far document inputs found holds own
+    ∙ c.loop-next.invariant.far still document inputs found holds own

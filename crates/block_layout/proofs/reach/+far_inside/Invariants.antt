@@ -1,10 +1,11 @@
 use Rattle.std.proofs.Common.{◌≡◌, ◌≤◌, ◌-◌, Some, length}
 use Rattle.layout_model.specs.Boxes.{Inputs, kids_of, box_in, child_inputs}
 use Rattle.layout_model.specs.Points.{larger}
-use Rattle.layout_model.specs.Reach.{View, inputs_in_view, open_kids}
+use Rattle.layout_model.specs.Views.{View, inputs_in_view}
 use Rattle.element_tree.specs.Forest.{depth, most_levels}
 use Rattle.block_layout.specs.Around.{seen_extent}
-use Rattle.block_layout.specs.Far.{far_in}
+use Rattle.block_layout.specs.Far.{open_kids, far_in}
+use Rattle.block_layout.specs.Filling.{IsUnpositioned}
 use Rattle.block_layout.specs.Held.{HoldsBoxes}
 use Rattle.block_layout.specs.Trees.{layout_tree}
 use Rattle.block_layout.proofs.Kids.{rest, IsAmong}
@@ -18,7 +19,8 @@ abbrev pub invariant-loop-next : goal.invariant-loop-next
 invariant-loop-next g l = record {
   among : IsAmong (open_kids l.closed (kids_of (layout_tree g.P.Styled.style g.P.Styled.kind l.tree.nodes (l.fn.node.0)))) l.next;
   capped : l.above ≤ 2147483647;
-  far : (document : View) (inputs : Inputs)
+  far : IsUnpositioned (layout_tree g.P.Styled.style g.P.Styled.kind l.tree.nodes) (l.fn.node.0)
+      → (document : View) (inputs : Inputs)
       → inputs_in_view (layout_tree g.P.Styled.style g.P.Styled.kind l.tree.nodes) document (l.fn.node.0) ≡ Some inputs
       → HoldsBoxes (layout_tree g.P.Styled.style g.P.Styled.kind l.tree.nodes) document (l.fn.node.0) (g.B.Boxes.held l.boxes)
       → l.own ≡ box_in (layout_tree g.P.Styled.style g.P.Styled.kind l.tree.nodes) inputs (l.fn.node.0)

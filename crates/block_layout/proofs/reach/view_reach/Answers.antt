@@ -2,7 +2,9 @@ use Rattle.std.proofs.Common.{◌≡◌, ◌≤◌, ap, sym, ◌∙◌, arith}
 use Rattle.layout_model.specs.Boxes.{Inputs, box_in, kids_of, border_size}
 use Rattle.layout_model.specs.Nodes.{levels}
 use Rattle.layout_model.specs.Points.{larger, plus, capped}
-use Rattle.layout_model.specs.Reach.{view_inputs, margin_corner, far_down, open_kids}
+use Rattle.layout_model.specs.Views.{view_inputs}
+use Rattle.layout_model.specs.FlatPlaces.{margin_corner}
+use Rattle.block_layout.specs.Far.{far_down, open_kids}
 use Rattle.element_tree.proofs.Depths.{depth_positive}
 use Rattle.block_layout.specs.Around.{seen_extent}
 use Rattle.block_layout.specs.Far.{far_in}
@@ -10,8 +12,10 @@ use Rattle.block_layout.specs.Seen.{as_size}
 use Rattle.block_layout.specs.Trees.{layout_tree}
 use Rattle.block_layout.proofs.Ancestors.{in_self}
 use Rattle.block_layout.proofs.Far.{pair_same, far_of}
-use Rattle.block_layout.proofs.Forests.{linked, shallow}
-use Rattle.block_layout.proofs.Reaching.{some_same, shown_some, hidden_none, view_top, margin_is, view_shown, view_hidden}
+use Rattle.block_layout.proofs.FlowReach.{hidden_reach, shown_reach}
+use Rattle.block_layout.proofs.Forests.{linked, listed, shallow, once}
+use Rattle.block_layout.proofs.Handed.{view_top}
+use Rattle.block_layout.proofs.Reaching.{some_same, shown_some, hidden_none, margin_is}
 use Rattle.block_layout.proofs.reach.view_reach.Goals as goal
 
 pub far_inside-deeper-requires-clause-across : goal.far_inside-deeper-requires-clause-across
@@ -27,7 +31,7 @@ far_inside-deeper-requires-clause-down g c =
     omega (arith, depth_positive c.args.tree.now.nodes (c.args.root.0))
 
 pub returns-in-Some : goal.returns-in-Some
-returns-in-Some g c top document is wide tall holds =
+returns-in-Some g c still top document is wide tall holds =
     let at = layout_tree g.P.Styled.style g.P.Styled.kind c.args.tree.now.nodes in
     let root = c.args.root.0 in
     let forest = c.shown_box.ensures.forest in
@@ -41,7 +45,7 @@ returns-in-Some g c top document is wide tall holds =
     ∙ ap (λ own. larger (plus corner (border_size own)) (seen_extent c.far_inside-deeper.result)) boxed
     ∙ ap
     (larger (plus corner (border_size (box_in at viewport root))))
-    (c.far_inside-deeper.ensures document viewport found holds boxed
+    (c.far_inside-deeper.ensures still document viewport found holds boxed
     ∙ ap (λ closed. far_in at root viewport corner (open_kids closed (kids_of (at root)))) c.is_clipping.ensures.value)
     ∙ far_of at (linked g.P.Styled.style g.P.Styled.kind forest) (shallow g.P.Styled.style g.P.Styled.kind forest) viewport corner root in
     let moved = c.margin_offset-corner.ensures.value
@@ -55,13 +59,21 @@ returns-in-Some g c top document is wide tall holds =
     (c.larger.ensures
     ∙ ap (larger (seen_extent c.args.size)) (edge ∙ ap (λ place. far_down levels at viewport place root) moved)
     ∙ ap (λ own. larger own (far_down levels at viewport (margin_corner viewport ((at root).item)) root)) (sym (pair_same _ _ _ _ wide tall)))
-    ∙ sym (view_shown at document root is parts.0))
+    ∙ sym
+    (shown_reach at (linked g.P.Styled.style g.P.Styled.kind forest) (listed g.P.Styled.style g.P.Styled.kind forest) (shallow g.P.Styled.style g.P.Styled.kind forest)
+    (once g.P.Styled.style g.P.Styled.kind forest) document root is top still parts.0))
 
 pub returns-in-None : goal.returns-in-None
-returns-in-None g c top document is wide tall holds =
+returns-in-None g c still top document is wide tall holds =
     let at = layout_tree g.P.Styled.style g.P.Styled.kind c.args.tree.now.nodes in
     let root = c.args.root.0 in
     let hidden = hidden_none _ (g.B.Boxes.held c.args.boxes.now root) (box_in at (view_inputs document) root) (sym c.shown_box.ensures.value ∙ c.in-None.is)
     (λ shown. holds root (view_inputs document) (in_self at root) (view_top at document root is top shown)) in
+    let forest = c.shown_box.ensures.forest in
     c.size-in-None.ensures
-    ∙ ap as_size (c.capped-in-None.ensures.value ∙ ap capped (sym (pair_same _ _ _ _ wide tall)) ∙ sym (view_hidden at document root is hidden))
+    ∙ ap
+    as_size
+    (c.capped-in-None.ensures.value ∙ ap capped (sym (pair_same _ _ _ _ wide tall))
+    ∙ sym
+    (hidden_reach at (linked g.P.Styled.style g.P.Styled.kind forest) (listed g.P.Styled.style g.P.Styled.kind forest) (shallow g.P.Styled.style g.P.Styled.kind forest)
+    (once g.P.Styled.style g.P.Styled.kind forest) document root is top hidden))

@@ -12,7 +12,7 @@ returns-then-is_cut-clause-value g c =
     sym (ap (λ cut. cut && c.is_some.result) c.if-is_cut.true)
     ∙ clips_block g.P.Styled.style g.P.Styled.kind c.args.tree.now.nodes (c.args.node.0) _ c.payload-item.ensures.value
     (sym c.kind.ensures ∙ ap seen_kind c.in-Block.is) c.is_cut.result c.is_some.result
-    (c.is_cut.ensures ∙ ap (λ style. not (is_visible (style.overflow))) c.style.ensures) c.parent.result c.parent.ensures.value c.is_some.ensures
+    (c.is_cut.ensures ∙ ap (λ style. not (is_visible (style.overflow))) c.style.ensures.value) c.parent.result c.parent.ensures.value c.is_some.ensures
 
 pub returns-else-is_cut-clause-value : goal.returns-else-is_cut-clause-value
 returns-else-is_cut-clause-value g c =
@@ -20,7 +20,7 @@ returns-else-is_cut-clause-value g c =
     ∙ sym (ap (λ cut. cut && is_some (parent_of c.args.tree.now.nodes (c.args.node.0))) c.if-is_cut.false)
     ∙ clips_block g.P.Styled.style g.P.Styled.kind c.args.tree.now.nodes (c.args.node.0) _ c.payload-item.ensures.value
     (sym c.kind.ensures ∙ ap seen_kind c.in-Block.is) c.is_cut.result _
-    (c.is_cut.ensures ∙ ap (λ style. not (is_visible (style.overflow))) c.style.ensures) (node_ids (parent_of c.args.tree.now.nodes (c.args.node.0))) refl
+    (c.is_cut.ensures ∙ ap (λ style. not (is_visible (style.overflow))) c.style.ensures.value) (node_ids (parent_of c.args.tree.now.nodes (c.args.node.0))) refl
     (sym (some_ids _))
 
 pub returns-in-Image : goal.returns-in-Image

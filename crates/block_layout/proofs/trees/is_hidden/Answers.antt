@@ -7,10 +7,10 @@ pub returns-in-Hidden-clause-value : goal.returns-in-Hidden-clause-value
 returns-in-Hidden-clause-value g c =
     sym
     (hidden_is g.P.Styled.style g.P.Styled.kind c.args.tree.now.nodes (c.args.node.0) _ c.payload.ensures.value
-    ∙ sym (ap (λ style. style.hidden) c.style.ensures) ∙ ap seen_display c.in-Hidden.is)
+    ∙ sym (ap (λ style. style.hidden) c.style.ensures.value) ∙ ap seen_display c.in-Hidden.is)
 
 pub returns-in-Block-clause-value : goal.returns-in-Block-clause-value
 returns-in-Block-clause-value g c =
     sym
     (hidden_is g.P.Styled.style g.P.Styled.kind c.args.tree.now.nodes (c.args.node.0) _ c.payload.ensures.value
-    ∙ sym (ap (λ style. style.hidden) c.style.ensures) ∙ ap seen_display c.in-Block.is)
+    ∙ sym (ap (λ style. style.hidden) c.style.ensures.value) ∙ ap seen_display c.in-Block.is)

@@ -2,10 +2,10 @@ use Rattle.kept_layout.proofs.Moved.{removed_only, inserted_only, added_only, wr
 use Rattle.kept_layout.proofs.laws.trees_change_at_few_nodes.Goals as goal
 
 pub returns-clause-removed : goal.returns-clause-removed
-returns-clause-removed g c nodes n = removed_only g.P.Styled.style g.P.Styled.kind nodes n
+returns-clause-removed g c most nodes n forest = removed_only g.P.Styled.style g.P.Styled.kind forest n
 
 pub returns-clause-inserted : goal.returns-clause-inserted
-returns-clause-inserted g c nodes p n mark = inserted_only g.P.Styled.style g.P.Styled.kind nodes p n mark
+returns-clause-inserted g c most nodes p n mark forest = inserted_only g.P.Styled.style g.P.Styled.kind forest p n mark
 
 pub returns-clause-added : goal.returns-clause-added
 returns-clause-added g c most nodes payload forest = added_only g.P.Styled.style g.P.Styled.kind forest payload

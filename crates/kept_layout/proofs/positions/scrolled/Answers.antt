@@ -1,40 +1,88 @@
-use Rattle.std.proofs.Common.{◌≡◌, Some, sym, ◌∙◌, arith}
-use Rattle.layout_model.specs.Nodes.{ancestors_of}
-use Rattle.layout_model.proofs.Paths.{path_self, ancestors_child, ancestors_top}
-use Rattle.element_tree.specs.Forest.{parent_of}
-use Rattle.element_tree.proofs.Depths.{some_of_ids, none_of_ids}
-use Rattle.element_tree.proofs.Facts.{parent_in_range}
+use Rattle.std.proofs.Common.{◌≡◌, ◌≤◌, ◌+◌, ◌*◌, ℕ, List, inl, inr, ap, sym, ◌∙◌, arith}
+use Rattle.layout_model.specs.Nodes.{holders_of}
+use Rattle.layout_model.specs.Points.{plus, sum_points}
+use Rattle.element_tree.specs.Forest.{Knot, IsForest, depth}
 use Rattle.block_layout.specs.Trees.{layout_tree}
-use Rattle.block_layout.proofs.Nodes.{parent_is}
 use Rattle.block_layout.proofs.Forests.{shallow}
+use Rattle.positioned_layout.specs.declared.Holder.{Holder}
+use Rattle.positioned_layout.specs.declared.Holder.TheVariants.{Page}
+use Rattle.positioned_layout.specs.Seen.{seen_holder}
 use Rattle.kept_layout.specs.Positions.{scrolled_in}
-use Rattle.kept_layout.proofs.Climbed.{sum_goes, sum_ends}
+use Rattle.kept_layout.proofs.Climbed.{sum_goes, sum_ends, sum_starts}
+use Rattle.kept_layout.proofs.Held.{tree_nodes, elements_from, ends_from, levels_from, elements_are, ends_are, if_first, levels_fall}
 use Rattle.kept_layout.proofs.positions.scrolled.Goals as goal
 
-pub scroll_of-more-requires : goal.scroll_of-more-requires
-scroll_of-more-requires g c =
-    parent_in_range c.parent.ensures.forest (c.loop-parent.at.0) (c.in-Some.parent.0) (some_of_ids _ c.in-Some.parent (sym c.parent.ensures.value ∙ c.in-Some.is))
-
-pub loop-parent-preserved : goal.loop-parent-preserved
-loop-parent-preserved g c =
+pub loop-held-init : goal.loop-held-init
+loop-held-init g c =
     let at = layout_tree g.P.Styled.style g.P.Styled.kind c.args.tree.now.nodes in
-    let up : parent_of c.args.tree.now.nodes (c.loop-parent.at.0) ≡ Some (c.in-Some.parent.0) = some_of_ids _ c.in-Some.parent (sym c.parent.ensures.value ∙ c.in-Some.is) in
-    let level = c.parent.ensures.forest.falls (c.loop-parent.at.0) (c.in-Some.parent.0) up in
+    let f = scrolled_in at (g.O.Offsets.offset c.args.offsets.now) in
+    let short = shallow g.P.Styled.style g.P.Styled.kind c.holder_of-held.ensures.forest in
+    let by = c.holder_of-held.ensures.value at (tree_nodes g.P.Styled.style g.P.Styled.kind c.args.tree.now.nodes) in
+    let low = levels_fall c.args.tree.now.nodes (c.args.node.0) c.holder_of-held.result c.holder_of-held.ensures.above in
     record {
-      across = omega (arith, level, c.loop-parent.invariant.across, c.scroll_of-more.ensures.across);
-      down = omega (arith, level, c.loop-parent.invariant.down, c.scroll_of-more.ensures.down);
-      sums = sum_goes (scrolled_in at (g.O.Offsets.offset c.args.offsets.now)) (c.in-Some.parent.0) (ancestors_of at (c.loop-parent.at.0)) (ancestors_of at (c.in-Some.parent.0))
-          (ancestors_child at (c.loop-parent.at.0) (c.in-Some.parent.0) (parent_is g.P.Styled.style g.P.Styled.kind c.args.tree.now.nodes (c.loop-parent.at.0) ∙ up)
-          ∙ path_self at (c.in-Some.parent.0) (shallow g.P.Styled.style g.P.Styled.kind c.parent.ensures.forest (c.in-Some.parent.0)))
-          (c.loop-parent.scrolled.across) (c.loop-parent.scrolled.down) (c.scroll_of-more.result.across) (c.scroll_of-more.result.down)
-          c.scroll_of-more.ensures.value
-          ∙ c.loop-parent.invariant.sums;
+      within = if_first _ _ c.holder_of-held.result c.holder_of-held.ensures.above;
+      across = omega (arith, low);
+      down = omega (arith, low);
+      sums = sum_starts _ ∙ ap (sum_points f) (sym (elements_are at short (c.args.node.0) (seen_holder c.holder_of-held.result) by));
+      ends = sym (ends_are at short (c.args.node.0) (seen_holder c.holder_of-held.result) by);
     }
 
-pub returns-clause-value : goal.returns-clause-value
-returns-clause-value g c =
+pub loop-held-smaller : goal.loop-held-smaller
+loop-held-smaller g c =
+    let low = levels_fall c.args.tree.now.nodes (c.in-Node.element.0) c.holder_of-held-in-Node.result c.holder_of-held-in-Node.ensures.above in
+    let here : levels_from c.args.tree.now.nodes c.loop-held.held ≡ depth c.args.tree.now.nodes (c.in-Node.element.0) = ap (levels_from c.args.tree.now.nodes) c.in-Node.is in
+    omega (arith, low, here)
+
+pub loop-held-preserved : goal.loop-held-preserved
+loop-held-preserved g c =
     let at = layout_tree g.P.Styled.style g.P.Styled.kind c.args.tree.now.nodes in
-    sum_ends (scrolled_in at (g.O.Offsets.offset c.args.offsets.now)) (ancestors_of at (c.loop-parent.at.0))
-    (ancestors_top at (c.loop-parent.at.0) (parent_is g.P.Styled.style g.P.Styled.kind c.args.tree.now.nodes (c.loop-parent.at.0) ∙ none_of_ids _ (sym c.parent.ensures.value ∙ c.in_default.is)))
-    (c.loop-parent.scrolled.across) (c.loop-parent.scrolled.down)
-    ∙ c.loop-parent.invariant.sums
+    let f = scrolled_in at (g.O.Offsets.offset c.args.offsets.now) in
+    let short = shallow g.P.Styled.style g.P.Styled.kind c.holder_of-held.ensures.forest in
+    let by = c.holder_of-held-in-Node.ensures.value at (tree_nodes g.P.Styled.style g.P.Styled.kind c.args.tree.now.nodes) in
+    let low = levels_fall c.args.tree.now.nodes (c.in-Node.element.0) c.holder_of-held-in-Node.result c.holder_of-held-in-Node.ensures.above in
+    let here : levels_from c.args.tree.now.nodes c.loop-held.held ≡ depth c.args.tree.now.nodes (c.in-Node.element.0) = ap (levels_from c.args.tree.now.nodes) c.in-Node.is in
+    record {
+      within = if_first _ _ c.holder_of-held-in-Node.result c.holder_of-held-in-Node.ensures.above;
+      across = omega (arith, low, here, c.loop-held.invariant.across, c.scroll_of-more.ensures.across);
+      down = omega (arith, low, here, c.loop-held.invariant.down, c.scroll_of-more.ensures.down);
+      sums =
+          ap (λ es. plus (c.loop-held.shift.across + c.scroll_of-more.result.across, c.loop-held.shift.down + c.scroll_of-more.result.down) (sum_points f es)) (sym (elements_are at short (c.in-Node.element.0) (seen_holder c.holder_of-held-in-Node.result) by))
+          ∙ sum_goes f (c.in-Node.element.0) (elements_from at (seen_holder c.loop-held.held)) (holders_of at (c.in-Node.element.0))
+          (ap (λ (h : Holder). elements_from at (seen_holder h)) c.in-Node.is)
+          (c.loop-held.shift.across) (c.loop-held.shift.down) (c.scroll_of-more.result.across) (c.scroll_of-more.result.down) c.scroll_of-more.ensures.value
+          ∙ c.loop-held.invariant.sums;
+      ends =
+          sym (ends_are at short (c.in-Node.element.0) (seen_holder c.holder_of-held-in-Node.result) by)
+          ∙ sym (ap (λ (h : Holder). ends_from at (seen_holder h)) c.in-Node.is) ∙ c.loop-held.invariant.ends;
+    }
+
+-- sums are whole once no element holds the last one
+returns_by : {most : ℕ} {P : Type 0} {nodes : List (Knot P)} (forest : IsForest most nodes) (n shift levels : ℕ) → shift + 2147483647 * levels ≤ 2147483647 * depth nodes n → shift ≤ 140737488289792
+returns_by forest n shift levels low = let top = forest.within n in let high = forest.levels in omega (arith, low, top, high)
+
+pub returns-in-Screen : goal.returns-in-Screen
+returns-in-Screen g c =
+    let at = layout_tree g.P.Styled.style g.P.Styled.kind c.args.tree.now.nodes in
+    record {
+      value =
+          sum_ends (scrolled_in at (g.O.Offsets.offset c.args.offsets.now)) (elements_from at (seen_holder c.loop-held.held)) (ap (λ (h : Holder). elements_from at (seen_holder h)) c.in-Screen.is)
+          (c.loop-held.shift.across) (c.loop-held.shift.down)
+          ∙ c.loop-held.invariant.sums;
+      ends = sym (ap (λ (h : Holder). ends_from at (seen_holder h)) c.in-Screen.is) ∙ c.loop-held.invariant.ends;
+      across = returns_by c.holder_of-held.ensures.forest (c.args.node.0) _ _ c.loop-held.invariant.across;
+      down = returns_by c.holder_of-held.ensures.forest (c.args.node.0) _ _ c.loop-held.invariant.down;
+    }
+
+pub returns-in-Node-held : goal.returns-in-Node-held
+returns-in-Node-held g c =
+    let at = layout_tree g.P.Styled.style g.P.Styled.kind c.args.tree.now.nodes in
+    let page : c.loop-held.held ≡ Page = elim c.in-Node-held.is [ inl node ↦ absurd (c.in_default.not-Node node.0 node.1) | inr page ↦ page ] in
+    record {
+      value =
+          sum_ends (scrolled_in at (g.O.Offsets.offset c.args.offsets.now)) (elements_from at (seen_holder c.loop-held.held)) (ap (λ (h : Holder). elements_from at (seen_holder h)) page)
+          (c.loop-held.shift.across) (c.loop-held.shift.down)
+          ∙ c.loop-held.invariant.sums;
+      ends = sym (ap (λ (h : Holder). ends_from at (seen_holder h)) page) ∙ c.loop-held.invariant.ends;
+      across = returns_by c.holder_of-held.ensures.forest (c.args.node.0) _ _ c.loop-held.invariant.across;
+      down = returns_by c.holder_of-held.ensures.forest (c.args.node.0) _ _ c.loop-held.invariant.down;
+    }

@@ -7,14 +7,14 @@ use Rattle.kept_layout.proofs.trees.is_scroller.Goals as goal
 pub returns-then-scrolls-clause-value : goal.returns-then-scrolls-clause-value
 returns-then-scrolls-clause-value g c =
     scroller_block g.P.Styled.style g.P.Styled.kind c.args.tree.now.nodes (c.args.node.0) _ c.payload-item.ensures.value
-    (sym c.kind.ensures ∙ ap seen_kind c.in-Block.is) c.style.result.now c.style.ensures (sym c.scrolls.ensures ∙ c.if-scrolls.true)
+    (sym c.kind.ensures ∙ ap seen_kind c.in-Block.is) c.style.result.now c.style.ensures.value (sym c.scrolls.ensures ∙ c.if-scrolls.true)
     c.parent.result c.parent.ensures.value c.is_some.result c.is_some.ensures
 
 pub returns-else-scrolls-clause-value : goal.returns-else-scrolls-clause-value
 returns-else-scrolls-clause-value g c =
     c.if-scrolls.false
     ∙ scroller_shut g.P.Styled.style g.P.Styled.kind c.args.tree.now.nodes (c.args.node.0) _ c.payload-item.ensures.value
-    (sym c.kind.ensures ∙ ap seen_kind c.in-Block.is) c.style.result.now c.style.ensures (sym c.scrolls.ensures ∙ c.if-scrolls.false)
+    (sym c.kind.ensures ∙ ap seen_kind c.in-Block.is) c.style.result.now c.style.ensures.value (sym c.scrolls.ensures ∙ c.if-scrolls.false)
 
 pub returns-in-Image : goal.returns-in-Image
 returns-in-Image g c =

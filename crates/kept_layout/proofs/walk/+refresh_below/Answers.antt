@@ -1,24 +1,25 @@
-use Rattle.std.proofs.Common.{◌≡◌, ◌+◌, ◌++◌, ◌∷◌, [], suc, length, refl, ap, sym, ◌∙◌, arith}
+use Rattle.std.proofs.Common.{◌≡◌, ◌+◌, ◌++◌, ◌∷◌, [], ◌||◌, suc, length, refl, ap, sym, ◌∙◌, arith}
 use Rattle.std.specs.Prelude.{unsigned_abs}
 use mir.Syntax.{w64}
 use mir.Val.{to_z}
 use Rattle.px_units.specs.Lengths.{cap}
-use Rattle.layout_model.specs.Boxes.{computed, child_inputs, kids_of, margin_height}
+use Rattle.layout_model.specs.Boxes.{computed, child_inputs, kids_of}
 use Rattle.element_tree.proofs.Facts.{child_in_range}
 use Rattle.element_tree.proofs.Levels.{kid_depth, low_enough}
 use Rattle.block_layout.specs.Seen.{seen_inputs}
 use Rattle.block_layout.specs.Trees.{layout_tree}
-use Rattle.block_layout.proofs.Ancestors.{in_self, under_child}
+use Rattle.block_layout.proofs.Ancestors.{in_self}
+use Rattle.block_layout.proofs.Forests.{shallow}
 use Rattle.block_layout.proofs.Kids.{rest, among_first, kid_here, met}
 use Rattle.block_layout.proofs.Nodes.{item_is}
 use Rattle.block_layout.proofs.Parts.{unsigned_of}
 use Rattle.kept_layout.specs.Slots.{slot_in}
-use Rattle.kept_layout.specs.Sound.{box_held}
-use Rattle.kept_layout.proofs.Going.{refreshed_already, refreshed_as, going_begins, going_hidden, going_like, going_shown, going_ends}
+use Rattle.kept_layout.specs.Sound.{outside_found}
+use Rattle.kept_layout.proofs.Going.{refreshed_already, refreshed_as, going_begins, going_hidden, going_moved, going_like, going_shown, going_ends}
 use Rattle.kept_layout.proofs.Lists.{passed_first, passed_some, passed_none, passed_next}
 use Rattle.kept_layout.proofs.Shapes.{shaped, next_kid}
 use Rattle.kept_layout.proofs.walk.+refresh_below.Goals as goal
-use Rattle.kept_layout.proofs.walk.+refresh_below.Goals.{then-not-is_hidden, else-not-is_hidden}
+use Rattle.kept_layout.proofs.walk.+refresh_below.Goals.{then-not-is_hidden+then-is_in_flow+then-outside, then-not-is_hidden+then-is_in_flow+else-outside, then-not-is_hidden+else-is_in_flow, else-not-is_hidden}
 
 pub returns-then-not-is_due : goal.returns-then-not-is_due
 returns-then-not-is_due g t c =
@@ -30,8 +31,8 @@ loop-next-init g t c =
     let at = layout_tree g.P.Styled.style g.P.Styled.kind c.args.tree.now.nodes in
     record {
       among = among_first _ _ c.first_inner-next.ensures.value;
-      going = going_begins at (shaped g.P.Styled.style g.P.Styled.kind c.first_inner-next.ensures.forest) (c.args.node.0) (seen_inputs c.args.inputs) (length c.args.slots.now)
-          (slot_in c.args.slots.now) c.args.steps.now (in_self at (c.args.node.0)) (slot_in c.set_mark.new.slots)
+      going = going_begins at (shaped g.P.Styled.style g.P.Styled.kind c.first_inner-next.ensures.forest) (shallow g.P.Styled.style g.P.Styled.kind c.first_inner-next.ensures.forest) (c.args.node.0) (seen_inputs c.args.inputs) (length c.args.slots.now)
+          (slot_in c.args.slots.now) c.args.steps.now (slot_in c.set_mark.new.slots)
           (λ slots. c.set_mark.ensures.own (slots (c.args.node.0) (in_self at (c.args.node.0)))) c.set_mark.ensures.others
           (sym c.is_due.ensures ∙ c.if-not-is_due.false) _ (passed_first (kids_of (at (c.args.node.0))) _ c.first_inner-next.ensures.value);
     }
@@ -63,43 +64,61 @@ loop-next-preserved g t c =
     let at = layout_tree g.P.Styled.style g.P.Styled.kind c.args.tree.now.nodes in
     let forest = c.first_inner-next.ensures.forest in
     let shape = shaped g.P.Styled.style g.P.Styled.kind forest in
+    let short = shallow g.P.Styled.style g.P.Styled.kind forest in
     let node = c.args.node.0 in
     let child = c.in-Some.child.0 in
     let kids = kids_of (at node) in
     let kid = met g.P.Styled.style g.P.Styled.kind forest node c.loop-next.next c.in-Some.child c.in-Some.is c.loop-next.invariant.among c.next_sibling-next.result c.next_sibling-next.ensures.value in
-    let here = kid_here g.P.Styled.style g.P.Styled.kind forest node c.loop-next.next c.in-Some.child c.in-Some.is c.loop-next.invariant.among in
     let ahead = passed_some kids c.loop-next.next c.in-Some.child c.in-Some.is in
     let longer = passed_next kids c.next_sibling-next.result child (shape.once node) kid.here (next_kid g.P.Styled.style g.P.Styled.kind forest node child kid.here c.next_sibling-next.result c.next_sibling-next.ensures.value) in
     let inner = c.child_inputs-inner.ensures.value ∙ ap (λ item. child_inputs item (seen_inputs c.args.inputs)) (sym (item_is g.P.Styled.style g.P.Styled.kind c.args.tree.now.nodes node _ c.payload.ensures.value)) in
-    let slots : length c.loop-next.slots ≡ length c.args.slots.now = omega arith in
     record {
       among = kid.among;
       going = elim c.if-not-is_hidden.branch [
-        | then-not-is_hidden w ↦
-            going_shown at shape node (seen_inputs c.args.inputs) (length c.args.slots.now) (slot_in c.args.slots.now) c.args.steps.now (in_self at node) child kid.here
-            (sym c.is_hidden.ensures.value ∙ w.if-not-is_hidden.true) (in_self at child) (λ m within. under_child g.P.Styled.style g.P.Styled.kind forest node child m here within)
-            (slot_in c.loop-next.slots) (slot_in w.refresh_below.new.slots) (slot_in c.if-not-is_hidden.slots) _ _ c.loop-next.above c.if-not-is_hidden.above c.loop-next.steps c.if-not-is_hidden.steps
-            ahead longer
-            (refreshed_as at child _ _ _ _ _ _ _ _ _ inner slots w.steps-is w.refresh_below.ensures)
-            (λ low. ap (λ s. slot_in s child) w.slots-is ∙ w.set_above.ensures.own (omega arith))
-            (λ m other. ap (λ s. slot_in s m) w.slots-is ∙ w.set_above.ensures.others m other)
-            (w.above-is ∙ w.added-above.ensures.value
-            ∙ ap (λ h. cap (c.loop-next.above + h)) (w.height_held.ensures.value ∙ ap (λ s. margin_height (box_held (slot_in s) child)) (sym w.slots-is)))
-            c.loop-next.invariant.going
+        | then-not-is_hidden+then-is_in_flow+then-outside w ↦
+            going_like at node (seen_inputs c.args.inputs) (length c.args.slots.now) (slot_in c.args.slots.now) _ _ _ _ _ _ _ c.args.steps.now _ _ (ap slot_in w.slots-is) refl refl refl
+            (going_shown at shape short node (seen_inputs c.args.inputs) (length c.args.slots.now) (slot_in c.args.slots.now) c.args.steps.now child kid.here (sym c.is_hidden.ensures.value ∙ w.if-not-is_hidden.true)
+            (slot_in c.loop-next.slots) (slot_in w.set_above.new.slots) _ _ c.loop-next.above c.loop-next.outside c.loop-next.steps ahead longer
+            (λ low. w.set_above.ensures.own (omega arith)) w.set_above.ensures.others c.loop-next.invariant.going
+            (sym w.is_in_flow.ensures.value ∙ w.if-is_in_flow.true) (slot_in w.refresh_below.new.slots) c.if-not-is_hidden.above c.if-not-is_hidden.outside c.if-not-is_hidden.steps
+            (refreshed_as at child _ _ _ _ _ _ _ _ _ inner (omega arith) w.steps-is w.refresh_below.ensures)
+            (w.above-is ∙ w.added-above.ensures.value ∙ ap (λ h. cap (c.loop-next.above + h)) w.height_held.ensures.value)
+            (w.outside-is ∙ w.if-outside.true ∙ sym (ap (λ b. b || outside_found (slot_in w.refresh_below.new.slots child).found) w.if-outside.true)))
+        | then-not-is_hidden+then-is_in_flow+else-outside w ↦
+            going_like at node (seen_inputs c.args.inputs) (length c.args.slots.now) (slot_in c.args.slots.now) _ _ _ _ _ _ _ c.args.steps.now _ _ (ap slot_in w.slots-is) refl refl refl
+            (going_shown at shape short node (seen_inputs c.args.inputs) (length c.args.slots.now) (slot_in c.args.slots.now) c.args.steps.now child kid.here (sym c.is_hidden.ensures.value ∙ w.if-not-is_hidden.true)
+            (slot_in c.loop-next.slots) (slot_in w.set_above.new.slots) _ _ c.loop-next.above c.loop-next.outside c.loop-next.steps ahead longer
+            (λ low. w.set_above.ensures.own (omega arith)) w.set_above.ensures.others c.loop-next.invariant.going
+            (sym w.is_in_flow.ensures.value ∙ w.if-is_in_flow.true) (slot_in w.refresh_below.new.slots) c.if-not-is_hidden.above c.if-not-is_hidden.outside c.if-not-is_hidden.steps
+            (refreshed_as at child _ _ _ _ _ _ _ _ _ inner (omega arith) w.steps-is w.refresh_below.ensures)
+            (w.above-is ∙ w.added-above.ensures.value ∙ ap (λ h. cap (c.loop-next.above + h)) w.height_held.ensures.value)
+            (w.outside-is ∙ w.has_outside-outside.ensures ∙ sym (ap (λ b. b || outside_found (slot_in w.refresh_below.new.slots child).found) w.if-outside.false)))
+        | then-not-is_hidden+else-is_in_flow w ↦
+            going_like at node (seen_inputs c.args.inputs) (length c.args.slots.now) (slot_in c.args.slots.now) _ _ _ _ _ _ _ c.args.steps.now _ _ (ap slot_in w.slots-is) refl refl w.steps-is
+            (going_moved at shape short node (seen_inputs c.args.inputs) (length c.args.slots.now) (slot_in c.args.slots.now) c.args.steps.now child kid.here (sym c.is_hidden.ensures.value ∙ w.if-not-is_hidden.true)
+            (slot_in c.loop-next.slots) (slot_in w.set_above.new.slots) _ _ c.loop-next.above c.loop-next.outside c.loop-next.steps ahead longer
+            (λ low. w.set_above.ensures.own (omega arith)) w.set_above.ensures.others c.loop-next.invariant.going
+            (sym w.is_in_flow.ensures.value ∙ w.if-is_in_flow.false) c.if-not-is_hidden.above w.above-is c.if-not-is_hidden.outside w.outside-is)
         | else-not-is_hidden w ↦
-            going_like at node (seen_inputs c.args.inputs) (length c.args.slots.now) (slot_in c.args.slots.now) _ _ _ _ _ c.args.steps.now _ _ (ap slot_in w.slots-is) w.above-is w.steps-is
-            (going_hidden at shape node (seen_inputs c.args.inputs) (length c.args.slots.now) (slot_in c.args.slots.now) c.args.steps.now (in_self at node) (slot_in c.loop-next.slots)
-            _ _ child c.loop-next.above c.loop-next.steps (longer ∙ ap (λ ys. ys ++ child ∷ []) (sym ahead)) (sym c.is_hidden.ensures.value ∙ w.if-not-is_hidden.false) c.loop-next.invariant.going)
+            going_like at node (seen_inputs c.args.inputs) (length c.args.slots.now) (slot_in c.args.slots.now) _ _ _ _ _ _ _ c.args.steps.now _ _ (ap slot_in w.slots-is) w.above-is w.outside-is w.steps-is
+            (going_hidden at shape short node (seen_inputs c.args.inputs) (length c.args.slots.now) (slot_in c.args.slots.now) c.args.steps.now (slot_in c.loop-next.slots)
+            _ _ child c.loop-next.above c.loop-next.outside c.loop-next.steps (longer ∙ ap (λ ys. ys ++ child ∷ []) (sym ahead)) (sym c.is_hidden.ensures.value ∙ w.if-not-is_hidden.false) c.loop-next.invariant.going)
       ];
     }
+
+pub is_in_flow-requires : goal.is_in_flow-requires
+is_in_flow-requires g t c =
+    let forest = c.first_inner-next.ensures.forest in
+    child_in_range forest (c.args.node.0) (c.in-Some.child.0)
+    (kid_here g.P.Styled.style g.P.Styled.kind forest (c.args.node.0) c.loop-next.next c.in-Some.child c.in-Some.is c.loop-next.invariant.among)
 
 pub returns : goal.returns
 returns g t c =
     let at = layout_tree g.P.Styled.style g.P.Styled.kind c.args.tree.now.nodes in
     let shape = shaped g.P.Styled.style g.P.Styled.kind c.first_inner-next.ensures.forest in
     let node = c.args.node.0 in
-    going_ends at shape node (seen_inputs c.args.inputs) (length c.args.slots.now) (slot_in c.args.slots.now) c.args.steps.now (in_self at node)
-    (slot_in c.loop-next.slots) (slot_in c.hold.new.slots) c.loop-next.above c.loop-next.steps _ _ c.args.inputs refl
+    going_ends at shape (shallow g.P.Styled.style g.P.Styled.kind c.first_inner-next.ensures.forest) node (seen_inputs c.args.inputs) (length c.args.slots.now) (slot_in c.args.slots.now) c.args.steps.now
+    (slot_in c.loop-next.slots) (slot_in c.hold.new.slots) c.loop-next.above c.loop-next.outside c.loop-next.steps _ _ c.args.inputs refl
     (λ low. c.hold.ensures.own (omega arith)) c.hold.ensures.others
     (c.compute_box-own.ensures.value
     ∙ ap

@@ -24,6 +24,7 @@ invariant-loop-next g l = record {
       (slot_in l.slots)
       (passed l.next (kids_of (layout_tree g.P.Styled.style g.P.Styled.kind l.tree.nodes (l.fn.node.0))))
       l.above
+      l.outside
       l.fn.steps
       l.steps;
 }

@@ -1,25 +1,106 @@
-use Rattle.std.proofs.Common.{ap, refl, ◌+◌}
-use Rattle.layout_model.specs.Boxes.{box_in, padding_width, padding_height, border_width, border_height}
-use Rattle.layout_model.specs.Reach.{view_inputs, margin_corner, reach_of, reach_of_view}
-use Rattle.layout_model.proofs.Reaches.{root_open}
-use Rattle.layout_model.proofs.Attained.{reach_met, reach_is, view_met, view_is, view_none}
+use Rattle.std.proofs.Common.{◌≡◌, ◌⊎◌, ℕ, inl, inr, Some, refl, ap, arith}
+use Rattle.std.proofs.lemmas.Int.{ints}
+use Rattle.std.specs.Prelude.{false, None, ℤ, pos, ◌+ℤ◌, ◌-ℤ◌, Contains}
+use Rattle.layout_model.specs.Nodes.{Node, is_on_screen}
+use Rattle.layout_model.specs.Boxes.{Inputs, box_in, padding_size, border_width, border_height}
+use Rattle.layout_model.specs.Points.{moved}
+use Rattle.layout_model.specs.Views.{View, view_size, inputs_in_view}
+use Rattle.layout_model.specs.FlatPlaces.{flat_place, border_corner}
+use Rattle.layout_model.specs.Reach.{clipped_by, reach_of, reach_of_view, reached_by, reached_by_view}
+use Rattle.layout_model.proofs.Farthest.{size_within}
+use Rattle.layout_model.proofs.Reaches.{reach_is, view_is}
+use Rattle.layout_model.proofs.Attained.{attained, clipped, unclipped, view_alone}
 use Rattle.layout_model.proofs.laws.each_reach_is_met.Goals as goal
 
+in_reach : (at : ℕ → Node) (view : View) (n : ℕ) (least value : ℕ) (edge : ℕ → Inputs → ℤ) →
+    (value ≡ least) ⊎ (value ≡ 2147483647) ⊎ ((d : ℕ) × (below : Inputs) × Contains (reached_by at view n) d × (inputs_in_view at view d ≡ Some below) × (pos value ≡ edge d below)) →
+    (value ≡ least) ⊎ (value ≡ 2147483647) ⊎ ((d : ℕ) × (below : Inputs) × (clipped_by at d ≡ Some n) × (inputs_in_view at view d ≡ Some below) × (pos value ≡ edge d below))
+in_reach at view n least value edge (inl is) = inl is
+in_reach at view n least value edge (inr (inl is)) = inr (inl is)
+in_reach at view n least value edge (inr (inr met)) = inr (inr (met.0, met.1, clipped at view n (met.0) (met.2), met.3, met.4))
+
+in_view : (at : ℕ → Node) (view : View) (least value : ℕ) (edge : ℕ → Inputs → ℤ) →
+    (value ≡ least) ⊎ (value ≡ 2147483647) ⊎ ((d : ℕ) × (below : Inputs) × Contains (reached_by_view at view) d × (inputs_in_view at view d ≡ Some below) × (pos value ≡ edge d below -ℤ pos 0)) →
+    (value ≡ least) ⊎ (value ≡ 2147483647) ⊎ ((d : ℕ) × (below : Inputs) × (clipped_by at d ≡ None) × (is_on_screen at d ≡ false) × (inputs_in_view at view d ≡ Some below) × (pos value ≡ edge d below))
+in_view at view least value edge (inl is) = inl is
+in_view at view least value edge (inr (inl is)) = inr (inl is)
+in_view at view least value edge (inr (inr met)) =
+    inr (inr (met.0, met.1, (unclipped at view (met.0) (met.2)).0, (unclipped at view (met.0) (met.2)).1, met.3, same _ _ (met.4)))
+  where
+    same : (a b : ℤ) → a ≡ b -ℤ pos 0 → a ≡ b
+    same a b is = omega (arith, ints)
+
 pub returns-clause-across : goal.returns-clause-across
-returns-clause-across c at distinct view inputs n is =
-    reach_met (λ p. p.0) refl (λ a b. refl) at distinct n inputs (0, 0) 65536 (padding_width (box_in at inputs n)) ((box_in at inputs n).border.left) ((reach_of at view n).0) (ap (λ r. r.0) (reach_is at view inputs n is))
+returns-clause-across c at view inputs n is =
+    in_reach at view n _ _ (λ d below. (flat_place at view d).0 +ℤ pos (border_width (box_in at below d)) -ℤ (moved (flat_place at view n) (border_corner (at n).item)).0)
+    (attained
+    at
+    view
+    (moved (flat_place at view n) (border_corner (at n).item))
+    (padding_size (box_in at inputs n))
+    (reached_by at view n)
+    (λ p. p.0)
+    (λ a b. refl)
+    ((size_within at view (moved (flat_place at view n) (border_corner (at n).item)) (padding_size (box_in at inputs n)) (reached_by at view n)).0)
+    (λ d below. (flat_place at view d).0 +ℤ pos (border_width (box_in at below d)) -ℤ (moved (flat_place at view n) (border_corner (at n).item)).0)
+    (λ d. refl)
+    (λ d below. refl)
+    ((reach_of at view n).0)
+    (ap (λ p. p.0) (reach_is at view inputs n is)))
 
 pub returns-clause-down : goal.returns-clause-down
-returns-clause-down c at distinct view inputs n is =
-    reach_met (λ p. p.1) refl (λ a b. refl) at distinct n inputs (0, 0) 65536 (padding_height (box_in at inputs n)) ((box_in at inputs n).border.top) ((reach_of at view n).1) (ap (λ r. r.1) (reach_is at view inputs n is))
+returns-clause-down c at view inputs n is =
+    in_reach at view n _ _ (λ d below. (flat_place at view d).1 +ℤ pos (border_height (box_in at below d)) -ℤ (moved (flat_place at view n) (border_corner (at n).item)).1)
+    (attained
+    at
+    view
+    (moved (flat_place at view n) (border_corner (at n).item))
+    (padding_size (box_in at inputs n))
+    (reached_by at view n)
+    (λ p. p.1)
+    (λ a b. refl)
+    ((size_within at view (moved (flat_place at view n) (border_corner (at n).item)) (padding_size (box_in at inputs n)) (reached_by at view n)).1)
+    (λ d below. (flat_place at view d).1 +ℤ pos (border_height (box_in at below d)) -ℤ (moved (flat_place at view n) (border_corner (at n).item)).1)
+    (λ d. refl)
+    (λ d below. refl)
+    ((reach_of at view n).1)
+    (ap (λ p. p.1) (reach_is at view inputs n is)))
 
 pub returns-clause-nothing : goal.returns-clause-nothing
-returns-clause-nothing c at view is = view_none at view is
+returns-clause-nothing c at view is = view_alone at view is
 
 pub returns-clause-view_across : goal.returns-clause-view_across
-returns-clause-view_across c at distinct view root is top shown =
-    view_met (λ p. p.0) refl (λ a b. refl) at distinct root (view_inputs view) (margin_corner (view_inputs view) ((at root).item)) 65535 (view.width) ((margin_corner (view_inputs view) ((at root).item)).0 + border_width (box_in at (view_inputs view) root)) ((reach_of_view at view).0) (ap (λ r. r.0) (view_is at view root is shown (root_open at root top)))
+returns-clause-view_across c at view =
+    in_view at view _ _ (λ d below. (flat_place at view d).0 +ℤ pos (border_width (box_in at below d)))
+    (attained
+    at
+    view
+    (pos 0, pos 0)
+    (view_size view)
+    (reached_by_view at view)
+    (λ p. p.0)
+    (λ a b. refl)
+    ((size_within at view (pos 0, pos 0) (view_size view) (reached_by_view at view)).0)
+    (λ d below. (flat_place at view d).0 +ℤ pos (border_width (box_in at below d)) -ℤ pos 0)
+    (λ d. refl)
+    (λ d below. refl)
+    ((reach_of_view at view).0)
+    (ap (λ p. p.0) (view_is at view)))
 
 pub returns-clause-view_down : goal.returns-clause-view_down
-returns-clause-view_down c at distinct view root is top shown =
-    view_met (λ p. p.1) refl (λ a b. refl) at distinct root (view_inputs view) (margin_corner (view_inputs view) ((at root).item)) 65535 (view.height) ((margin_corner (view_inputs view) ((at root).item)).1 + border_height (box_in at (view_inputs view) root)) ((reach_of_view at view).1) (ap (λ r. r.1) (view_is at view root is shown (root_open at root top)))
+returns-clause-view_down c at view =
+    in_view at view _ _ (λ d below. (flat_place at view d).1 +ℤ pos (border_height (box_in at below d)))
+    (attained
+    at
+    view
+    (pos 0, pos 0)
+    (view_size view)
+    (reached_by_view at view)
+    (λ p. p.1)
+    (λ a b. refl)
+    ((size_within at view (pos 0, pos 0) (view_size view) (reached_by_view at view)).1)
+    (λ d below. (flat_place at view d).1 +ℤ pos (border_height (box_in at below d)) -ℤ pos 0)
+    (λ d. refl)
+    (λ d below. refl)
+    ((reach_of_view at view).1)
+    (ap (λ p. p.1) (view_is at view)))

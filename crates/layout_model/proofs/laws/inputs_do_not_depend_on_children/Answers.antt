@@ -1,7 +1,7 @@
 use Rattle.std.proofs.Common.{refl}
 use Rattle.px_units.specs.Lengths.{cap, part}
 use Rattle.layout_model.specs.Boxes.{child_inputs, computed}
-use Rattle.layout_model.proofs.Handed.{handed_height}
+use Rattle.layout_model.proofs.Handed.{handed_height, handed_between, none_handed}
 use Rattle.layout_model.proofs.laws.inputs_do_not_depend_on_children.Goals as goal
 
 pub returns-clause-width : goal.returns-clause-width
@@ -15,9 +15,14 @@ pub returns-clause-percentage : goal.returns-clause-percentage
 returns-clause-percentage c item inputs inside hundredths basis is given = handed_height item inputs inside (cap (part hundredths basis)) (rw (is, given))
 
 pub returns-clause-indefinite : goal.returns-clause-indefinite
-unfolding child_inputs computed
-returns-clause-indefinite c item inputs hundredths is none = rw (is, none)
+returns-clause-indefinite c item inputs hundredths is none loose = none_handed item inputs (rw (is, none)) loose
 
 pub returns-clause-automatic : goal.returns-clause-automatic
+returns-clause-automatic c item inputs is loose = none_handed item inputs (rw is) loose
+
+pub returns-clause-stretched : goal.returns-clause-stretched
+returns-clause-stretched c item inputs inside block is stretched = handed_between item inputs inside block stretched
+
+pub returns-clause-flow : goal.returns-clause-flow
 unfolding child_inputs computed
-returns-clause-automatic c item inputs is = rw is
+returns-clause-flow c item inputs = refl

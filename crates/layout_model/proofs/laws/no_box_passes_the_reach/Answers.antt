@@ -1,20 +1,36 @@
-use Rattle.std.proofs.Common.{arith}
-use Rattle.layout_model.specs.Boxes.{box_in, border_size}
-use Rattle.layout_model.specs.Points.{plus}
-use Rattle.layout_model.specs.Reach.{reach_of, inputs_in_view, view_inputs, margin_corner}
-use Rattle.layout_model.proofs.Paths.{depth_least}
-use Rattle.layout_model.proofs.Reaches.{edge_far, own_under, inside_under, then_under, reach_found, view_found, root_open}
+use Rattle.std.proofs.Common.{◌≡◌, ap, ◌∙◌, arith}
+use Rattle.std.proofs.lemmas.Int.{ints}
+use Rattle.std.specs.Prelude.{ℤ, pos, ◌+ℤ◌, ◌-ℤ◌}
+use Rattle.px_units.specs.Lengths.{at_least_zero}
+use Rattle.layout_model.specs.Boxes.{box_in, border_width, border_height, padding_size}
+use Rattle.layout_model.specs.Points.{moved}
+use Rattle.layout_model.specs.Views.{view_size}
+use Rattle.layout_model.specs.FlatPlaces.{flat_place, border_corner}
+use Rattle.layout_model.specs.Reach.{edges_with, reached_by, reached_by_view}
+use Rattle.layout_model.proofs.Farthest.{edges_within}
+use Rattle.layout_model.proofs.Reaches.{reach_is, view_is, capped_order, reached, reached_in_view, edge_within}
 use Rattle.layout_model.proofs.laws.no_box_passes_the_reach.Goals as goal
 
-pub returns-clause-element : goal.returns-clause-element
-unfolding reach_of
-returns-clause-element c at linked shallow view inputs n is d corner below inside =
-    reach_found at n inputs (inputs_in_view at view n) (plus corner (border_size (box_in at below d))) is (edge_far at linked shallow 65535 n (omega arith) inputs (0, 0) d corner below inside)
+pub returns-clause-across : goal.returns-clause-across
+returns-clause-across c at listed shallow view inputs below n d is found clipped small =
+    let corner : ℤ × ℤ = moved (flat_place at view n) (border_corner ((at n).item)) in
+    let all = capped_order _ _ _ (edges_within at view corner (padding_size (box_in at inputs n)) (reached_by at view n) d (reached at listed shallow view below n d found clipped)) (reach_is at view inputs n is) in
+    edge_within _ _ _ (ap (λ i. (edges_with at view corner d i).0) found) (all.0) small
 
-pub returns-clause-root : goal.returns-clause-root
-returns-clause-root c at view root is shown =
-    view_found at view root _ is shown (own_under at 65535 root (view_inputs view) (margin_corner (view_inputs view) ((at root).item)))
+pub returns-clause-down : goal.returns-clause-down
+returns-clause-down c at listed shallow view inputs below n d is found clipped small =
+    let corner : ℤ × ℤ = moved (flat_place at view n) (border_corner ((at n).item)) in
+    let all = capped_order _ _ _ (edges_within at view corner (padding_size (box_in at inputs n)) (reached_by at view n) d (reached at listed shallow view below n d found clipped)) (reach_is at view inputs n is) in
+    edge_within _ _ _ (ap (λ i. (edges_with at view corner d i).1) found) (all.1) small
 
-pub returns-clause-viewport : goal.returns-clause-viewport
-returns-clause-viewport c at linked shallow view root is top shown d corner below inside =
-    view_found at view root (plus corner (border_size (box_in at below d))) is shown (then_under _ _ _ (edge_far at linked shallow 65534 root (omega (arith, depth_least at root)) (view_inputs view) _ d corner below inside) (inside_under at 65535 root (view_inputs view) _ (root_open at root top)))
+pub returns-clause-view_across : goal.returns-clause-view_across
+returns-clause-view_across c at listed shallow view below d found clipped off small =
+    let all = capped_order _ _ _ (edges_within at view (pos 0, pos 0) (view_size view) (reached_by_view at view) d (reached_in_view at listed shallow view below d found clipped off)) (view_is at view) in
+    let same : (flat_place at view d).0 +ℤ pos (border_width (box_in at below d)) -ℤ pos 0 ≡ (flat_place at view d).0 +ℤ pos (border_width (box_in at below d)) = omega (arith, ints) in
+    edge_within _ _ _ (ap (λ i. (edges_with at view (pos 0, pos 0) d i).0) found ∙ ap at_least_zero same) (all.0) small
+
+pub returns-clause-view_down : goal.returns-clause-view_down
+returns-clause-view_down c at listed shallow view below d found clipped off small =
+    let all = capped_order _ _ _ (edges_within at view (pos 0, pos 0) (view_size view) (reached_by_view at view) d (reached_in_view at listed shallow view below d found clipped off)) (view_is at view) in
+    let same : (flat_place at view d).1 +ℤ pos (border_height (box_in at below d)) -ℤ pos 0 ≡ (flat_place at view d).1 +ℤ pos (border_height (box_in at below d)) = omega (arith, ints) in
+    edge_within _ _ _ (ap (λ i. (edges_with at view (pos 0, pos 0) d i).1) found ∙ ap at_least_zero same) (all.1) small

@@ -6,11 +6,11 @@ use Rattle.layout_model.proofs.laws.offsets_come_from_boxes.Goals as goal
 
 pub returns-clause-across : goal.returns-clause-across
 unfolding box_in
-returns-clause-across c at view inputs n p is found = ap (λ offset. offset.0) (offset_found at view inputs n p is found) ∙ ap cap (omega arith)
+returns-clause-across c at view inputs own n p is found found_own = ap (λ offset. offset.0) (offset_found at view inputs own n p is found found_own) ∙ ap cap (omega arith)
 
 pub returns-clause-down : goal.returns-clause-down
 unfolding box_in
-returns-clause-down c at view inputs n p is found = ap (λ offset. offset.1) (offset_found at view inputs n p is found)
+returns-clause-down c at view inputs own n p is found found_own = ap (λ offset. offset.1) (offset_found at view inputs own n p is found found_own)
 
 pub returns-clause-root : goal.returns-clause-root
 unfolding box_in

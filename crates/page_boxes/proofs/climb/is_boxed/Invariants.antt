@@ -1,6 +1,6 @@
 use Rattle.std.proofs.Common.{◌≡◌, ◌<◌, length, option_map}
 use Rattle.std.specs.Prelude.{is_some}
-use Rattle.layout_model.specs.Reach.{View, inputs_in_view}
+use Rattle.layout_model.specs.Views.{View, inputs_in_view}
 use Rattle.element_tree.specs.Forest.{depth}
 use Rattle.element_tree.specs.Links.{number}
 use Rattle.block_layout.specs.Trees.{layout_tree}

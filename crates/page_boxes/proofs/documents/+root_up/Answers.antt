@@ -1,6 +1,6 @@
 use Rattle.std.proofs.Common.{◌-◌, option_map, ap, sym, ◌∙◌, arith}
 use Rattle.std.specs.Prelude.{is_some}
-use Rattle.layout_model.specs.Reach.{View, inputs_in_view}
+use Rattle.layout_model.specs.Views.{View, inputs_in_view}
 use Rattle.page_model.specs.Documents.{nodes_of}
 use Rattle.page_model.specs.PageBoxes.{view_up}
 use Rattle.element_tree.specs.Links.{number}

@@ -1,6 +1,6 @@
 use Rattle.std.proofs.Common.{ap, sym, ◌∙◌}
 use Rattle.std.specs.Prelude.{is_some}
-use Rattle.layout_model.specs.Reach.{inputs_in_view}
+use Rattle.layout_model.specs.Views.{inputs_in_view}
 use Rattle.page_model.specs.PageBoxes.{view_at}
 use Rattle.page_boxes.proofs.Pages.{absent_no_box, boxed_is}
 use Rattle.page_boxes.proofs.documents.has_box_below.Goals as goal

@@ -1,5 +1,5 @@
 use Rattle.std.proofs.Common.{ap, ◌∙◌}
-use Rattle.layout_model.specs.Reach.{View}
+use Rattle.layout_model.specs.Views.{View}
 use Rattle.page_boxes.proofs.Views.{view_whole}
 use Rattle.page_boxes.proofs.documents.shown_root.Goals as goal
 

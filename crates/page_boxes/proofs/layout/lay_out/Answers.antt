@@ -1,11 +1,8 @@
-use Rattle.std.proofs.Common.{None, option_map, refl, ap, sym, subst, ◌∙◌, arith}
+use Rattle.std.proofs.Common.{None, option_map, refl, ap, sym, ◌∙◌, arith}
 use Rattle.element_tree.specs.Links.{number}
-use Rattle.layout_model.specs.Nodes.{depth_of}
 use Rattle.page_model.specs.Lookups.{document_at}
 use Rattle.layout_model.specs.Boxes.{inputs_in}
-use Rattle.page_model.specs.Documents.{nodes_of}
 use Rattle.page_model.specs.PageBoxes.{framed_size, view_of, inputs_of}
-use Rattle.block_layout.specs.Filling.{GoesDown}
 use Rattle.block_layout.specs.Seen.{seen_inputs}
 use Rattle.block_layout.specs.Trees.{layout_tree}
 use Rattle.block_layout.proofs.Nodes.{parent_is}
@@ -15,7 +12,7 @@ use Rattle.page_tree.specs.Items.{style_in, kind_in}
 use Rattle.page_boxes.specs.Pages.{seen_screen, seen_pair}
 use Rattle.page_boxes.proofs.Pages.{count_here}
 use Rattle.page_boxes.proofs.Undue.{fills_none, fills_fresh}
-use Rattle.page_boxes.proofs.Renewed.{no_root, rootless_here, rootless_laid_out, inputs_go_down, laid_out_here, others_here, kept_here, inputs_on_root, ready_before}
+use Rattle.page_boxes.proofs.Renewed.{no_root, rootless_here, rootless_laid_out, laid_out_here, others_here, kept_here, inputs_inside, ready_before}
 use Rattle.page_boxes.proofs.layout.lay_out.Goals as goal
 
 -- a document that shows nothing
@@ -62,7 +59,7 @@ returns-clause-laid_out g c =
     let ready = ready_before tree framed screen c.args.document c.requires.active pair shown at c.tree.ensures.nodes c.in-Some.root.0 rooted
     c.args.boxes.now c.requires.kept in
     laid_out_here tree framed screen c.args.document c.requires.active pair shown at c.tree.ensures.nodes c.in-Some.root.0 rooted
-    _ c.root_inputs.ensures c.refresh.new.self (c.refresh.ensures.fresh ready) (c.refresh.ensures.done ready)
+    _ c.root_inputs.ensures.seen c.refresh.new.self (c.refresh.ensures.fresh ready) (c.refresh.ensures.done ready)
 
 pub returns-clause-others : goal.returns-clause-others
 returns-clause-others g c =
@@ -74,7 +71,7 @@ returns-clause-others g c =
     let at = layout_tree style_in kind_in c.tree.result.now.nodes in
     let rooted = sym c.root.ensures.value ∙ ap (option_map number) c.in-Some.is in
     others_here tree framed screen c.args.document c.requires.active pair shown at c.tree.ensures.nodes c.in-Some.root.0 rooted
-    _ c.root_inputs.ensures c.args.boxes.now c.refresh.new.self c.refresh.ensures.others
+    _ c.root_inputs.ensures.seen c.args.boxes.now c.refresh.new.self c.refresh.ensures.others
 
 pub returns-clause-kept : goal.returns-clause-kept
 returns-clause-kept g c =
@@ -88,7 +85,7 @@ returns-clause-kept g c =
     let ready = ready_before tree framed screen c.args.document c.requires.active pair shown at c.tree.ensures.nodes c.in-Some.root.0 rooted
     c.args.boxes.now c.requires.kept in
     kept_here tree framed screen c.args.document c.requires.active pair shown at c.tree.ensures.nodes c.in-Some.root.0 rooted
-    _ c.root_inputs.ensures c.args.boxes.now c.refresh.new.self c.refresh.ensures.others c.requires.kept c.refresh.ensures.slots (c.refresh.ensures.ready ready)
+    _ c.root_inputs.ensures.seen c.args.boxes.now c.refresh.new.self c.refresh.ensures.others c.requires.kept c.refresh.ensures.slots (c.refresh.ensures.ready ready)
 
 pub returns-clause-ticks : goal.returns-clause-ticks
 returns-clause-ticks g c =
@@ -101,10 +98,8 @@ returns-clause-ticks g c =
     let rooted = sym c.root.ensures.value ∙ ap (option_map number) c.in-Some.is in
     let ready = ready_before tree framed screen c.args.document c.requires.active pair shown at c.tree.ensures.nodes c.in-Some.root.0 rooted
     c.args.boxes.now c.requires.kept in
-    let paid = c.refresh.ensures.paid ready.slots (inputs_of tree screen)
-    (subst (λ at. GoesDown at (depth_of at c.in-Some.root.0) (inputs_of tree screen)) c.tree.ensures.nodes
-    (inputs_go_down tree framed screen (depth_of (nodes_of tree) c.in-Some.root.0)))
-    (inputs_on_root tree framed screen c.args.document c.requires.active pair shown at c.tree.ensures.nodes c.in-Some.root.0 rooted _ c.root_inputs.ensures) in
+    let paid = c.refresh.ensures.paid ready (inputs_of tree screen)
+    (inputs_inside tree framed screen c.args.document c.requires.active pair shown at c.tree.ensures.nodes c.in-Some.root.0 rooted _ c.root_inputs.ensures.seen) in
     let same = ap (due_count_with (inputs_of tree screen) (slot_in c.refresh.new.self)) c.refresh.ensures.slots in
     omega (arith, paid, same)
 

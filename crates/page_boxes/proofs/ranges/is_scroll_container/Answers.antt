@@ -12,12 +12,12 @@ returns-then-not-has_kids g c =
 pub returns-then-not-is_scrollable : goal.returns-then-not-is_scrollable
 returns-then-not-is_scrollable g c =
     unscrollable g.P.Styled.style g.P.Styled.kind c.args.tree.now.nodes (c.args.node.0) _ c.payload.ensures.value c.is_scrollable.result
-    (c.is_scrollable.ensures ∙ ap (λ style. not (is_visible (style.overflow)) && not (is_clip (style.overflow))) c.style.ensures) c.if-not-is_scrollable.true
+    (c.is_scrollable.ensures ∙ ap (λ style. not (is_visible (style.overflow)) && not (is_clip (style.overflow))) c.style.ensures.value) c.if-not-is_scrollable.true
 
 pub returns : goal.returns
 returns g c =
     sym (ap (λ b. b && c.is_scrollable.result && c.is_some.result) c.if-not-has_kids.false ∙ ap (λ b. b && c.is_some.result) c.if-not-is_scrollable.false)
     ∙ container_is g.P.Styled.style g.P.Styled.kind c.args.tree.now.nodes (c.args.node.0) _ c.payload.ensures.value
     c.has_kids.result c.is_scrollable.result c.is_some.result c.has_kids.ensures
-    (c.is_scrollable.ensures ∙ ap (λ style. not (is_visible (style.overflow)) && not (is_clip (style.overflow))) c.style.ensures)
+    (c.is_scrollable.ensures ∙ ap (λ style. not (is_visible (style.overflow)) && not (is_clip (style.overflow))) c.style.ensures.value)
     c.parent.result c.parent.ensures.value c.is_some.ensures

@@ -1,11 +1,12 @@
-use Rattle.std.proofs.Common.{◌≡◌, ◌∙◌, ap, refl, sym, subst, List, ℕ, [], ◌∷◌}
+use Rattle.std.proofs.Common.{◌∙◌, ap, refl, sym, subst, List, ℕ, [], ◌∷◌}
 use Rattle.std.specs.Io.KnownBytes.{Appends}
 use Rattle.script_model.specs.Reading.{SyntaxAt, LimitAt, reading}
 use Rattle.script_model.specs.TraceLines.{LimitLine}
 use Rattle.trace_runs.specs.Writes.{Wrote}
+use Rattle.stream_runs.specs.Alone.{IsOneLine}
 use Rattle.stream_runs.specs.StreamRuns.{named_text}
 use Rattle.trace_runs.proofs.Writes.{nothing}
-use Rattle.replay_run.proofs.SideBySide.{then_wrote, refused_none, refused_one}
+use Rattle.replay_run.proofs.SideBySide.{on_ok, refused_fit, unrefused_fit, then_wrote, refused_none, refused_one}
 use Rattle.replay_run.proofs.side_by_side.open_page.Goals as goal
 
 pub returns-in-Ok-clause-wrote : goal.returns-in-Ok-clause-wrote
@@ -26,3 +27,18 @@ returns-in-Err-ScriptLimit-clause-wrote g c =
     (g.K.Sink.faults c.refuse_page-in-Err-ScriptLimit.new.sink) text)
     (ap (λ (number : ℕ). named_text c.args.name (LimitLine c.in-Err-ScriptLimit.kind c.in-Err-ScriptLimit.line number ∷ [])) c.common.ensures
     ∙ refused_one c.args.name (reading c.args.text) (LimitAt c.in-Err-ScriptLimit.kind c.in-Err-ScriptLimit.line) read) c.refuse_page-in-Err-ScriptLimit.ensures.wrote
+
+pub returns-in-Ok-clause-lines : goal.returns-in-Ok-clause-lines
+returns-in-Ok-clause-lines g c = on_ok c.add_page.result (unrefused_fit (reading c.args.text) _ c.in-Ok.ensures)
+
+pub returns-in-Err-Syntax-clause-lines : goal.returns-in-Err-Syntax-clause-lines
+returns-in-Err-Syntax-clause-lines g c =
+    let read = rw c.in-Err-Syntax.field-0-is at c.in-Err-Syntax.ensures in
+    on_ok c.refuse_page.result (refused_fit (reading c.args.text) (SyntaxAt c.in-Err-Syntax.line c.in-Err-Syntax.column) read c.ends_once.ensures)
+
+pub returns-in-Err-ScriptLimit-clause-lines : goal.returns-in-Err-ScriptLimit-clause-lines
+returns-in-Err-ScriptLimit-clause-lines g c =
+    let read = rw c.in-Err-ScriptLimit.field-0-is at c.in-Err-ScriptLimit.ensures in
+    on_ok c.refuse_page-in-Err-ScriptLimit.result
+    (refused_fit (reading c.args.text) (LimitAt c.in-Err-ScriptLimit.kind c.in-Err-ScriptLimit.line) read
+    (subst (λ (number : ℕ). IsOneLine (LimitLine c.in-Err-ScriptLimit.kind c.in-Err-ScriptLimit.line number)) c.common.ensures c.ends_once-in-Err-ScriptLimit.ensures))

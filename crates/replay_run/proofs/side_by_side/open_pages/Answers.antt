@@ -1,14 +1,16 @@
-use Rattle.std.proofs.Common.{◌≡◌, ◌<◌, ◌≤◌, ◌∙◌, ap, refl, sym, subst, List, ℕ, [], ◌∷◌, ◌++◌, length, map, get_or, arith}
+use Rattle.std.proofs.Common.{◌≡◌, ◌<◌, ◌≤◌, ◌∙◌, ap, refl, subst, List, ℕ, [], ◌∷◌, ◌++◌, length, map, get_or, arith}
 use Rattle.std.specs.Prelude.{Err}
 use Rattle.std.specs.Io.KnownBytes.{Appends}
+use Rattle.std.specs.List.{All}
 use Rattle.script_model.specs.Reading.{Reading}
 use Rattle.trace_runs.specs.declared.faults.RunFault.TheVariants.{Memory}
 use Rattle.trace_runs.specs.Writes.{Wrote}
-use Rattle.stream_runs.specs.PageRuns.{opened}
+use Rattle.stream_runs.specs.Alone.{IsOneLine}
+use Rattle.stream_runs.specs.PageRuns.{opened, refused_lines}
 use Rattle.stream_runs.specs.StreamRuns.{refused_text}
 use Rattle.replay_run.specs.StreamPages.{seen_page}
 use Rattle.page_stream.specs.Pages.{pages_of}
-use Rattle.replay_run.proofs.SideBySide.{opening_none, opening_more, opening_cut, opening_end, memory_cut}
+use Rattle.replay_run.proofs.SideBySide.{opening_none, opening_more, opening_cut, opening_end, opening_fit, memory_cut}
 use Rattle.replay_run.proofs.side_by_side.open_pages.Goals as goal
 
 pub loop-place-init : goal.loop-place-init
@@ -39,7 +41,7 @@ loop-place-preserved g c =
     c.index-names-place.is ∙ ap (λ (names : List (List ℕ)). get_or names c.loop-place.place c.index-names-place.result) c.pages-names.ensures in
     opening_more c.index-names-place.result c.index-names-place.result c.loop-place.invariant inside is
     (subst (λ (read : Reading). Appends (g.K.Sink.taken c.loop-place.sink) (g.K.Sink.taken c.open_page.new.sink) (refused_text (record { name = c.index-names-place.result; read = read }))) c.in-Ok.ensures.text c.in_default.ensures.wrote.0)
-    c.in_default.ensures.wrote.1
+    c.in_default.ensures.wrote.1 (subst (λ (read : Reading). All IsOneLine (refused_lines read)) c.in-Ok.ensures.text c.in_default.ensures.lines)
     (c.in_default.ensures.pages ∙ ap (λ (read : Reading). map seen_page c.loop-place.pages.items ++ (opened (record { name = c.index-names-place.result; read = read }) ∷ [])) c.in-Ok.ensures.text)
     (c.in_default.ensures.ready c.loop-place.invariant.ready)
 
@@ -54,3 +56,9 @@ returns-clause-pages g c =
     let long = ap length c.pages-names.ensures in
     let past : length (pages_of c.args.stream.now) ≤ c.loop-place.place = omega arith in
     (opening_end (tt {0}) c.loop-place.invariant past).1
+
+pub returns-clause-lines : goal.returns-clause-lines
+returns-clause-lines g c =
+    let long = ap length c.pages-names.ensures in
+    let past : length (pages_of c.args.stream.now) ≤ c.loop-place.place = omega arith in
+    opening_fit c.loop-place.invariant past

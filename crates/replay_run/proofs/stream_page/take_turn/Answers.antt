@@ -1,10 +1,14 @@
-use Rattle.std.proofs.Common.{◌≡◌, ◌∙◌, refl, sym, ap, subst, ℕ, List, [], false}
-use Rattle.std.proofs.Common.{rules}
+use Rattle.std.proofs.Common.{◌≡◌, ◌∙◌, refl, sym, ap, subst, ℕ, List, false}
 use Rattle.std.specs.Io.KnownBytes.{Appends}
+use Rattle.std.specs.List.{All}
+use Rattle.std.proofs.lemmas.List.Elements.{All-nil, All-weaker}
+use Rattle.trace_text.specs.Ranges.{IsLine}
 use Rattle.trace_runs.proofs.Writes.{nothing}
-use Rattle.stream_runs.specs.PageRuns.{Turn, PageRun, turn_at}
+use Rattle.stream_runs.specs.Alone.{IsOneLine}
+use Rattle.stream_runs.specs.PageRuns.{Turn, PageRun}
 use Rattle.stream_runs.specs.StreamRuns.{named_text}
-use Rattle.replay_run.specs.StreamPages.{begins, seen_standing}
+use Rattle.replay_run.specs.StreamPages.{begins}
+use Rattle.replay_run.proofs.SideBySide.{on_ok}
 use Rattle.replay_run.proofs.Turning.{turn_passed}
 use Rattle.replay_run.proofs.NamedLines.{named_nothing}
 use Rattle.replay_run.proofs.stream_page.take_turn.Goals as goal
@@ -24,3 +28,12 @@ returns-then-not-next_begins-clause-page g c =
     let passes = turn_passed c.args.line c.args.page.now.progress c.args.page.now.script.items c.args.page.now.next c.args.page.now.page.world not_there in
     let named : Turn → PageRun = λ turn. record { name = c.args.page.now.name; standing = turn.standing } in
     ap named (sym passes)
+
+pub returns-then-not-next_begins-clause-lines : goal.returns-then-not-next_begins-clause-lines
+returns-then-not-next_begins-clause-lines g c =
+    let not_there : begins c.args.line c.args.page.now.progress c.args.page.now.script.items c.args.page.now.next ≡ false = sym c.next_begins.ensures ∙ c.if-not-next_begins.true in
+    let passes = turn_passed c.args.line c.args.page.now.progress c.args.page.now.script.items c.args.page.now.next c.args.page.now.page.world not_there in
+    subst (λ (turn : Turn). All IsOneLine turn.lines) (sym passes) (All-nil IsOneLine)
+
+pub returns-in-Ok-clause-lines : goal.returns-in-Ok-clause-lines
+returns-in-Ok-clause-lines g c = on_ok c.write_named.result (All-weaker IsLine IsOneLine c.line_ends_once.ensures _ c.in-Ok.ensures.lines.fit)

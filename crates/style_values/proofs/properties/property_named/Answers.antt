@@ -1,14 +1,17 @@
-use Rattle.std.proofs.Common.{◌≡◌, ap, ◌∙◌, refl, List, ℕ}
-use Rattle.std.specs.Prelude.{option_map}
+use Rattle.std.proofs.Common.{◌∙◌, sym}
 use Rattle.script_model.specs.Keywords.{lookup}
-use Rattle.script_model.specs.Properties.{properties, property_of}
+use Rattle.script_model.specs.Properties.{properties, positioned_properties}
+use Rattle.script_model.proofs.Named.{of_second}
 use Rattle.style_values.specs.Properties.{reader_of}
-use Rattle.style_values.proofs.Tables.{mapped}
+use Rattle.style_values.proofs.Named.{either_some, either_none}
 use Rattle.style_values.proofs.properties.property_named.Goals as goal
 
-is_lookup : (name : List ℕ) → lookup properties name ≡ property_of name
-unfolding property_of
-is_lookup name = refl
+pub returns-in-Some : goal.returns-in-Some
+returns-in-Some c =
+    either_some reader_of c.in-Some.property (lookup positioned_properties c.args.name.now) (lookup properties c.args.name.now) c.in-Some.ensures
+    ∙ sym (of_second c.args.name.now)
 
-pub returns : goal.returns
-returns c = ap (option_map reader_of) c.find.ensures ∙ mapped reader_of _ c.args.name.now ∙ is_lookup c.args.name.now
+pub returns-in-None : goal.returns-in-None
+returns-in-None c =
+    either_none reader_of c.unpositioned.result (lookup positioned_properties c.args.name.now) (lookup properties c.args.name.now) c.in-None.ensures c.unpositioned.ensures
+    ∙ sym (of_second c.args.name.now)

@@ -1,6 +1,7 @@
 use Rattle.std.proofs.Common.{ap, sym, subst, ◌∙◌, arith}
 use Rattle.std.specs.Prelude.{is_some}
-use Rattle.layout_model.specs.Reach.{inputs_in_view, offset_in_force}
+use Rattle.layout_model.specs.Views.{inputs_in_view}
+use Rattle.layout_model.specs.Reach.{offset_in_force}
 use Rattle.page_model.specs.Lookups.{element_at}
 use Rattle.page_model.specs.PageBoxes.{view_at, stored_in}
 use Rattle.block_layout.specs.Seen.{as_point}
@@ -22,7 +23,7 @@ returns-then-has_box-clause-value c =
     let nodes = c.elements.ensures.nodes in
     let there = sym c.has_box.ensures ∙ c.if-has_box.true in
     let boxed = sym (ap (λ at. is_some (inputs_in_view at view n)) nodes) ∙ sym (boxed_is it.tree it.screen n) ∙ there in
-    c.boxed_offset.ensures.value view (subst (λ at. HoldsAll at view c.boxes.result.now) nodes (c.boxes.ensures.documents (element_at it.tree n).document)) boxed
+    c.boxed_offset.ensures.value view (c.boxes.ensures.sized (element_at it.tree n).document) (subst (λ at. HoldsAll at view c.boxes.result.now) nodes (c.boxes.ensures.fresh.documents (element_at it.tree n).document)) boxed
     ∙ (λ i. as_point (offset_in_force (sym nodes i) (stored_in (c.scrolls.ensures i)) view n))
     ∙ ap as_point (element_offset it.tree it.screen it.scrolls n there)
 

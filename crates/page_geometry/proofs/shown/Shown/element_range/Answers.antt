@@ -1,7 +1,8 @@
 use Rattle.std.proofs.Common.{ap, sym, subst, ◌∙◌, arith, cond}
 use Rattle.std.specs.Prelude.{is_some}
 use Rattle.layout_model.specs.Clips.{is_scroll_container}
-use Rattle.layout_model.specs.Reach.{inputs_in_view, range_of}
+use Rattle.layout_model.specs.Views.{inputs_in_view}
+use Rattle.layout_model.specs.Reach.{range_of}
 use Rattle.page_model.specs.PageBoxes.{view_at}
 use Rattle.page_model.specs.Lookups.{element_at}
 use Rattle.block_layout.specs.Seen.{as_size}
@@ -23,7 +24,7 @@ returns-then-has_box-clause-value c =
     let nodes = c.elements.ensures.nodes in
     let there = sym c.has_box.ensures ∙ c.if-has_box.true in
     let boxed = sym (ap (λ at. is_some (inputs_in_view at view n)) nodes) ∙ sym (boxed_is it.tree it.screen n) ∙ there in
-    c.boxed_range.ensures.value view (subst (λ at. HoldsAll at view c.boxes.result.now) nodes (c.boxes.ensures.documents (element_at it.tree n).document)) boxed
+    c.boxed_range.ensures.value view (c.boxes.ensures.sized (element_at it.tree n).document) (subst (λ at. HoldsAll at view c.boxes.result.now) nodes (c.boxes.ensures.fresh.documents (element_at it.tree n).document)) boxed
     ∙ ap (λ at. as_size (cond (is_scroll_container (at n)) (range_of at view n) (0, 0))) (sym nodes)
     ∙ ap as_size (element_range it.tree it.screen n there)
 

@@ -1,7 +1,8 @@
 use Rattle.std.proofs.Common.{ap, sym, subst, ◌∙◌}
 use Rattle.std.specs.Prelude.{is_some}
+use Rattle.layout_model.specs.Views.{inputs_in_view}
+use Rattle.layout_model.specs.Reach.{view_in_force}
 use Rattle.layout_model.specs.Places.{place_in}
-use Rattle.layout_model.specs.Reach.{inputs_in_view, view_in_force}
 use Rattle.page_model.specs.World.{ScrolledDocument}
 use Rattle.page_model.specs.Lookups.{element_at}
 use Rattle.page_model.specs.Scrolls.{position_of}
@@ -27,12 +28,12 @@ returns-clause-value c =
     let nodes = c.elements.ensures.nodes in
     let there = sym c.has_box.ensures ∙ c.if-not-has_box.false in
     let boxed = sym (ap (λ at. is_some (inputs_in_view at view n)) nodes) ∙ sym (boxed_is it.tree it.screen n) ∙ there in
-    let holds = subst (λ at. HoldsAll at view c.boxes.result.now) nodes (c.boxes.ensures.documents own) in
+    let holds = subst (λ at. HoldsAll at view c.boxes.result.now) nodes (c.boxes.ensures.fresh.documents own) in
     let forced =
     c.view_offset-view.ensures.value
     ∙ ap (λ document. as_point (pair_of (scroll_offset it.tree it.screen it.scrolls (ScrolledDocument document)))) c.document_of.ensures
     ∙ ap as_point (sym (document_offset it.tree it.screen it.scrolls own))
     ∙ ap (λ at. as_point (view_in_force at (record view { scrolled = stored }))) nodes in
-    c.place_in.ensures.value view stored holds boxed forced
+    c.place_in.ensures.value view stored (c.boxes.ensures.sized own) holds boxed forced
     ∙ (λ i. point_of (place_in (sym nodes i) (stored_in (c.scrolls.ensures i)) (record view { scrolled = stored }) n))
     ∙ place_there it.tree it.screen it.scrolls n there

@@ -26,7 +26,7 @@ returns-in-Some-clause-value c =
     view_within it.tree it.screen it.scrolls c.args.document (as_size (range_of_view _ view)) c.shown_offset.result
     (ap (λ at. as_size (range_of_view at view)) (sym nodes) ∙ ap as_size (view_range it.tree it.screen c.args.document))
     (c.shown_offset.ensures.value (sym (ap (λ at. (at (c.in-Some.shown.root.0)).parent) nodes) ∙ c.in-Some.ensures.top) view c.in-Some.ensures.shown
-    (subst (λ at. HoldsAll at view c.boxes.result.now) nodes (c.boxes.ensures.documents c.args.document))
+    (subst (λ at. HoldsAll at view c.boxes.result.now) nodes (c.boxes.ensures.fresh.documents c.args.document))
     ∙ ap (λ scrolls. point_of (lesser_extent (position_of (ScrolledDocument c.args.document) scrolls) (extent_of (range_of_view (layout_tree style_in kind_in c.elements.result.now.nodes) view)))) c.scrolls-in-Some.ensures)
 
 pub returns-in-None-clause-value : goal.returns-in-None-clause-value

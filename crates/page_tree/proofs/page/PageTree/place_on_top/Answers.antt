@@ -6,6 +6,7 @@ use Rattle.page_documents.specs.Held.{HeldDocuments}
 use Rattle.page_documents.specs.Seen.{seen_tree}
 use Rattle.page_documents.proofs.Adopting.{change_length}
 use Rattle.page_documents.proofs.Placing.{placing_framed}
+use Rattle.page_documents.specs.Frames.{MakeTrees}
 use Rattle.page_tree.specs.Items.{carried_in}
 use Rattle.page_tree.specs.Views.{PageElements}
 use Rattle.page_tree.proofs.Places.{removed_count, shown_count}
@@ -88,4 +89,5 @@ returns-clause-documents c =
 
 pub returns-clause-changes : goal.returns-clause-changes
 returns-clause-changes c =
-    placed_only (InDocument c.args.document) (c.args.node.0) (option_map number c.args.sibling) c.args.self.now.tree _ (returns-clause-done c)
+    placed_only (InDocument c.args.document) (c.args.node.0) (option_map number c.args.sibling) c.args.self.now.tree _
+    (subst (λ (page : PageElements). MakeTrees page.tree) c.self.view_is c.self.invariant.framed.trees) (returns-clause-done c)

@@ -2,7 +2,7 @@ use Rattle.std.proofs.Common.{ap, sym, subst, ◌∙◌, length}
 use Rattle.page_model.specs.Documents.{removed}
 use Rattle.page_documents.specs.Seen.{seen_tree}
 use Rattle.page_documents.specs.Held.{HeldDocuments}
-use Rattle.page_documents.specs.Frames.{AreFramed}
+use Rattle.page_documents.specs.Frames.{AreFramed, MakeTrees}
 use Rattle.page_documents.proofs.Removing.{removed_framed}
 use Rattle.page_tree.specs.Items.{carried_in}
 use Rattle.page_tree.specs.Views.{PageElements}
@@ -41,4 +41,6 @@ returns-clause-documents c =
     ∙ ap (λ (page : PageElements). length page.tree.documents) c.self.view_is
 
 pub returns-clause-changes : goal.returns-clause-changes
-returns-clause-changes c = subst (ChangesAtParent (c.args.node.0) c.args.self.now.tree) (sym (returns-clause-done c)) (removed_only c.args.self.now.tree (c.args.node.0))
+returns-clause-changes c =
+    subst (ChangesAtParent (c.args.node.0) c.args.self.now.tree) (sym (returns-clause-done c))
+    (removed_only c.args.self.now.tree (subst (λ (page : PageElements). MakeTrees page.tree) c.self.view_is c.self.invariant.framed.trees) (c.args.node.0))

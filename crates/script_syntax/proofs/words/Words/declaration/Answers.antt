@@ -3,8 +3,8 @@ use Rattle.script_syntax.proofs.words.Words.declaration.Goals as goal
 
 pub returns-in-Ok-clause-value : goal.returns-in-Ok-clause-value
 returns-in-Ok-clause-value c =
-    declared_ok _ _ _ _ _ _ c.in_ok-property.ensures (cc) c.in_ok-value.ensures c.in-Ok.ensures.ok
+    declared_ok c.args.version _ _ _ _ _ _ c.in_ok-property.ensures (cc) c.in_ok-value.ensures c.in-Ok.ensures.ok
 
 pub returns-in-Err-clause-value : goal.returns-in-Err-clause-value
 returns-in-Err-clause-value c =
-    declared_err _ _ _ _ _ _ c.in_ok-property.ensures (cc) c.in_ok-value.ensures c.in-Err.ensures.err
+    declared_err c.args.version _ _ _ _ _ _ c.in_ok-property.ensures (cc) c.in_ok-value.ensures c.in-Err.ensures.err

@@ -1,0 +1,167 @@
+//! What is measured of the boxes that are kept.
+
+ghost use Rattle.std.specs.Prelude.{◌≡◌, ◌<◌, ◌≤◌, ℕ, true, Some, not, option_map, unsigned_abs, length, IfSome};
+ghost use Rattle.px_units.specs.Lengths.{cap};
+ghost use Rattle.layout_model.specs.Boxes.{Inputs as InputsModel};
+ghost use Rattle.layout_model.specs.Clips.{is_block, is_visible, clips};
+ghost use Rattle.layout_model.specs.Views.{View, inputs_in_view};
+ghost use Rattle.style_values.specs.Seen.{seen_style};
+ghost use Rattle.block_layout.specs.Seen.{seen_inputs};
+ghost use Rattle.block_layout.specs.Trees.{layout_tree};
+ghost use Rattle.positioned_layout.specs.Measured.{AreMeasuresOf, AreMeasuresUp};
+ghost use Rattle.positioned_layout.specs.Seen.{seen_measure, IsMeasure, IsSpan};
+ghost use Rattle.kept_layout.specs.Fresh.{IsFresh, IsFreshPath};
+ghost use Rattle.kept_layout.specs.Measures.{IsSized, above_kept, takes_part, measured_of, measured_in};
+ghost use Rattle.kept_layout.specs.Slots.{slot_in};
+
+use crate::Kept;
+use crate::trees::is_hidden;
+use block_layout::{BoxOf, Inputs, ItemKind, Styled};
+use element_tree::{NodeId, Tree};
+use layout_model::capped;
+use positioned_layout::{Measure, Measures};
+use px_units::BoxKind;
+use style_values::{Overflow, Style};
+
+/// The boxes that are kept for a tree, as placing measures them.
+#[derive(Drop)]
+pub struct KeptMeasures<'a, P: Styled> {
+    tree: &'a Tree<P>,
+    kept: &'a Kept,
+}
+
+impl Kept {
+    /// What is measured of the boxes that are kept for a tree, for `flat_place` and `reach` of `positioned_layout`. Where each box in a
+    /// viewport is held as it is now, with the heights above it, each is measured so; and for the place of a node it is enough that its
+    /// own and those of its ancestors are. No memory.
+    pub fn measures<'a, P: Styled>(&'a self, tree: &'a Tree<P>) -> KeptMeasures<'a, P>
+        ensures tree { result.tree.now ≡ tree.now }
+        ensures kept { result.kept.now ≡ self.now }
+        ensures all { let at = layout_tree P.style P.kind tree.now.nodes in (view : View) → IsSized view →
+            ((n : ℕ) (inputs : InputsModel) → inputs_in_view at view n ≡ Some inputs → IsFresh at (slot_in self.now) n inputs) →
+            AreMeasuresOf at view (measured_in at (slot_in self.now)) }
+        ensures path { let at = layout_tree P.style P.kind tree.now.nodes in (view : View) → IsSized view → (n : ℕ) →
+            IsFreshPath at view (slot_in self.now) n → AreMeasuresUp at view n (measured_in at (slot_in self.now)) }
+    {
+        // It tells that the elements make trees.
+        tree.holds(NodeId(0));
+        KeptMeasures { tree, kept: self }
+    }
+}
+
+impl<P: Styled> Measures for KeptMeasures<'_, P> {
+    ghost use Rattle.block_layout.specs.Trees.{layout_tree};
+    ghost use Rattle.kept_layout.specs.Measures.{measured_in};
+    ghost use Rattle.kept_layout.specs.Slots.{slot_in};
+
+    ghost measured = { λ it. measured_in (layout_tree P.style P.kind it.tree.now.nodes) (slot_in it.kept.now) };
+
+    fn measure(&self, node: NodeId) -> Option<Measure> {
+        if !takes_part(self.tree, node) {
+            return None;
+        }
+        let slot = self.kept.slot_of(node);
+        let found = slot.found?;
+        let above = above(self.tree, node, slot.above);
+        let clips = is_clipping(self.tree, node);
+        Some(measure_of(&found.own, found.inputs, above, clips))
+    }
+}
+
+// Whether the children of a node may have boxes.
+fn is_block<P: Styled>(tree: &Tree<P>, node: NodeId) -> bool
+    requires { node.0 < length tree.now.nodes }
+    ensures { result ≡ is_block (layout_tree P.style P.kind tree.now.nodes node.0).item.kind }
+{
+    match tree.payload(node).kind() {
+        ItemKind::Block => true,
+        ItemKind::Image(_) | ItemKind::Frame => false,
+    }
+}
+
+// Whether a node has a box where its parent has one.
+fn takes_part<P: Styled>(tree: &Tree<P>, node: NodeId) -> bool
+    ensures value { result ≡ takes_part (layout_tree P.style P.kind tree.now.nodes) node.0 }
+    ensures known { result ≡ true → node.0 < length tree.now.nodes }
+{
+    if !tree.holds(node) {
+        return false;
+    }
+    if is_hidden(tree, node) {
+        return false;
+    }
+    match tree.parent(node) {
+        Some(parent) => is_block(tree, parent),
+        None => true,
+    }
+}
+
+// The heights that are stacked above a node, none above a root element.
+fn above<P: Styled>(tree: &Tree<P>, node: NodeId, kept: u64) -> u64
+    ensures value { result ≡ above_kept kept (layout_tree P.style P.kind tree.now.nodes node.0).parent }
+    ensures bound { result ≤ 2147483647 }
+{
+    match tree.parent(node) {
+        Some(_) => capped(kept),
+        None => 0,
+    }
+}
+
+// Whether content that doesn't fit is cut (CSS Overflow 3, 3.1).
+fn is_cut(style: &Style) -> bool
+    ensures { result ≡ not (is_visible (seen_style style.now).overflow) }
+{
+    match style.overflow {
+        Overflow::Visible => false,
+        Overflow::Hidden | Overflow::Clip | Overflow::Scroll | Overflow::Auto => true,
+    }
+}
+
+// Whether a node's box cuts its content, at its padding box.
+fn is_clipping<P: Styled>(tree: &Tree<P>, node: NodeId) -> bool
+    requires { node.0 < length tree.now.nodes }
+    ensures { result ≡ clips (layout_tree P.style P.kind tree.now.nodes node.0) }
+{
+    let item = tree.payload(node);
+    match item.kind() {
+        ItemKind::Block => is_cut(item.style()) && tree.parent(node).is_some(),
+        ItemKind::Image(_) | ItemKind::Frame => false,
+    }
+}
+
+// A length that is given, at most the largest one.
+fn span(units: i64) -> i64
+    ensures value { unsigned_abs result ≡ cap (unsigned_abs units) }
+    ensures range { IsSpan result }
+{
+    capped(units.unsigned_abs()) as i64
+}
+
+fn span_if(units: Option<i64>) -> Option<i64>
+    ensures value { option_map unsigned_abs result ≡ option_map cap (option_map unsigned_abs units) }
+    ensures range { IfSome result IsSpan }
+{
+    match units {
+        Some(units) => Some(span(units)),
+        None => None,
+    }
+}
+
+fn measure_of(own: &BoxOf, inputs: Inputs, above: u64, clips: bool) -> Measure
+    requires { above ≤ 2147483647 }
+    ensures value { seen_measure result ≡ measured_of (seen_inputs inputs) own.now above clips }
+    ensures range { IsMeasure result }
+{
+    Measure {
+        width: span(inputs.width),
+        height: span_if(inputs.height),
+        inner: own.inner(),
+        corner: own.padding_corner(),
+        margin: own.margin_corner(),
+        margin_height: own.margin_height(),
+        above: above as i64,
+        padding: own.padding_size(),
+        border: own.size(BoxKind::Border),
+        clips,
+    }
+}
