@@ -19,8 +19,8 @@ pub trait Geometry {
     /// How far outwards a chain can lead from a spot: less from its container.
     ghost rank: { Self → SpotOf → ℕ };
 
-    /// What a spot stands in: an element in its parent, a root element in its document's viewport, the viewport of a nested
-    /// document in the frame element. None for the viewport of the top document and for an element without a box. Chains end.
+    /// What a spot stands in: an element in what holds its box, another element or its document's viewport, the viewport of a
+    /// nested document in the frame element. None for the viewport of the top document and for an element without a box. Chains end.
     fn container(&self, of: Spot) -> Option<Spot>
         ensures container { result ≡ (scene self.now).container of }
         ensures end { IfSome result (λ next. rank self.now next < rank self.now of) };
