@@ -6,6 +6,7 @@ ghost use Rattle.page_documents.specs.Frames.{AreFramed};
 ghost use Rattle.page_documents.specs.Paths.{way_down};
 ghost use Rattle.block_layout.specs.Seen.{seen_inputs};
 ghost use Rattle.page_tree.specs.Steps.{seen_container};
+ghost use Rattle.page_boxes.specs.Around.{rests_on, LeavesOthers};
 ghost use Rattle.page_boxes.specs.Fresh.{IsFresh, IsFreshIn, IsFreshAbove, IsFreshFor};
 ghost use Rattle.page_boxes.specs.Kept.{AreKept, FillsOnly, is_due, due_count};
 ghost use Rattle.page_boxes.specs.LaidOut.{is_marked, IsLaidOut, AreLaidOut, GoesOn};
@@ -171,9 +172,36 @@ fn refresh_document<L: Ledger>(
     lay_out_up(boxes, page, screen, document, count, &mut laid_out, steps);
 }
 
+/// Computes what is due of the boxes of a document and of the documents around it, with this screen of `top`: those of the document and
+/// of the one that its frame is in are then held as they are now, and boxes of other documents aren't touched. A document that isn't
+/// Active has no box, and those of the documents around its frame are computed. What is kept fits the page before, and afterwards. It
+/// takes at most one step for each box that was due, and no memory.
+pub fn refresh_in<L: Ledger>(
+    boxes: &mut Kept,
+    page: &PageTree,
+    screen: Screen,
+    document: u32,
+    steps: &mut Steps<L>,
+)
+    requires { AreKept page.now.tree boxes.old }
+    ensures fresh { IsFreshIn page.now.tree (seen_screen screen) boxes.new document }
+    ensures above { IsFreshAbove page.now.tree (seen_screen screen) boxes.new document }
+    ensures left { LeavesOthers page.now.tree (Some document) boxes.old boxes.new }
+    ensures kept { AreKept page.now.tree boxes.new }
+    ensures slots { length boxes.new ≡ length boxes.old }
+    ensures fills { FillsOnly boxes.old boxes.new }
+    ensures ticks { steps.new + due_count page.now.tree (seen_screen screen) boxes.new ≤ steps.old + due_count page.now.tree (seen_screen screen) boxes.old }
+{
+    if page.is_active(document) {
+        refresh_document(boxes, page, screen, document, steps);
+    } else if let Some(frame) = page.frame_of(document) {
+        refresh_document(boxes, page, screen, page.document_of(frame), steps);
+    }
+}
+
 /// Computes what is due of the boxes that a reading of an element or a document rests on, with this screen of `top`:
-/// those of one document and of the documents around it are then held as they are now. What is kept fits the page before, and
-/// afterwards. It takes at most one step for each box that was due, and no memory.
+/// those of one document and of the documents around it are then held as they are now, and boxes of other documents aren't touched.
+/// What is kept fits the page before, and afterwards. It takes at most one step for each box that was due, and no memory.
 pub fn refresh_for<L: Ledger>(
     boxes: &mut Kept,
     page: &PageTree,
@@ -183,6 +211,7 @@ pub fn refresh_for<L: Ledger>(
 )
     requires { AreKept page.now.tree boxes.old }
     ensures fresh { IsFreshFor page.now.tree (seen_screen screen) boxes.new (seen_container container) }
+    ensures left { LeavesOthers page.now.tree (rests_on page.now.tree (seen_container container)) boxes.old boxes.new }
     ensures kept { AreKept page.now.tree boxes.new }
     ensures slots { length boxes.new ≡ length boxes.old }
     ensures fills { FillsOnly boxes.old boxes.new }
