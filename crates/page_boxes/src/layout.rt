@@ -1,6 +1,6 @@
 //! Laying out a page over the boxes that are kept: what is due is computed, document by document.
 
-ghost use Rattle.std.specs.Prelude.{◌≡◌, ◌≢◌, ℕ, ◌+◌, ◌<◌, ◌≤◌, true, false, Some, length, unsigned_abs};
+ghost use Rattle.std.specs.Prelude.{◌≡◌, ◌≢◌, ℕ, ◌+◌, ◌<◌, ◌≤◌, ◌∷◌, [], true, false, Some, length, unsigned_abs};
 ghost use Rattle.page_model.specs.Documents.{first_of_list, is_active};
 ghost use Rattle.page_documents.specs.Frames.{AreFramed};
 ghost use Rattle.page_documents.specs.Paths.{way_down};
@@ -9,7 +9,7 @@ ghost use Rattle.page_tree.specs.Steps.{seen_container};
 ghost use Rattle.page_boxes.specs.Around.{rests_on, LeavesOthers};
 ghost use Rattle.page_boxes.specs.Fresh.{IsFresh, IsFreshIn, IsFreshAbove, IsFreshFor};
 ghost use Rattle.page_boxes.specs.Kept.{AreKept, FillsOnly, is_due, due_count};
-ghost use Rattle.page_boxes.specs.LaidOut.{is_marked, IsLaidOut, AreLaidOut, GoesOn};
+ghost use Rattle.page_boxes.specs.LaidOut.{is_marked, IsLaidOut, AreLaidOut, GoesOn, ChangesOnlyIn};
 ghost use Rattle.page_boxes.specs.Pages.{seen_screen};
 
 use crate::documents::framed_size;
@@ -48,6 +48,7 @@ fn lay_out<L: Ledger>(
     ensures laid_out { IsLaidOut page.now.tree (seen_screen screen) boxes.new document }
     ensures others { (other : ℕ) → other ≢ document → IsLaidOut page.now.tree (seen_screen screen) boxes.old other →
         IsLaidOut page.now.tree (seen_screen screen) boxes.new other }
+    ensures left { ChangesOnlyIn page.now.tree (document ∷ []) boxes.old boxes.new }
     ensures kept { AreKept page.now.tree boxes.new }
     ensures slots { length boxes.new ≡ length boxes.old }
     ensures fills { FillsOnly boxes.old boxes.new }
@@ -80,6 +81,7 @@ fn lay_out_once<L: Ledger>(
     requires laid_out { AreLaidOut page.now.tree (seen_screen screen) laid_out.old boxes.old }
     ensures goes { GoesOn page.now.tree (seen_screen screen) laid_out.old laid_out.new boxes.new }
     ensures marked { is_marked laid_out.new document ≡ true }
+    ensures left { ChangesOnlyIn page.now.tree (document ∷ []) boxes.old boxes.new }
     ensures kept { AreKept page.now.tree boxes.new }
     ensures slots { length boxes.new ≡ length boxes.old }
     ensures fills { FillsOnly boxes.old boxes.new }
@@ -111,6 +113,8 @@ fn lay_out_up<L: Ledger>(
     requires laid_out { AreLaidOut page.now.tree (seen_screen screen) laid_out.old boxes.old }
     ensures goes { GoesOn page.now.tree (seen_screen screen) laid_out.old laid_out.new boxes.new }
     ensures marked { is_active page.now.tree document ≡ true → is_marked laid_out.new document ≡ true }
+    ensures above { is_active page.now.tree document ≡ true → IsFreshAbove page.now.tree (seen_screen screen) boxes.new document }
+    ensures left { ChangesOnlyIn page.now.tree (way_down high page.now.tree document) boxes.old boxes.new }
     ensures kept { AreKept page.now.tree boxes.new }
     ensures slots { length boxes.new ≡ length boxes.old }
     ensures fills { FillsOnly boxes.old boxes.new }
@@ -152,7 +156,8 @@ pub fn refresh<L: Ledger>(boxes: &mut Kept, page: &PageTree, screen: Screen, ste
     }
 }
 
-// Computes what is due of the boxes of a document and of the documents around it.
+// Computes what is due of the boxes of a document, where it is Active, and of the documents around it: with it they are no more than the
+// 64 that a page may have.
 fn refresh_document<L: Ledger>(
     boxes: &mut Kept,
     page: &PageTree,
@@ -161,7 +166,10 @@ fn refresh_document<L: Ledger>(
     steps: &mut Steps<L>,
 )
     requires { AreKept page.now.tree boxes.old }
+    ensures framed { AreFramed page.now.tree }
     ensures fresh { IsFreshIn page.now.tree (seen_screen screen) boxes.new document }
+    ensures above { is_active page.now.tree document ≡ true → IsFreshAbove page.now.tree (seen_screen screen) boxes.new document }
+    ensures left { (high : ℕ) → 64 ≤ high → ChangesOnlyIn page.now.tree (way_down high page.now.tree document) boxes.old boxes.new }
     ensures kept { AreKept page.now.tree boxes.new }
     ensures slots { length boxes.new ≡ length boxes.old }
     ensures fills { FillsOnly boxes.old boxes.new }
