@@ -6,21 +6,23 @@
 #![tactic(auto)]
 
 mod documents;
-mod findings;
 mod geometry;
 mod laws;
 mod origins;
-mod ratios;
+mod page_readings;
 mod readings;
 mod rects;
 mod relations;
+mod roots;
 mod scene;
 mod scrolled;
 mod shown;
+mod shown_document;
 mod sizes;
 mod telling;
+mod view;
 
-pub use findings::find;
 pub use laws::{chains_lead_to_roots, what_is_told_is_found};
 pub use readings::Reading;
 pub use shown::Shown;
+pub use shown_document::ShownDocument;
