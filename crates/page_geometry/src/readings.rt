@@ -123,13 +123,8 @@ impl ShownDocument<'_> {
         if !self.has_box(node) {
             return NOWHERE;
         }
-        place_in(
-            self.elements(),
-            self.boxes(),
-            self.scrolls(),
-            self.view_offset(),
-            node,
-        )
+        let view = self.view_offset();
+        place_in(self.elements(), self.boxes(), self.scrolls(), view, node)
     }
 
     /// The border box of an element in the viewport of its document, all zeros without a box.

@@ -94,7 +94,7 @@ impl<'a> Shown<'a> {
         ensures { self.new ≡ self.old }
     {
         let found = FoundDocument {
-            view: view_in(self.page, self.boxes, self.screen, document),
+            view: self.view_of(document),
             origin: origin(self, document),
         };
         self.found.put(document, found);

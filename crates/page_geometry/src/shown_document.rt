@@ -5,6 +5,7 @@ ghost use Rattle.page_model.specs.Lookups.{element_at};
 ghost use Rattle.page_model.specs.Documents.{nodes_of};
 ghost use Rattle.page_model.specs.PageBoxes.{pair_of, view_with, view_of};
 ghost use Rattle.page_model.specs.Shown.{shown_with, has_box, box_of, viewport_of};
+ghost use Rattle.page_documents.specs.Frames.{AreFramed};
 ghost use Rattle.element_tree.specs.Links.{number};
 ghost use Rattle.block_layout.specs.Seen.{as_size};
 ghost use Rattle.block_layout.specs.Trees.{layout_tree};
@@ -106,6 +107,15 @@ impl<'a> ShownDocument<'a> {
         }
     }
 
+    // What is so of the elements and documents of every page is told here.
+    fn page(&self) -> &PageTree
+        ensures tree { result.now.tree ≡ self.now.shown.tree }
+        ensures framed { AreFramed self.now.shown.tree }
+    {
+        self.page.document_count();
+        self.page
+    }
+
     // The elements as layout reads them.
     pub(crate) fn elements(&self) -> &Tree<Element>
         ensures nodes { nodes_of self.now.shown.tree ≡ layout_tree style_in kind_in result.now.nodes }
@@ -153,6 +163,13 @@ impl<'a> ShownDocument<'a> {
         self.view.size
     }
 
+    // The root element that the document shows, none where it isn't shown.
+    fn root(&self) -> Option<NodeId>
+        ensures { option_map number result ≡ (view_of self.now.shown.tree self.now.shown.screen self.now.document).root }
+    {
+        self.view.root
+    }
+
     // The root element that the document shows, and the size of its viewport.
     pub(crate) fn shown_root(&self) -> Option<ShownRoot>
         ensures nothing { result ≡ None → (view_of self.now.shown.tree self.now.shown.screen self.now.document).root ≡ None }
@@ -162,11 +179,11 @@ impl<'a> ShownDocument<'a> {
         ensures size { IfSome result (λ shown. IsNatural shown.size) }
     {
         // It tells that root elements have no parents.
-        self.page.document_count();
-        match self.view.root {
+        self.page();
+        match self.root() {
             Some(root) => Some(ShownRoot {
                 root,
-                size: self.view.size,
+                size: self.viewport(),
             }),
             None => None,
         }
@@ -177,7 +194,7 @@ impl<'a> ShownDocument<'a> {
         requires { (element_at self.now.shown.tree node.0).document ≡ self.now.document }
         ensures { result ≡ has_box self.now.shown node.0 }
     {
-        has_box_below(self.page, self.view.root, node)
+        has_box_below(self.page(), self.root(), node)
     }
 
     // The box of an element of this document, none where it has none.
@@ -185,6 +202,6 @@ impl<'a> ShownDocument<'a> {
         requires { (element_at self.now.shown.tree node.0).document ≡ self.now.document }
         ensures { result ≡ box_of self.now.shown node.0 }
     {
-        box_below(self.page, self.boxes, self.view.root, node)
+        box_below(self.page(), self.boxes(), self.root(), node)
     }
 }
