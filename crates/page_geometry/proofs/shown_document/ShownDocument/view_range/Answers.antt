@@ -12,7 +12,7 @@ returns-in-Some-clause-value c =
     let view = view_of it.tree it.screen c.args.self.now.document in
     let nodes = c.elements.ensures.nodes in
     c.shown_range.ensures.value (sym (ap (λ at. (at (c.in-Some.shown.root.0)).parent) nodes) ∙ c.in-Some.ensures.top) view c.in-Some.ensures.shown
-    (subst (λ at. HoldsAll at view c.boxes.result.now) nodes (c.boxes.ensures.fresh))
+    (subst (λ at. HoldsAll at view c.boxes.result.now) nodes c.boxes.ensures.fresh)
     ∙ ap (λ at. as_size (range_of_view at view)) (sym nodes)
     ∙ ap as_size (view_range it.tree it.screen c.args.self.now.document)
 
