@@ -1,5 +1,6 @@
 -- What is left as it is where a document and those around it are laid out.
-use Rattle.std.proofs.Common.{◌≡◌, ◌≤◌, ℕ, zero, suc, Bool, true, false, List, [], ◌∷◌, ◌++◌, Option, Some, None, refl, ap, sym, subst, ◌∙◌, arith}
+use Rattle.std.proofs.Common.{◌≡◌, ◌≤◌, ℕ, zero, suc, false, List, [], ◌∷◌, ◌++◌, Option, Some, None, refl, ap, sym, subst, ◌∙◌, arith}
+use Rattle.std.proofs.lemmas.Bool.{or_parts}
 use Rattle.std.proofs.lemmas.List.Folds.{list_any-append}
 use Rattle.std.specs.Prelude.{◌||◌, ◌==◌}
 use Rattle.page_model.specs.World.{Tree}
@@ -12,12 +13,8 @@ use Rattle.page_boxes.specs.LaidOut.{ChangesOnlyIn}
 use Rattle.page_boxes.proofs.Views.{way_step}
 
 -- a document that is none of these
-none_either : (one two : Bool) → (one || two) ≡ false → (one ≡ false) × (two ≡ false)
-none_either true two none = cc
-none_either false two none = (refl, none)
-
 none_of : (d : ℕ) (xs ys : List ℕ) → is_listed d (xs ++ ys) ≡ false → (is_listed d xs ≡ false) × (is_listed d ys ≡ false)
-none_of d xs ys none = none_either (is_listed d xs) (is_listed d ys) (sym (list_any-append (λ x. x == d) xs ys) ∙ none)
+none_of d xs ys none = or_parts (is_listed d xs) (is_listed d ys) (sym (list_any-append (λ x. x == d) xs ys) ∙ none)
 
 module _ (tree : Tree) where
   -- where it is none of so many above a document, it is none of fewer
