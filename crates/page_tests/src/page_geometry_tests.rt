@@ -486,6 +486,7 @@ fn clips_for<S: Scene>(
     let target = watchers.target_of(registration);
     see_chain(rt, scene, root, target);
     let mut clips = Clips::new(alloc);
+    assert!(rt; clips.pair(registration.0).is_none());
     clips.hold(registration.0, spot_of_root(root), Spot::Node(target))?;
     let pair = clips.pair(registration.0).expect(rt, "a pair");
     assert!(rt; pair.root == spot_of_root(root));
