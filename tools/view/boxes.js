@@ -111,7 +111,7 @@ class Boxes {
     const seen = common(rectangle, window);
     this.boxes.set(element, { rectangle, padding, content, window, innerWindow: overflow ? common(window, padding) : window, edges: edges || NO_EDGES,
       seen: isCrossed(seen) ? null : seen, overflow: overflow || '', scroll: scroll || null, above, document: document.number,
-      origin: document.viewport, depth: document.depth, record });
+      origin: document.viewport, depth: document.depth, holder: holder || 0, record });
     this.cornersOf(element, corners);
   }
   // Where the boxes in an element are counted from: its parent's edge, and the bottom of the sibling before it.

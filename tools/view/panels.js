@@ -135,11 +135,17 @@ class Panels {
     return html`<dl class="facts">${facts}</dl>${observed && this.observers(observed, box, boxes)}${box && this.clips(element, box, boxes)}${
       this.history(element)}${this.linesAbout(element, place)}`;
   }
+  // Of a box that its parent doesn't hold.
+  holder(box) {
+    if (box.holder === ON_PAGE) return html`the page of ${bold(this.documentName(box.document))}`;
+    return box.holder === ON_SCREEN ? html`the screen of ${bold(this.documentName(box.document))}` : this.sentences.thing(box.holder - 1);
+  }
   geometry(element, box, boxes) {
     const r = box.rectangle, sides = from => box.edges.slice(from, from + 4), parent = boxes.parents.get(element);
     const most = box.scroll && box.scroll.slice(2).map(px).join(' ');
     return [
       fact('border box', html`${sized(sizeOf(r))} at ${cornerText(r, box.origin)}`),
+      box.holder && fact('held by', this.holder(box)),
       !isSame(box.content, r) && fact('content box', sizeOf(box.content)),
       sides(0).some(Boolean) && fact('borders', sides(0).map(px).join(' ')),
       sides(4).some(Boolean) && fact('paddings', sides(4).map(px).join(' ')),
