@@ -21,7 +21,8 @@ LONGEST = 180         # seconds for an answer of a browser that was started
 STARTING = 60         # seconds for its start
 RATIO_SECONDS = 3     # for a ratio: some a browser can't have
 NO_RATIO = "a ratio that changes is shown by 'tools/browser/run' in chromium and firefox-stepped alone"
-NO_FRAME = "a viewport that changes, with frames and an implicit root, is shown by 'tools/browser/run --in chromium' alone"
+NO_FRAME = ("a viewport that changes, with an implicit root and frames or scroll margins, is shown by 'tools/browser/run' in chromium and "
+            'firefox-stepped alone')
 ATTEMPTS = 12         # of a script in a live browser, where updates came that no tick asked for
 BUSY = 'updates came that no tick asked for, in each of %d attempts' % ATTEMPTS
 
@@ -55,8 +56,8 @@ def ratio_of(args):
 
 def planned(script):
     """The viewport and ratio that a script begins with, its other items, and in what it can run: a window of that size where the viewport
-    doesn't change after that; a frame where no implicit root sees into frames, as a frame's document stands for that root there.
-    `steady` says whether the ratio stays."""
+    doesn't change after that; a frame where no implicit root sees into frames or has a scroll margin, as a frame's document stands for
+    that root there. `steady` says whether the ratio stays."""
     items, size, ratio = list(script['items']), list(FIRST_SIZE), 1
     while items and items[0]['op'] in ('viewport', 'ratio'):
         first = items.pop(0)
@@ -68,9 +69,10 @@ def planned(script):
     commands = list(commands_of(rest))
     ratios = [ratio_of(command['args']) for command in commands if command['op'] == 'ratio']
     changes = [whole_size(command['args']) for command in commands if command['op'] == 'viewport']
-    implicit = any(command['op'] == 'io' and command['args'][4] == '-' for command in commands)
+    implicit = [command['args'] for command in commands if command['op'] == 'io' and command['args'][4] == '-']
     framed = any(command['op'] == 'frame' for command in commands)
-    return {'script': rest, 'size': size, 'ratio': ratio, 'steady': not ratios, 'window': not changes, 'frame': not (implicit and framed)}
+    scrolled = script['version'] == 2 and any('scroll' in args for args in implicit)
+    return {'script': rest, 'size': size, 'ratio': ratio, 'steady': not ratios, 'window': not changes, 'frame': not (implicit and framed or scrolled)}
 
 
 def free_port():
