@@ -11,7 +11,7 @@ use block_layout::ItemKind;
 use element_tree::NodeId;
 use kept_layout::Kept;
 use page_boxes::{Screen, has_box, is_scroller, nothing_kept_fits, refresh_for, size_of};
-use page_geometry::{Reading, Shown};
+use page_geometry::{Reading, Shown, ShownDocument};
 use page_tree::{Container, PageTree};
 use px_units::{BoxKind, Percent, Point, Rect, Size};
 use scrolling::{ScrollTarget, Scrolls};
@@ -481,6 +481,25 @@ fn read_looked(
     Ok((found, rect))
 }
 
+// What is read of an element by its document alone, and its border rectangle.
+fn read_alone(
+    rt: &impl Abort,
+    alloc: Global,
+    page: &PageTree,
+    scrolls: &Scrolls,
+    screen: Screen,
+    node: u32,
+) -> Result<(Reading, Rect), Fail>
+    requires { IsScreen screen }
+{
+    let all = all_boxes(rt, alloc, page, screen)?;
+    let document = page.document_of(NodeId(node));
+    let shown = ShownDocument::new(page, &all, scrolls, screen, document);
+    let found = shown.read(Container::Element(NodeId(node)));
+    let rect = shown.border_rect(NodeId(node));
+    Ok((found, rect))
+}
+
 // The size of an element's border box, from the boxes of its document and of those around it.
 fn size_some(
     rt: &impl Abort,
@@ -513,6 +532,8 @@ fn read_twice(
     assert_eq!(rt; rect, found.rect);
     let again = read_looked(rt, alloc, page, scrolls, screen, node)?;
     assert_eq!(rt; again, (found, rect));
+    let alone = read_alone(rt, alloc, page, scrolls, screen, node)?;
+    assert_eq!(rt; alone, (found, rect));
     let size = size_some(rt, alloc, page, screen, node)?;
     assert_eq!(rt;
         (size.width, size.height),
@@ -536,7 +557,10 @@ fn read_viewport(
     let boxes = all_boxes(rt, alloc, page, screen)?;
     let container = Container::Document(document);
     let shown = Shown::new(page, &boxes, scrolls, screen);
-    Ok(shown.read(container))
+    let found = shown.read(container);
+    let alone = ShownDocument::new(page, &boxes, scrolls, screen, document);
+    assert_eq!(rt; alone.read(container), found);
+    Ok(found)
 }
 
 // Scrolls downwards to a position, as far as it goes.
