@@ -13,8 +13,13 @@ use Rattle.kept_layout.specs.Slots.{slot_in}
 use Rattle.kept_layout.specs.Due.{is_due_at, is_due, one_if, due_count}
 use Rattle.page_model.specs.PageBoxes.{inputs_of}
 use Rattle.page_laws.specs.Making.{NamesMade, KeepsBoxes}
+use Rattle.page_boxes.specs.Kept.{AreKept}
 use Rattle.page_layout.specs.Marks.{MarksNone}
+use Rattle.page_layout.specs.Views.{LaidElements}
 use Rattle.page_state.specs.Boxes.{LeavesDue}
+use Rattle.page_state.specs.Views.{PageView}
+use Rattle.page_state.specs.Worlds.{view_of}
+use Rattle.page_state.specs.declared.page.Page.TheInside.{Inside}
 
 -- what is named in a page was made ------------------------------------------------------------------------------------------------------
 
@@ -105,3 +110,28 @@ module _ (world : World) (after : Tree) (old new : List Slot) (keeps : KeepsBoxe
       let many : due_count (inputs_of after screen) (slot_in new) (length new) ≡ due_count given (slot_in old) (length new) =
       as_many given (inputs_of after screen) (slot_in old) (slot_in new) same_due (length new) in
       record { marks = marks; due = same_due; count = omega (arith, past, within, many) }
+
+-- what is so of a page, seen from outside
+module _ (page : Inside) (now : PageView) (view_is : view_of page ≡ now) where
+  pub made_in : (handed : Tree) → handed ≡ page.laid.elements.tree → AreFramed handed → NamesMade (now.world.tree)
+  made_in handed same framed = framed_made (now.world.tree) (subst AreFramed (same ∙ ap (λ (v : PageView). v.world.tree) view_is) framed)
+
+  pub slots_in : AreKept page.laid.elements.tree page.laid.kept → length now.world.tree.elements ≤ length now.kept
+  slots_in kept = subst (λ (v : PageView). length v.world.tree.elements ≤ length v.kept) view_is kept.slots
+
+pub same_boxes : (tree : Tree) → KeepsBoxes tree tree
+same_boxes tree = record { inputs = λ screen n. refl; boxes = λ screen n. refl }
+
+-- seen from outside, where nothing was made or something was
+module _ (page : Inside) (now : PageView) (view_is : view_of page ≡ now)
+    (leaves : (after : Tree) (kept : List Slot) → KeepsBoxes (now.world.tree) after → MarksNone now.kept kept → LeavesDue now.world after now.kept kept)
+    (after : LaidElements) (marks : MarksNone page.laid.kept after.kept) where
+  pub due_made : (making : Tree → Tree) → KeepsBoxes (now.world.tree) (making (now.world.tree)) → after.elements.tree ≡ making (page.laid.elements.tree)
+      → LeavesDue now.world after.elements.tree now.kept after.kept
+  due_made making keeps is =
+      leaves (after.elements.tree) after.kept
+      (subst (KeepsBoxes (now.world.tree)) (sym (is ∙ ap (λ (v : PageView). making (v.world.tree)) view_is)) keeps)
+      (subst (λ (v : PageView). MarksNone v.kept after.kept) view_is marks)
+
+  pub due_still : after.elements.tree ≡ page.laid.elements.tree → LeavesDue now.world after.elements.tree now.kept after.kept
+  due_still is = due_made (λ tree. tree) (same_boxes (now.world.tree)) is

@@ -1,20 +1,24 @@
 //! Commands that change the viewport, the tree and styles.
 
-ghost use Rattle.std.specs.Prelude.{◌≡◌, ◌<◌, ◌≤◌, ℕ, Some, length, option_map, unsigned_abs};
+ghost use Rattle.std.specs.Prelude.{◌≡◌, ◌<◌, ℕ, List, Some, None, length, option_map, unsigned_abs};
 ghost use Rattle.std.specs.Option.{ForSome};
 ghost use Rattle.style_values.specs.Ranges.{IsAllowed};
 ghost use Rattle.style_values.specs.Seen.{seen_declaration};
 ghost use Rattle.script_model.specs.Syntax.{Viewport, SetRatio, MakeBlock, MakeImage, MakeFrame, Append, Before, Remove, SetStyle, Grow, Load};
+ghost use Rattle.block_layout.specs.declared.ItemKind.{ItemKind as KindOfItem};
 ghost use Rattle.block_layout.specs.Seen.{seen_kind};
-ghost use Rattle.page_laws.specs.Making.{NamesMade};
+ghost use Rattle.kept_layout.specs.declared.slots.Slot.{Slot};
+ghost use Rattle.page_laws.specs.Making.{KeepsBoxes};
 ghost use Rattle.page_model.specs.Commands.{does, making, placing, with_tree};
 ghost use Rattle.page_model.specs.Documents.{removed};
+ghost use Rattle.page_model.specs.Edits.{with_element, with_frame};
+ghost use Rattle.page_model.specs.World.{Tree};
 ghost use Rattle.page_model.specs.Operands.{Present, container_meant};
 ghost use Rattle.page_tree.specs.Steps.{seen_axis, seen_container};
 ghost use Rattle.script_syntax.specs.Allowed.{IsSize, IsPercent};
 ghost use Rattle.script_syntax.specs.Seen.{operand_of, dimension_of};
 ghost use Rattle.element_tree.specs.Links.{number};
-ghost use Rattle.page_layout.specs.Marks.{element_of, is_over, MarksOnly};
+ghost use Rattle.page_layout.specs.Marks.{element_of, is_over, MarksOnly, MarksNone};
 ghost use Rattle.kept_findings.specs.Held.{IsRoomier};
 ghost use Rattle.page_state.specs.Answers.{Keeps};
 ghost use Rattle.page_state.specs.Boxes.{LeavesDue, Marks, StaysDue, found, inside, is_moved, meant, parent};
@@ -83,11 +87,15 @@ impl Page {
         self.make(name, document, ItemKind::Image(size))
     }
 
-    // That each element has its slot, and each that is named was made: so it is of every page, and the call does nothing.
-    fn elements_are_kept(&self)
-        ensures slots { length self.now.world.tree.elements ≤ length self.now.kept }
-        ensures made { NamesMade self.now.world.tree }
+    // That what is made has no box, so that the same boxes are due as before: so it is of every page, and the call does nothing.
+    fn making_leaves_boxes(&self)
+        ensures elements { (kind : KindOfItem) (document : ℕ) → KeepsBoxes self.now.world.tree (with_element (seen_kind kind) document None (self.now.world.tree)) }
+        ensures frames { (document : ℕ) → KeepsBoxes self.now.world.tree (with_frame document (self.now.world.tree)) }
+        ensures leaves { (after : Tree) (kept : List Slot) → KeepsBoxes self.now.world.tree after → MarksNone self.now.kept kept →
+            LeavesDue self.now.world after self.now.kept kept }
+        ensures same { LeavesDue self.now.world self.now.world.tree self.now.kept self.now.kept }
     {
+        what_is_made_has_no_box();
         self.laid.boxes();
         self.laid.page().document_count();
     }
@@ -99,9 +107,7 @@ impl Page {
         ensures boxes { LeavesDue self.old.world self.new.world.tree self.old.kept self.new.kept }
         ensures findings { IsRoomier self.old.found self.new.found }
     {
-        // These tell that what is made has no box.
-        what_is_made_has_no_box();
-        self.elements_are_kept();
+        self.making_leaves_boxes();
         self.names.check_free(name)?;
         let document = self.document(document)?;
         let node = self.laid.reserve()?;
@@ -123,9 +129,7 @@ impl Page {
         ensures boxes { LeavesDue self.old.world self.new.world.tree self.old.kept self.new.kept }
         ensures findings { IsRoomier self.old.found self.new.found }
     {
-        // These tell that what is made has no box.
-        what_is_made_has_no_box();
-        self.elements_are_kept();
+        self.making_leaves_boxes();
         self.names.check_free(name)?;
         let document = self.document(document)?;
         self.names.check_also_free(name, inside)?;
