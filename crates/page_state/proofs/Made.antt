@@ -1,8 +1,7 @@
 -- What is made has no box, so that the same boxes are due as before.
 use Rattle.std.proofs.Common.{◌≡◌, refl, sym, ap, subst, ◌∙◌, arith, tests, ◌≤◌, true≢false}
-use Rattle.std.specs.Prelude.{ℕ, zero, suc, ◌+◌, ◌-◌, ◌<◌, ◌==◌, ◌||◌, nat_lt, Bool, true, false, List, [], ◌∷◌, length, Option, Some, None, IfSome}
+use Rattle.std.specs.Prelude.{ℕ, zero, suc, ◌+◌, ◌<◌, ◌==◌, ◌||◌, nat_lt, Bool, true, false, List, [], ◌∷◌, length, Option, Some, None, IfSome}
 use Rattle.std.specs.List.{AllByRecursion}
-use Rattle.layout_model.specs.Items.{Kind}
 use Rattle.layout_model.specs.Boxes.{Inputs}
 use Rattle.page_model.specs.World.{Screen, Element, Tree, World}
 use Rattle.page_model.specs.Lookups.{entry_or, element_at, document_at, no_element, is_listed}
@@ -60,19 +59,36 @@ framed_made tree framed = record {
 -- what is due -----------------------------------------------------------------------------------------------------------------------------
 
 module _ (inputs : ℕ → Option Inputs) (slot : ℕ → Slot) where
-  fewer : (m more : ℕ) → due_count inputs slot m ≤ due_count inputs slot (m + more)
+  one_more : (m k : ℕ) → m ≤ suc k → (past : Bool) → nat_lt k m ≡ past → (m ≤ k → due_count inputs slot m ≤ due_count inputs slot k)
+      → due_count inputs slot m ≤ due_count inputs slot (suc k)
   unfolding due_count
-  fewer m zero = omega arith
-  fewer m (suc more) = let less : due_count inputs slot m ≤ due_count inputs slot (m + more) = fewer m more in omega (arith, less)
+  one_more m k less true is so_far =
+      let beyond : k < m = grind (arith, tests, is) in
+      let same : m ≡ suc k = omega (arith, less, beyond) in
+      let here : due_count inputs slot m ≤ due_count inputs slot m = omega arith in
+      subst (λ (n : ℕ). due_count inputs slot m ≤ due_count inputs slot n) same here
+  one_more m k less false is so_far =
+      let below : m ≤ k = grind (arith, tests, is) in
+      let most : due_count inputs slot m ≤ due_count inputs slot k = so_far below in
+      omega (arith, most)
+
+  fewer : (m k : ℕ) → m ≤ k → due_count inputs slot m ≤ due_count inputs slot k
+  fewer m zero less =
+      let none : m ≡ 0 = omega (arith, less) in
+      let here : due_count inputs slot m ≤ due_count inputs slot m = omega arith in
+      subst (λ (n : ℕ). due_count inputs slot m ≤ due_count inputs slot n) none here
+  fewer m (suc k) less = one_more m k less (nat_lt k m) refl (fewer m k)
 
   by_past : (k m : ℕ) (past : (n : ℕ) → k ≤ n → is_due inputs slot n ≡ false) (below : Bool) → nat_lt m k ≡ below →
       due_count inputs slot m ≤ due_count inputs slot k → due_count inputs slot (suc m) ≤ due_count inputs slot k
   unfolding due_count
   by_past k m past true less so_far =
-      let more : suc m + (k - suc m) ≡ k = omega (arith, grind (arith, tests, less)) in
-      subst (λ (most : ℕ). due_count inputs slot (suc m) ≤ due_count inputs slot most) more (fewer (suc m) (k - suc m))
+      let below : m < k = grind (arith, tests, less) in
+      fewer (suc m) k (omega (arith, below))
   by_past k m past false less so_far =
-      let none : one_if (is_due inputs slot m) ≡ 0 = ap one_if (past m (grind (arith, tests, less))) in omega (arith, none, so_far)
+      let beyond : k ≤ m = grind (arith, tests, less) in
+      let none : one_if (is_due inputs slot m) ≡ 0 = ap one_if (past m beyond) in
+      omega (arith, none, so_far)
 
   -- where none is due from a number on
   at_most : (k m : ℕ) → ((n : ℕ) → k ≤ n → is_due inputs slot n ≡ false) → due_count inputs slot m ≤ due_count inputs slot k
@@ -101,12 +117,10 @@ module _ (world : World) (after : Tree) (old new : List Slot) (keeps : KeepsBoxe
   pub leaves_due : LeavesDue world after old new
   leaves_due =
       let given = inputs_of (world.tree) screen in
-      let most : length old ≡ length world.tree.elements + (length old - length world.tree.elements) = omega (arith, slots) in
       let past : due_count given (slot_in old) (length new) ≤ due_count given (slot_in old) (length world.tree.elements) =
       at_most given (slot_in old) (length world.tree.elements) (length new) (λ n is. no_box (given n) (slot_in old n) (unmade screen n is)) in
       let within : due_count given (slot_in old) (length world.tree.elements) ≤ due_count given (slot_in old) (length old) =
-      subst (λ (m : ℕ). due_count given (slot_in old) (length world.tree.elements) ≤ due_count given (slot_in old) m) (sym most)
-      (fewer given (slot_in old) (length world.tree.elements) (length old - length world.tree.elements)) in
+      fewer given (slot_in old) (length world.tree.elements) (length old) slots in
       let many : due_count (inputs_of after screen) (slot_in new) (length new) ≡ due_count given (slot_in old) (length new) =
       as_many given (inputs_of after screen) (slot_in old) (slot_in new) same_due (length new) in
       record { marks = marks; due = same_due; count = omega (arith, past, within, many) }
