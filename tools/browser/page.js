@@ -267,10 +267,12 @@ function observersRun(script, window, setting) {
     if (told.kind !== 'intersect') throw new Thrown('TypeError');
     return entry.isIntersecting;
   }
+  // All go through one port, as messages of several ports have no order among one another.
+  const channel = new MessageChannel(), posted = [];
+  channel.port1.onmessage = () => { waiting--; runTask(posted.shift()); };
   function post(task) {
     waiting++;
-    const channel = new MessageChannel();
-    channel.port1.onmessage = () => { waiting--; channel.port1.close(); runTask(task); };
+    posted.push(task);
     channel.port2.postMessage(0);
   }
   function runTask(task) {

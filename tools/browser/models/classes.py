@@ -26,7 +26,8 @@ WEBKIT = ALL_THREE | {SCROLLS_ARE_CUT, FRAMES_IN_TIME, CROSSED_IS_TURNED, LENGTH
     resize-observers-by-use'''.split())
 CLASSES = {'chromium': CHROMIUM, 'firefox': FIREFOX, 'webkit': WEBKIT}
 NUMBER = re.compile(r'-?\d+(?:\.\d+)?(?:/\d+)?')
-NEAR = 0.15     # pixels, by which sums of sixtieths may differ
+NEAR = {'firefox': 0.15, 'webkit': 0.02}     # pixels, by which sums of sixtieths and percentages of margins may differ
+PARTS = {'firefox': 'sixtieths-of-a-pixel', 'webkit': 'margin-of-part-pixels'}
 
 
 def run(text, classes, told=(), order=None):
@@ -44,16 +45,18 @@ def by_rules(text):
 
 
 def alike(lines, told, engine):
-    """Whether both traces are the same; in Firefox up to parts of a pixel."""
+    """Whether both traces are the same; in Firefox up to parts of a pixel, in WebKit so in lines of intersections."""
     if lines == told:
         return True
-    return engine == 'firefox' and len(lines) == len(told) and all(map(near, lines, told))
+    return engine in NEAR and len(lines) == len(told) and all(near(*both, engine) for both in zip(lines, told))
 
 
-def near(line, other):
-    if NUMBER.sub('#', line) != NUMBER.sub('#', other):
+def near(line, other, engine):
+    if line == other:
+        return True
+    if NUMBER.sub('#', line) != NUMBER.sub('#', other) or engine == 'webkit' and not line.startswith('intersect '):
         return False
-    return all(abs(number(one) - number(two)) <= (NEAR if '/' not in one else 0.01)
+    return all(abs(number(one) - number(two)) <= (NEAR[engine] if '/' not in one else 0.01)
                for one, two in zip(NUMBER.findall(line), NUMBER.findall(other)))
 
 
@@ -85,7 +88,7 @@ def classes_of(text, engine, told):
         if not alike(without.lines, told, engine):
             needed.add(name)
     if first.lines != told:
-        needed.add('sixtieths-of-a-pixel')
+        needed.add(PARTS[engine])
     return needed or one_of(text, engine, told, order, first.met) or {'round-lines'}
 
 

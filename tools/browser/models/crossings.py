@@ -46,8 +46,9 @@ class EngineRoot(intersection.RootRectangle):
     def __init__(self, model, observer):
         super().__init__(model.world, observer)
         self.turned = False
-        by = Margins(model, observer.margins, 'margin-percentages').of(self.own)
-        more = self._by_scroll_margins(model, observer)
+        margins, more = Margins(model, observer.margins, 'margin-percentages'), self._by_scroll_margins(model, observer)
+        # Where every root is moved, a percentage of the root margin is of what the scroll margin made of it.
+        by = margins.of(grown(self.own, more) if model.has(EVERY_ROOT) else self.own)
         self.rectangle = self._crossed(model, grown(self.own, [one + other for one, other in zip(by, more)]))
         self.told = self._crossed(model, grown(self.own, by)) if model.has(SCROLLING_ROOT_UNTOLD) else self.rectangle
 
