@@ -153,7 +153,7 @@ function observersRun(script, window, setting) {
   function deviceSize(entry) {
     if (!entry.devicePixelContentBoxSize) throw new NotShown('resize entries with device pixels, which this browser lacks');
     const has = window.devicePixelRatio;
-    if (Math.abs(has - ratio) > 1e-6) throw new NotShown(`${ratio} device pixels on a pixel, where this browser has ${has}`);
+    if (Math.abs(has - ratio) > 1e-6) throw new NotShown(`a ratio of ${100 * ratio}%, where this browser has one of ${100 * has}%`);
     return told(entry.devicePixelContentBoxSize);
   }
   function gathered(doc, least) {
