@@ -153,7 +153,7 @@ function observersRun(script, window, setting) {
   function deviceSize(entry) {
     if (!entry.devicePixelContentBoxSize) throw new NotShown('resize entries with device pixels, which this browser lacks');
     const has = window.devicePixelRatio;
-    if (Math.abs(has - ratio) > 1e-6) throw new NotShown(`${ratio} device pixels on a pixel, where this browser has ${has}`);
+    if (Math.abs(has - ratio) > 1e-6) throw new NotShown(`a ratio of ${100 * ratio}%, where this browser has one of ${100 * has}%`);
     return told(entry.devicePixelContentBoxSize);
   }
   function gathered(doc, least) {
@@ -267,10 +267,12 @@ function observersRun(script, window, setting) {
     if (told.kind !== 'intersect') throw new Thrown('TypeError');
     return entry.isIntersecting;
   }
+  // All go through one port, as messages of several ports have no order among one another.
+  const channel = new MessageChannel(), posted = [];
+  channel.port1.onmessage = () => { waiting--; runTask(posted.shift()); };
   function post(task) {
     waiting++;
-    const channel = new MessageChannel();
-    channel.port1.onmessage = () => { waiting--; channel.port1.close(); runTask(task); };
+    posted.push(task);
     channel.port2.postMessage(0);
   }
   function runTask(task) {

@@ -40,31 +40,41 @@ def grown(rectangle, by):
     return rectangle[0] - by[3], rectangle[1] - by[0], rectangle[2] + by[1], rectangle[3] + by[2]
 
 
+def is_crossed(rectangle):
+    return rectangle[2] < rectangle[0] or rectangle[3] < rectangle[1]
+
+
+def uncrossed(model, rectangle):
+    """Without a negative size, where the engine has none."""
+    if not is_crossed(rectangle) or not model.differs('crossed-root') or model.has(CROSSED_IS_TURNED):
+        return rectangle
+    left, top, right, bottom = rectangle
+    return left, top, max(left, right), max(top, bottom)
+
+
 class EngineRoot(intersection.RootRectangle):
     """A root rectangle with an engine's margins; `told` is what an entry shows of it."""
 
     def __init__(self, model, observer):
         super().__init__(model.world, observer)
-        self.turned = False
-        by = Margins(model, observer.margins, 'margin-percentages').of(self.own)
-        more = self._by_scroll_margins(model, observer)
-        self.rectangle = self._crossed(model, grown(self.own, [one + other for one, other in zip(by, more)]))
-        self.told = self._crossed(model, grown(self.own, by)) if model.has(SCROLLING_ROOT_UNTOLD) else self.rectangle
+        margins = Margins(model, observer.margins, 'margin-percentages')
+        if model.has(SCROLLING_ROOT_UNTOLD):
+            told = grown(self.own, margins.of(self.own))
+            moved = grown(told, self._by_scroll_margins(model, observer, told))
+        else:
+            # Where every root is moved, a percentage of the root margin is of what the scroll margin made of it.
+            more = self._by_scroll_margins(model, observer, self.own)
+            by = margins.of(grown(self.own, more) if model.has(EVERY_ROOT) else self.own)
+            told = moved = grown(grown(self.own, more), by)
+        self.turned = is_crossed(told) and model.has(CROSSED_IS_TURNED) and model.differs('crossed-root')
+        self.rectangle, self.told = uncrossed(model, moved), uncrossed(model, told)
 
-    def _by_scroll_margins(self, model, observer):
+    def _by_scroll_margins(self, model, observer, rectangle):
         root = observer.root
         is_moved = (model.has(EVERY_ROOT) or root is None and model.has(IMPLICIT_ROOT) or model.has(SCROLLING_ROOT_UNTOLD) and (
             root is None or isinstance(root, Document) or model.world.layout.scrolls(root)))
-        by = Margins(model, observer.scroll_margins, 'scroll-margin-percentages').of(self.own)
+        by = Margins(model, observer.scroll_margins, 'scroll-margin-percentages').of(rectangle)
         return by if is_moved and any(by) and self.box != 'no box' and model.differs('scroll-margin-of-root') else [0] * 4
-
-    def _crossed(self, model, rectangle):
-        left, top, right, bottom = rectangle
-        if (right < left or bottom < top) and model.differs('crossed-root'):
-            self.turned = model.has(CROSSED_IS_TURNED)
-            if not self.turned:
-                right, bottom = max(left, right), max(top, bottom)
-        return left, top, right, bottom
 
 
 class Crossings:
@@ -133,7 +143,7 @@ class Crossings:
                 moves = any(by) and self.differs('scroll-margin-of-viewports')
             else:
                 moves = any(by) and (observer.root is None or not self.differs('scroll-margin-below-a-root'))
-            clip.rectangle = grown(own, by) if moves else own
+            clip.rectangle = uncrossed(self, grown(own, by)) if moves else own
         entry.cut = intersection.NOTHING
         intersection.measure(layout, entry)
         entry.index = intersection.index_of(observer, entry)

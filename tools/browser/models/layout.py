@@ -5,6 +5,8 @@ from reference.layout import BORDER, CONTENT, DEVICE, FRAME_WIDTH, Layout
 from reference.lengths import AUTO
 from reference.world import ACTIVE, Element, World, tree_document
 
+from .traits import ONE_PIXEL_AT_LEAST
+
 PIXEL = 64
 
 
@@ -55,12 +57,14 @@ class EngineLayout(Layout):
         if box != DEVICE or not self.has_box(node):
             return size
         content, corner = super().size(node, CONTENT), self.flat_place(node)
-        snapped = tuple([self._device(corner[axis] + content[axis]) - self._device(corner[axis]) for axis in (0, 1)])
+        snapped = tuple([self._device(corner[axis], content[axis]) for axis in (0, 1)])
         return snapped if snapped != size and self.differs('device-pixels-by-place') else size
 
-    def _device(self, units):
-        """The edge of a device pixel that is nearest."""
-        return (units * self.world.pixel_ratio + 320000) // 640000
+    def _device(self, start, side):
+        """How many device pixels lie between the nearest ones of both edges; where a side is not far from none, at least one."""
+        ratio = self.world.pixel_ratio
+        pixels = ((start + side) * ratio + 320000) // 640000 - (start * ratio + 320000) // 640000
+        return 1 if not pixels and side * ratio > 4 * 10000 and self.world.page.has(ONE_PIXEL_AT_LEAST) else pixels
 
     def viewport(self, document):
         frame = document.frame
