@@ -19,7 +19,10 @@ FIRST_SIZE = (800, 600)
 WIDEST = 10000000     # pixels that a viewport may have here
 LONGEST = 180         # seconds for an answer of a browser that was started
 STARTING = 60         # seconds for its start
-NO_FRAME = "a viewport that changes, with frames and an implicit root, is shown by 'tools/browser/run --in chromium' alone"
+RATIO_SECONDS = 3     # for a ratio: some a browser can't have
+NO_RATIO = "a ratio that changes is shown by 'tools/browser/run' in chromium and firefox-stepped alone"
+NO_FRAME = ("a viewport that changes, with an implicit root and frames or scroll margins, is shown by 'tools/browser/run' in chromium and "
+            'firefox-stepped alone')
 ATTEMPTS = 12         # of a script in a live browser, where updates came that no tick asked for
 BUSY = 'updates came that no tick asked for, in each of %d attempts' % ATTEMPTS
 
@@ -44,18 +47,32 @@ def whole_size(args):
     return [int(number) for number in size]
 
 
+def ratio_of(args):
+    ratio = float(args[0][:-1]) / 100
+    if not ratio:
+        raise NotShown('a ratio of 0%')
+    return ratio
+
+
 def planned(script):
-    """The viewport that a script begins with, its other items, and in what it can run: a window of that size where the viewport
-    doesn't change after that; a frame where no implicit root sees into frames, as a frame's document stands for that root there."""
-    items, size = list(script['items']), list(FIRST_SIZE)
-    while items and items[0]['op'] == 'viewport':
-        size = whole_size(items.pop(0)['args'])
-    rest = dict(script, items=items)
+    """The viewport and ratio that a script begins with, its other items, and in what it can run: a window of that size where the viewport
+    doesn't change after that; a frame where no implicit root sees into frames or has a scroll margin, as a frame's document stands for
+    that root there. `steady` says whether the ratio stays."""
+    items, size, ratio = list(script['items']), list(FIRST_SIZE), 1
+    while items and items[0]['op'] in ('viewport', 'ratio'):
+        first = items.pop(0)
+        if first['op'] == 'viewport':
+            size = whole_size(first['args'])
+        else:
+            ratio = ratio_of(first['args'])
+    rest = dict(script, items=items, ratio=ratio)
     commands = list(commands_of(rest))
+    ratios = [ratio_of(command['args']) for command in commands if command['op'] == 'ratio']
     changes = [whole_size(command['args']) for command in commands if command['op'] == 'viewport']
-    implicit = any(command['op'] == 'io' and command['args'][4] == '-' for command in commands)
+    implicit = [command['args'] for command in commands if command['op'] == 'io' and command['args'][4] == '-']
     framed = any(command['op'] == 'frame' for command in commands)
-    return {'script': rest, 'size': size, 'window': not changes, 'frame': not (implicit and framed)}
+    scrolled = script['version'] == 2 and any('scroll' in args for args in implicit)
+    return {'script': rest, 'size': size, 'ratio': ratio, 'steady': not ratios, 'window': not changes, 'frame': not (implicit and framed or scrolled)}
 
 
 def free_port():
@@ -158,11 +175,17 @@ class Pipe:
         self.ask('Page.enable')
 
     def size(self, width, height):
-        self.ask('Emulation.setDeviceMetricsOverride', width=width, height=height, deviceScaleFactor=1, mobile=False)
+        self.ask('Emulation.setDeviceMetricsOverride', width=width, height=height, deviceScaleFactor=0, mobile=False)
+
+    def scale(self, ratio):
+        """Of the screen: a `deviceScaleFactor` of the page's metrics would be told to the page, and boxes would be laid out without it."""
+        screen = self.ask('Emulation.getScreenInfos')['screenInfos'][0]
+        if screen['devicePixelRatio'] != ratio:
+            self.ask('Emulation.updateScreen', screenId=screen['id'], devicePixelRatio=ratio)
 
 
 CHROMIUM_FLAGS = ['--headless', '--no-sandbox', '--disable-gpu', '--hide-scrollbars', '--disable-dev-shm-usage',
-                  '--force-device-scale-factor=1', '--no-first-run', '--disable-background-timer-throttling']
+                  '--no-first-run', '--disable-background-timer-throttling']
 BEGIN_FRAME_FLAGS = ['--deterministic-mode', '--enable-begin-frame-control', '--run-all-compositor-stages-before-draw',
                      '--disable-new-content-rendering-timeout', '--disable-threaded-animation', '--disable-threaded-scrolling',
                      '--disable-checker-imaging', '--disable-image-animation-resync']
@@ -180,15 +203,27 @@ class Stepped:
                 return
         raise NotShown('an update that the browser skips')
 
+    def await_value(self, expression, called, seconds=LONGEST):
+        end = time.time() + seconds
+        while not self.value(expression):
+            if time.time() > end:
+                raise NotShown(called)
+
+    def await_ratio(self, ratio):
+        self.await_value('Math.abs(devicePixelRatio - %r) < 1e-6' % ratio, 'a ratio of %g%%, which this browser rounds' % (100 * ratio),
+                         RATIO_SECONDS)
+
     def trace(self, text):
         """The lines; NotShown where the page can't show all of the script."""
         plan = planned(read_script(text))
-        self.blank(plan['size'])
+        self.blank(plan['size'], plan['ratio'])
         self.begin(plan['script'])
         while True:
             wants = self.value('observersNow.step()', wait=True)
             if wants[0] == 'viewport':
                 self.resize(int(wants[1]), int(wants[2]))
+            elif wants[0] == 'ratio':
+                self.scale(wants[1])
             elif wants[0] == 'tick':
                 self.tick()
             elif wants[0] == 'end':
@@ -226,7 +261,11 @@ class SteppedChromium(Stepped):
     def resize(self, width, height):
         self.pipe.size(width, height)
 
-    def blank(self, size):
+    def scale(self, ratio):
+        self.pipe.scale(ratio)
+        self.await_ratio(ratio)
+
+    def blank(self, size, ratio):
         """A page of its own, in no-quirks mode, whose first update is over."""
         # No mouse comes into the page: under one the browser lays the page out anew, at a time of its own, after a frame was moved.
         self.pipe.ask('Input.setIgnoreInputEvents', ignore=True)
@@ -237,6 +276,7 @@ class SteppedChromium(Stepped):
             answered = answered or answer.get('id') == number
             loaded = loaded or answer.get('method') == 'Page.loadEventFired'
         self.pipe.size(*size)
+        self.scale(ratio)
         self.value('requestAnimationFrame(() => { window.updated = true; })')
         while not self.value('Boolean(window.updated)'):
             self.update()
@@ -343,6 +383,9 @@ class Live:
 
     def trace(self, text):
         plan = planned(read_script(text))
+        if not plan['steady']:
+            raise NotShown(NO_RATIO)
+        self.scale(plan['ratio'])
         for _ in range(ATTEMPTS):
             answer = self.attempt(plan, plan['window'])
             if 'sized' in answer and plan['frame']:
@@ -357,6 +400,10 @@ class Live:
                 return answer['lines']
         raise NotShown(BUSY)
 
+    def scale(self, ratio):
+        if ratio != 1:
+            raise NotShown('a ratio that is not 100%, in this browser')
+
     def attempt(self, plan, in_window):
         if not in_window and not plan['frame']:
             raise NotShown(NO_FRAME)
@@ -370,6 +417,9 @@ class LiveChromium(Live):
     def start(self, program):
         self.pipe = self.hold(Pipe(found('chromium-headless-shell', program, 'chromium-headless-shell'), CHROMIUM_FLAGS))
         self.pipe.attach()
+
+    def scale(self, ratio):
+        self.pipe.scale(ratio)
 
     def size(self, width, height):
         self.pipe.size(width, height)
@@ -390,10 +440,12 @@ for (const limit of ['', 'min-', 'max-']) {
   style.setProperty(limit + 'width', width + 'px');
   style.setProperty(limit + 'height', height + 'px');
 }'''
+FIREFOX_RATIO = "Services.prefs.setCharPref('layout.css.devPixelsPerPx', String(arguments[0]));"
 
 
 class Firefox(Live):
     """Firefox over Marionette: messages of JSON with their length before them."""
+    ratio = 1
 
     def start(self, program):
         program = found('firefox-esr', program, 'firefox-esr')
@@ -438,10 +490,18 @@ class Firefox(Live):
             raise NoBrowser('%s: %s' % (method, error.get('message')))
         return answer
 
-    def size(self, width, height):
+    def in_chrome(self, script, *args):
         self.ask('Marionette:SetContext', value='chrome')
-        self.ask('WebDriver:ExecuteScript', script=FIREFOX_SIZE, args=[width, height])
+        self.ask('WebDriver:ExecuteScript', script=script, args=args)
         self.ask('Marionette:SetContext', value='content')
+
+    def size(self, width, height):
+        self.in_chrome(FIREFOX_SIZE, width, height)
+
+    def scale(self, ratio):
+        if ratio != self.ratio:
+            self.in_chrome(FIREFOX_RATIO, ratio)
+            self.ratio = ratio
 
     def open(self, url):
         self.ask('WebDriver:Navigate', url=url)
@@ -464,18 +524,25 @@ class SteppedFirefox(Stepped, Firefox):
         self.ask('WebDriver:ExecuteScript', script='window.windowUtils.advanceTimeAndRefresh(16)', args=[], sandbox='system')
 
     def resize(self, width, height):
+        self.now = [width, height]
         self.size(width, height)
-        end = time.time() + LONGEST
-        while self.value('[innerWidth, innerHeight]') != [width, height]:
-            if time.time() > end:
-                raise NotShown('a window of %d by %d' % (width, height))
+        self.await_size(width, height)
 
-    def blank(self, size):
+    def scale(self, ratio):
+        super().scale(ratio)
+        self.await_ratio(ratio)
+        self.await_size(*self.now)
+
+    def await_size(self, width, height):
+        self.await_value('innerWidth === %d && innerHeight === %d' % (width, height), 'a window of %d by %d' % (width, height))
+
+    def blank(self, size, ratio):
         """A page of its own, whose first updates are over."""
         self.open(self.server.offer(STEPPED_PAGE % self.parts['page']))
         self.server.answer()
         self.update()
         self.resize(*size)
+        self.scale(ratio)
         for _ in range(2):
             self.update()
 

@@ -1,4 +1,5 @@
-// Runs a script in a window. `script` is what scripts.py read: items with their lines' numbers. Each command is the call of the
+// Runs a script in a window. `script` is what scripts.py read: items with their lines' numbers; its `ratio` says how many device pixels
+// go on a pixel as it begins. Each command is the call of the
 // DOM or of an observer that it names; what callbacks are told is written as trace lines, in the order in which they are told.
 // `setting` has `live` where the browser makes its updates by itself, and `resize` where the window is a frame of known size.
 function observersRun(script, window, setting) {
@@ -12,7 +13,7 @@ function observersRun(script, window, setting) {
   const timers = [];
   const due = [];                  // posted tasks that wait for the update
   const listeners = new Map();     // for each target one function per kind and handler, so that the browser sees doubles
-  let clock = 0, inUpdate = false, waiting = 0, round = null, next = 0;
+  let clock = 0, inUpdate = false, waiting = 0, round = null, next = 0, ratio = script.ratio || 1;
 
   class Thrown extends Error { constructor(kind) { super(kind); this.kind = kind; } }
   class NotShown extends Error {}
@@ -140,8 +141,20 @@ function observersRun(script, window, setting) {
     const style = element.ownerDocument.defaultView && element.ownerDocument.defaultView.getComputedStyle(element);
     if (!style || !element.getClientRects().length) return '0 0';
     const sum = (...list) => list.reduce((all, p) => all + parseFloat(style[p]), 0);
-    return (r.width - sum('paddingLeft', 'paddingRight', 'borderLeftWidth', 'borderRightWidth')) + ' ' +
-      (r.height - sum('paddingTop', 'paddingBottom', 'borderTopWidth', 'borderBottomWidth'));
+    const size = [r.width - sum('paddingLeft', 'paddingRight', 'borderLeftWidth', 'borderRightWidth'),
+      r.height - sum('paddingTop', 'paddingBottom', 'borderTopWidth', 'borderBottomWidth')];
+    // Engines count device pixels between the nearest edges.
+    const device = (start, side) => Math.round((start + side) * ratio) - Math.round(start * ratio);
+    return (box === 'device' ? [device(r.left, size[0]), device(r.top, size[1])] : size).join(' ');
+  }
+  // Both numbers of a box that an entry tells.
+  const told = box => box[0].inlineSize + ' ' + box[0].blockSize;
+  // Of version 2: the content box in device pixels.
+  function deviceSize(entry) {
+    if (!entry.devicePixelContentBoxSize) throw new NotShown('resize entries with device pixels, which this browser lacks');
+    const has = window.devicePixelRatio;
+    if (Math.abs(has - ratio) > 1e-6) throw new NotShown(`a ratio of ${100 * ratio}%, where this browser has one of ${100 * has}%`);
+    return told(entry.devicePixelContentBoxSize);
   }
   function gathered(doc, least) {
     const all = new Set();
@@ -173,9 +186,9 @@ function observersRun(script, window, setting) {
     for (const e of entries) {
       round.least = Math.min(round.least, depth(e.target));
       const seen = o.targets.get(e.target);
-      const border = e.borderBoxSize[0], content = e.contentBoxSize[0];
-      if (seen) seen.last = seen.box === 'border' ? border.inlineSize + ' ' + border.blockSize : content.inlineSize + ' ' + content.blockSize;
-      write(`resize ${o.name} ${nameOf(e.target)} rect ${rect(e.contentRect)} border ${px(border.inlineSize)} ${px(border.blockSize)}`);
+      const border = e.borderBoxSize[0], device = script.version === 1 ? '' : ' device ' + deviceSize(e);
+      if (seen) seen.last = told({ content: e.contentBoxSize, border: e.borderBoxSize, device: e.devicePixelContentBoxSize }[seen.box]);
+      write(`resize ${o.name} ${nameOf(e.target)} rect ${rect(e.contentRect)} border ${px(border.inlineSize)} ${px(border.blockSize)}${device}`);
     }
     call(o.handler, { kind: 'resize', entries });
   }
@@ -254,10 +267,12 @@ function observersRun(script, window, setting) {
     if (told.kind !== 'intersect') throw new Thrown('TypeError');
     return entry.isIntersecting;
   }
+  // All go through one port, as messages of several ports have no order among one another.
+  const channel = new MessageChannel(), posted = [];
+  channel.port1.onmessage = () => { waiting--; runTask(posted.shift()); };
   function post(task) {
     waiting++;
-    const channel = new MessageChannel();
-    channel.port1.onmessage = () => { waiting--; channel.port1.close(); runTask(task); };
+    posted.push(task);
     channel.port2.postMessage(0);
   }
   function runTask(task) {
@@ -273,6 +288,7 @@ function observersRun(script, window, setting) {
       if (!setting.resize) throw new NotShown('a viewport that is changed inside a handler or block');
       setting.resize(parseFloat(width), parseFloat(height));
     },
+    ratio() { throw new NotShown('a ratio that is changed inside a handler or block'); },
     block([name, doc]) { fresh(name); make(name, 'block', shown(named(doc, 'doc')), 'div'); },
     image([name, doc, width, height]) {
       fresh(name);
@@ -333,7 +349,10 @@ function observersRun(script, window, setting) {
     },
     'ro-observe'([name, child, box], entry) {
       const o = named(name, 'ro'), n = node(child, entry);
-      o.real.observe(n.element, { box: box + '-box' });
+      if (box === 'device' && !('devicePixelContentBoxSize' in o.doc.window.ResizeObserverEntry.prototype)) {
+        throw new NotShown('observers of device pixels, which this browser lacks');
+      }
+      o.real.observe(n.element, { box: box === 'device' ? 'device-pixel-content-box' : box + '-box' });
       o.targets.delete(n.element);
       o.targets.set(n.element, { box, last: null });
     },
@@ -349,10 +368,14 @@ function observersRun(script, window, setting) {
       // In a frame of known size its document stands for the implicit root, which would be the window around it.
       const implicit = setting.resize ? document : null;
       const at = root === '-' ? implicit : inner(node(root, entry, 'node', 'doc'));
-      const cut = rest.indexOf('threshold');
+      const cut = rest.indexOf('threshold'), scroll = script.version === 1 ? -1 : rest.slice(0, cut).indexOf('scroll');
+      const options = { root: at, rootMargin: rest.slice(1, scroll < 0 ? cut : scroll).join(' '), threshold: rest.slice(cut + 1).map(Number) };
+      if (scroll >= 0) {
+        if (!('scrollMargin' in home.window.IntersectionObserver.prototype)) throw new NotShown('scroll margins, which this browser lacks');
+        options.scrollMargin = rest.slice(scroll + 1, cut).join(' ');
+      }
       const o = { what: 'io', name, doc: home, handler: commandsTo };
-      o.real = new home.window.IntersectionObserver(home.made(entries => guarded(() => intersected(o, entries))),
-        { root: at, rootMargin: rest.slice(1, cut).join(' '), threshold: rest.slice(cut + 1).map(Number) });
+      o.real = new home.window.IntersectionObserver(home.made(entries => guarded(() => intersected(o, entries))), options);
       names.set(name, o);
     },
     'io-observe'([name, child], entry) { named(name, 'io').real.observe(node(child, entry).element); },
@@ -493,6 +516,7 @@ function observersRun(script, window, setting) {
       guarded(() => { while (next < script.items.length && !api.stopped) {
         const c = script.items[next++];
         if (c.op === 'tick') { if (startTick(c)) { api.wants = ['tick', clock]; return; } }
+        else if (c.op === 'ratio') { ratio = parseFloat(c.args[0]) / 100; api.wants = ['ratio', ratio]; return; }
         else if (c.op === 'viewport' && !setting.resize) { api.wants = ['viewport', parseFloat(c.args[0]), parseFloat(c.args[1])]; return; }
         else begun(c, null, null);
       } api.wants = ['end']; });

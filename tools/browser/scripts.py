@@ -24,6 +24,7 @@ FORMS = {
     'raf': [NAME, NAME, NAME], 'cancel-raf': [NAME, NAME], 'timer': [NAME, NAME, WHOLE, NAME], 'clear-timer': [NAME, NAME],
     'post': [NAME, NAME], 'say': [NAME], 'read': [NODE], 'each': [], 'tick': [WHOLE],
 }
+FORMS_OF_VERSION_2 = {**FORMS, 'ratio': [PERCENT], 'ro-observe': [NAME, NODE, 'content|border|device']}
 CONDITIONS = {'wider': [NODE, LENGTH], 'taller': [NODE, LENGTH], 'matches': [NAME], 'attached': [NODE], 'seen': []}
 
 SIZE = 'auto|%s|%s' % (LENGTH, PERCENT)
@@ -45,9 +46,6 @@ TYPED = r'(?:(?:not|only)[ \t]+)?(?:all|screen|print)(?:[ \t]+and[ \t]+%s)*' % F
 CONDITION = r'(?:not[ \t]+{0}|{0}(?:[ \t]+and[ \t]+{0})*|{0}(?:[ \t]+or[ \t]+{0})+)'.format(FEATURE)
 QUERY = '(?:%s|%s)' % (TYPED, CONDITION)
 QUERIES = re.compile(r'{0}(?:[ \t]*,[ \t]*{0})*'.format(QUERY))
-
-
-NOT_YET = " aren't run in browsers yet"
 
 
 class Refused(Exception):
@@ -79,8 +77,6 @@ def check_set(args, line, version):
 
 
 def check_crossing(args, line, version):
-    if version == 2 and 'scroll' in args[6:]:
-        raise Refused('line %d: scroll margins' % line + NOT_YET)
     cut = args.index('threshold') if 'threshold' in args else len(args)
     check_words(args[:6] if cut > 5 else args[:cut], [NAME, NAME, '-|' + NAME, 'root', '-|' + NODE, 'margin'], line, 'io')
     if cut == len(args):
@@ -126,7 +122,7 @@ class Reader:
     """Takes the lines after the first one, and keeps what is open."""
 
     def __init__(self, version):
-        self.version = version
+        self.version, self.forms = version, FORMS if version == 1 else FORMS_OF_VERSION_2
         self.items, self.handlers, self.open, self.in_handler = [], {}, [], False
 
     def take(self, number, bare, words):
@@ -139,10 +135,8 @@ class Reader:
                 raise Refused("line %d: nothing is open that 'end' could close" % number)
             self.open.pop()
             self.in_handler = self.in_handler and bool(self.open)
-        elif word in FORMS or word in SPECIAL:
+        elif word in self.forms or word in SPECIAL:
             self.command(number, word, words[1:], bare)
-        elif word == 'ratio' and self.version == 2:
-            raise Refused('line %d: ratios of device pixels' % number + NOT_YET)
         else:
             raise Refused("line %d: '%s' is no command" % (number, word))
 
@@ -162,10 +156,8 @@ class Reader:
             args = args[:2] + [bare.split(None, 3)[3]]
         if word in SPECIAL:
             SPECIAL[word](args, number, self.version)
-        elif word == 'ro-observe' and args[2:] == ['device'] and self.version == 2:
-            raise Refused('line %d: observers of device pixels' % number + NOT_YET)
         else:
-            check_words(args, FORMS[word], number, word)
+            check_words(args, self.forms[word], number, word)
         if word == 'tick' and self.open:
             raise Refused('line %d: a tick stands in no handler and in no block' % number)
         command = {'op': word, 'args': args, 'line': number}
@@ -191,7 +183,7 @@ def read_script(text):
         raise Refused("there is no line 'script 1' or 'script 2'")
     if reader.open:
         raise Refused("a handler or block is open at the script's end")
-    return {'items': reader.items, 'handlers': reader.handlers}
+    return {'version': reader.version, 'items': reader.items, 'handlers': reader.handlers}
 
 
 def commands_of(script):

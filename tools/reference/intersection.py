@@ -133,12 +133,17 @@ def find(world, observer, root, target):
     else:
         entry.clips = clips_between(layout, target, observer.root, observer.scroll_margins)
         entry.clips.append(Clip(root.thing, root.box, root.rectangle, root.own))
-        _measure(layout, entry)
-    entry.index = sum([1 for threshold in observer.thresholds if threshold * entry.whole <= entry.part * 10000])
+        measure(layout, entry)
+    entry.index = index_of(observer, entry)
     return entry
 
 
-def _measure(layout, entry):
+def index_of(observer, entry):
+    return sum([1 for threshold in observer.thresholds if threshold * entry.whole <= entry.part * 10000])
+
+
+def measure(layout, entry):
+    """What is seen through the clips."""
     box = entry.clips[0].rectangle
     cut = common_part([clip.rectangle for clip in entry.clips])
     here = layout.origin(entry.target.document)

@@ -3,6 +3,7 @@
 // All numbers are units of 1/64 px; rectangles are [left, top, right, bottom] in the coordinates of `top`'s viewport.
 
 const UNITS = 64;
+const WHOLE = 10000;             // the ratio of device pixels at first, in hundredths of a percent
 const KEPT_EVERY = 50;           // ticks of which the packed boxes are kept as they are
 const ON_PAGE = -1, ON_SCREEN = -2;
 const NO_EDGES = [0, 0, 0, 0, 0, 0, 0, 0];
@@ -12,6 +13,7 @@ function px(units) {
   const all = Math.abs(units), rest = all % UNITS, whole = (units < 0 ? '-' : '') + Math.floor(all / UNITS);
   return rest ? whole + '.' + String(rest * 15625).padStart(6, '0').replace(/0+$/, '') : whole;
 }
+const percent = hundredths => `${hundredths / 100}%`;
 const sizeText = (width, height) => `${px(width)} \u00d7 ${px(height)}`;
 const widthOf = rectangle => rectangle[2] - rectangle[0];
 const heightOf = rectangle => rectangle[3] - rectangle[1];
@@ -39,7 +41,7 @@ class States {
   }
   packed(place) {
     let from = Math.min(Math.floor(place / KEPT_EVERY), this.kept.length - 1);
-    let state = from < 0 ? { documents: new Map(), elements: new Map(), children: new Map(), observed: new Map() } : copied(this.kept[from]);
+    let state = from < 0 ? { ratio: WHOLE, documents: new Map(), elements: new Map(), children: new Map(), observed: new Map() } : copied(this.kept[from]);
     for (let at = from < 0 ? 0 : from * KEPT_EVERY + 1; at <= place; at++) {
       state = applied(state, this.data.steps[at].boxes);
       if (at === this.kept.length * KEPT_EVERY) this.kept.push(copied(state));
@@ -48,11 +50,12 @@ class States {
   }
 }
 function copied(state) {
-  return { viewport: state.viewport, leftOut: state.leftOut, documents: new Map(state.documents), elements: new Map(state.elements),
-    children: new Map(state.children), observed: new Map(state.observed) };
+  return { viewport: state.viewport, ratio: state.ratio, leftOut: state.leftOut, documents: new Map(state.documents),
+    elements: new Map(state.elements), children: new Map(state.children), observed: new Map(state.observed) };
 }
 function applied(state, difference) {
   if (difference.viewport) state.viewport = difference.viewport;
+  if ('ratio' in difference) state.ratio = difference.ratio;
   if ('leftOut' in difference) state.leftOut = difference.leftOut;
   for (const part of ['documents', 'elements', 'children', 'observed']) {
     for (const [number, value] of Object.entries(difference[part] || {})) {
@@ -72,6 +75,9 @@ class Boxes {
     this.document(0, whole, whole, 0);
   }
   name(element) { return this.data.elements[element][0]; }
+  get ratio() { return this.packed.ratio; }
+  // A side of a content box in device pixels: to the nearest whole number, a half upwards.
+  devicePixels(units) { return Math.floor((units * this.ratio + UNITS * WHOLE / 2) / (UNITS * WHOLE)); }
   document(number, viewport, window, level) {
     const [root, left, top, most, mostDown] = this.packed.documents.get(number);
     this.viewports.push({ number, rectangle: viewport, window, scroll: [left, top, most, mostDown] });
@@ -105,7 +111,7 @@ class Boxes {
     const seen = common(rectangle, window);
     this.boxes.set(element, { rectangle, padding, content, window, innerWindow: overflow ? common(window, padding) : window, edges: edges || NO_EDGES,
       seen: isCrossed(seen) ? null : seen, overflow: overflow || '', scroll: scroll || null, above, document: document.number,
-      origin: document.viewport, depth: document.depth, record });
+      origin: document.viewport, depth: document.depth, holder: holder || 0, record });
     this.cornersOf(element, corners);
   }
   // Where the boxes in an element are counted from: its parent's edge, and the bottom of the sibling before it.

@@ -10,6 +10,7 @@ from reference.layout import PAGE, SCREEN
 from reference.world import ACTIVE
 
 MOST_BOXES = 5000
+WHOLE = 10000                      # the ratio at first
 NO_EDGES = (0,) * 8
 ON_PAGE, ON_SCREEN = -1, -2
 SCROLL, HOLDER = 6, 7              # places in a record
@@ -38,6 +39,7 @@ class State:
     """Of the elements and documents that are shown, by their numbers.
 
     viewport    the size of the viewport of `top`
+    ratio       of device pixels, in hundredths of a percent
     documents   (root or -1, scroll offset left and top, range left and top)
     elements    (left, top, width, height, edges, overflow, scroll, holder), or a text: why it has no box
     children    numbers, of each element that has children
@@ -47,8 +49,8 @@ class State:
     has_holders whether a box is placed elsewhere than in its parent
     """
 
-    def __init__(self, viewport):
-        self.viewport = viewport
+    def __init__(self, viewport, ratio):
+        self.viewport, self.ratio = viewport, ratio
         self.documents, self.elements, self.children, self.observed = {}, {}, {}, {}
         self.left_out = 0
         self.has_holders = False
@@ -57,7 +59,7 @@ class State:
 def state(world, things, most=MOST_BOXES):
     """The boxes of a world now."""
     layout = world.layout
-    found = State(tuple(world.viewport_size))
+    found = State(tuple(world.viewport_size), world.pixel_ratio)
     order = _shown(world)
     shown = set(order[:most])
     found.left_out = len(order) - len(shown)
@@ -81,7 +83,7 @@ def scrolled_state(world, things, before):
     if before.has_holders:
         return None
     layout, elements, documents = world.layout, list(things.elements), list(things.documents)
-    found = State(before.viewport)
+    found = State(before.viewport, world.pixel_ratio)
     found.left_out, found.has_holders, found.children = before.left_out, False, before.children
     found.documents = {number: known[:1] + tuple(layout.document_offset(documents[number])) + known[3:]
                        for number, known in before.documents.items()}
@@ -187,6 +189,8 @@ def difference(before, after):
     changed = {}
     if before is None or before.viewport != after.viewport:
         changed['viewport'] = after.viewport
+    if after.ratio != (WHOLE if before is None else before.ratio):
+        changed['ratio'] = after.ratio
     for part in PARTS:
         old, new = {} if before is None else getattr(before, part), getattr(after, part)
         other = {number: value for number, value in new.items() if old.get(number) != value}

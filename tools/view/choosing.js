@@ -11,7 +11,7 @@ const chosen = { place: 0, element: -1, line: -1, script: 0, boxes: null, before
 const within = (place, length) => Math.max(0, Math.min(length - 1, place));
 let asked = 0, drawn = { place: -1 }, scriptOf = -1;
 
-const NO_BOX = html`<p class="after">None. Click a box in the drawing, a name, or a line of the trace; <kbd>b</kbd> takes the next one.</p>`;
+const NO_BOX = html`<p class="after none">None. Click a box in the drawing, a name, or a line of the trace; <kbd>b</kbd> takes the next one.</p>`;
 const PAGE_TITLES = { tick: 'The page as the tick ends', start: 'The page as the tick begins', end: 'The page as the script ends' };
 
 function choose(more) {

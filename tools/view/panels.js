@@ -95,7 +95,8 @@ class Panels {
       this.sentences.thing(element)}`)}${along.length > 6 && ' \u2026'}</p>`;
   }
   documentChanges(boxes, before) {
-    const found = [];
+    const found = [], ratios = [before.ratio, boxes.ratio].map(percent);
+    if (ratios[0] !== ratios[1]) found.push(html`<p class="after">The ratio of device pixels is changed: ${ratios[0]} \u2192 ${sized(ratios[1])}</p>`);
     for (const now of boxes.viewports) {
       const old = before.viewports.find(one => one.number === now.number), name = bold(this.documentName(now.number));
       if (!old) continue;
@@ -131,14 +132,20 @@ class Panels {
     const facts = [fact('made', html`${kind}, ${this.sentences.ref(line)} ${this.sentences.code(line)}`)];
     if (box) facts.push(...this.geometry(element, box, boxes));
     else if (boxes) facts.push(fact('box', html`none: ${quoted(boxes.reasons.get(element) || 'it stands in no document that is shown')}`));
-    return html`<dl class="facts">${facts}</dl>${observed && this.observers(observed, box)}${box && this.clips(element, box, boxes)}${
+    return html`<dl class="facts">${facts}</dl>${observed && this.observers(observed, box, boxes)}${box && this.clips(element, box, boxes)}${
       this.history(element)}${this.linesAbout(element, place)}`;
+  }
+  // Of a box that its parent doesn't hold.
+  holder(box) {
+    if (box.holder === ON_PAGE) return html`the page of ${bold(this.documentName(box.document))}`;
+    return box.holder === ON_SCREEN ? html`the screen of ${bold(this.documentName(box.document))}` : this.sentences.thing(box.holder - 1);
   }
   geometry(element, box, boxes) {
     const r = box.rectangle, sides = from => box.edges.slice(from, from + 4), parent = boxes.parents.get(element);
     const most = box.scroll && box.scroll.slice(2).map(px).join(' ');
     return [
       fact('border box', html`${sized(sizeOf(r))} at ${cornerText(r, box.origin)}`),
+      box.holder && fact('held by', this.holder(box)),
       !isSame(box.content, r) && fact('content box', sizeOf(box.content)),
       sides(0).some(Boolean) && fact('borders', sides(0).map(px).join(' ')),
       sides(4).some(Boolean) && fact('paddings', sides(4).map(px).join(' ')),
@@ -148,18 +155,22 @@ class Panels {
       fact('depth', html`${box.depth} in ${bold(this.documentName(box.document))}${parent !== undefined && html`, in ${this.sentences.thing(parent)}`}`),
     ];
   }
-  observers(observed, box) {
+  observers(observed, box, boxes) {
     return html`<h4>Observed</h4><ul class="observers">${observed.slice(0, 30).map(one => html`<li>${
-      one[0] === 'resize' ? this.observation(one, box) : this.registration(one)}</li>`)}</ul>`;
+      one[0] === 'resize' ? this.observation(one, box, boxes) : this.registration(one)}</li>`)}</ul>`;
   }
   registration([, observer, line, meets, index]) {
     return html`${bold(observer)}, ${this.sentences.ref(line)}: ${index < 0 ? 'not computed yet' : meets ? 'meets its root' : 'doesn\u2019t meet its root'}`;
   }
-  observation([, observer, line, kind, told, width, height], box) {
-    const now = !box ? [0, 0] : [widthOf, heightOf].map(length => length(kind === 'border' ? box.rectangle : box.content));
-    const isTold = now[0] === width && now[1] === height;
-    const state = kind === 'device' ? '' : isTold ? ', as it is' : html`; <b class="bad">it is ${sizeText(...now)}</b>, to be told`;
-    return html`${bold(observer)}, ${kind} box, ${this.sentences.ref(line)}: ${told ? `told ${toldSize(kind, width, height)}` : 'told nothing yet'}${state}`;
+  observation([, observer, line, kind, told, width, height], box, boxes) {
+    const now = this.sizeNow(kind, box, boxes), isTold = now[0] === width && now[1] === height;
+    const state = isTold ? ', as it is' : html`; <b class="bad">it is ${toldSize(kind, ...now)}</b>, to be told`;
+    return html`${bold(observer)}, ${OBSERVED[kind]}, ${this.sentences.ref(line)}: ${told ? `told ${toldSize(kind, width, height)}` : 'told nothing yet'}${state}`;
+  }
+  sizeNow(kind, box, boxes) {
+    if (!box) return [0, 0];
+    const sides = [widthOf, heightOf].map(length => length(kind === 'border' ? box.rectangle : box.content));
+    return kind === 'device' ? sides.map(side => boxes.devicePixels(side)) : sides;
   }
   clips(element, box, boxes) {
     const row = clip => html`<tr><th scope="row">${clip.said} ${

@@ -177,7 +177,8 @@ class Recording(Page):
             return
         step.boxes = {}
         world = self.world
-        if not (world.has_changed or world.has_scrolled or self.causes.stirred):
+        is_rescaled = self.packed is not None and self.packed.ratio != world.pixel_ratio
+        if not (is_rescaled or world.has_changed or world.has_scrolled or self.causes.stirred):
             return
         packed = None if world.has_changed else boxes.scrolled_state(world, self.things, self.packed)
         if packed is None:

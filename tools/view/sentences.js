@@ -54,7 +54,7 @@ class Sentences {
     const more = this.trace.more(line), box = more ? more[1] : 'content';
     const size = { content: words.slice(6, 8), border: words.slice(9, 11), device: words.slice(12, 14) }[box].join(' \u00d7 ');
     const before = !more ? '' : more.length > 2 ? `before ${toldSize(box, more[2], more[3])}` : 'told for the first time';
-    return html`${bold(words[1])} is told ${this.target(line, words[2])}: ${sized(size)} ${box} box${before && html`, <span class="before">${before}</span>`}`;
+    return html`${bold(words[1])} is told ${this.target(line, words[2])}: ${sized(size)} ${OBSERVED[box]}${before && html`, <span class="before">${before}</span>`}`;
   }
   meeting(words) {
     return words[4] === 'yes' ? html`<b>meets</b> its root: ${seenPart(words[5])}` : html`<b>doesn\u2019t meet</b> its root`;
@@ -80,8 +80,8 @@ class Sentences {
     if (!more) return html`<b class="bad">Loop error</b>`;
     const left = more.slice(2), others = left.length - MOST_LEFT, many = left.length === 1 ? 'a size was' : `${number(left.length)} sizes were`;
     const row = ([observer, element, box, depth, told, oldWidth, oldHeight, width, height]) => html`<li>${bold(observer)} was told ${
-      told ? toldSize(box, oldWidth, oldHeight) : 'nothing'} of ${this.thing(element)} at depth ${depth}; its ${box} box is ${
-      sized(toldSize(box, width, height))} now</li>`;
+      told ? toldSize(box, oldWidth, oldHeight) : 'nothing'} of ${this.thing(element)} at depth ${depth}; its ${OBSERVED[box]} ${
+      box === 'device' ? 'are' : 'is'} ${sized(toldSize(box, width, height))} now</li>`;
     return html`<b class="bad">Loop error</b>: ${many} left untold. The loop had come to depth ${more[1]}, and tells only what is deeper.
       <ul class="left">${left.slice(0, MOST_LEFT).map(row)}${others > 0 && html`<li>and ${number(others)} more</li>`}</ul>`;
   }
@@ -109,7 +109,7 @@ class Sentences {
   sizes(sizes) {
     const others = sizes.length - MOST_SIZES;
     const row = ([observer, element, box, oldWidth, oldHeight, width, height]) => html`<li>${this.thing(element)}: ${
-      toldSize(box, oldWidth, oldHeight)} \u2192 ${sized(toldSize(box, width, height))} ${word(`${box} box, observed by ${observer}`)}</li>`;
+      toldSize(box, oldWidth, oldHeight)} \u2192 ${sized(toldSize(box, width, height))} ${word(`${OBSERVED[box]}, observed by ${observer}`)}</li>`;
     return html`<ul class="sizes">${sizes.slice(0, MOST_SIZES).map(row)}${others > 0 && html`<li>and ${number(others)} more sizes</li>`}</ul>`;
   }
 }

@@ -17,8 +17,9 @@ const counted = (count, one, many = one + 's') => `${number(count)} ${count === 
 function listed(parts) {
   return parts.length < 2 ? parts.join('') : parts.slice(0, -1).join(', ') + ' and ' + parts[parts.length - 1];
 }
-// A size as it is told of a box: of the box `device` in device pixels.
-const toldSize = (box, width, height) => box === 'device' ? `${width} \u00d7 ${height} device px` : sizeText(width, height);
+// What is observed, and a size of it: the box `device` is the content box in device pixels.
+const OBSERVED = { content: 'content box', border: 'border box', device: 'device pixels' };
+const toldSize = (box, width, height) => box === 'device' ? `${width} \u00d7 ${height}` : sizeText(width, height);
 const word = said => html`<span class="word">${said}</span>`;
 const bold = said => html`<b>${said}</b>`;
 const sized = said => html`<b class="size">${said}</b>`;

@@ -17,17 +17,18 @@ use Rattle.page_model.specs.Operands.{Present, NoEntry, ResizeEntry, Intersectio
 use Rattle.page_model.specs.Scrolling.{scrolled_to, scrolled_by}
 use Rattle.page_model.specs.Commands.{does, with_intersections, with_listeners, making}
 use Rattle.page_model.specs.Callbacks.{Script, Entries, handler_names, handler_block, presents, call}
-use Rattle.page_model.specs.Ranges.{Counts, counts_of, IsTreeIn, IsInRange, IsPresentIn}
+use Rattle.page_model.specs.Ranges.{IsInRange, IsPresentIn}
 use Rattle.page_laws.specs.Successors.{OnDid}
 use Rattle.page_laws.proofs.Steps.{bind, both, did, on_did-with}
 use Rattle.page_laws.proofs.Lists.{all-filter, all-map}
+use Rattle.page_laws.proofs.Unboxed.{in-range-made}
 use Rattle.page_laws.proofs.InRange.{does-in}
 use Rattle.page_laws.proofs.Keeping.{counted}
 use Rattle.page_laws.proofs.RunsInRange.{IsEntryIn, entry-in, same-count}
 use Rattle.loop_lint.specs.Verdicts.{disturbs}
 use Rattle.loop_lint.proofs.Holding.{BlockHolds, Fails}
 use Rattle.loop_lint.proofs.Carried.{IsCarried, call-carries}
-use Rattle.loop_lint.proofs.More.{IsMore, size-same, element-more, frame-more}
+use Rattle.loop_lint.proofs.More.{IsMore, element-more, frame-more}
 
 -- observers -----------------------------------------------------------------------------------------------------------------------
 
@@ -84,11 +85,10 @@ then-calm document a b c one other = record {
   targets = record { each = λ o test pass. other.targets.each o test (one.targets.each o test pass) };
 }
 
-more-calm : (document : ℕ) (counts : Counts) (tree after : Tree) (screen : Screen) (it : ResizeObservers) → counts.elements ≡ length tree.elements →
-    counts.documents ≡ length tree.documents → IsTreeIn counts tree → IsMore tree after → IsCalm document tree screen it after screen it
-more-calm document counts tree after screen it elements documents within more = record {
+more-calm : (document : ℕ) (tree after : Tree) (screen : Screen) (it : ResizeObservers) → IsMore tree after → IsCalm document tree screen it after screen it
+more-calm document tree after screen it more = record {
   elements = more.elements;
-  sizes = λ n is kind. size-same counts tree after elements documents within more screen n (subst (λ (count : ℕ). n < count) (sym elements) is) kind;
+  sizes = λ n is kind. more.sizes screen n kind;
   active = more.active document;
   targets = still-targets document it;
 }
@@ -105,14 +105,14 @@ module _ (document : ℕ) (handlers : Handlers) (world : World) (within : IsInRa
   made-element : (kind : Kind) (made_in : ℕ) (framed : Option ℕ) →
       IsCalm document (world.tree) (world.viewports.screen) (world.resize_observers) (with_element kind made_in framed (world.tree)) (world.viewports.screen) (world.resize_observers)
   made-element kind made_in framed =
-      more-calm document (counts_of (length handlers) world) (world.tree) _ (world.viewports.screen) (world.resize_observers) refl refl (within.tree)
-      (element-more kind made_in framed (world.tree))
+      more-calm document (world.tree) _ (world.viewports.screen) (world.resize_observers)
+      (element-more kind made_in framed (world.tree) (in-range-made (length handlers) world within))
 
   made-frame : (made_in : ℕ) →
       IsCalm document (world.tree) (world.viewports.screen) (world.resize_observers) (with_frame made_in (world.tree)) (world.viewports.screen) (world.resize_observers)
   made-frame made_in =
-      more-calm document (counts_of (length handlers) world) (world.tree) _ (world.viewports.screen) (world.resize_observers) refl refl (within.tree)
-      (frame-more made_in (world.tree))
+      more-calm document (world.tree) _ (world.viewports.screen) (world.resize_observers)
+      (frame-more made_in (world.tree) (in-range-made (length handlers) world within))
 
   observers-calm : (it : ResizeObservers) → KeepsTargets document (world.resize_observers) it →
       IsCalm document (world.tree) (world.viewports.screen) (world.resize_observers) (world.tree) (world.viewports.screen) it

@@ -15,3 +15,4 @@ pub mod Nothing
 pub mod Reaching
 pub mod Edges
 pub mod InForce
+pub mod Around

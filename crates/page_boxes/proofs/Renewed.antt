@@ -1,13 +1,13 @@
 -- What laying out the tree of a document's root element does: to the document, to the others and to what is kept.
-use Rattle.std.proofs.Common.{◌≡◌, ◌≢◌, ◌<◌, ◌≤◌, ℕ, Bool, true, false, List, length, Option, Some, None, option_map, nat_eq, nat_lt, eqb-true, refl, ap, sym, subst, ◌∙◌, arith}
+use Rattle.std.proofs.Common.{◌≡◌, ◌≢◌, ◌<◌, ◌≤◌, ℕ, Bool, true, false, List, [], ◌∷◌, length, Option, Some, None, option_map, nat_eq, nat_lt, eqb-true, refl, ap, sym, subst, ◌∙◌, arith}
 use Rattle.std.proofs.lemmas.Bool.Decides.{nat_tests}
-use Rattle.std.specs.Prelude.{◌||◌, is_some}
+use Rattle.std.specs.Prelude.{◌||◌, ◌==◌, is_some}
 use Rattle.layout_model.specs.Nodes.{Node, is_among, is_in_path}
 use Rattle.layout_model.specs.Boxes.{Inputs, inputs_in}
 use Rattle.layout_model.specs.Views.{View, inputs_in_view}
 use Rattle.layout_model.proofs.Paths.{path_top}
 use Rattle.page_model.specs.World.{Element, Screen, Tree}
-use Rattle.page_model.specs.Lookups.{element_at, document_at}
+use Rattle.page_model.specs.Lookups.{element_at, document_at, is_listed}
 use Rattle.page_model.specs.Documents.{nodes_of, is_active}
 use Rattle.page_model.specs.PageBoxes.{view_with, framed_size, view_of, inputs_of}
 use Rattle.page_documents.specs.Frames.{AreFramed}
@@ -19,7 +19,7 @@ use Rattle.kept_layout.specs.Sound.{IsSound, IsReady}
 use Rattle.kept_layout.specs.Due.{is_due_at, is_due as is_due_with}
 use Rattle.page_boxes.specs.Fresh.{IsFreshIn}
 use Rattle.page_boxes.specs.Kept.{AreKept, is_due}
-use Rattle.page_boxes.specs.LaidOut.{IsLaidOut}
+use Rattle.page_boxes.specs.LaidOut.{IsLaidOut, ChangesOnlyIn}
 use Rattle.page_boxes.proofs.Parents.{some_found, child_boxed}
 use Rattle.page_boxes.proofs.Owners.{owner_inside}
 use Rattle.page_boxes.proofs.Rooted.{boxed_inside, inputs_from, rootless, rooted_in, top_only}
@@ -160,6 +160,19 @@ module _ (tree : Tree) (framed : AreFramed tree) (screen : Screen) (document : �
           by_inputs n owner (Some own) is =
               ap (is_due_at (inputs_of tree screen n)) (same n (elsewhere other n own differs (sym (inputs_found tree screen n other owner) ∙ is)))
               ∙ was.done n owner
+
+      -- elements of other documents
+      pub left_here : ChangesOnlyIn tree (document ∷ []) before after
+      left_here n apart = same n (by_inputs (inputs_in at root inputs n) refl)
+        where
+          by_inputs : (found : Option Inputs) → inputs_in at root inputs n ≡ found → inputs_in at root inputs n ≡ None
+          by_inputs None e = e
+          by_inputs (Some own) e =
+              let inside = ap (λ at. is_in_path at root n) nodes ∙ boxed_inside at root inputs n (ap is_some e) in
+              let owner = owner_inside tree framed root n inside ∙ (framed.owners.roots document root rooted).owner in
+              let here : (document == document || false) ≡ true = grind (arith, nat_tests) in
+              let both : true ≡ false = sym here ∙ ap (λ d. is_listed d (document ∷ [])) (sym owner) ∙ apart in
+              cc
 
       -- what is kept
       unmade : (n : ℕ) → length tree.elements ≤ n → inputs_in at root inputs n ≡ None

@@ -130,7 +130,7 @@ module _ (tree : Tree) (framed : AreFramed tree) where
     first_still [] first = absurd (not_top (let same : document ≡ 0 = cc in same))
     first_still (d ∷ way) first = first
 
-    way_step : (high less : ℕ) → high ≡ suc less → way_down high tree document ≡ way_down less tree (element_at tree frame).document ++ document ∷ []
+    pub way_step : (high less : ℕ) → high ≡ suc less → way_down high tree document ≡ way_down less tree (element_at tree frame).document ++ document ∷ []
     unfolding way_down
     way_step high less more =
         ap (λ h. way_down h tree document) more

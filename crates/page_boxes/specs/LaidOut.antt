@@ -1,8 +1,9 @@
--- Which documents are laid out so far.
+-- Which documents are laid out so far, and what is left as it is.
 use Rattle.std.specs.Prelude.{◌≡◌, ℕ, Bool, true, false, List, length}
 use Rattle.page_model.specs.World.{Screen, Tree}
-use Rattle.page_model.specs.Lookups.{element_at, entry_or}
+use Rattle.page_model.specs.Lookups.{element_at, entry_or, is_listed}
 use Rattle.kept_layout.specs.declared.slots.Slot.{Slot}
+use Rattle.kept_layout.specs.Slots.{slot_in}
 use Rattle.page_boxes.specs.Fresh.{IsFreshIn}
 use Rattle.page_boxes.specs.Kept.{is_due}
 
@@ -23,3 +24,7 @@ pub record GoesOn (tree : Tree) (screen : Screen) (before marks : List Bool) (ke
   pub count : length marks ≡ 64
   pub more : (document : ℕ) → is_marked before document ≡ true → is_marked marks document ≡ true
   pub laid_out : AreLaidOut tree screen marks kept
+
+-- of what is kept nothing changes but for elements of these documents
+abbrev pub ChangesOnlyIn : Tree → List ℕ → List Slot → List Slot → Type 0
+ChangesOnlyIn tree documents old new = (n : ℕ) → is_listed (element_at tree n).document documents ≡ false → slot_in new n ≡ slot_in old n

@@ -3,3 +3,4 @@ pub mod Pages
 pub mod Ranges
 pub mod Kept
 pub mod LaidOut
+pub mod Around

@@ -1,14 +1,15 @@
 //! Laying out a page over the boxes that are kept: what is due is computed, document by document.
 
-ghost use Rattle.std.specs.Prelude.{◌≡◌, ◌≢◌, ℕ, ◌+◌, ◌<◌, ◌≤◌, true, false, Some, length, unsigned_abs};
+ghost use Rattle.std.specs.Prelude.{◌≡◌, ◌≢◌, ℕ, ◌+◌, ◌<◌, ◌≤◌, ◌∷◌, [], true, false, Some, length, unsigned_abs};
 ghost use Rattle.page_model.specs.Documents.{first_of_list, is_active};
 ghost use Rattle.page_documents.specs.Frames.{AreFramed};
 ghost use Rattle.page_documents.specs.Paths.{way_down};
 ghost use Rattle.block_layout.specs.Seen.{seen_inputs};
 ghost use Rattle.page_tree.specs.Steps.{seen_container};
+ghost use Rattle.page_boxes.specs.Around.{rests_on, LeavesOthers};
 ghost use Rattle.page_boxes.specs.Fresh.{IsFresh, IsFreshIn, IsFreshAbove, IsFreshFor};
 ghost use Rattle.page_boxes.specs.Kept.{AreKept, FillsOnly, is_due, due_count};
-ghost use Rattle.page_boxes.specs.LaidOut.{is_marked, IsLaidOut, AreLaidOut, GoesOn};
+ghost use Rattle.page_boxes.specs.LaidOut.{is_marked, IsLaidOut, AreLaidOut, GoesOn, ChangesOnlyIn};
 ghost use Rattle.page_boxes.specs.Pages.{seen_screen};
 
 use crate::documents::framed_size;
@@ -47,6 +48,7 @@ fn lay_out<L: Ledger>(
     ensures laid_out { IsLaidOut page.now.tree (seen_screen screen) boxes.new document }
     ensures others { (other : ℕ) → other ≢ document → IsLaidOut page.now.tree (seen_screen screen) boxes.old other →
         IsLaidOut page.now.tree (seen_screen screen) boxes.new other }
+    ensures left { ChangesOnlyIn page.now.tree (document ∷ []) boxes.old boxes.new }
     ensures kept { AreKept page.now.tree boxes.new }
     ensures slots { length boxes.new ≡ length boxes.old }
     ensures fills { FillsOnly boxes.old boxes.new }
@@ -79,6 +81,7 @@ fn lay_out_once<L: Ledger>(
     requires laid_out { AreLaidOut page.now.tree (seen_screen screen) laid_out.old boxes.old }
     ensures goes { GoesOn page.now.tree (seen_screen screen) laid_out.old laid_out.new boxes.new }
     ensures marked { is_marked laid_out.new document ≡ true }
+    ensures left { ChangesOnlyIn page.now.tree (document ∷ []) boxes.old boxes.new }
     ensures kept { AreKept page.now.tree boxes.new }
     ensures slots { length boxes.new ≡ length boxes.old }
     ensures fills { FillsOnly boxes.old boxes.new }
@@ -110,6 +113,8 @@ fn lay_out_up<L: Ledger>(
     requires laid_out { AreLaidOut page.now.tree (seen_screen screen) laid_out.old boxes.old }
     ensures goes { GoesOn page.now.tree (seen_screen screen) laid_out.old laid_out.new boxes.new }
     ensures marked { is_active page.now.tree document ≡ true → is_marked laid_out.new document ≡ true }
+    ensures above { is_active page.now.tree document ≡ true → IsFreshAbove page.now.tree (seen_screen screen) boxes.new document }
+    ensures left { ChangesOnlyIn page.now.tree (way_down high page.now.tree document) boxes.old boxes.new }
     ensures kept { AreKept page.now.tree boxes.new }
     ensures slots { length boxes.new ≡ length boxes.old }
     ensures fills { FillsOnly boxes.old boxes.new }
@@ -151,7 +156,8 @@ pub fn refresh<L: Ledger>(boxes: &mut Kept, page: &PageTree, screen: Screen, ste
     }
 }
 
-// Computes what is due of the boxes of a document and of the documents around it.
+// Computes what is due of the boxes of a document, where it is Active, and of the documents around it: with it they are no more than the
+// 64 that a page may have.
 fn refresh_document<L: Ledger>(
     boxes: &mut Kept,
     page: &PageTree,
@@ -160,7 +166,10 @@ fn refresh_document<L: Ledger>(
     steps: &mut Steps<L>,
 )
     requires { AreKept page.now.tree boxes.old }
+    ensures framed { AreFramed page.now.tree }
     ensures fresh { IsFreshIn page.now.tree (seen_screen screen) boxes.new document }
+    ensures above { is_active page.now.tree document ≡ true → IsFreshAbove page.now.tree (seen_screen screen) boxes.new document }
+    ensures left { (high : ℕ) → 64 ≤ high → ChangesOnlyIn page.now.tree (way_down high page.now.tree document) boxes.old boxes.new }
     ensures kept { AreKept page.now.tree boxes.new }
     ensures slots { length boxes.new ≡ length boxes.old }
     ensures fills { FillsOnly boxes.old boxes.new }
@@ -171,9 +180,36 @@ fn refresh_document<L: Ledger>(
     lay_out_up(boxes, page, screen, document, count, &mut laid_out, steps);
 }
 
+/// Computes what is due of the boxes of a document and of the documents around it, with this screen of `top`: those of the document and
+/// of the one that its frame is in are then held as they are now, and boxes of other documents aren't touched. A document that isn't
+/// Active has no box, and those of the documents around its frame are computed. What is kept fits the page before, and afterwards. It
+/// takes at most one step for each box that was due, and no memory.
+pub fn refresh_in<L: Ledger>(
+    boxes: &mut Kept,
+    page: &PageTree,
+    screen: Screen,
+    document: u32,
+    steps: &mut Steps<L>,
+)
+    requires { AreKept page.now.tree boxes.old }
+    ensures fresh { IsFreshIn page.now.tree (seen_screen screen) boxes.new document }
+    ensures above { IsFreshAbove page.now.tree (seen_screen screen) boxes.new document }
+    ensures left { LeavesOthers page.now.tree (Some document) boxes.old boxes.new }
+    ensures kept { AreKept page.now.tree boxes.new }
+    ensures slots { length boxes.new ≡ length boxes.old }
+    ensures fills { FillsOnly boxes.old boxes.new }
+    ensures ticks { steps.new + due_count page.now.tree (seen_screen screen) boxes.new ≤ steps.old + due_count page.now.tree (seen_screen screen) boxes.old }
+{
+    if page.is_active(document) {
+        refresh_document(boxes, page, screen, document, steps);
+    } else if let Some(frame) = page.frame_of(document) {
+        refresh_document(boxes, page, screen, page.document_of(frame), steps);
+    }
+}
+
 /// Computes what is due of the boxes that a reading of an element or a document rests on, with this screen of `top`:
-/// those of one document and of the documents around it are then held as they are now. What is kept fits the page before, and
-/// afterwards. It takes at most one step for each box that was due, and no memory.
+/// those of one document and of the documents around it are then held as they are now, and boxes of other documents aren't touched.
+/// What is kept fits the page before, and afterwards. It takes at most one step for each box that was due, and no memory.
 pub fn refresh_for<L: Ledger>(
     boxes: &mut Kept,
     page: &PageTree,
@@ -183,6 +219,7 @@ pub fn refresh_for<L: Ledger>(
 )
     requires { AreKept page.now.tree boxes.old }
     ensures fresh { IsFreshFor page.now.tree (seen_screen screen) boxes.new (seen_container container) }
+    ensures left { LeavesOthers page.now.tree (rests_on page.now.tree (seen_container container)) boxes.old boxes.new }
     ensures kept { AreKept page.now.tree boxes.new }
     ensures slots { length boxes.new ≡ length boxes.old }
     ensures fills { FillsOnly boxes.old boxes.new }

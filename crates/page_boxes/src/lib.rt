@@ -3,8 +3,8 @@
 //! lengths are in units of 1/64 CSS pixel.
 //!
 //! The boxes are kept beside the page in a `Kept`, which gets a slot for each element as it is made, and marks where the page
-//! changes. `refresh` computes what is due in all documents, and `refresh_for` what one reading rests on; a reading makes no box and
-//! takes no memory. The stored scroll positions are handed in.
+//! changes. `refresh` computes what is due in all documents, `refresh_in` in one and those around it, and `refresh_for` what one
+//! reading rests on; a reading makes no box and takes no memory. The stored scroll positions are handed in.
 #![tactic(auto)]
 
 mod climb;
@@ -24,7 +24,7 @@ pub use documents::{ShownRoot, box_below, has_box, has_box_below, shown_root, vi
 pub use exact::undue_boxes_are_exact;
 pub use in_force::{boxed_offset, is_at_start, shown_offset};
 pub use laws::nothing_kept_fits;
-pub use layout::{refresh, refresh_for};
+pub use layout::{refresh, refresh_for, refresh_in};
 pub use offsets::place_in;
 pub use ranges::{boxed_range, is_scroll_container, is_scroller, shown_range};
 pub use readings::size_of;

@@ -1,5 +1,5 @@
 -- Rectangles and points of a page, and what is read of it.
-use Rattle.std.proofs.Common.{◌≡◌, ℕ, List, Option, Some, ap, sym, ◌∙◌, arith}
+use Rattle.std.proofs.Common.{◌≡◌, ℕ, List, Option, Some, ap, sym, subst, ◌∙◌, arith}
 use Rattle.std.proofs.lemmas.Int.{ints}
 use Rattle.std.specs.Prelude.{ℤ, pos, ◌+◌, ◌+ℤ◌}
 use Rattle.px_units.specs.declared.BoxKind.TheVariants.{Border}
@@ -10,14 +10,18 @@ use Rattle.px_units.specs.Rects.{InReach, RectInReach}
 use Rattle.layout_model.specs.Boxes.{Box, padding_size, padding_corner, inner_corner}
 use Rattle.script_model.specs.TraceLines.{ReadLine}
 use Rattle.page_model.specs.World.{Extent, Screen, ScrolledElement, ScrolledDocument, Scrolls, Name, Tree}
-use Rattle.page_model.specs.Lookups.{no_extent}
+use Rattle.page_model.specs.Lookups.{no_extent, element_at}
 use Rattle.page_model.specs.Documents.{InElement, InDocument}
 use Rattle.page_model.specs.Names.{element_text, document_text}
 use Rattle.page_model.specs.Chains.{beside, padding_box_at, content_corner_at}
 use Rattle.page_model.specs.Readings.{rect_of, point_at, reading_of}
-use Rattle.page_model.specs.PageBoxes.{pair_of, extent_of, viewport_of, size_of, place_of, scroll_offset}
+use Rattle.page_model.specs.PageBoxes.{pair_of, extent_of, view_of, view_at, viewport_of, size_of, place_of, scroll_offset}
+use Rattle.page_model.specs.Shown.{Shown}
 use Rattle.block_layout.specs.Seen.{as_size, as_point}
 use Rattle.block_layout.specs.Ranges.{IsBox}
+use Rattle.kept_layout.specs.declared.slots.Slot.{Slot}
+use Rattle.kept_layout.specs.Measures.{IsSized}
+use Rattle.page_boxes.specs.Fresh.{IsFreshIn}
 use Rattle.page_boxes.specs.Ranges.{IsSpan, IsPlace, IsEdge, AreEdges}
 use Rattle.page_boxes.proofs.InForce.{shown_offset}
 
@@ -107,3 +111,11 @@ pub document_reading : (names : List Name) (tree : Tree) (screen : Screen) (scro
 document_reading names tree screen scrolls document rect scroll is shown =
     ap (λ s. ReadLine (document_text names document) (rect_of (point_at no_extent) (viewport_of tree screen document)) s) (sym shown)
     ∙ ap (λ r. ReadLine (document_text names document) r scroll) (sym is)
+
+-- the boxes of the document that is an element's
+module _ (it : Shown) (document n : ℕ) (own : (element_at it.tree n).document ≡ document) where
+  pub sized_at : IsSized (view_of it.tree it.screen document) → IsSized (view_at it.tree it.screen n)
+  sized_at sized = subst (λ d. IsSized (view_of it.tree it.screen d)) (sym own) sized
+
+  pub fresh_at : (kept : List Slot) → IsFreshIn it.tree it.screen kept document → IsFreshIn it.tree it.screen kept (element_at it.tree n).document
+  fresh_at kept fresh = subst (λ d. IsFreshIn it.tree it.screen kept d) (sym own) fresh

@@ -1,7 +1,6 @@
 -- The scene of a page, by what is read of it.
 use Rattle.std.proofs.Common.{◌≡◌, ◌≤◌, ◌<◌, ℕ, Bool, true, false, cond, nat_lt, length, Option, Some, None, option_map, refl, ap, sym, ◌∙◌}
 use Rattle.std.specs.Prelude.{IfSome, ◌&&◌, not, is_some}
-use Rattle.px_units.specs.declared.Rect.{Rect}
 use Rattle.layout_model.specs.Clips.{is_block, is_visible, is_clip, clips, is_scroll_container}
 use Rattle.layout_model.specs.Nodes.{Node as LayoutNode}
 use Rattle.page_model.specs.World.{Screen, Element, Tree, Scrolls}
@@ -9,7 +8,7 @@ use Rattle.page_model.specs.Lookups.{document_at}
 use Rattle.page_model.specs.Documents.{InElement, nodes_of, element_depth}
 use Rattle.page_model.specs.PageBoxes.{has_box}
 use Rattle.page_model.specs.Shown.{shown_with}
-use Rattle.page_model.specs.Chains.{holding, zero_rect, border_rect, padding_rect}
+use Rattle.page_model.specs.Chains.{holding}
 use Rattle.page_documents.specs.Frames.{AreFramed}
 use Rattle.clip_chain.specs.declared.spot.Spot.{Spot}
 use Rattle.clip_chain.specs.declared.spot.Spot.TheVariants.{View}
@@ -38,31 +37,8 @@ module _ (tree : Tree) (screen : Screen) (scrolls : Scrolls) where
   scene = scene_of (shown_with tree screen scrolls)
 
   module _ (n : ℕ) where
-    pub no_container : has_box tree screen n ≡ false → None ≡ scene.container (element_spot n)
-    no_container none = sym (ap (λ b. cond b (option_map spot_of (holding tree n)) None) none)
-
     pub container_is : (found : Option Spot) → has_box tree screen n ≡ true → found ≡ option_map spot_of (holding tree n) → found ≡ scene.container (element_spot n)
     container_is found there is = is ∙ sym (ap (λ b. cond b (option_map spot_of (holding tree n)) None) there)
-
-    pub no_clip : (has_box tree screen n && clips (nodes_of tree n)) ≡ false → None ≡ scene.clip (element_spot n)
-    no_clip none = by_box (has_box tree screen n) (clips (nodes_of tree n)) none
-      where
-        by_box : (b c : Bool) → (b && c) ≡ false → None ≡ cond b (cond c (Some (padding_rect (shown_with tree screen scrolls) n)) None) None
-        by_box true c is = sym (ap (λ b. cond b (Some (padding_rect (shown_with tree screen scrolls) n)) None) is)
-        by_box false c is = refl
-
-    pub clip_is : (rect : Rect) → (has_box tree screen n && clips (nodes_of tree n)) ≡ true → rect ≡ padding_rect (shown_with tree screen scrolls) n → Some rect ≡ scene.clip (element_spot n)
-    clip_is rect some is = ap Some is ∙ by_box (has_box tree screen n) (clips (nodes_of tree n)) some
-      where
-        by_box : (b c : Bool) → (b && c) ≡ true → Some (padding_rect (shown_with tree screen scrolls) n) ≡ cond b (cond c (Some (padding_rect (shown_with tree screen scrolls) n)) None) None
-        by_box true c there = sym (ap (λ b. cond b (Some (padding_rect (shown_with tree screen scrolls) n)) None) there)
-        by_box false c there = absurd (let no : ⊥ = cc in no)
-
-    pub no_bounds : has_box tree screen n ≡ false → zero_rect ≡ scene.bounds (element_spot n)
-    no_bounds none = sym (ap (λ b. cond b (border_rect (shown_with tree screen scrolls) n) zero_rect) none)
-
-    pub bounds_are : (rect : Rect) → has_box tree screen n ≡ true → rect ≡ border_rect (shown_with tree screen scrolls) n → rect ≡ scene.bounds (element_spot n)
-    bounds_are rect there is = is ∙ sym (ap (λ b. cond b (border_rect (shown_with tree screen scrolls) n) zero_rect) there)
 
   pub view_container : (document : ℕ) (found : Option Spot) → found ≡ option_map element_spot (document_at tree document).frame → found ≡ scene.container (View document)
   view_container document found is = is ∙ by_frame (document_at tree document).frame

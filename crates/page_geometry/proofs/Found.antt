@@ -7,13 +7,11 @@ use Rattle.px_units.specs.declared.BoxKind.TheVariants.{Border}
 use Rattle.px_units.specs.declared.Point.{Point}
 use Rattle.px_units.specs.declared.Rect.{Rect}
 use Rattle.px_units.specs.declared.Size.{Size}
-use Rattle.script_model.specs.Margins.{Margins}
-use Rattle.page_model.specs.World.{Root}
 use Rattle.page_model.specs.Lookups.{element_at}
 use Rattle.page_model.specs.PageBoxes.{pair_of}
 use Rattle.page_model.specs.Shown.{Shown, viewport_of, box_of, size_of, place_of}
 use Rattle.page_model.specs.Readings.{rect_of}
-use Rattle.page_model.specs.Chains.{moved_by, moved_out, padding_box_at, origin, viewport_rect, border_rect, padding_rect, root_bounds, root_rect}
+use Rattle.page_model.specs.Chains.{moved_by, padding_box_at, origin, viewport_rect, border_rect, padding_rect}
 use Rattle.block_layout.specs.Seen.{as_size}
 use Rattle.page_tree.specs.Items.{IsLength}
 
@@ -55,10 +53,6 @@ module _ (shown : Shown) where
       is
       ∙ ap (λ p. moved_by p own) (begins ∙ ap (origin shown) owner)
       ∙ ap (moved_by (origin shown (element_at (shown.tree) n).document)) at
-
-  pub root_found : (root : Root) (margins : Margins) (bounds result : Rect) → result ≡ moved_out margins bounds → bounds ≡ root_bounds shown root → result ≡ root_rect shown root margins
-  unfolding root_rect
-  root_found root margins bounds result is begins = is ∙ ap (moved_out margins) begins
 
 -- a length of a viewport, as 64 bits
 pub length_fits : (length : ℤ) → IsLength length → cast_signed w64 (cast_unsigned w64 length) ≡ length

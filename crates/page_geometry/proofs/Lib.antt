@@ -7,7 +7,6 @@ pub mod Moves
 pub mod Beginnings
 pub mod Found
 pub mod Containers
-pub mod Results
 pub mod Ancestors
 mod Missing
 pub mod Boxes

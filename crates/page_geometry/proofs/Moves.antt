@@ -1,14 +1,14 @@
 -- Where moved rectangles lie.
-use Rattle.std.proofs.Common.{◌≡◌, ◌≤◌, ◌+◌, ◌*◌, ℕ, ap, sym, subst, ◌∙◌, arith}
+use Rattle.std.proofs.Common.{◌≡◌, ◌≤◌, ◌*◌, ℕ, ap, sym, subst, ◌∙◌, arith}
 use Rattle.std.specs.Prelude.{ℤ, pos, neg_ℤ, ◌≤ℤ◌, ◌+ℤ◌, ◌-ℤ◌}
 use Rattle.std.specs.Int.{w64, cast_signed, cast_unsigned}
 use Rattle.std.proofs.lemmas.Int.{ints}
 use Rattle.px_units.specs.declared.Point.{Point}
 use Rattle.px_units.specs.declared.Rect.{Rect}
 use Rattle.px_units.specs.Rects.{shifted, InReach}
-use Rattle.page_model.specs.Chains.{added, moved_by, moved_back}
+use Rattle.page_model.specs.Chains.{moved_by, moved_back}
 use Rattle.clip_chain.specs.Ranges.{IsEdge as IsFar, IsSide, IsBounds}
-use Rattle.thresholds.specs.Roots.{IsRootEdge, IsRootRect, IsMargin, IsNear}
+use Rattle.thresholds.specs.Roots.{IsMargin, IsNear}
 use Rattle.page_boxes.specs.Ranges.{IsSpan, IsEdge, AreEdges}
 use Rattle.page_geometry.specs.Ranges.{IsCorner, IsOrigin, IsMovedEdge, IsMoved, IsRectReached}
 
@@ -77,19 +77,6 @@ bounds_wide r bounds = record {
   height = side_wide (r.bottom -ℤ r.top) bounds.height;
 }
 
--- a box as the rectangle of a root
-root_edge : (a : ℤ) → IsFar a → IsRootEdge a
-root_edge a far = record { low = far.low; high = far.high }
-
-pub root_of_bounds : (r : Rect) → IsBounds r → IsRootRect r
-root_of_bounds r bounds = record {
-  left = root_edge r.left bounds.edges.left;
-  top = root_edge r.top bounds.edges.top;
-  right = root_edge r.right bounds.edges.right;
-  bottom = root_edge r.bottom bounds.edges.bottom;
-  width = let one = bounds.width.low in let two = bounds.width.high in record { low = omega (arith, ints); high = omega (arith, ints) };
-}
-
 edge_near : (a b : ℤ) → IsFar a → IsMargin (b -ℤ a) → IsMovedEdge b
 edge_near a b far near = let one = far.low in let two = far.high in let three = near.low in let four = near.high in record { low = omega (arith, ints); high = omega (arith, ints) }
 
@@ -113,24 +100,7 @@ moved_near r moved bounds near = record {
   height = side_near r.top r.bottom moved.top moved.bottom bounds.height near.top near.bottom;
 }
 
--- where documents begin, frame by frame
-pub origin_none : (frames : ℕ) → IsOrigin frames (record { left = pos 0; top = pos 0 })
-origin_none frames = record { left_low = omega (arith, ints); left_high = omega (arith, ints); top_low = omega (arith, ints); top_high = omega (arith, ints) }
-
-step_low : (frames : ℕ) (a b : ℤ) → IsCorner a → neg_ℤ (pos (frames * 3298534883328)) ≤ℤ b → neg_ℤ (pos ((frames + 1) * 3298534883328)) ≤ℤ (a +ℤ b)
-step_low frames a b edge low = let one = edge.0 in omega (arith, ints)
-
-step_high : (frames : ℕ) (a b : ℤ) → IsCorner a → b ≤ℤ pos (frames * 3298534883328) → (a +ℤ b) ≤ℤ pos ((frames + 1) * 3298534883328)
-step_high frames a b edge high = let one = edge.1 in omega (arith, ints)
-
-pub origin_added : (frames : ℕ) (corner around : Point) → IsCorner corner.left → IsCorner corner.top → IsOrigin frames around → IsOrigin (frames + 1) (added corner around)
-origin_added frames corner around left top at = record {
-  left_low = step_low frames corner.left around.left left at.left_low;
-  left_high = step_high frames corner.left around.left left at.left_high;
-  top_low = step_low frames corner.top around.top top at.top_low;
-  top_high = step_high frames corner.top around.top top at.top_high;
-}
-
+-- where documents begin, by how many frames
 wider_low : (frames most : ℕ) (a : ℤ) → frames ≤ most → neg_ℤ (pos (frames * 3298534883328)) ≤ℤ a → neg_ℤ (pos (most * 3298534883328)) ≤ℤ a
 wider_low frames most a more low = omega (arith, ints)
 

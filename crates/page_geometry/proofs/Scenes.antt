@@ -56,9 +56,6 @@ module _ (shown : Shown) (page : IsPageTree (shown.tree)) where
   document_there document other =
       within document (length tree.documents) (λ past. other (ap (λ (found : Option Document). unwrap_or found no_document) (past_end tree.documents document past)))
 
-  child_there : (n p : ℕ) → (element_at tree n).parent ≡ Some p → n < length tree.elements
-  child_there n p is = element_there n (λ missing. let no : None ≡ Some p = sym (ap (λ (e : Element). e.parent) missing) ∙ is in cc)
-
   parent_there : (n p : ℕ) → (element_at tree n).parent ≡ Some p → p < length tree.elements
   parent_there n p is = element_there p (λ missing.
       let no : false ≡ true =

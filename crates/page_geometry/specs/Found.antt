@@ -1,10 +1,12 @@
--- What was found of documents: the root element that each shows, and where its viewport begins.
+-- What was found of documents: the root element that each shows, the size of its viewport, and where that begins.
 use Rattle.std.specs.Prelude.{◌≡◌, ℕ, List, Option, None, IfSome, option_map}
 use Rattle.element_tree.specs.Links.{number}
 use Rattle.page_model.specs.Lookups.{entry_or}
-use Rattle.page_model.specs.PageBoxes.{view_of}
-use Rattle.page_model.specs.Shown.{Shown}
+use Rattle.page_model.specs.PageBoxes.{pair_of, view_of}
+use Rattle.page_model.specs.Shown.{Shown, viewport_of}
 use Rattle.page_model.specs.Chains.{origin}
+use Rattle.block_layout.specs.Seen.{as_size}
+use Rattle.page_tree.specs.Items.{IsNatural}
 use Rattle.page_geometry.specs.declared.documents.FoundDocument.{FoundDocument}
 use Rattle.page_geometry.specs.Ranges.{IsOrigin}
 
@@ -13,7 +15,9 @@ abbrev pub found_at : List (Option FoundDocument) → ℕ → Option FoundDocume
 found_at found document = entry_or None found document
 
 pub record IsFound (shown : Shown) (document : ℕ) (it : FoundDocument) : Type 0 where
-  pub root : option_map number it.root ≡ (view_of shown.tree shown.screen document).root
+  pub root : option_map number it.view.root ≡ (view_of shown.tree shown.screen document).root
+  pub viewport : it.view.size ≡ as_size (pair_of (viewport_of shown document))
+  pub natural : IsNatural it.view.size
   pub begins : it.origin ≡ origin shown document
   pub range : IsOrigin 64 it.origin
 

@@ -1,4 +1,5 @@
 pub mod Ranks
 pub mod Ranges
 pub mod Scenes
+pub mod Documents
 pub mod Found

@@ -3,17 +3,17 @@
 ghost use Rattle.std.specs.Prelude.{◌≡◌, ◌<◌, Some, None, replicate, slice_set};
 ghost use Rattle.page_geometry.specs.Found.{found_at};
 
-use element_tree::NodeId;
+use crate::view::DocumentView;
 use px_units::Point;
 use std::marker::Model;
 
 // As many documents as a page may have.
 const MOST_DOCUMENTS: usize = 64;
 
-// The root element that a document shows, none where it isn't shown, and where its viewport begins in that of `top`.
+// What a document shows, and where its viewport begins in that of `top`.
 #[derive(Clone, Copy, Debug, PartialEq, Eq)]
 pub(crate) struct FoundDocument {
-    pub(crate) root: Option<NodeId>,
+    pub(crate) view: DocumentView,
     pub(crate) origin: Point,
 }
 

@@ -1,26 +1,29 @@
-//! What is shown of a page as it is now: boxes, sizes, places, how far elements and viewports can be scrolled and are scrolled, the
-//! containers, clips and boxes in the coordinates of the top document's viewport, and what an intersection observer finds of a target
-//! (CSS 2.2, 8 to 11; CSSOM View, 4 to 6; Intersection Observer, 2.2, 3.2.7 and 3.2.10). All lengths are in units of 1/64 CSS pixel.
+//! What is shown of a page as it is now, or of one document of it: boxes, sizes, places, how far elements and viewports can be scrolled
+//! and are scrolled; and of a page the containers, clips and boxes in the coordinates of the top document's viewport, how targets stand
+//! to the roots of intersection observers, and how what is found of them is told (CSS 2.2, 8 to 11; CSSOM View, 4 to 6; Intersection
+//! Observer, 2.2, 3.2.7 and 3.2.10). All lengths are in units of 1/64 CSS pixel.
 //!
 //! Boxes, elements and scroll positions are lent, and nothing takes memory.
 #![tactic(auto)]
 
 mod documents;
-mod findings;
 mod geometry;
 mod laws;
 mod origins;
-mod ratios;
+mod page_readings;
 mod readings;
 mod rects;
 mod relations;
+mod roots;
 mod scene;
 mod scrolled;
 mod shown;
+mod shown_document;
 mod sizes;
 mod telling;
+mod view;
 
-pub use findings::find;
 pub use laws::{chains_lead_to_roots, what_is_told_is_found};
 pub use readings::Reading;
 pub use shown::Shown;
+pub use shown_document::ShownDocument;

@@ -5,12 +5,13 @@ ghost use Rattle.px_units.specs.Rects.{InReach, RectInReach};
 ghost use Rattle.px_units.specs.declared.BoxKind.TheVariants.{Border};
 ghost use Rattle.script_model.specs.TraceLines.{ReadLine};
 ghost use Rattle.page_model.specs.World.{Name};
+ghost use Rattle.page_model.specs.Lookups.{element_at};
+ghost use Rattle.page_model.specs.Documents.{document_of_container};
 ghost use Rattle.page_model.specs.Chains.{padding_box_at, content_corner_at};
 ghost use Rattle.page_model.specs.PageBoxes.{pair_of};
 ghost use Rattle.page_model.specs.Readings.{point_at, rect_of, reading_of};
-ghost use Rattle.page_model.specs.Shown.{box_of, size_of, corner_of, viewport_of, place_of};
+ghost use Rattle.page_model.specs.Shown.{box_of, size_of, corner_of, place_of};
 ghost use Rattle.block_layout.specs.Seen.{as_size};
-ghost use Rattle.page_tree.specs.Items.{IsNatural};
 ghost use Rattle.page_tree.specs.Steps.{seen_container};
 ghost use Rattle.page_boxes.specs.Pages.{text_in};
 ghost use Rattle.page_boxes.specs.Ranges.{IsOffset, IsSpan, IsPlace, IsEdge, AreEdges};
@@ -18,7 +19,7 @@ ghost use Rattle.page_geometry.specs.Ranges.{IsCorner};
 
 use crate::origins::NOWHERE;
 use crate::rects::NO_RECT;
-use crate::shown::Shown;
+use crate::shown_document::ShownDocument;
 use element_tree::NodeId;
 use page_boxes::{place_in, size_on};
 use page_tree::Container;
@@ -82,26 +83,12 @@ fn rect_at(corner: Point, size: Size) -> Rect
     }
 }
 
-impl Shown<'_> {
-    /// The size of a document's viewport (CSSOM View, 4: `innerWidth`, `innerHeight`): for `top` that of its screen, and for another
-    /// document the content box of its frame, 0 by 0 where that has no box.
-    pub fn viewport_of(&self, document: u32) -> Size
-        ensures value { result ≡ as_size (pair_of (viewport_of self.now document)) }
-        ensures range { IsNatural result }
-    {
-        let Some(frame) = self.frame_of(document) else {
-            return self.screen().size;
-        };
-        match self.box_of(frame) {
-            Some(own) => own.size(BoxKind::Content),
-            None => NO_SIZE,
-        }
-    }
-
+impl ShownDocument<'_> {
     /// The size of an element's content box or border box in units of 1/64 CSS pixel (CSS 2.2, 8.1), or of its content box in device
     /// pixels of the screen of `top`, to the nearest one, a half upwards; 0 by 0 without a box.
     pub fn size_of(&self, node: NodeId, kind: BoxKind) -> Size
-        ensures value { result ≡ as_size (pair_of (size_of self.now node.0 kind)) }
+        requires { (element_at self.now.shown.tree node.0).document ≡ self.now.document }
+        ensures value { result ≡ as_size (pair_of (size_of self.now.shown node.0 kind)) }
         ensures width { IsSpan result.width }
         ensures height { IsSpan result.height }
     {
@@ -114,7 +101,8 @@ impl Shown<'_> {
     /// The corner of an element's content in its padding box, which is its left and top paddings (Resize Observer, 3.2:
     /// `contentRect`), zeros without a box.
     pub fn corner_of(&self, node: NodeId) -> Point
-        ensures value { result ≡ point_at (corner_of self.now node.0) }
+        requires { (element_at self.now.shown.tree node.0).document ≡ self.now.document }
+        ensures value { result ≡ point_at (corner_of self.now.shown node.0) }
         ensures left { IsSpan result.left }
         ensures top { IsSpan result.top }
     {
@@ -127,20 +115,22 @@ impl Shown<'_> {
     /// The place of an element's border box in the viewport of its document (CSSOM View, 6: `getBoundingClientRect`), zeros
     /// without a box.
     pub fn place_of(&self, node: NodeId) -> Point
-        ensures value { result ≡ place_of self.now node.0 }
+        requires { (element_at self.now.shown.tree node.0).document ≡ self.now.document }
+        ensures value { result ≡ place_of self.now.shown node.0 }
         ensures left { IsPlace result.left }
         ensures top { IsPlace result.top }
     {
         if !self.has_box(node) {
             return NOWHERE;
         }
-        let view = self.view_offset(self.document_of(node));
+        let view = self.view_offset();
         place_in(self.elements(), self.boxes(), self.scrolls(), view, node)
     }
 
     /// The border box of an element in the viewport of its document, all zeros without a box.
     pub fn border_rect(&self, node: NodeId) -> Rect
-        ensures value { result ≡ rect_of (place_of self.now node.0) (size_of self.now node.0 Border) }
+        requires { (element_at self.now.shown.tree node.0).document ≡ self.now.document }
+        ensures value { result ≡ rect_of (place_of self.now.shown node.0) (size_of self.now.shown node.0 Border) }
         ensures edges { AreEdges result }
         ensures width { IsSpan (result.right -ℤ result.left) }
         ensures height { IsSpan (result.bottom -ℤ result.top) }
@@ -150,7 +140,8 @@ impl Shown<'_> {
 
     /// The padding box of an element in the viewport of its document (CSS 2.2, 8.1), all zeros without a box.
     pub fn padding_rect(&self, node: NodeId) -> Rect
-        ensures value { result ≡ padding_box_at (place_of self.now node.0) (box_of self.now node.0) }
+        requires { (element_at self.now.shown.tree node.0).document ≡ self.now.document }
+        ensures value { result ≡ padding_box_at (place_of self.now.shown node.0) (box_of self.now.shown node.0) }
         ensures edges { AreEdges result }
         ensures width { IsSpan (result.right -ℤ result.left) }
         ensures height { IsSpan (result.bottom -ℤ result.top) }
@@ -165,7 +156,8 @@ impl Shown<'_> {
     /// The corner of the content box of an element in the viewport of its document (CSS 2.2, 8.1), which for a frame is where the
     /// viewport of the document in it begins; zeros without a box.
     pub fn content_origin(&self, node: NodeId) -> Point
-        ensures value { result ≡ content_corner_at (place_of self.now node.0) (box_of self.now node.0) }
+        requires { (element_at self.now.shown.tree node.0).document ≡ self.now.document }
+        ensures value { result ≡ content_corner_at (place_of self.now.shown node.0) (box_of self.now.shown node.0) }
         ensures left { IsCorner result.left }
         ensures top { IsCorner result.top }
     {
@@ -179,7 +171,8 @@ impl Shown<'_> {
     /// What the command `read` shows: an element's border box in the viewport of its document, all zeros without a box, or the
     /// viewport of the document; and the scroll offset in force.
     pub fn read(&self, container: Container) -> Reading
-        ensures value { (names : List Name) → reading_of names self.now.tree self.now.screen self.now.scrolls (seen_container container)
+        requires { document_of_container self.now.shown.tree (seen_container container) ≡ self.now.document }
+        ensures value { (names : List Name) → reading_of names self.now.shown.tree self.now.shown.screen self.now.shown.scrolls (seen_container container)
             ≡ ReadLine (text_in names (seen_container container)) result.rect result.scroll }
         ensures edges { RectInReach result.rect }
         ensures width { InReach (result.rect.right -ℤ result.rect.left) }
@@ -192,7 +185,7 @@ impl Shown<'_> {
                 scroll: self.offset_of(ScrollTarget::Node(node)),
             },
             Container::Document(document) => Reading {
-                rect: rect_at(NOWHERE, self.viewport_of(document)),
+                rect: rect_at(NOWHERE, self.viewport()),
                 scroll: self.offset_of(ScrollTarget::Document(document)),
             },
         }

@@ -2,26 +2,13 @@
 
 ghost use Rattle.std.specs.Prelude.{◌≡◌};
 ghost use Rattle.page_model.specs.Findings.{is_on_chain, is_apart};
-ghost use Rattle.clip_chain.specs.Worlds.{spot_of_root};
 ghost use Rattle.intersection_observer.specs.Seen.{seen_root};
 
 use crate::shown::Shown;
-use clip_chain::Spot;
 use element_tree::NodeId;
 use intersection_observer::Root;
 use page_tree::PageTree;
 use positioned_layout::{Holder, holder_of};
-
-// The implicit root is the viewport of `top`.
-pub(crate) fn spot_of_root(root: Root) -> Spot
-    ensures { result ≡ spot_of_root (seen_root root) }
-{
-    match root {
-        Root::Implicit => Spot::View(0),
-        Root::Document(document) => Spot::View(document),
-        Root::Node(node) => Spot::Node(node),
-    }
-}
 
 // Whether an element is among those that hold the target's box, one in the other (CSS 2.2, 10.1: containing block).
 fn is_on_chain(page: &PageTree, element: NodeId, target: NodeId) -> bool

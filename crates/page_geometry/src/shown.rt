@@ -1,15 +1,15 @@
 //! What is shown of a page, lent to whoever reads it.
 
-ghost use Rattle.std.specs.Prelude.{◌≡◌, ◌<◌, ◌≤◌, ℕ, true, Some, length, option_map, IfSome};
+ghost use Rattle.std.specs.Prelude.{◌≡◌, ◌<◌, ◌≤◌, true, Some, length, option_map, IfSome};
 ghost use Rattle.page_model.specs.Lookups.{element_at, document_at};
 ghost use Rattle.page_model.specs.Documents.{nodes_of};
-ghost use Rattle.page_model.specs.PageBoxes.{view_of};
-ghost use Rattle.page_model.specs.Shown.{has_box, box_of};
+ghost use Rattle.page_model.specs.PageBoxes.{pair_of, view_of};
+ghost use Rattle.page_model.specs.Shown.{has_box, viewport_of};
 ghost use Rattle.page_model.specs.Chains.{holding};
 ghost use Rattle.element_tree.specs.Links.{number};
+ghost use Rattle.block_layout.specs.Seen.{as_size};
 ghost use Rattle.block_layout.specs.Trees.{layout_tree};
-ghost use Rattle.kept_layout.specs.Measures.{IsSized};
-ghost use Rattle.page_tree.specs.Items.{style_in, kind_in};
+ghost use Rattle.page_tree.specs.Items.{IsNatural, style_in, kind_in};
 ghost use Rattle.page_tree.specs.Steps.{seen_container};
 ghost use Rattle.page_boxes.specs.Fresh.{IsFresh};
 ghost use Rattle.page_boxes.specs.Pages.{seen_screen, IsScreen};
@@ -18,10 +18,11 @@ ghost use Rattle.page_geometry.specs.Scenes.{IsPageTree};
 
 use crate::documents::{FoundDocument, FoundDocuments};
 use crate::origins::origin;
-use block_layout::BoxOf;
+use crate::shown_document::ShownDocument;
+use crate::view::{DocumentView, view_in};
 use element_tree::{NodeId, Tree};
 use kept_layout::Kept;
-use page_boxes::{Screen, box_below, has_box_below};
+use page_boxes::Screen;
 use page_tree::{Container, Element, PageTree};
 use positioned_layout::{Holder, holder_of};
 use scrolling::Scrolls;
@@ -93,7 +94,7 @@ impl<'a> Shown<'a> {
         ensures { self.new ≡ self.old }
     {
         let found = FoundDocument {
-            root: self.shown_root(document),
+            view: self.view_of(document),
             origin: origin(self, document),
         };
         self.found.put(document, found);
@@ -126,28 +127,6 @@ impl<'a> Shown<'a> {
         self.page.tree()
     }
 
-    // The boxes that are kept, in viewports of at most the largest length.
-    pub(crate) fn boxes(&self) -> &Kept
-        ensures fresh { IsFresh self.now.tree self.now.screen result.now }
-        ensures sized { (document : ℕ) → IsSized (view_of self.now.tree self.now.screen document) }
-    {
-        self.boxes
-    }
-
-    pub(crate) fn scrolls(&self) -> &Scrolls
-        ensures { result.now ≡ self.now.scrolls }
-    {
-        self.scrolls
-    }
-
-    // What `top` is shown on.
-    pub(crate) fn screen(&self) -> Screen
-        ensures value { seen_screen result ≡ self.now.screen }
-        ensures range { IsScreen result }
-    {
-        self.screen
-    }
-
     /// How many documents there are. What is so of the elements and documents of every page is told here for what rests on it.
     pub fn document_count(&self) -> u32
         ensures value { result ≡ length self.now.tree.documents }
@@ -171,22 +150,38 @@ impl<'a> Shown<'a> {
         self.page.document_of(node)
     }
 
-    // The root element that a document shows, none where it isn't shown.
-    pub(crate) fn shown_root(&self, document: u32) -> Option<NodeId>
-        ensures { option_map number result ≡ (view_of self.now.tree self.now.screen document).root }
+    // What a document shows, by a climb where it wasn't found yet.
+    fn view_of(&self, document: u32) -> DocumentView
+        ensures root { option_map number result.root ≡ (view_of self.now.tree self.now.screen document).root }
+        ensures size { result.size ≡ as_size (pair_of (viewport_of self.now document)) }
+        ensures range { IsNatural result.size }
     {
         match self.found(document) {
-            Some(found) => found.root,
-            None => page_boxes::shown_root(self.page, document),
+            Some(found) => found.view,
+            None => view_in(self.page, self.boxes, self.screen, document),
         }
     }
 
-    /// Whether an element has a box (CSS 2.2, 9.2.4).
-    pub fn has_box(&self, node: NodeId) -> bool
-        ensures { result ≡ has_box self.now node.0 }
+    // What is shown of one document.
+    pub(crate) fn in_document(&self, document: u32) -> ShownDocument<'a>
+        ensures { result ≡ record { shown = self.now; document = document } }
     {
-        let root = self.shown_root(self.document_of(node));
-        has_box_below(self.page, root, node)
+        let view = self.view_of(document);
+        ShownDocument::with_view(
+            self.page,
+            self.boxes,
+            self.scrolls,
+            self.screen,
+            document,
+            view,
+        )
+    }
+
+    // What is shown of the node document of an element.
+    pub(crate) fn in_document_of(&self, node: NodeId) -> ShownDocument<'a>
+        ensures { result ≡ record { shown = self.now; document = (element_at self.now.tree node.0).document } }
+    {
+        self.in_document(self.document_of(node))
     }
 
     /// What holds the box of an element: an element's box, or the viewport of its document, for the page and for the screen (CSS 2.2,
@@ -201,13 +196,5 @@ impl<'a> Shown<'a> {
             Holder::Node(element) => Container::Element(element),
             Holder::Page | Holder::Screen => Container::Document(self.document_of(node)),
         }
-    }
-
-    // The box of an element, none where it has none.
-    pub(crate) fn box_of(&self, node: NodeId) -> Option<BoxOf>
-        ensures { result ≡ box_of self.now node.0 }
-    {
-        let root = self.shown_root(self.document_of(node));
-        box_below(self.page, self.boxes, root, node)
     }
 }

@@ -5,9 +5,9 @@ ghost use Rattle.page_model.specs.Findings.{Relation};
 ghost use Rattle.candidate_index.specs.Worlds.{standing_in, told_box, told_cut};
 ghost use Rattle.page_geometry.specs.Ranges.{IsOrigin, IsMoved, IsRectReached};
 
-use crate::findings::{root_bounds, root_origin};
 use crate::origins::origin;
 use crate::rects::moved_back;
+use crate::roots::{root_bounds, root_origin};
 use crate::shown::Shown;
 use candidate_index::{Scene, Standing};
 use element_tree::NodeId;

@@ -2,3 +2,4 @@ pub mod Successors
 pub mod Later
 pub mod Quiet
 pub mod Bounds
+pub mod Making

@@ -1,18 +1,21 @@
 //! Laws of single commands and of the readings of a page.
 
-ghost use Rattle.std.specs.Prelude.{◌≡◌, ℕ, suc, ◌+◌, ◌<◌, IsTrue, length, Option, false};
+ghost use Rattle.std.specs.Prelude.{◌≡◌, ℕ, suc, ◌+◌, ◌<◌, ◌≤◌, IsTrue, length, Option, None, false};
 ghost use Rattle.std.specs.List.{AllByRecursion};
 ghost use Rattle.px_units.specs.declared.BoxKind.{BoxKind};
+ghost use Rattle.layout_model.specs.Items.{Kind};
 ghost use Rattle.text_io.specs.declared.kinds.LimitKind.TheVariants as limits;
 ghost use Rattle.text_io.specs.Limits.{limit_number};
 ghost use Rattle.script_model.specs.Syntax.{Action, Operand, Read};
 ghost use Rattle.page_model.specs.World.{Screen, Tree, World};
 ghost use Rattle.page_model.specs.Lookups.{no_extent};
 ghost use Rattle.page_model.specs.Documents.{InElement, active_documents, element_depth, is_active};
+ghost use Rattle.page_model.specs.Edits.{with_element, with_frame};
 ghost use Rattle.page_model.specs.PageBoxes.{inputs_of, has_box, size_of, view_of, viewport_of};
 ghost use Rattle.page_model.specs.Operands.{Handlers, Present, present_target};
 ghost use Rattle.page_model.specs.Commands.{begun_in, does, placing};
 ghost use Rattle.page_model.specs.Ranges.{IsInRange, IsPresentIn};
+ghost use Rattle.page_laws.specs.Making.{NamesMade, KeepsBoxes};
 ghost use Rattle.page_laws.specs.Successors.{IsSuccessor, OnDid};
 
 /// No command takes an element out, or takes back what an earlier one did to the states of documents or to names: a Dead
@@ -52,6 +55,17 @@ pub fn listed_documents_are_active()
 /// An element without a box has the size 0 by 0.
 pub fn no_box_has_no_size()
     ensures { (tree : Tree) (screen : Screen) (n : ℕ) (kind : BoxKind) → has_box tree screen n ≡ false → size_of tree screen n kind ≡ no_extent }
+{}
+
+/// An element that isn't made yet has no box, and the making of elements and documents changes no box: what is made has none, and each
+/// other element has its box from the same inputs as before, or none as before. So it is in each tree whose parents, children, frames and
+/// root elements were made, as those of a world in range were.
+pub fn what_is_made_has_no_box()
+    ensures unmade { (tree : Tree) → NamesMade tree → (screen : Screen) (n : ℕ) → length tree.elements ≤ n → inputs_of tree screen n ≡ None }
+    ensures elements { (tree : Tree) → NamesMade tree → (kind : Kind) (document : ℕ) (framed : Option ℕ) →
+        KeepsBoxes tree (with_element kind document framed tree) }
+    ensures frames { (tree : Tree) → NamesMade tree → (document : ℕ) → KeepsBoxes tree (with_frame document tree) }
+    ensures range { (handlers : ℕ) (world : World) → IsInRange handlers world → NamesMade (world.tree) }
 {}
 
 /// What boxes are laid out from, and viewports, are those of a screen's size: a ratio of device pixels changes none of them.

@@ -15,7 +15,8 @@ ghost use Rattle.block_layout.specs.Seen.{seen_kind};
 ghost use Rattle.page_tree.specs.Items.{IsKind, IsNatural};
 ghost use Rattle.page_tree.specs.Faults.{refusal, element_room, frame_room, IsMakeFault, IsFrameFault};
 ghost use Rattle.page_tree.specs.Steps.{seen_container, seen_axis, IsContainerIn};
-ghost use Rattle.page_boxes.specs.Fresh.{IsFresh, IsFreshFor};
+ghost use Rattle.page_boxes.specs.Around.{rests_on, LeavesOthers};
+ghost use Rattle.page_boxes.specs.Fresh.{IsFresh, IsFreshIn, IsFreshAbove, IsFreshFor};
 ghost use Rattle.page_boxes.specs.Kept.{AreKept, FillsOnly, IsExact, is_due, due_count};
 ghost use Rattle.page_boxes.specs.Pages.{seen_screen};
 ghost use Rattle.page_layout.specs.Marks.{element_of, is_over, MarksOnly, MarksNone};
@@ -24,7 +25,7 @@ use crate::marks::{element_of, mark, parent_of};
 use block_layout::ItemKind;
 use element_tree::NodeId;
 use kept_layout::Kept;
-use page_boxes::{Screen, refresh, refresh_for, undue_boxes_are_exact};
+use page_boxes::{Screen, refresh, refresh_for, refresh_in, undue_boxes_are_exact};
 use page_tree::{Axis, Container, MakeFault, PageTree, PlaceFault};
 use px_units::{Px, Size};
 use std::alloc::{AllocError, Global};
@@ -288,9 +289,23 @@ impl LaidTree {
         refresh(&mut self.boxes, &self.page, screen, steps);
     }
 
+    /// Computes what is due of the boxes of a document and of the documents around it, with this screen of `top`: those of the document
+    /// and of the one that its frame is in are then held as they are now, and boxes of other documents aren't touched. It takes at most
+    /// one step for each box that was due, and no memory.
+    pub fn refresh_in<L: Ledger>(&mut self, screen: Screen, document: u32, steps: &mut Steps<L>)
+        ensures fresh { IsFreshIn self.new.elements.tree (seen_screen screen) self.new.kept document }
+        ensures above { IsFreshAbove self.new.elements.tree (seen_screen screen) self.new.kept document }
+        ensures left { LeavesOthers self.old.elements.tree (Some document) self.old.kept self.new.kept }
+        ensures same { self.new.elements ≡ self.old.elements }
+        ensures fills { FillsOnly self.old.kept self.new.kept }
+        ensures ticks { steps.new + due_count self.old.elements.tree (seen_screen screen) self.new.kept ≤ steps.old + due_count self.old.elements.tree (seen_screen screen) self.old.kept }
+    {
+        refresh_in(&mut self.boxes, &self.page, screen, document, steps);
+    }
+
     /// Computes what is due of the boxes that a reading of an element or a document rests on, with this screen of `top`:
-    /// those of one document and of the documents around it are then held as they are now. It takes at most one step for
-    /// each box that was due, and no memory.
+    /// those of one document and of the documents around it are then held as they are now, and boxes of other documents aren't
+    /// touched. It takes at most one step for each box that was due, and no memory.
     pub fn refresh_for<L: Ledger>(
         &mut self,
         screen: Screen,
@@ -298,6 +313,7 @@ impl LaidTree {
         steps: &mut Steps<L>,
     )
         ensures fresh { IsFreshFor self.new.elements.tree (seen_screen screen) self.new.kept (seen_container container) }
+        ensures left { LeavesOthers self.old.elements.tree (rests_on self.old.elements.tree (seen_container container)) self.old.kept self.new.kept }
         ensures same { self.new.elements ≡ self.old.elements }
         ensures fills { FillsOnly self.old.kept self.new.kept }
         ensures ticks { steps.new + due_count self.old.elements.tree (seen_screen screen) self.new.kept ≤ steps.old + due_count self.old.elements.tree (seen_screen screen) self.old.kept }

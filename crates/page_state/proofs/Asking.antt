@@ -11,7 +11,7 @@ use Rattle.page_model.specs.Steps.{Step, Did, ◌>>=◌}
 use Rattle.page_model.specs.World.{Name, World}
 use Rattle.page_state.specs.Things.{present_of, present_with}
 
-meant_same : (names : List Name) (subject : Option NodeId) (seen : Option Bool) (operand : Operand) → element_meant names (present_with subject seen) operand ≡ element_meant names (present_of subject) operand
+pub meant_same : (names : List Name) (subject : Option NodeId) (seen : Option Bool) (operand : Operand) → element_meant names (present_with subject seen) operand ≡ element_meant names (present_of subject) operand
 meant_same names subject seen (Named name) = refl
 meant_same names None seen Target = refl
 meant_same names (Some node) None Target = refl

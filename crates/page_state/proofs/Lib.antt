@@ -11,6 +11,7 @@ mod Limits
 mod Making
 mod Laid
 mod Marked
+mod Made
 mod Doing
 mod Noted
 mod Handlers

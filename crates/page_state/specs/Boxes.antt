@@ -1,11 +1,13 @@
 -- What becomes of the boxes that a page keeps. That boxes are kept, and when they are computed, is this project's own.
-use Rattle.std.specs.Prelude.{◌≡◌, ◌≤◌, ℕ, ◌+◌, Bool, ◌||◌, List, Option, Some, None, Result, OnOk, OnErr}
-use Rattle.script_model.specs.Syntax.{Operand, Action, Viewport, SetRatio, MakeBlock, MakeImage, MakeFrame, Append, Before, Remove, SetStyle, Grow, Load, MakeResizeObserver, ObserveResize, UnobserveResize, DisconnectResize, MakeIntersectionObserver, ObserveIntersection, UnobserveIntersection, DisconnectIntersection, TakeIntersections, Listen, Unlisten, MakeQueryList, ScrollTo, ScrollBy, RequestFrame, CancelFrame, SetTimer, ClearTimer, Post, Say, Read}
+use Rattle.std.specs.Prelude.{◌≡◌, ◌≤◌, ℕ, ◌+◌, Bool, ◌||◌, List, Option, Some, None, option_map, option_and_then, Result, OnOk, OnErr}
+use Rattle.script_model.specs.Syntax.{Operand, Test, Wider, Taller, Matches, Attached, Seen, Action, Viewport, SetRatio, MakeBlock, MakeImage, MakeFrame, Append, Before, Remove, SetStyle, Grow, Load, MakeResizeObserver, ObserveResize, UnobserveResize, DisconnectResize, MakeIntersectionObserver, ObserveIntersection, UnobserveIntersection, DisconnectIntersection, TakeIntersections, Listen, Unlisten, MakeQueryList, ScrollTo, ScrollBy, RequestFrame, CancelFrame, SetTimer, ClearTimer, Post, Say, Read}
 use Rattle.page_model.specs.World.{Tree, World}
-use Rattle.page_model.specs.Documents.{Container, nodes_of}
-use Rattle.page_model.specs.Operands.{Present, element_meant, container_meant}
+use Rattle.page_model.specs.Lookups.{query_list_at}
+use Rattle.page_model.specs.Documents.{Container, InElement, InDocument, nodes_of, document_of_container}
+use Rattle.page_model.specs.Operands.{Present, document_named, query_list_named, element_meant, container_meant}
 use Rattle.page_model.specs.Steps.{Step, Did, Threw, Met}
 use Rattle.kept_layout.specs.declared.slots.Slot.{Slot}
+use Rattle.page_boxes.specs.Around.{rests_on, LeavesOthers}
 use Rattle.page_boxes.specs.Kept.{FillsOnly, is_due, due_count as due_count_in}
 use Rattle.page_layout.specs.Marks.{element_of, is_over, MarksOnly, MarksNone}
 use Rattle.page_state.specs.declared.answers.Effect.{Effect}
@@ -20,10 +22,21 @@ pub record Computes (world : World) (old new : List Slot) (from to : ℕ) : Type
   pub fills : FillsOnly old new
   pub ticks : to + due_count world new ≤ from + due_count world old
 
+-- so they are in a document and in those around it alone, or nowhere
+pub record ComputesIn (world : World) (document : Option ℕ) (old new : List Slot) (from to : ℕ) : Type 0 where
+  pub computes : Computes world old new from to
+  pub others : LeavesOthers world.tree document old new
+
 -- these elements are marked where a command was done, and nothing else is; nothing is where it wasn't
 pub record Marks (marked : ℕ → Bool) (result : Result Effect PageFault) (old new : List Slot) : Type 0 where
   pub done : OnOk result (MarksOnly marked old new)
   pub refused : OnErr result (new ≡ old)
+
+-- what is made has no box: nothing that is kept changes, and in the tree afterwards the same boxes are due as before, so no more
+pub record LeavesDue (world : World) (after : Tree) (old new : List Slot) : Type 0 where
+  pub marks : MarksNone old new
+  pub due : (n : ℕ) → is_due after world.viewports.screen new n ≡ is_due world.tree world.viewports.screen old n
+  pub count : due_count_in after world.viewports.screen new ≤ due_count world old
 
 -- by another ratio of device pixels the same boxes are due as before
 abbrev pub StaysDue : (hundredths : ℕ) → (world : World) → (old new : List Slot) → Type 0
@@ -38,6 +51,23 @@ found (Met kind) = None
 -- the element that an operand stands for, and the one that a parent is
 abbrev pub meant : World → Present → Operand → Option ℕ
 meant world present operand = found (element_meant world.names present operand)
+
+-- the document that an operand is an element of, or is
+abbrev pub document_meant : World → Present → Operand → Option ℕ
+document_meant world present operand = option_map (document_of_container world.tree) (found (container_meant world.names present operand))
+
+-- the document that the size of the viewport of a named document rests on
+abbrev pub viewport_rests_on : World → List ℕ → Option ℕ
+viewport_rests_on world name = option_and_then (λ document. rests_on world.tree (InDocument document)) (found (document_named world.names name))
+
+-- the document that the answer to a condition rests on
+abbrev pub answer_rests_on : World → Present → Test → Option ℕ
+answer_rests_on world present (Wider node _) = option_and_then (λ n. rests_on world.tree (InElement n)) (meant world present node)
+answer_rests_on world present (Taller node _) = option_and_then (λ n. rests_on world.tree (InElement n)) (meant world present node)
+answer_rests_on world present (Matches query) =
+    option_and_then (λ list. rests_on world.tree (InDocument (query_list_at world.queries list).document)) (found (query_list_named world.names query))
+answer_rests_on world present (Attached _) = None
+answer_rests_on world present Seen = None
 
 abbrev pub inside : Option Container → Option ℕ
 inside None = None
@@ -58,9 +88,9 @@ Still old new from to = (new ≡ old) × (to ≡ from)
 abbrev pub BoxesAfter : Present → Action → Result Effect PageFault → World → Tree → List Slot → List Slot → ℕ → ℕ → Type 0
 BoxesAfter _ (Viewport _ _) _ _ _ old new from to = Still old new from to
 BoxesAfter _ (SetRatio hundredths) _ world _ old new from to = Still old new from to × StaysDue hundredths world old new
-BoxesAfter _ (MakeBlock _ _) _ _ _ old new from to = MarksNone old new × (to ≡ from)
-BoxesAfter _ (MakeImage _ _ _ _) _ _ _ old new from to = MarksNone old new × (to ≡ from)
-BoxesAfter _ (MakeFrame _ _ _) _ _ _ old new from to = MarksNone old new × (to ≡ from)
+BoxesAfter _ (MakeBlock _ _) _ world after old new from to = LeavesDue world after old new × (to ≡ from)
+BoxesAfter _ (MakeImage _ _ _ _) _ world after old new from to = LeavesDue world after old new × (to ≡ from)
+BoxesAfter _ (MakeFrame _ _ _) _ world after old new from to = LeavesDue world after old new × (to ≡ from)
 BoxesAfter present (Append to_parent node) result world after old new from to =
     Marks (is_moved world.tree after (meant world present node) (inside (found (container_meant world.names present to_parent)))) result old new
     × (to ≡ from)
@@ -75,10 +105,10 @@ BoxesAfter present (Grow node _ _) result world after old new from to =
     Marks (is_over after (meant world present node)) result old new × (to ≡ from)
 BoxesAfter present (Load node _ _) result world after old new from to =
     Marks (is_over after (meant world present node)) result old new × (to ≡ from)
-BoxesAfter _ (MakeQueryList _ _ _) _ world _ old new from to = Computes world old new from to
-BoxesAfter _ (ScrollTo _ _ _) _ world _ old new from to = Computes world old new from to
-BoxesAfter _ (ScrollBy _ _ _) _ world _ old new from to = Computes world old new from to
-BoxesAfter _ (Read _) _ world _ old new from to = Computes world old new from to
+BoxesAfter _ (MakeQueryList _ document _) _ world _ old new from to = ComputesIn world (viewport_rests_on world document) old new from to
+BoxesAfter present (ScrollTo scrolled _ _) _ world _ old new from to = ComputesIn world (document_meant world present scrolled) old new from to
+BoxesAfter present (ScrollBy scrolled _ _) _ world _ old new from to = ComputesIn world (document_meant world present scrolled) old new from to
+BoxesAfter present (Read shown) _ world _ old new from to = ComputesIn world (document_meant world present shown) old new from to
 BoxesAfter _ (MakeResizeObserver _ _ _) _ _ _ old new from to = Still old new from to
 BoxesAfter _ (ObserveResize _ _ _) _ _ _ old new from to = Still old new from to
 BoxesAfter _ (UnobserveResize _ _) _ _ _ old new from to = Still old new from to

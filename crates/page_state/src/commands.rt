@@ -1,13 +1,18 @@
 //! Commands that change the viewport, the tree and styles.
 
-ghost use Rattle.std.specs.Prelude.{◌≡◌, ◌<◌, ℕ, Some, length, option_map, unsigned_abs};
+ghost use Rattle.std.specs.Prelude.{◌≡◌, ◌<◌, ℕ, List, Some, None, length, option_map, unsigned_abs};
 ghost use Rattle.std.specs.Option.{ForSome};
 ghost use Rattle.style_values.specs.Ranges.{IsAllowed};
 ghost use Rattle.style_values.specs.Seen.{seen_declaration};
 ghost use Rattle.script_model.specs.Syntax.{Viewport, SetRatio, MakeBlock, MakeImage, MakeFrame, Append, Before, Remove, SetStyle, Grow, Load};
+ghost use Rattle.block_layout.specs.declared.ItemKind.{ItemKind as KindOfItem};
 ghost use Rattle.block_layout.specs.Seen.{seen_kind};
+ghost use Rattle.kept_layout.specs.declared.slots.Slot.{Slot};
+ghost use Rattle.page_laws.specs.Making.{KeepsBoxes};
 ghost use Rattle.page_model.specs.Commands.{does, making, placing, with_tree};
 ghost use Rattle.page_model.specs.Documents.{removed};
+ghost use Rattle.page_model.specs.Edits.{with_element, with_frame};
+ghost use Rattle.page_model.specs.World.{Tree};
 ghost use Rattle.page_model.specs.Operands.{Present, container_meant};
 ghost use Rattle.page_tree.specs.Steps.{seen_axis, seen_container};
 ghost use Rattle.script_syntax.specs.Allowed.{IsSize, IsPercent};
@@ -16,7 +21,7 @@ ghost use Rattle.element_tree.specs.Links.{number};
 ghost use Rattle.page_layout.specs.Marks.{element_of, is_over, MarksOnly, MarksNone};
 ghost use Rattle.kept_findings.specs.Held.{IsRoomier};
 ghost use Rattle.page_state.specs.Answers.{Keeps};
-ghost use Rattle.page_state.specs.Boxes.{Marks, StaysDue, found, inside, is_moved, meant, parent};
+ghost use Rattle.page_state.specs.Boxes.{LeavesDue, Marks, StaysDue, found, inside, is_moved, meant, parent};
 ghost use Rattle.page_state.specs.Faults.{misplaced};
 ghost use Rattle.page_state.specs.Labels.{IsIn};
 ghost use Rattle.page_state.specs.Things.{present_of, IsMade, IsSubject};
@@ -27,7 +32,7 @@ use crate::page::Page;
 use block_layout::ItemKind;
 use clip_chain::Spot;
 use element_tree::NodeId;
-use page_laws::boxes_do_not_read_the_ratio;
+use page_laws::{boxes_do_not_read_the_ratio, what_is_made_has_no_box};
 use page_tree::{Container, PlaceFault};
 use px_units::{Percent, Px, Size};
 use script_syntax::{Axis, Operand};
@@ -62,7 +67,7 @@ impl Page {
 
     pub(crate) fn make_block(&mut self, name: Name, document: Name) -> Result<Effect, PageFault>
         ensures done { (present : Present) → Keeps self.old self.new result (λ handlers. does handlers self.old.world present (MakeBlock name document)) }
-        ensures boxes { MarksNone self.old.kept self.new.kept }
+        ensures boxes { LeavesDue self.old.world self.new.world.tree self.old.kept self.new.kept }
         ensures findings { IsRoomier self.old.found self.new.found }
     {
         self.make(name, document, ItemKind::Block)
@@ -76,19 +81,33 @@ impl Page {
     ) -> Result<Effect, PageFault>
         requires { IsSize size }
         ensures done { (present : Present) → Keeps self.old self.new result (λ handlers. does handlers self.old.world present (MakeImage name document (unsigned_abs size.width) (unsigned_abs size.height))) }
-        ensures boxes { MarksNone self.old.kept self.new.kept }
+        ensures boxes { LeavesDue self.old.world self.new.world.tree self.old.kept self.new.kept }
         ensures findings { IsRoomier self.old.found self.new.found }
     {
         self.make(name, document, ItemKind::Image(size))
+    }
+
+    // That what is made has no box, so that the same boxes are due as before: so it is of every page, and the call does nothing.
+    fn making_leaves_boxes(&self)
+        ensures elements { (kind : KindOfItem) (document : ℕ) → KeepsBoxes self.now.world.tree (with_element (seen_kind kind) document None (self.now.world.tree)) }
+        ensures frames { (document : ℕ) → KeepsBoxes self.now.world.tree (with_frame document (self.now.world.tree)) }
+        ensures leaves { (after : Tree) (kept : List Slot) → KeepsBoxes self.now.world.tree after → MarksNone self.now.kept kept →
+            LeavesDue self.now.world after self.now.kept kept }
+        ensures same { LeavesDue self.now.world self.now.world.tree self.now.kept self.now.kept }
+    {
+        what_is_made_has_no_box();
+        self.laid.boxes();
+        self.laid.page().document_count();
     }
 
     // The room for the element, its box and what is seen of it comes first, then its name, which is the last thing that may be refused.
     fn make(&mut self, name: Name, document: Name, kind: ItemKind) -> Result<Effect, PageFault>
         requires { IsMade kind }
         ensures done { Keeps self.old self.new result (λ handlers. making self.old.world name document (seen_kind kind)) }
-        ensures boxes { MarksNone self.old.kept self.new.kept }
+        ensures boxes { LeavesDue self.old.world self.new.world.tree self.old.kept self.new.kept }
         ensures findings { IsRoomier self.old.found self.new.found }
     {
+        self.making_leaves_boxes();
         self.names.check_free(name)?;
         let document = self.document(document)?;
         let node = self.laid.reserve()?;
@@ -107,9 +126,10 @@ impl Page {
         inside: Name,
     ) -> Result<Effect, PageFault>
         ensures done { (present : Present) → Keeps self.old self.new result (λ handlers. does handlers self.old.world present (MakeFrame name document inside)) }
-        ensures boxes { MarksNone self.old.kept self.new.kept }
+        ensures boxes { LeavesDue self.old.world self.new.world.tree self.old.kept self.new.kept }
         ensures findings { IsRoomier self.old.found self.new.found }
     {
+        self.making_leaves_boxes();
         self.names.check_free(name)?;
         let document = self.document(document)?;
         self.names.check_also_free(name, inside)?;

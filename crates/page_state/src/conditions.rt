@@ -4,16 +4,19 @@ ghost use Rattle.std.specs.Prelude.{◌≡◌, length, Bool, nat_lt, unsigned_ab
 ghost use Rattle.px_units.specs.declared.BoxKind.TheVariants.{Border};
 ghost use Rattle.page_model.specs.Commands.{asked, holds, seen_now};
 ghost use Rattle.page_model.specs.PageBoxes.{size_of};
+ghost use Rattle.page_model.specs.Documents.{InElement};
+ghost use Rattle.page_boxes.specs.Around.{rests_on};
 ghost use Rattle.page_boxes.specs.Pages.{seen_size};
 ghost use Rattle.script_syntax.specs.Allowed.{TestAllowed};
 ghost use Rattle.script_syntax.specs.Seen.{test_of, condition_of};
 ghost use Rattle.page_state.specs.Answers.{Finds};
-ghost use Rattle.page_state.specs.Boxes.{Computes};
+ghost use Rattle.page_state.specs.Boxes.{ComputesIn, answer_rests_on};
 ghost use Rattle.page_state.specs.Things.{present_with, IsSubject};
 
 use crate::page::Page;
 use element_tree::NodeId;
 use page_boxes::size_of;
+use page_tree::Container;
 use px_units::{BoxKind, Px, Size};
 use script_syntax::{Condition, Test};
 use std::sync::ledger::Ledger;
@@ -38,7 +41,7 @@ impl Page {
         requires subject { IsSubject (length self.old.world.tree.elements) subject }
         ensures answer { Finds (λ (answer : Bool). answer) result (holds self.old.world (present_with subject seen) (condition_of condition.now)) }
         ensures same { self.new ≡ record self.old { kept = self.new.kept } }
-        ensures boxes { Computes self.old.world self.old.kept self.new.kept steps.old steps.new }
+        ensures boxes { ComputesIn self.old.world (answer_rests_on self.old.world (present_with subject seen) (test_of condition.now.asks)) self.old.kept self.new.kept steps.old steps.new }
     {
         match self.ask(condition.asks, subject, seen, steps) {
             Ok(answer) if condition.negated => Ok(!answer),
@@ -47,7 +50,7 @@ impl Page {
     }
 
     // What is asked, before a `not`.
-    #[tactic(auto, unfolding(page_model::specs::Commands::asked))]
+    #[tactic(auto, unfolding(page_model::specs::Commands::asked), using(crate::proofs::Laid::computes_nothing))]
     fn ask<L: Ledger>(
         &mut self,
         test: Test,
@@ -59,7 +62,7 @@ impl Page {
         requires subject { IsSubject (length self.old.world.tree.elements) subject }
         ensures answer { Finds (λ (answer : Bool). answer) result (asked self.old.world (present_with subject seen) (test_of test)) }
         ensures same { self.new ≡ record self.old { kept = self.new.kept } }
-        ensures boxes { Computes self.old.world self.old.kept self.new.kept steps.old steps.new }
+        ensures boxes { ComputesIn self.old.world (answer_rests_on self.old.world (present_with subject seen) (test_of test)) self.old.kept self.new.kept steps.old steps.new }
     {
         match test {
             Test::Wider(node, px) => {
@@ -88,9 +91,10 @@ impl Page {
     fn border_size<L: Ledger>(&mut self, node: NodeId, steps: &mut Steps<L>) -> Size
         ensures value { seen_size result ≡ size_of self.old.world.tree self.old.world.viewports.screen node.0 Border }
         ensures same { self.new ≡ record self.old { kept = self.new.kept } }
-        ensures boxes { Computes self.old.world self.old.kept self.new.kept steps.old steps.new }
+        ensures boxes { ComputesIn self.old.world (rests_on self.old.world.tree (InElement node.0)) self.old.kept self.new.kept steps.old steps.new }
     {
-        self.laid.refresh(self.screen, steps);
+        self.laid
+            .refresh_for(self.screen, Container::Element(node), steps);
         size_of(
             self.laid.page(),
             self.laid.boxes(),

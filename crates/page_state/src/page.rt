@@ -7,9 +7,12 @@ ghost use Rattle.page_model.specs.Names.{document_text, resize_observer_text, in
 ghost use Rattle.page_model.specs.Callbacks.{handler_names};
 ghost use Rattle.page_model.specs.Commands.{begun_in, does};
 ghost use Rattle.page_model.specs.Outcome.{opening_world};
+ghost use Rattle.page_model.specs.Documents.{InDocument};
 ghost use Rattle.page_model.specs.PageBoxes.{viewport_of};
 ghost use Rattle.page_model.specs.Shown.{shown_of, shown_with};
 ghost use Rattle.page_model.specs.Ticks.{time_set};
+ghost use Rattle.page_boxes.specs.Around.{rests_on, LeavesOthers};
+ghost use Rattle.page_boxes.specs.Fresh.{IsFreshIn, IsFreshAbove};
 ghost use Rattle.page_boxes.specs.Kept.{AreKept, FillsOnly, IsExact, is_due, due_count};
 ghost use Rattle.page_boxes.specs.Pages.{seen_size, seen_screen, IsScreen};
 ghost use Rattle.page_tree.specs.Items.{IsNatural};
@@ -34,7 +37,7 @@ use event_tables::{FrameCallbacks, Listeners, Tasks, Timers};
 use intersection_observer::{WatcherId, Watchers};
 use kept_findings::KeptFindings;
 use page_boxes::{Screen, viewport_of};
-use page_geometry::Shown;
+use page_geometry::{Shown, ShownDocument};
 use page_layout::LaidTree;
 use page_tree::Container;
 use px_units::{Percent, Size};
@@ -409,6 +412,7 @@ pub(crate) fn viewport_now<L: Ledger>(
     ensures value { seen_size result ≡ viewport_of laid.new.elements.tree (seen_screen screen) document }
     ensures natural { IsNatural result }
     ensures same { laid.new.elements ≡ laid.old.elements }
+    ensures others { LeavesOthers laid.old.elements.tree (rests_on laid.old.elements.tree (InDocument document)) laid.old.kept laid.new.kept }
     ensures fills { FillsOnly laid.old.kept laid.new.kept }
     ensures ticks { steps.new + due_count laid.old.elements.tree (seen_screen screen) laid.new.kept ≤ steps.old + due_count laid.old.elements.tree (seen_screen screen) laid.old.kept }
 {
@@ -425,7 +429,22 @@ pub(crate) fn shown_now<'a>(laid: &'a LaidTree, scrolls: &'a Scrolls, screen: Sc
     Shown::new(laid.page(), laid.boxes(), scrolls, screen)
 }
 
-// The same for a reading of many elements, for which it is found once what each document shows.
+// What is shown of a document whose boxes, and those of the document around it, are held as they are now.
+pub(crate) fn shown_in<'a>(
+    laid: &'a LaidTree,
+    scrolls: &'a Scrolls,
+    screen: Screen,
+    document: u32,
+) -> ShownDocument<'a>
+    requires screen { IsScreen screen }
+    requires fresh { IsFreshIn laid.now.elements.tree (seen_screen screen) laid.now.kept document }
+    requires above { IsFreshAbove laid.now.elements.tree (seen_screen screen) laid.now.kept document }
+    ensures { result ≡ record { shown = shown_with laid.now.elements.tree (seen_screen screen) scrolls.now; document = document } }
+{
+    ShownDocument::new(laid.page(), laid.boxes(), scrolls, screen, document)
+}
+
+// The same of the whole page for a reading of many elements, for which it is found once what each document shows.
 pub(crate) fn shown_at_once<'a>(
     laid: &'a LaidTree,
     scrolls: &'a Scrolls,

@@ -3,11 +3,13 @@
 ghost use Rattle.std.specs.Prelude.{◌≡◌, ◌<◌, ℕ, true, length, map, option_map, IfSome};
 ghost use Rattle.script_model.specs.Syntax.{MakeQueryList};
 ghost use Rattle.page_model.specs.Commands.{does, matches_now};
+ghost use Rattle.page_model.specs.Documents.{InDocument};
 ghost use Rattle.page_model.specs.Lookups.{query_list_at};
 ghost use Rattle.page_model.specs.Operands.{Present};
+ghost use Rattle.page_boxes.specs.Around.{rests_on};
 ghost use Rattle.page_boxes.specs.Pages.{seen_size};
 ghost use Rattle.page_state.specs.Answers.{Keeps};
-ghost use Rattle.page_state.specs.Boxes.{Computes};
+ghost use Rattle.page_state.specs.Boxes.{ComputesIn, viewport_rests_on};
 ghost use Rattle.page_state.specs.Queries.{seen_query_list, is_changed, changed_from, next_changed, once_evaluated};
 
 use crate::answers::{Effect, PageFault};
@@ -62,7 +64,7 @@ fn changed_from(queries: &[QueryList], document: u32, viewport: Size, place: usi
 }
 
 impl Page {
-    #[tactic(auto, unfolding(page_model::specs::Commands::does))]
+    #[tactic(auto, unfolding(page_model::specs::Commands::does), using(crate::proofs::Laid::computes_nothing))]
     pub(crate) fn make_query_list<L: Ledger>(
         &mut self,
         name: Name,
@@ -71,7 +73,7 @@ impl Page {
         steps: &mut Steps<L>,
     ) -> Result<Effect, PageFault>
         ensures done { (present : Present) → Keeps self.old self.new result (λ handlers. does handlers self.old.world present (MakeQueryList name document query.now)) }
-        ensures boxes { Computes self.old.world self.old.kept self.new.kept steps.old steps.new }
+        ensures boxes { ComputesIn self.old.world (viewport_rests_on self.old.world document) self.old.kept self.new.kept steps.old steps.new }
         ensures findings { self.new.found ≡ self.old.found }
     {
         self.names.check_free(name)?;
@@ -102,7 +104,8 @@ impl Page {
         ensures value { let list = query_list_at self.old.world.queries query in
             result ≡ matches_now self.old.world list.document list.query }
         ensures same { self.new ≡ record self.old { kept = self.new.kept } }
-        ensures boxes { Computes self.old.world self.old.kept self.new.kept steps.old steps.new }
+        ensures boxes { let list = query_list_at self.old.world.queries query in
+            ComputesIn self.old.world (rests_on self.old.world.tree (InDocument list.document)) self.old.kept self.new.kept steps.old steps.new }
     {
         let list = &self.queries[query as usize];
         let viewport = viewport_now(&mut self.laid, self.screen, list.document, steps);
@@ -123,7 +126,7 @@ impl Page {
         ensures matches { IfSome result (λ change. change.matches ≡ matches_now self.old.world document (query_list_at self.old.world.queries change.query).query) }
         ensures place { IfSome result (λ change. (change.place ≡ ℕ.suc change.query) × change.query < length self.old.world.queries) }
         ensures evaluated { self.new ≡ record self.old { world = once_evaluated document (next_changed document place self.old.world) (self.old.world); kept = self.new.kept } }
-        ensures boxes { Computes self.old.world self.old.kept self.new.kept steps.old steps.new }
+        ensures boxes { ComputesIn self.old.world (rests_on self.old.world.tree (InDocument document)) self.old.kept self.new.kept steps.old steps.new }
     {
         let size = viewport_now(&mut self.laid, self.screen, document, steps);
         let query = changed_from(self.queries.as_slice(), document, size, place)?;

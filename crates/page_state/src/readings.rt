@@ -1,21 +1,22 @@
-//! What is read of a page. Boxes that are due are computed before a reading.
+//! What is read of a page. What is due of the boxes that a reading rests on is computed before it, and no other box.
 
-ghost use Rattle.std.specs.Prelude.{◌≡◌, length};
+ghost use Rattle.std.specs.Prelude.{◌≡◌, Some, length};
 ghost use Rattle.script_model.specs.Syntax.{Read};
 ghost use Rattle.page_model.specs.Commands.{does};
+ghost use Rattle.page_model.specs.Documents.{document_of_container};
 ghost use Rattle.page_model.specs.Readings.{reading_of};
 ghost use Rattle.trace_text.specs.Seen.{seen_line};
 ghost use Rattle.trace_text.specs.Ranges.{HasReach};
 ghost use Rattle.script_syntax.specs.Seen.{operand_of};
 ghost use Rattle.page_state.specs.Answers.{Keeps};
-ghost use Rattle.page_state.specs.Boxes.{Computes};
+ghost use Rattle.page_state.specs.Boxes.{ComputesIn, document_meant};
 ghost use Rattle.page_tree.specs.Steps.{seen_container};
 ghost use Rattle.page_boxes.specs.Pages.{text_in};
 ghost use Rattle.page_state.specs.Things.{present_of, IsSubject};
 ghost use Rattle.page_state.specs.Labels.{IsIn};
 
 use crate::answers::{Effect, PageFault};
-use crate::page::{Page, shown_now};
+use crate::page::{Page, shown_in};
 use element_tree::NodeId;
 use page_tree::Container;
 use script_syntax::Operand;
@@ -24,7 +25,7 @@ use step_count::Steps;
 use text_io::Name;
 use trace_text::TraceLine;
 
-#[tactic(auto, unfolding(page_model::specs::Commands::does))]
+#[tactic(auto, unfolding(page_model::specs::Commands::does), using(crate::proofs::Laid::computes_nothing))]
 impl Page {
     pub(crate) fn read<L: Ledger>(
         &mut self,
@@ -34,7 +35,7 @@ impl Page {
     ) -> Result<Effect, PageFault>
         requires { IsSubject (length self.old.world.tree.elements) subject }
         ensures done { Keeps self.old self.new result (λ handlers. does handlers self.old.world (present_of subject) (Read (operand_of target))) }
-        ensures boxes { Computes self.old.world self.old.kept self.new.kept steps.old steps.new }
+        ensures boxes { ComputesIn self.old.world (document_meant self.old.world (present_of subject) (operand_of target)) self.old.kept self.new.kept steps.old steps.new }
         ensures findings { self.new.found ≡ self.old.found }
     {
         let container = self.container(target, subject)?;
@@ -47,16 +48,27 @@ impl Page {
         ensures line { seen_line result
             ≡ reading_of self.old.world.names self.old.world.tree self.old.world.viewports.screen self.old.world.scrolls (seen_container container) }
         ensures same { self.new ≡ record self.old { kept = self.new.kept } }
-        ensures boxes { Computes self.old.world self.old.kept self.new.kept steps.old steps.new }
+        ensures boxes { ComputesIn self.old.world (Some (document_of_container self.old.world.tree (seen_container container))) self.old.kept self.new.kept steps.old steps.new }
         ensures reach { HasReach (seen_line result) }
     {
         let target = self.container_name(container);
-        self.laid.refresh(self.screen, steps);
-        let shown = shown_now(&self.laid, &self.scrolls, self.screen).read(container);
+        let document = self.document_of(container);
+        self.laid.refresh_in(self.screen, document, steps);
+        let shown = shown_in(&self.laid, &self.scrolls, self.screen, document).read(container);
         TraceLine::Read {
             target,
             rect: shown.rect,
             scroll: shown.scroll,
+        }
+    }
+
+    // The document that an element is an element of, or the document itself.
+    fn document_of(&self, container: Container) -> u32
+        ensures { result ≡ document_of_container self.now.world.tree (seen_container container) }
+    {
+        match container {
+            Container::Element(node) => self.laid.page().document_of(node),
+            Container::Document(document) => document,
         }
     }
 

@@ -1,6 +1,6 @@
 //! Commands that scroll (CSSOM View, 4 to 6).
 
-ghost use Rattle.std.specs.Prelude.{◌≡◌, ◌<◌, ◌+ℤ◌, length, option_map};
+ghost use Rattle.std.specs.Prelude.{◌≡◌, ◌<◌, ◌+ℤ◌, Some, length, option_map};
 ghost use Rattle.script_model.specs.Syntax.{ScrollTo, ScrollBy};
 ghost use Rattle.page_model.specs.Commands.{does};
 ghost use Rattle.page_model.specs.Documents.{InElement, is_root_element};
@@ -15,12 +15,12 @@ ghost use Rattle.scrolling.specs.Seen.{seen_target, point_of};
 ghost use Rattle.script_syntax.specs.Allowed.{IsOffset};
 ghost use Rattle.script_syntax.specs.Seen.{operand_of};
 ghost use Rattle.page_state.specs.Answers.{Keeps};
-ghost use Rattle.page_state.specs.Boxes.{Computes};
+ghost use Rattle.page_state.specs.Boxes.{ComputesIn, document_meant};
 ghost use Rattle.page_state.specs.Labels.{IsIn};
 ghost use Rattle.page_state.specs.Things.{present_of, IsSubject};
 
 use crate::answers::{Effect, PageFault};
-use crate::page::{Page, shown_now};
+use crate::page::{Page, shown_in};
 use element_tree::NodeId;
 use page_boxes::is_scroller;
 use page_tree::Container;
@@ -37,7 +37,7 @@ struct Reach {
     range: Size,
 }
 
-#[tactic(auto, unfolding(page_model::specs::Commands::does))]
+#[tactic(auto, unfolding(page_model::specs::Commands::does), using(crate::proofs::Laid::computes_nothing))]
 impl Page {
     pub(crate) fn scroll_to<L: Ledger>(
         &mut self,
@@ -48,7 +48,7 @@ impl Page {
     ) -> Result<Effect, PageFault>
         requires { IsSubject (length self.old.world.tree.elements) subject }
         ensures done { Keeps self.old self.new result (λ handlers. does handlers self.old.world (present_of subject) (ScrollTo (operand_of of) to.left to.top)) }
-        ensures boxes { Computes self.old.world self.old.kept self.new.kept steps.old steps.new }
+        ensures boxes { ComputesIn self.old.world (document_meant self.old.world (present_of subject) (operand_of of)) self.old.kept self.new.kept steps.old steps.new }
         ensures findings { self.new.found ≡ self.old.found }
     {
         let container = self.container(of, subject)?;
@@ -69,7 +69,7 @@ impl Page {
         requires by { IsOffset by }
         requires subject { IsSubject (length self.old.world.tree.elements) subject }
         ensures done { Keeps self.old self.new result (λ handlers. does handlers self.old.world (present_of subject) (ScrollBy (operand_of of) by.left by.top)) }
-        ensures boxes { Computes self.old.world self.old.kept self.new.kept steps.old steps.new }
+        ensures boxes { ComputesIn self.old.world (document_meant self.old.world (present_of subject) (operand_of of)) self.old.kept self.new.kept steps.old steps.new }
         ensures findings { self.new.found ≡ self.old.found }
     {
         let container = self.container(of, subject)?;
@@ -115,6 +115,16 @@ impl Page {
         }
     }
 
+    // The document that a target is scrolled in.
+    fn scroll_document(&self, target: ScrollTarget) -> u32
+        ensures { result ≡ scroll_document self.now.world.tree (seen_target target) }
+    {
+        match target {
+            ScrollTarget::Node(node) => self.laid.page().document_of(node),
+            ScrollTarget::Document(document) => document,
+        }
+    }
+
     // The scroll offset in force of a target and its range, of boxes as they are now.
     fn reach<L: Ledger>(&mut self, target: ScrollTarget, steps: &mut Steps<L>) -> Reach
         ensures offset { result.offset ≡ point_of (scroll_offset self.old.world.tree self.old.world.viewports.screen self.old.world.scrolls (seen_target target)) }
@@ -122,10 +132,11 @@ impl Page {
         ensures in_force { IsInForce result.offset }
         ensures bound { IsRange result.range }
         ensures same { self.new ≡ record self.old { kept = self.new.kept } }
-        ensures boxes { Computes self.old.world self.old.kept self.new.kept steps.old steps.new }
+        ensures boxes { ComputesIn self.old.world (Some (scroll_document self.old.world.tree (seen_target target))) self.old.kept self.new.kept steps.old steps.new }
     {
-        self.laid.refresh(self.screen, steps);
-        let shown = shown_now(&self.laid, &self.scrolls, self.screen);
+        let document = self.scroll_document(target);
+        self.laid.refresh_in(self.screen, document, steps);
+        let shown = shown_in(&self.laid, &self.scrolls, self.screen, document);
         Reach {
             offset: shown.offset_of(target),
             range: shown.range_of(target),
@@ -140,10 +151,7 @@ impl Page {
         ensures boxes { self.new.kept ≡ self.old.kept }
         ensures findings { self.new.found ≡ self.old.found }
     {
-        let document = match target {
-            ScrollTarget::Node(node) => self.laid.page().document_of(node),
-            ScrollTarget::Document(document) => document,
-        };
+        let document = self.scroll_document(target);
         self.scrolls.scroll_to(document, target, to, range)?;
         Ok(Effect::Nothing)
     }

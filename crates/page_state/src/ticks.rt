@@ -1,7 +1,7 @@
 //! What a tick asks of a page besides the resize loop and the event tables (HTML, update the rendering).
 
 ghost use Rattle.std.specs.Prelude.{◌≡◌, ◌<◌, All, length, IfOk, OnOk, OnErr};
-ghost use Rattle.page_model.specs.Documents.{active_documents, is_active};
+ghost use Rattle.page_model.specs.Documents.{InDocument, active_documents, is_active};
 ghost use Rattle.page_model.specs.Intersections.{update_intersections, watchers};
 ghost use Rattle.page_model.specs.IntersectionObserving.{without_queue};
 ghost use Rattle.page_model.specs.Lookups.{intersection_observer_at};
@@ -9,11 +9,12 @@ ghost use Rattle.page_model.specs.PageBoxes.{viewport_of};
 ghost use Rattle.page_model.specs.Shown.{shown_of};
 ghost use Rattle.page_model.specs.Tasks.{without_notifying};
 ghost use Rattle.page_model.specs.Viewports.{noted_size, with_noted, differs_from};
+ghost use Rattle.page_boxes.specs.Around.{rests_on};
 ghost use Rattle.page_boxes.specs.Kept.{FillsOnly};
 ghost use Rattle.intersection_update.specs.Keeping.{HaveChains};
 ghost use Rattle.intersection_update.specs.Updating.{AreSettled, IsStopped};
 ghost use Rattle.intersection_update.specs.Watching.{AreWritten, watcher_numbers};
-ghost use Rattle.page_state.specs.Boxes.{Computes};
+ghost use Rattle.page_state.specs.Boxes.{ComputesIn};
 ghost use Rattle.page_state.specs.Findings.{Updates, AreUpdated, IsUnfinished, TakesAtMost};
 
 use crate::page::{Page, shown_at_once, viewport_now};
@@ -48,7 +49,7 @@ impl Page {
           viewports = with_noted document (viewport_of (self.old.world.tree) (self.old.world.viewports.screen) document) (self.old.world.viewports);
         } }
         ensures begun { self.new.begun ≡ self.old.begun }
-        ensures boxes { Computes self.old.world self.old.kept self.new.kept steps.old steps.new }
+        ensures boxes { ComputesIn self.old.world (rests_on self.old.world.tree (InDocument document)) self.old.kept self.new.kept steps.old steps.new }
         ensures findings { self.new.found ≡ self.old.found }
     {
         let size = viewport_now(&mut self.laid, self.screen, document, steps);

@@ -1,8 +1,8 @@
 //! Readings of a page with the numbers that an independent program for the same rules gives.
 
-ghost use Rattle.std.specs.Prelude.{◌≡◌, ◌<◌};
+ghost use Rattle.std.specs.Prelude.{◌≡◌, ◌<◌, IfOk};
 ghost use Rattle.page_tree.specs.Items.{IsKind};
-ghost use Rattle.page_boxes.specs.Fresh.{IsFresh};
+ghost use Rattle.page_boxes.specs.Fresh.{IsFresh, IsFreshIn, IsFreshAbove};
 ghost use Rattle.page_boxes.specs.Kept.{AreKept};
 ghost use Rattle.page_boxes.specs.Pages.{seen_screen, IsScreen};
 
@@ -10,8 +10,10 @@ use crate::common::{SCREEN, all_boxes, any_name, empty_slots, make_elements, put
 use block_layout::ItemKind;
 use element_tree::NodeId;
 use kept_layout::Kept;
-use page_boxes::{Screen, has_box, is_scroller, nothing_kept_fits, refresh_for, size_of};
-use page_geometry::{Reading, Shown};
+use page_boxes::{
+    Screen, has_box, is_scroller, nothing_kept_fits, refresh_for, refresh_in, size_of,
+};
+use page_geometry::{Reading, Shown, ShownDocument};
 use page_tree::{Container, PageTree};
 use px_units::{BoxKind, Percent, Point, Rect, Size};
 use scrolling::{ScrollTarget, Scrolls};
@@ -481,6 +483,77 @@ fn read_looked(
     Ok((found, rect))
 }
 
+fn renew_in<L: Ledger>(
+    blank: Blank,
+    boxes: &mut Kept,
+    page: &PageTree,
+    screen: Screen,
+    document: u32,
+)
+    requires name { blank.name ≡ L.name }
+    requires parts { blank.parts ≡ L.parts }
+    requires one_part { 0 < blank.parts }
+    requires kept { AreKept page.now.tree boxes.old }
+    ensures fresh { IsFreshIn page.now.tree (seen_screen screen) boxes.new document }
+    ensures above { IsFreshAbove page.now.tree (seen_screen screen) boxes.new document }
+{
+    let mut steps = Steps::<L>::new(blank);
+    refresh_in(boxes, page, screen, document, &mut steps);
+}
+
+// The boxes of a document and of those around it, and none of others.
+fn boxes_in(
+    rt: &impl Abort,
+    alloc: Global,
+    page: &PageTree,
+    screen: Screen,
+    document: u32,
+) -> Result<Kept, Fail>
+    ensures fresh { IfOk result (λ boxes. IsFreshIn page.now.tree (seen_screen screen) boxes document) }
+    ensures above { IfOk result (λ boxes. IsFreshAbove page.now.tree (seen_screen screen) boxes document) }
+{
+    assert!(rt; !page.holds(NodeId(9)));
+    let mut boxes = empty_slots(alloc)?;
+    nothing_kept_fits();
+    renew_in::<Brand>(Blank::new(1), &mut boxes, page, screen, document);
+    Ok(boxes)
+}
+
+// What is read of an element by its document alone, and its border rectangle.
+fn read_alone(
+    rt: &impl Abort,
+    alloc: Global,
+    page: &PageTree,
+    scrolls: &Scrolls,
+    screen: Screen,
+    node: u32,
+) -> Result<(Reading, Rect), Fail>
+    requires { IsScreen screen }
+{
+    let document = page.document_of(NodeId(node));
+    let boxes = boxes_in(rt, alloc, page, screen, document)?;
+    let shown = ShownDocument::new(page, &boxes, scrolls, screen, document);
+    let found = shown.read(Container::Element(NodeId(node)));
+    let rect = shown.border_rect(NodeId(node));
+    Ok((found, rect))
+}
+
+// What is read of a document by itself alone.
+fn view_alone(
+    rt: &impl Abort,
+    alloc: Global,
+    page: &PageTree,
+    scrolls: &Scrolls,
+    screen: Screen,
+    document: u32,
+) -> Result<Reading, Fail>
+    requires { IsScreen screen }
+{
+    let boxes = boxes_in(rt, alloc, page, screen, document)?;
+    let shown = ShownDocument::new(page, &boxes, scrolls, screen, document);
+    Ok(shown.read(Container::Document(document)))
+}
+
 // The size of an element's border box, from the boxes of its document and of those around it.
 fn size_some(
     rt: &impl Abort,
@@ -513,6 +586,8 @@ fn read_twice(
     assert_eq!(rt; rect, found.rect);
     let again = read_looked(rt, alloc, page, scrolls, screen, node)?;
     assert_eq!(rt; again, (found, rect));
+    let alone = read_alone(rt, alloc, page, scrolls, screen, node)?;
+    assert_eq!(rt; alone, (found, rect));
     let size = size_some(rt, alloc, page, screen, node)?;
     assert_eq!(rt;
         (size.width, size.height),
@@ -536,7 +611,10 @@ fn read_viewport(
     let boxes = all_boxes(rt, alloc, page, screen)?;
     let container = Container::Document(document);
     let shown = Shown::new(page, &boxes, scrolls, screen);
-    Ok(shown.read(container))
+    let found = shown.read(container);
+    let alone = view_alone(rt, alloc, page, scrolls, screen, document)?;
+    assert_eq!(rt; alone, found);
+    Ok(found)
 }
 
 // Scrolls downwards to a position, as far as it goes.

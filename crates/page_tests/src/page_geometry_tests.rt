@@ -1,21 +1,29 @@
 //! Findings on a page with scrollers and a frame, with the numbers that an independent program for the same rules gives.
 
-ghost use Rattle.std.specs.Prelude.{◌<◌, length};
-ghost use Rattle.page_boxes.specs.Fresh.{IsFresh};
-ghost use Rattle.page_boxes.specs.Pages.{seen_screen};
+ghost use Rattle.std.specs.Prelude.{◌≡◌, ◌<◌, IfOk};
+ghost use Rattle.clip_chain.specs.Chains.{IsAbove};
+ghost use Rattle.clip_chain.specs.Worlds.{element_spot, spot_of_root};
+ghost use Rattle.intersection_observer.specs.Places.{IsStanding};
+ghost use Rattle.intersection_observer.specs.Seen.{seen_root};
+ghost use Rattle.candidate_index.specs.Registrations.{IfChained, IsReady};
 
 use crate::common::{SCREEN, all_boxes, make_elements, put, remove, set, watch};
-use clip_chain::{Spot, reaches};
+use candidate_index::{Index, Scene, Standing};
+use clip_chain::{Spot, Through, reaches};
 use element_tree::NodeId;
-use intersection_observer::{Finding, Root, WatcherId, Watchers};
-use kept_layout::Kept;
-use page_geometry::{Shown, find};
+use intersection_observer::{Finding, RegistrationId, Root, WatcherId, Watchers};
+use kept_clips::Clips;
+use kept_findings::Tells;
+use page_geometry::Shown;
 use page_tree::{Container, PageTree};
 use px_units::{Point, Rect};
 use scrolling::{ScrollTarget, Scrolls};
 use std::alloc::Global;
+use std::marker::Brand;
 use std::process::Abort;
+use std::sync::ledger::{Blank, Ledger};
 use std::test::Fail;
+use step_count::Steps;
 use text_io::Version;
 use thresholds::Margins;
 
@@ -382,16 +390,46 @@ fn page_of(rt: &impl Abort, alloc: Global) -> Result<PageTree, Fail> {
     Ok(page)
 }
 
-fn watch_all(alloc: Global, watchers: &mut Watchers, watched: &[Watched]) -> Result<(), Fail> {
-    for (root, margins) in watched {
-        watch(alloc, watchers, 0, *root, margins, &THRESHOLDS)?;
+fn observe(
+    rt: &impl Abort,
+    watchers: &mut Watchers,
+    watcher: u32,
+    target: u32,
+) -> Result<(), Fail> {
+    assert!(rt; watcher < watchers.count());
+    let next = watchers
+        .next_registration(WatcherId(watcher), NodeId(target))?
+        .expect(rt, "a registration");
+    assert!(rt; next.0 < u64::MAX);
+    watchers.observe(WatcherId(watcher), NodeId(target))?;
+    Ok(())
+}
+
+// Lets an observer observe all elements in order.
+fn observe_all(rt: &impl Abort, watchers: &mut Watchers, watcher: u32) -> Result<(), Fail> {
+    for target in 0..9 {
+        observe(rt, watchers, watcher, target)?;
     }
     Ok(())
 }
 
-fn watchers_of(alloc: Global, watched: &[Watched]) -> Result<Watchers, Fail> {
-    let mut watchers = Watchers::new(alloc, 6, 6);
-    watch_all(alloc, &mut watchers, watched)?;
+fn watch_all(
+    rt: &impl Abort,
+    alloc: Global,
+    watchers: &mut Watchers,
+    watched: &[Watched],
+) -> Result<(), Fail> {
+    for (root, margins) in watched {
+        let watcher = watchers.count();
+        watch(alloc, watchers, 0, *root, margins, &THRESHOLDS)?;
+        observe_all(rt, watchers, watcher)?;
+    }
+    Ok(())
+}
+
+fn watchers_of(rt: &impl Abort, alloc: Global, watched: &[Watched]) -> Result<Watchers, Fail> {
+    let mut watchers = Watchers::new(alloc, 6, 54);
+    watch_all(rt, alloc, &mut watchers, watched)?;
     Ok(watchers)
 }
 
@@ -413,24 +451,104 @@ fn edges_of(rect: Rect) -> Edges {
     (rect.left, rect.top, rect.right, rect.bottom)
 }
 
+fn spot_of_root(root: Root) -> Spot
+    ensures { result ≡ spot_of_root (seen_root root) }
+{
+    match root {
+        Root::Implicit => Spot::View(0),
+        Root::Document(document) => Spot::View(document),
+        Root::Node(node) => Spot::Node(node),
+    }
+}
+
+// Makes sure that the chain leads from a target to a root wherever it is to.
+fn see_chain<S: Scene>(rt: &impl Abort, scene: &S, root: Root, target: NodeId)
+    ensures { IfChained (S.standings scene.now (seen_root root) target.0) (IsAbove (S.scene scene.now) (spot_of_root (seen_root root)) (element_spot target.0)) }
+{
+    match scene.standing(root, target) {
+        Standing::Chained => { assert!(rt; reaches(scene, Spot::Node(target), spot_of_root(root))) }
+        Standing::Apart | Standing::NoBox => {}
+    }
+}
+
+// Clips with the pair of a registration, of which none is computed yet.
+fn clips_for<S: Scene>(
+    rt: &impl Abort,
+    alloc: Global,
+    scene: &S,
+    watchers: &Watchers,
+    registration: RegistrationId,
+) -> Result<Clips, Fail>
+    requires { IsStanding registration.0 watchers.now.part }
+    ensures { IfOk result (λ clips. IsReady (S.scene scene.now) (S.standings scene.now) watchers.now.part clips registration.0) }
+{
+    let root = watchers.root_of(watchers.watcher_of(registration));
+    let target = watchers.target_of(registration);
+    see_chain(rt, scene, root, target);
+    let mut clips = Clips::new(alloc);
+    assert!(rt; clips.pair(registration.0).is_none());
+    clips.hold(registration.0, spot_of_root(root), Spot::Node(target))?;
+    let pair = clips.pair(registration.0).expect(rt, "a pair");
+    assert!(rt; pair.root == spot_of_root(root));
+    assert!(rt; pair.of == Spot::Node(target));
+    Ok(clips)
+}
+
+// What is found of a registration anew, as it is told.
+fn find_anew<L: Ledger>(
+    blank: Blank,
+    rt: &impl Abort,
+    alloc: Global,
+    shown: &Shown<'_>,
+    watchers: &Watchers,
+    registration: RegistrationId,
+    scroll: &Margins,
+) -> Result<Finding, Fail>
+    requires name { blank.name ≡ L.name }
+    requires parts { blank.parts ≡ L.parts }
+    requires one_part { 0 < blank.parts }
+    requires standing { IsStanding registration.0 watchers.now.part }
+{
+    let root = watchers.root_of(watchers.watcher_of(registration));
+    let view = Through {
+        geometry: shown,
+        root: spot_of_root(root),
+        margins: *scroll,
+    };
+    let mut clips = clips_for(rt, alloc, &view, watchers, registration)?;
+    let mut index = Index::new(alloc);
+    index.add(registration)?;
+    assert!(rt; index.is_added(registration));
+    let mut steps = Steps::<L>::new(blank);
+    let found = index.recompute(&view, &mut clips, watchers, registration, &mut steps);
+    Ok(shown.told(root, watchers.target_of(registration), found))
+}
+
 fn find_over(
     rt: &impl Abort,
-    page: &PageTree,
-    boxes: &Kept,
-    scrolls: &Scrolls,
+    alloc: Global,
+    shown: &Shown<'_>,
     watchers: &Watchers,
-    watcher: WatcherId,
+    watcher: u32,
     scroll: &Margins,
-    target: NodeId,
-) -> Finding
-    requires watcher { watcher.0 < length watchers.now.part.made }
-    requires fresh { IsFresh page.now.tree (seen_screen SCREEN) boxes.now }
-{
-    let shown = Shown::new(page, boxes, scrolls, SCREEN);
-    let is_chained = reaches(&shown, Spot::Node(target), Spot::View(0));
-    let finding = find(&shown, watchers, watcher, scroll, target);
+    target: u32,
+) -> Result<Finding, Fail> {
+    assert!(rt; watcher < watchers.count());
+    let registrations = watchers.registrations(WatcherId(watcher));
+    assert!(rt; (target as usize) < registrations.len());
+    let registration = registrations[target as usize];
+    let finding = find_anew::<Brand>(
+        Blank::new(1),
+        rt,
+        alloc,
+        shown,
+        watchers,
+        registration,
+        scroll,
+    )?;
+    let is_chained = reaches(shown, Spot::Node(NodeId(target)), Spot::View(0));
     assert!(rt; is_chained || !finding.meets);
-    finding
+    Ok(finding)
 }
 
 fn found(
@@ -443,18 +561,9 @@ fn found(
     scroll: &Margins,
     target: u32,
 ) -> Result<Finding, Fail> {
-    assert!(rt; watcher < watchers.count());
     let boxes = all_boxes(rt, alloc, page, SCREEN)?;
-    Ok(find_over(
-        rt,
-        page,
-        &boxes,
-        scrolls,
-        watchers,
-        WatcherId(watcher),
-        scroll,
-        NodeId(target),
-    ))
+    let shown = Shown::new(page, &boxes, scrolls, SCREEN);
+    find_over(rt, alloc, &shown, watchers, watcher, scroll, target)
 }
 
 fn compare(
@@ -521,7 +630,7 @@ fn follow(
     watched: &[Watched],
     steps: &[Step],
 ) -> Result<(), Fail> {
-    let watchers = watchers_of(alloc, watched)?;
+    let watchers = watchers_of(rt, alloc, watched)?;
     let mut scrolls = Scrolls::new(alloc);
     take_steps(rt, alloc, page, &mut scrolls, &watchers, steps)
 }
@@ -713,7 +822,7 @@ fn boxes_are_clipped_by_what_holds_them(rt: HostRuntime) -> Result<(), Fail> {
 }
 
 /// Scroll margins, an observer and a target, and what is found as in `Step::Find`.
-type Through = (
+type MarginRow = (
     &'static str,
     u32,
     u32,
@@ -722,7 +831,7 @@ type Through = (
     [Edges; 3],
 );
 
-const THROUGH: [Through; 6] = [
+const THROUGH: [MarginRow; 6] = [
     (
         "60px",
         0,
@@ -804,7 +913,7 @@ fn see_through(
     alloc: Global,
     page: &PageTree,
     watchers: &Watchers,
-    row: Through,
+    row: MarginRow,
 ) -> Result<(), Fail> {
     let (margins, watcher, target, counts, areas, edges) = row;
     let scroll = Margins::parse(margins.as_bytes())?;
@@ -818,7 +927,7 @@ fn see_through(
 
 #[test]
 fn scroll_margins_move_the_clips_of_scroll_containers(rt: HostRuntime) -> Result<(), Fail> {
-    let watchers = watchers_of(rt.alloc(), &WATCHED)?;
+    let watchers = watchers_of(&rt, rt.alloc(), &WATCHED)?;
     let page = page_of(&rt, rt.alloc())?;
     for row in THROUGH {
         see_through(&rt, rt.alloc(), &page, &watchers, row)?;

@@ -6,24 +6,28 @@ from reference import grammar
 from reference.page import Page
 
 from .model import Model
-from .traits import (CROSSED_IS_TURNED, DEAD_READS_THROW, FRAMES_IN_TIME, HIDDEN_READS_NOTHING, KEPT_WHILE_TELLING, LATE_SCROLLS,
-                     SCROLLS_ARE_CUT)
+from .traits import (CROSSED_IS_TURNED, DEAD_READS_THROW, EVERY_ROOT, FRAMES_IN_TIME, HIDDEN_READS_NOTHING, IMPLICIT_ROOT,
+                     KEPT_WHILE_TELLING, LATE_SCROLLS, LENGTHS_ARE_CUT, LENGTHS_ARE_FLOORED, ONE_PIXEL_AT_LEAST, PERCENTAGES_ARE_CUT,
+                     SCROLLING_ROOT_UNTOLD, SCROLLS_ARE_CUT)
 
 ALL_THREE = frozenset('''border-widths read-of-dead-frame hidden-frame-keeps-size frame-of-part-pixels reach-of-empty-boxes
     reach-with-margins reach-with-padding scroll-of-part-pixels observe-again first-size offset-of-moved-box frame-order stored-offset
-    sizes-of-last-layout shrink-to-fit root-removed root-rectangle-of-none is-intersecting margin-percentages'''.split())
-CHROMIUM = ALL_THREE | {LATE_SCROLLS} | set('''scroll-anchoring scroll-of-hidden-frame unobserve-in-delivery queue-after-unobserve
+    sizes-of-last-layout shrink-to-fit root-removed root-rectangle-of-none is-intersecting margin-percentages
+    scroll-margin-percentages scroll-margin-of-viewports scroll-margin-of-root'''.split())
+CHROMIUM = ALL_THREE | {LATE_SCROLLS, LENGTHS_ARE_FLOORED, ONE_PIXEL_AT_LEAST, PERCENTAGES_ARE_CUT, SCROLLING_ROOT_UNTOLD} | set('''scroll-anchoring scroll-of-hidden-frame unobserve-in-delivery queue-after-unobserve
     listener-of-adopted-element frame-callback-late rounds-by-turns depth-at-gathering skipped-then-cured dead-frame-target
     target-of-dead-frame observers-in-any-order margin-of-part-pixels crossed-root cut-in-a-frame told-of-dead-root
-    entries-of-dead-document'''.split())
-FIREFOX = ALL_THREE | {HIDDEN_READS_NOTHING, DEAD_READS_THROW, SCROLLS_ARE_CUT, KEPT_WHILE_TELLING} | set('''scroll-anchoring
-    queue-after-unobserve listener-of-adopted-element frame-callback-late told-of-dead-root
+    entries-of-dead-document ratio-resize-event device-pixels-by-place'''.split())
+FIREFOX = ALL_THREE | {HIDDEN_READS_NOTHING, DEAD_READS_THROW, SCROLLS_ARE_CUT, KEPT_WHILE_TELLING, IMPLICIT_ROOT} | set('''scroll-anchoring
+    ratio-resize-event device-pixels-by-place queue-after-unobserve listener-of-adopted-element frame-callback-late told-of-dead-root
     told-by-own-document resize-observers-by-use'''.split())
-WEBKIT = ALL_THREE | {SCROLLS_ARE_CUT, FRAMES_IN_TIME, CROSSED_IS_TURNED} | set('''depth-at-gathering crossed-root entries-before-tasks
-    queries-of-empty-page resize-observers-by-use'''.split())
+WEBKIT = ALL_THREE | {SCROLLS_ARE_CUT, FRAMES_IN_TIME, CROSSED_IS_TURNED, LENGTHS_ARE_CUT, EVERY_ROOT} | set('''depth-at-gathering
+    crossed-root entries-before-tasks margin-of-part-pixels scroll-margin-below-a-root queries-of-empty-page
+    resize-observers-by-use'''.split())
 CLASSES = {'chromium': CHROMIUM, 'firefox': FIREFOX, 'webkit': WEBKIT}
 NUMBER = re.compile(r'-?\d+(?:\.\d+)?(?:/\d+)?')
-NEAR = 0.15     # pixels, by which sums of sixtieths may differ
+NEAR = {'firefox': 0.15, 'webkit': 0.02}     # pixels, by which sums of sixtieths and percentages of margins may differ
+PARTS = {'firefox': 'sixtieths-of-a-pixel', 'webkit': 'margin-of-part-pixels'}
 
 
 def run(text, classes, told=(), order=None):
@@ -41,16 +45,18 @@ def by_rules(text):
 
 
 def alike(lines, told, engine):
-    """Whether both traces are the same; in Firefox up to parts of a pixel."""
+    """Whether both traces are the same; in Firefox up to parts of a pixel, in WebKit so in lines of intersections."""
     if lines == told:
         return True
-    return engine == 'firefox' and len(lines) == len(told) and all(map(near, lines, told))
+    return engine in NEAR and len(lines) == len(told) and all(near(*both, engine) for both in zip(lines, told))
 
 
-def near(line, other):
-    if NUMBER.sub('#', line) != NUMBER.sub('#', other):
+def near(line, other, engine):
+    if line == other:
+        return True
+    if NUMBER.sub('#', line) != NUMBER.sub('#', other) or engine == 'webkit' and not line.startswith('intersect '):
         return False
-    return all(abs(number(one) - number(two)) <= (NEAR if '/' not in one else 0.01)
+    return all(abs(number(one) - number(two)) <= (NEAR[engine] if '/' not in one else 0.01)
                for one, two in zip(NUMBER.findall(line), NUMBER.findall(other)))
 
 
@@ -82,7 +88,7 @@ def classes_of(text, engine, told):
         if not alike(without.lines, told, engine):
             needed.add(name)
     if first.lines != told:
-        needed.add('sixtieths-of-a-pixel')
+        needed.add(PARTS[engine])
     return needed or one_of(text, engine, told, order, first.met) or {'round-lines'}
 
 

@@ -1,6 +1,5 @@
 """Commands that an engine has otherwise, or that lay out."""
 from reference.commands import EFFECTS
-from reference.layout import BORDER
 from reference.media import matches
 from reference.refusals import Throw
 from reference.world import ACTIVE, Document, Element, tree_document
@@ -18,6 +17,13 @@ class Commands:
         if self.began:
             self.learns(self.world.top, (width, height))
             self.lay_out(self.world.top)
+
+    def do_ratio(self, command, hundredths):
+        changes = hundredths != self.world.pixel_ratio
+        EFFECTS['ratio'](self, command, hundredths)
+        if changes and self.began and self.differs('ratio-resize-event'):
+            self.resized.add(self.world.top)
+            self.rescaled = True
 
     def kept_size(self, document):
         """Of a document whose frame has no box."""

@@ -4,34 +4,77 @@ from reference.lengths import percentage
 from reference.world import ACTIVE, Document, tree_document
 
 from .layout import PIXEL, whole
-from .traits import CROSSED_IS_TURNED
+from .traits import (CROSSED_IS_TURNED, EVERY_ROOT, IMPLICIT_ROOT, LENGTHS_ARE_CUT, LENGTHS_ARE_FLOORED, PERCENTAGES_ARE_CUT,
+                     SCROLLING_ROOT_UNTOLD)
+
+
+class Margins:
+    """The margins of an observer as an engine has them; `name` is the class of percentages of heights."""
+
+    def __init__(self, model, margins, name):
+        self.model, self.margins, self.name = model, margins, name
+
+    def of(self, rectangle):
+        """By how much they move the top, right, bottom and left of a rectangle."""
+        left, top, right, bottom = rectangle
+        return [self._length(amount) if unit == 'px' else self._percentage(side, amount, right - left, bottom - top)
+                for side, (unit, amount) in enumerate(self.margins or [('px', 0)] * 4)]
+
+    def _length(self, units):
+        floored, is_cut = units // PIXEL * PIXEL, self.model.has(LENGTHS_ARE_CUT)
+        if units == floored or not (is_cut or self.model.has(LENGTHS_ARE_FLOORED)) or not self.model.differs('margin-of-part-pixels'):
+            return units
+        return -(-units // PIXEL * PIXEL) if is_cut and units < 0 else floored
+
+    def _percentage(self, side, amount, width, height):
+        basis = width
+        if side in (0, 2) and height != width and amount and self.model.differs(self.name):
+            basis = height
+        units = percentage(amount, basis)
+        if units % PIXEL and self.model.has(PERCENTAGES_ARE_CUT) and self.model.differs('margin-of-part-pixels'):
+            units = abs(units) // PIXEL * PIXEL * (1 if units > 0 else -1)
+        return units
+
+
+def grown(rectangle, by):
+    return rectangle[0] - by[3], rectangle[1] - by[0], rectangle[2] + by[1], rectangle[3] + by[2]
+
+
+def is_crossed(rectangle):
+    return rectangle[2] < rectangle[0] or rectangle[3] < rectangle[1]
+
+
+def uncrossed(model, rectangle):
+    """Without a negative size, where the engine has none."""
+    if not is_crossed(rectangle) or not model.differs('crossed-root') or model.has(CROSSED_IS_TURNED):
+        return rectangle
+    left, top, right, bottom = rectangle
+    return left, top, max(left, right), max(top, bottom)
 
 
 class EngineRoot(intersection.RootRectangle):
-    """A root rectangle with an engine's margins."""
+    """A root rectangle with an engine's margins; `told` is what an entry shows of it."""
 
     def __init__(self, model, observer):
         super().__init__(model.world, observer)
-        left, top, right, bottom = self.own
-        by = []
-        for side, (unit, amount) in enumerate(observer.margins):
-            if unit == 'px':
-                by.append(amount)
-                continue
-            basis = right - left
-            if side in (0, 2) and bottom - top != basis and amount and model.differs('margin-percentages'):
-                basis = bottom - top
-            units = percentage(amount, basis)
-            if units % PIXEL and model.differs('margin-of-part-pixels'):
-                units = abs(units) // PIXEL * PIXEL * (1 if units > 0 else -1)
-            by.append(units)
-        left, top, right, bottom = left - by[3], top - by[0], right + by[1], bottom + by[2]
-        self.turned = False
-        if (right < left or bottom < top) and model.differs('crossed-root'):
-            self.turned = model.has(CROSSED_IS_TURNED)
-            if not self.turned:
-                right, bottom = max(left, right), max(top, bottom)
-        self.rectangle = (left, top, right, bottom)
+        margins = Margins(model, observer.margins, 'margin-percentages')
+        if model.has(SCROLLING_ROOT_UNTOLD):
+            told = grown(self.own, margins.of(self.own))
+            moved = grown(told, self._by_scroll_margins(model, observer, told))
+        else:
+            # Where every root is moved, a percentage of the root margin is of what the scroll margin made of it.
+            more = self._by_scroll_margins(model, observer, self.own)
+            by = margins.of(grown(self.own, more) if model.has(EVERY_ROOT) else self.own)
+            told = moved = grown(grown(self.own, more), by)
+        self.turned = is_crossed(told) and model.has(CROSSED_IS_TURNED) and model.differs('crossed-root')
+        self.rectangle, self.told = uncrossed(model, moved), uncrossed(model, told)
+
+    def _by_scroll_margins(self, model, observer, rectangle):
+        root = observer.root
+        is_moved = (model.has(EVERY_ROOT) or root is None and model.has(IMPLICIT_ROOT) or model.has(SCROLLING_ROOT_UNTOLD) and (
+            root is None or isinstance(root, Document) or model.world.layout.scrolls(root)))
+        by = Margins(model, observer.scroll_margins, 'scroll-margin-percentages').of(rectangle)
+        return by if is_moved and any(by) and self.box != 'no box' and model.differs('scroll-margin-of-root') else [0] * 4
 
 
 class Crossings:
@@ -74,6 +117,9 @@ class Crossings:
 
     def find(self, observer, root, registration):
         entry = intersection.find(self.world, observer, root, registration.target)
+        if entry.clips:
+            self.move_clips(observer, entry)
+        entry.root = intersection.seen_from(root.origin, root.told)
         if entry.unseen is not None and entry.root != intersection.NOTHING and self.differs('root-rectangle-of-none'):
             entry.root = intersection.NOTHING
         if root.turned and entry.root != intersection.NOTHING:
@@ -86,6 +132,21 @@ class Crossings:
         if self.has('is-intersecting'):
             entry.index = index
         return entry
+
+    def move_clips(self, observer, entry):
+        """By the engine's scroll margins."""
+        layout, margins = self.world.layout, Margins(self, observer.scroll_margins, 'scroll-margin-percentages')
+        for clip in entry.clips[1:-1]:
+            own = clip.rectangle if clip.box == 'viewport' else clip.own
+            by = margins.of(own) if clip.box == 'viewport' or layout.scrolls(clip.thing) else [0] * 4
+            if clip.box == 'viewport':
+                moves = any(by) and self.differs('scroll-margin-of-viewports')
+            else:
+                moves = any(by) and (observer.root is None or not self.differs('scroll-margin-below-a-root'))
+            clip.rectangle = uncrossed(self, grown(own, by)) if moves else own
+        entry.cut = intersection.NOTHING
+        intersection.measure(layout, entry)
+        entry.index = intersection.index_of(observer, entry)
 
     def move_cut(self, observer, entry):
         """A frame stands at whole pixels; of a root outside it the cut rectangle is moved by what was rounded away."""

@@ -1,7 +1,11 @@
 """The layout as an engine has it, and a world that tells the model what is put in and taken out."""
-from reference.layout import CONTENT, FRAME_WIDTH, Layout
+import collections
+
+from reference.layout import BORDER, CONTENT, DEVICE, FRAME_WIDTH, Layout
 from reference.lengths import AUTO
 from reference.world import ACTIVE, Element, World, tree_document
+
+from .traits import ONE_PIXEL_AT_LEAST
 
 PIXEL = 64
 
@@ -21,6 +25,16 @@ def _pixels(length):
     return length[1] if isinstance(length, tuple) and length[0] == 'px' else None
 
 
+class Sizes(collections.namedtuple('Sizes', (CONTENT, BORDER, DEVICE, 'corner'))):
+    """What a resize entry tells of a target."""
+
+    def of(self, box):
+        return getattr(self, box)
+
+
+NO_SIZES = Sizes((0, 0), (0, 0), (0, 0), (0, 0))
+
+
 class EngineLayout(Layout):
     """The layout as an engine has it."""
 
@@ -37,6 +51,20 @@ class EngineLayout(Layout):
                 border = cut
             known = self._edges[node] = (margin, border, padding)
         return known
+
+    def size(self, node, box):
+        size = super().size(node, box)
+        if box != DEVICE or not self.has_box(node):
+            return size
+        content, corner = super().size(node, CONTENT), self.flat_place(node)
+        snapped = tuple([self._device(corner[axis], content[axis]) for axis in (0, 1)])
+        return snapped if snapped != size and self.differs('device-pixels-by-place') else size
+
+    def _device(self, start, side):
+        """How many device pixels lie between the nearest ones of both edges; where a side is not far from none, at least one."""
+        ratio = self.world.pixel_ratio
+        pixels = ((start + side) * ratio + 320000) // 640000 - (start * ratio + 320000) // 640000
+        return 1 if not pixels and side * ratio > 4 * 10000 and self.world.page.has(ONE_PIXEL_AT_LEAST) else pixels
 
     def viewport(self, document):
         frame = document.frame

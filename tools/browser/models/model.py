@@ -24,13 +24,14 @@ class Model(Commands, Viewports, Rounds, Crossings, Page):
         self.order = order
         self.known = {}                   # document -> the viewport that the browser has told it of
         self.resized = set()              # documents with a `resize` to be fired
+        self.rescaled = False             # whether that of `top` comes of a ratio
         self.noted = {}                   # document -> the size that the rules noted at the last update
         self.states = {}                  # query list -> its state by the rules
         self.changed_queries = {}         # document -> its query lists with a `change` to be fired
         self.new_documents = []           # that haven't laid themselves out
         self.left = {}                    # element -> the document that it was taken out of last
         self.insertions = {}              # document -> number, in the order in which their frames were inserted
-        self.sizes = {}                   # resize observers' targets -> corner, content and border size at the last layout
+        self.sizes = {}                   # resize observers' targets -> what they were at the last layout
         self.round = None
         self.telling = False              # whether intersection observers are being told
         self.failed = set()               # documents with an error in this update: it comes once
@@ -54,9 +55,9 @@ class Model(Commands, Viewports, Rounds, Crossings, Page):
         return name in self.classes
 
     def run(self):
-        """The viewport lines that begin a script give the page its first size."""
+        """The lines of the viewport and of the ratio that begin a script give the page its first size."""
         commands = list(self.script.commands)
-        while commands and commands[0].name == 'viewport':
+        while commands and commands[0].name in ('viewport', 'ratio'):
             self.run_outside(commands.pop(0))
         self.known[self.world.top] = self.world.viewport_size
         self.resized.clear()

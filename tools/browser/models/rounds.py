@@ -1,6 +1,5 @@
 """The resize loop as an engine has it, and its rounds as the tool tells them apart."""
 from reference import trace
-from reference.layout import BORDER, CONTENT
 from reference.world import ACTIVE, depth
 
 NEVER = (-1, -1)     # what was reported of a target that wasn't told yet
@@ -15,8 +14,9 @@ class Round:
 
 
 class ResizeEntry:
-    def __init__(self, target, corner, content, border):
-        self.target, self.corner, self.content, self.border = target, corner, content, border
+    def __init__(self, target, sizes):
+        self.target, self.sizes = target, sizes
+        self.corner, self.content, self.border, self.device = sizes.corner, sizes.content, sizes.border, sizes.device
 
 
 class Rounds:
@@ -75,8 +75,8 @@ class Rounds:
                 observer.skipped = False
             for observation in observer.observations.values():
                 node = observation.target
-                self.sizes[node] = corner, content, border = self.sizes.get(node) or self.size_now(node)
-                size = border if observation.box == BORDER else content
+                self.sizes[node] = self.sizes.get(node) or self.size_now(node)
+                size = self.sizes[node].of(observation.box)
                 if size == observation.last_reported:
                     continue
                 if observation.last_reported == NEVER and size == (0, 0):
@@ -118,13 +118,12 @@ class Rounds:
             node = observation.target
             if node.document.state is not ACTIVE and self.differs('dead-frame-target'):
                 continue
-            corner, content, border = self.size_now(node)
-            if (corner, content, border) != self.sizes[node] and self.differs('sizes-of-last-layout'):
-                corner, content, border = self.sizes[node]
-            entry = ResizeEntry(node, corner, content, border)
-            entries.append(entry)
+            sizes = self.size_now(node)
+            if sizes != self.sizes[node] and self.differs('sizes-of-last-layout'):
+                sizes = self.sizes[node]
+            entries.append(ResizeEntry(node, sizes))
             if observation.number in standing:
-                observation.last_reported = border if observation.box == BORDER else content
+                observation.last_reported = sizes.of(observation.box)
         return entries
 
     def resize_told(self, observer, entries):
@@ -144,8 +143,8 @@ class Rounds:
             round_.least = deep if round_.least is None else min(round_.least, deep)
             if entry.target in self.tool_saw.get(observer, {}):
                 box = observer.observations[entry.target].box
-                self.tool_saw[observer][entry.target] = entry.border if box == BORDER else entry.content
-            lines.append((trace.resize_line(observer, entry, 1), None))
+                self.tool_saw[observer][entry.target] = entry.sizes.of(box)
+            lines.append((trace.resize_line(observer, entry, self.script.version), None))
         self.call(observer.document, observer.handler, entries, lines)
 
     def tool_gathers(self, document, least):

@@ -2,4 +2,9 @@
 HIDDEN_READS_NOTHING, DEAD_READS_THROW, SCROLLS_ARE_CUT = 'hidden reads nothing', 'dead reads throw', 'scrolls are cut'
 LATE_SCROLLS, FRAMES_IN_TIME = 'late scrolls', 'frames in time'
 KEPT_WHILE_TELLING, CROSSED_IS_TURNED = 'kept while telling', 'crossed is turned'
+# Of device pixels: a side that would have none.
+ONE_PIXEL_AT_LEAST = 'one pixel at least'
+# Of margins: lengths of whole pixels, floored or cut, and percentages of whole pixels; which roots a scroll margin moves.
+LENGTHS_ARE_FLOORED, LENGTHS_ARE_CUT, PERCENTAGES_ARE_CUT = 'lengths are floored', 'lengths are cut', 'percentages are cut'
+SCROLLING_ROOT_UNTOLD, IMPLICIT_ROOT, EVERY_ROOT = 'a root that scrolls, untold', 'the implicit root', 'every root'
 

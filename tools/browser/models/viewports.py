@@ -1,10 +1,10 @@
 """What documents are told of their sizes, what a layout does to offsets, and the first steps of an update."""
 from reference import update
-from reference.layout import BORDER, CONTENT
+from reference.layout import BORDER, CONTENT, DEVICE
 from reference.media import matches
 from reference.world import ACTIVE, preorder
 
-from .layout import whole
+from .layout import NO_SIZES, Sizes, whole
 from .traits import FRAMES_IN_TIME, LATE_SCROLLS
 
 
@@ -24,12 +24,12 @@ class Viewports:
             if where is not None:
                 self.left[inner] = where
             if inner in self.sizes:
-                self.sizes[inner] = ((0, 0), (0, 0), (0, 0))
+                self.sizes[inner] = NO_SIZES
             if inner.scroll != (0, 0) and self.differs('offset-of-moved-box'):
                 inner.scroll = (0, 0)
         for other in self.sizes:
             if other.document.state is not ACTIVE:
-                self.sizes[other] = ((0, 0), (0, 0), (0, 0))
+                self.sizes[other] = NO_SIZES
 
     def documents_in_order(self):
         """The active documents in the order of the engine."""
@@ -136,7 +136,7 @@ class Viewports:
 
     def size_now(self, node):
         layout = self.world.layout
-        return layout.content_corner(node), layout.size(node, CONTENT), layout.size(node, BORDER)
+        return Sizes(*[layout.size(node, box) for box in (CONTENT, BORDER, DEVICE)], layout.content_corner(node))
 
     def cut_offsets(self, document):
         """Stored offsets end at the range, of boxes that scroll."""
@@ -169,6 +169,8 @@ class Viewports:
     def resize_steps(self, document):
         fires = document in self.resized
         self.note_resize(document, fires)
+        if document.frame is None:
+            self.rescaled = False
         if fires:
             self.resized.discard(document)
             self.tell('event resize @' + document.name)
@@ -190,7 +192,8 @@ class Viewports:
         if first:
             self.noticed.add('frame-first-resize' if document.frame else 'first-resize-event')
         elif document.frame is None:
-            self.noticed.add('resize-back-again')
+            if not self.rescaled:
+                self.noticed.add('resize-back-again')
         elif changed and not self.world.layout.has_box(document.frame):
             self.noticed.add('hidden-frame-keeps-size')
         else:

@@ -4,13 +4,19 @@ use Rattle.page_model.specs.Lookups.{element_at}
 use Rattle.page_model.specs.Documents.{first_of_list}
 use Rattle.page_documents.specs.Paths.{way_down}
 use Rattle.page_boxes.specs.Fresh.{IsFreshIn}
+use Rattle.page_boxes.specs.LaidOut.{ChangesOnlyIn}
 use Rattle.page_boxes.specs.Pages.{seen_screen}
 use Rattle.page_boxes.proofs.Views.{no_way, way_less}
 use Rattle.page_boxes.proofs.Going.{fresh_in}
+use Rattle.page_boxes.proofs.Around.{changes_on, changes_first}
 use Rattle.page_boxes.proofs.layout.+lay_out_up.Goals as goal
 
 pub returns-then-high-eq0-clause-marked : goal.returns-then-high-eq0-clause-marked
 returns-then-high-eq0-clause-marked g t c active =
+    absurd (no_way c.args.page.now.tree c.requires.framed c.args.high c.args.document c.if-high-eq0.true (c.requires.leads active))
+
+pub returns-then-high-eq0-clause-above : goal.returns-then-high-eq0-clause-above
+returns-then-high-eq0-clause-above g t c active =
     absurd (no_way c.args.page.now.tree c.requires.framed c.args.high c.args.document c.if-high-eq0.true (c.requires.leads active))
 
 pub lay_out_up-requires : goal.lay_out_up-requires
@@ -47,3 +53,29 @@ lay_out_once-requires-clause-around g t c frame is =
     (c.document_of-holder.ensures ∙ ap (λ n. (element_at tree n).document) same)
     (fresh_in tree (seen_screen c.args.screen) c.lay_out_up.new.laid_out c.lay_out_up.new.boxes c.lay_out_up.ensures.goes.laid_out c.document_of-holder.result
     c.lay_out_up.ensures.marked)
+
+pub returns-in-Some-clause-above : goal.returns-in-Some-clause-above
+returns-in-Some-clause-above g t c active frame is =
+    let tree = c.args.page.now.tree in
+    let there = sym c.frame_of.ensures.value ∙ ap (option_map number) c.in-Some.is in
+    let same : c.in-Some.frame.0 ≡ frame = cc (sym there ∙ is) in
+    subst (IsFreshIn tree (seen_screen c.args.screen) c.lay_out_once.new.boxes)
+    (c.document_of-holder.ensures ∙ ap (λ n. (element_at tree n).document) same)
+    (fresh_in tree (seen_screen c.args.screen) c.lay_out_once.new.laid_out c.lay_out_once.new.boxes c.lay_out_once.ensures.goes.laid_out c.document_of-holder.result
+    (λ shown. c.lay_out_once.ensures.goes.more c.document_of-holder.result (c.lay_out_up.ensures.marked shown)))
+
+pub returns-in-Some-clause-left : goal.returns-in-Some-clause-left
+returns-in-Some-clause-left g t c =
+    let tree = c.args.page.now.tree in
+    let there = sym c.frame_of.ensures.value ∙ ap (option_map number) c.in-Some.is in
+    changes_on tree c.args.document c.args.high (c.args.high - 1) (omega arith) c.requires.framed (c.in-Some.frame.0) there
+    c.args.boxes.now c.lay_out_up.new.boxes c.lay_out_once.new.boxes
+    (subst (λ holder. ChangesOnlyIn tree (way_down (c.args.high - 1) tree holder) c.args.boxes.now c.lay_out_up.new.boxes) c.document_of-holder.ensures
+    c.lay_out_up.ensures.left)
+    c.lay_out_once.ensures.left
+
+pub returns-in-None-clause-left : goal.returns-in-None-clause-left
+returns-in-None-clause-left g t c =
+    changes_first c.args.page.now.tree c.args.document c.args.high (c.args.high - 1) (omega arith)
+    (sym c.frame_of.ensures.value ∙ ap (option_map number) c.in-None.is)
+    c.args.boxes.now c.lay_out_once-in-None.new.boxes c.lay_out_once-in-None.ensures.left

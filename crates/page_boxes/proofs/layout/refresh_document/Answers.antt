@@ -1,10 +1,11 @@
-use Rattle.std.proofs.Common.{ap, sym, subst, ◌∙◌}
+use Rattle.std.proofs.Common.{ap, sym, subst, ◌∙◌, arith}
 use Rattle.page_model.specs.Documents.{first_of_list}
 use Rattle.page_documents.specs.Paths.{way_down}
 use Rattle.page_boxes.specs.LaidOut.{AreLaidOut}
 use Rattle.page_boxes.specs.Pages.{seen_screen}
 use Rattle.page_boxes.proofs.Views.{path_leads}
 use Rattle.page_boxes.proofs.Going.{none_laid_out, fresh_in}
+use Rattle.page_boxes.proofs.Around.{changes_more}
 use Rattle.page_boxes.proofs.layout.refresh_document.Goals as goal
 
 pub lay_out_up-requires-clause-leads : goal.lay_out_up-requires-clause-leads
@@ -21,3 +22,8 @@ pub returns-clause-fresh : goal.returns-clause-fresh
 returns-clause-fresh g c =
     fresh_in c.args.page.now.tree (seen_screen c.args.screen) c.lay_out_up.new.laid_out c.lay_out_up.new.boxes c.lay_out_up.ensures.goes.laid_out c.args.document
     c.lay_out_up.ensures.marked
+
+pub returns-clause-left : goal.returns-clause-left
+returns-clause-left g c high enough =
+    changes_more c.args.page.now.tree c.document_count-count.result high c.args.document c.args.boxes.now c.lay_out_up.new.boxes
+    (omega (arith, c.document_count-count.ensures.value, c.document_count-count.ensures.bound)) c.lay_out_up.ensures.left

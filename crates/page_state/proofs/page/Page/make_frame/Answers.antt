@@ -6,7 +6,9 @@ use Rattle.page_tree.specs.Views.{PageElements}
 use Rattle.clip_chain.specs.Worlds.{element_spot}
 use Rattle.page_state.proofs.Findings.{roomier_then}
 use Rattle.page_state.proofs.Found.{still_free}
+use Rattle.page_model.specs.Edits.{with_frame}
 use Rattle.page_state.proofs.Inside.{prepared, framed_page}
+use Rattle.page_state.proofs.Made.{due_made, due_still}
 use Rattle.page_state.proofs.page.Page.make_frame.Goals as goal
 
 pub invariant_of-self-in_err-add : goal.invariant_of-self-in_err-add
@@ -44,3 +46,30 @@ invariant_of-self-2 c =
     (c.in_ok-_made.ensures.documents ∙ ap (λ (it : PageElements). length it.tree.documents + 1) before)
     (c.add-2.ensures.roomier.room (element_spot c.in_ok-node.node.0) c.in_ok-add.ensures.room)
     c.in_ok-add-2.ensures.room
+
+pub returns-in_err-node-clause-boxes : goal.returns-in_err-node-clause-boxes
+returns-in_err-node-clause-boxes c =
+    due_still c.self.inside c.args.self.now c.self.view_is c.making_leaves_boxes.ensures.leaves c.reserve.new.self c.reserve.ensures.marks
+    (ap (λ (it : PageElements). it.tree) c.reserve.ensures.same)
+
+pub returns-in_err-add-clause-boxes : goal.returns-in_err-add-clause-boxes
+returns-in_err-add-clause-boxes c =
+    due_still c.self.inside c.args.self.now c.self.view_is c.making_leaves_boxes.ensures.leaves c.reserve.new.self c.reserve.ensures.marks
+    (ap (λ (it : PageElements). it.tree) c.reserve.ensures.same)
+
+pub returns-in_err-add-2-clause-boxes : goal.returns-in_err-add-2-clause-boxes
+returns-in_err-add-2-clause-boxes c =
+    due_still c.self.inside c.args.self.now c.self.view_is c.making_leaves_boxes.ensures.leaves c.reserve.new.self c.reserve.ensures.marks
+    (ap (λ (it : PageElements). it.tree) c.reserve.ensures.same)
+
+pub returns-in_err-reserve-clause-boxes : goal.returns-in_err-reserve-clause-boxes
+returns-in_err-reserve-clause-boxes c =
+    due_still c.self.inside c.args.self.now c.self.view_is c.making_leaves_boxes.ensures.leaves c.reserve.new.self c.reserve.ensures.marks
+    (ap (λ (it : PageElements). it.tree) c.reserve.ensures.same)
+
+pub returns-clause-boxes : goal.returns-clause-boxes
+returns-clause-boxes c =
+    let document = c.in_ok-document.document in
+    due_made c.self.inside c.args.self.now c.self.view_is c.making_leaves_boxes.ensures.leaves c.make_frame.new.self (λ n. c.in_ok-_made.ensures.marks n ∙ c.in_ok-node.ensures.marks n)
+    (with_frame document) (c.making_leaves_boxes.ensures.frames document)
+    (ap (λ (it : PageElements). it.tree) c.in_ok-_made.ensures.made ∙ ap (λ (it : PageElements). with_frame document (it.tree)) c.in_ok-node.ensures.same)

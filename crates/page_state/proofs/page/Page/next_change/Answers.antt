@@ -1,12 +1,14 @@
 -- The query list that was found has its new state.
 use Rattle.std.proofs.Common.{◌≡◌, ◌<◌, true, List, Some, length, map, ap, subst, ◌∙◌}
+use Rattle.page_model.specs.Documents.{InDocument}
 use Rattle.page_model.specs.PageBoxes.{viewport_of}
 use Rattle.page_model.specs.Lookups.{query_list_at}
+use Rattle.page_boxes.specs.Around.{rests_on}
 use Rattle.page_boxes.specs.Pages.{seen_size}
 use Rattle.page_state.specs.Queries.{seen_query_list, is_changed, changed_from}
 use Rattle.page_state.specs.Views.{PageView}
 use Rattle.page_state.specs.declared.queries.QueryList.{QueryList}
-use Rattle.page_state.proofs.Laid.{view_refreshed, computed}
+use Rattle.page_state.proofs.Laid.{view_refreshed, computed_in}
 use Rattle.page_state.proofs.QueryLists.{page_changed, page_evaluated}
 use Rattle.page_state.proofs.page.Page.next_change.Goals as goal
 
@@ -33,5 +35,5 @@ returns-clause-evaluated g c =
 
 pub returns-clause-boxes : goal.returns-clause-boxes
 returns-clause-boxes g c =
-    computed c.self.inside c.viewport_now-size.new.laid c.viewport_now-size.ensures.same c.args.self.now c.self.view_is c.viewport_now-size.ensures.fills
-    _ _ c.viewport_now-size.ensures.ticks
+    computed_in c.self.inside c.viewport_now-size.new.laid c.viewport_now-size.ensures.same c.args.self.now c.self.view_is c.viewport_now-size.ensures.fills
+    _ _ c.viewport_now-size.ensures.ticks (λ tree. rests_on tree (InDocument c.args.document)) c.viewport_now-size.ensures.others

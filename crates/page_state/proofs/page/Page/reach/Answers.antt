@@ -1,30 +1,54 @@
 -- How far something is scrolled and can be, of boxes as they are now.
-use Rattle.std.proofs.Common.{ap, ◌∙◌}
-use Rattle.page_model.specs.Shown.{Shown}
+use Rattle.std.proofs.Common.{ℕ, Some, ap, sym, subst, ◌∙◌}
 use Rattle.page_model.specs.PageBoxes.{scroll_range, scroll_offset}
+use Rattle.page_model.specs.Scrolling.{scroll_document}
 use Rattle.page_boxes.specs.Pages.{seen_size}
 use Rattle.scrolling.specs.Seen.{seen_target, point_of}
+use Rattle.page_geometry.specs.Documents.{ShownIn}
+use Rattle.page_state.specs.Boxes.{ComputesIn}
 use Rattle.page_state.specs.Views.{PageView}
-use Rattle.page_state.proofs.Laid.{view_refreshed, computed}
+use Rattle.page_state.proofs.Laid.{view_refreshed, computed_in}
 use Rattle.page_state.proofs.page.Page.reach.Goals as goal
 
 pub returns-clause-offset : goal.returns-clause-offset
 returns-clause-offset g c =
     c.offset_of.ensures.value
-    ∙ ap (λ (s : Shown). point_of (scroll_offset s.tree s.screen s.scrolls (seen_target c.args.target))) c.shown_now-shown.ensures
+    ∙ ap (λ (it : ShownIn). point_of (scroll_offset it.shown.tree it.shown.screen it.shown.scrolls (seen_target c.args.target))) c.shown_in-shown.ensures
     ∙ ap (λ (v : PageView). point_of (scroll_offset v.world.tree v.world.viewports.screen v.world.scrolls (seen_target c.args.target)))
-    (view_refreshed c.self.inside c.refresh.new.self c.refresh.ensures.same c.args.self.now c.self.view_is)
+    (view_refreshed c.self.inside c.refresh_in.new.self c.refresh_in.ensures.same c.args.self.now c.self.view_is)
 
 pub returns-clause-range : goal.returns-clause-range
 returns-clause-range g c =
     ap seen_size c.range_of.ensures.value
-    ∙ ap (λ (s : Shown). scroll_range s.tree s.screen (seen_target c.args.target)) c.shown_now-shown.ensures
+    ∙ ap (λ (it : ShownIn). scroll_range it.shown.tree it.shown.screen (seen_target c.args.target)) c.shown_in-shown.ensures
     ∙ ap (λ (v : PageView). scroll_range v.world.tree v.world.viewports.screen (seen_target c.args.target))
-    (view_refreshed c.self.inside c.refresh.new.self c.refresh.ensures.same c.args.self.now c.self.view_is)
+    (view_refreshed c.self.inside c.refresh_in.new.self c.refresh_in.ensures.same c.args.self.now c.self.view_is)
 
 pub returns-clause-boxes : goal.returns-clause-boxes
 returns-clause-boxes g c =
-    computed c.self.inside c.refresh.new.self c.refresh.ensures.same c.args.self.now c.self.view_is c.refresh.ensures.fills _ _ c.refresh.ensures.ticks
+    subst (λ (document : ℕ). ComputesIn c.args.self.now.world (Some document) c.args.self.now.kept c.refresh_in.new.self.kept c.args.steps.now c.refresh_in.new.steps)
+    c.scroll_document-document.ensures
+    (computed_in c.self.inside c.refresh_in.new.self c.refresh_in.ensures.same c.args.self.now c.self.view_is c.refresh_in.ensures.fills _ _ c.refresh_in.ensures.ticks
+    (λ tree. Some c.scroll_document-document.result) c.refresh_in.ensures.left)
 
-pub shown_now-shown-requires-clause-done : goal.shown_now-shown-requires-clause-done
-shown_now-shown-requires-clause-done g c = c.refresh.ensures.done
+pub offset_of-requires : goal.offset_of-requires
+offset_of-requires g c =
+    ap (λ (it : ShownIn). scroll_document it.shown.tree (seen_target c.args.target)) c.shown_in-shown.ensures
+    ∙ ap (λ (v : PageView). scroll_document v.world.tree (seen_target c.args.target))
+    (view_refreshed c.self.inside c.refresh_in.new.self c.refresh_in.ensures.same c.args.self.now c.self.view_is)
+    ∙ sym c.scroll_document-document.ensures
+    ∙ ap (λ (it : ShownIn). it.document) (sym c.shown_in-shown.ensures)
+
+pub range_of-requires : goal.range_of-requires
+range_of-requires g c =
+    ap (λ (it : ShownIn). scroll_document it.shown.tree (seen_target c.args.target)) c.shown_in-shown.ensures
+    ∙ ap (λ (v : PageView). scroll_document v.world.tree (seen_target c.args.target))
+    (view_refreshed c.self.inside c.refresh_in.new.self c.refresh_in.ensures.same c.args.self.now c.self.view_is)
+    ∙ sym c.scroll_document-document.ensures
+    ∙ ap (λ (it : ShownIn). it.document) (sym c.shown_in-shown.ensures)
+
+pub shown_in-shown-requires-clause-fresh : goal.shown_in-shown-requires-clause-fresh
+shown_in-shown-requires-clause-fresh g c = c.refresh_in.ensures.fresh
+
+pub shown_in-shown-requires-clause-above : goal.shown_in-shown-requires-clause-above
+shown_in-shown-requires-clause-above g c = c.refresh_in.ensures.above

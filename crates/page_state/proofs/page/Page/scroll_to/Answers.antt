@@ -9,7 +9,8 @@ use Rattle.page_state.specs.Answers.{Keeps}
 use Rattle.page_state.specs.Things.{present_of}
 use Rattle.page_state.specs.Views.{PageView}
 use Rattle.kept_layout.specs.declared.slots.Slot.{Slot}
-use Rattle.page_state.specs.Boxes.{Computes}
+use Rattle.page_state.specs.Boxes.{ComputesIn, document_meant}
+use Rattle.page_state.proofs.Laid.{computes_scrolled}
 use Rattle.page_state.proofs.Doing.{keeps_by, keeps_since, scrolls_to}
 use Rattle.page_state.proofs.page.Page.scroll_to.Goals as goal
 
@@ -24,4 +25,9 @@ returns-clause-done g c =
 
 pub returns-clause-boxes : goal.returns-clause-boxes
 returns-clause-boxes g c =
-    subst (λ (slots : List Slot). Computes c.args.self.now.world c.args.self.now.kept slots c.args.steps.now c.reach-reach.new.steps) (sym c.move_to.ensures.boxes) c.reach-reach.ensures.boxes
+    let world = c.args.self.now.world in
+    let present = present_of c.args.subject in
+    let operand = operand_of c.args.of in
+    subst (λ (slots : List Slot). ComputesIn world (document_meant world present operand) c.args.self.now.kept slots c.args.steps.now c.reach-reach.new.steps) (sym c.move_to.ensures.boxes)
+    (computes_scrolled world _ _ _ _ present operand (seen_container c.in_ok-container.container) c.in_ok-container.ensures.answer (seen_target c.in-Some.target)
+    (sym c.scrolled_thing.ensures ∙ ap (option_map seen_target) c.in-Some.is) c.reach-reach.ensures.boxes)

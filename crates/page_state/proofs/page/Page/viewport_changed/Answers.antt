@@ -4,14 +4,16 @@ use Rattle.std.specs.List.{AllByRecursion}
 use Rattle.std.specs.Option.{ForSome}
 use Rattle.px_units.specs.declared.Size.{Size}
 use Rattle.page_model.specs.World.{Extent, Tree}
+use Rattle.page_model.specs.Documents.{InDocument}
 use Rattle.page_model.specs.PageBoxes.{viewport_of}
 use Rattle.page_model.specs.Viewports.{noted_size, with_noted, differs_from}
+use Rattle.page_boxes.specs.Around.{rests_on}
 use Rattle.page_boxes.specs.Pages.{seen_size, seen_screen}
 use Rattle.page_tree.specs.Items.{IsNatural}
 use Rattle.scrolling.proofs.Puts.{map-put}
 use Rattle.page_state.specs.Views.{PageView}
 use Rattle.page_state.specs.Worlds.{world_of}
-use Rattle.page_state.proofs.Laid.{view_refreshed, computed}
+use Rattle.page_state.proofs.Laid.{view_refreshed, computed_in}
 use Rattle.page_state.proofs.Noted.{noted_seen, natural_at, natural_put, natural_some, sizes_differ}
 use Rattle.page_state.proofs.page.Page.viewport_changed.Goals.{in-None, in-Some}
 use Rattle.page_state.proofs.page.Page.viewport_changed.Goals as goal
@@ -60,5 +62,5 @@ returns-clause-noted g c =
 
 pub returns-clause-boxes : goal.returns-clause-boxes
 returns-clause-boxes g c =
-    computed c.self.inside c.viewport_now-size.new.laid c.viewport_now-size.ensures.same c.args.self.now c.self.view_is c.viewport_now-size.ensures.fills
-    _ _ c.viewport_now-size.ensures.ticks
+    computed_in c.self.inside c.viewport_now-size.new.laid c.viewport_now-size.ensures.same c.args.self.now c.self.view_is c.viewport_now-size.ensures.fills
+    _ _ c.viewport_now-size.ensures.ticks (λ tree. rests_on tree (InDocument c.args.document)) c.viewport_now-size.ensures.others

@@ -1,0 +1,207 @@
+//! What is shown of one document of a page, lent to whoever reads it.
+
+ghost use Rattle.std.specs.Prelude.{◌≡◌, ◌<◌, ◌≤◌, Some, None, IfSome, length, option_map};
+ghost use Rattle.page_model.specs.Lookups.{element_at};
+ghost use Rattle.page_model.specs.Documents.{nodes_of};
+ghost use Rattle.page_model.specs.PageBoxes.{pair_of, view_with, view_of};
+ghost use Rattle.page_model.specs.Shown.{shown_with, has_box, box_of, viewport_of};
+ghost use Rattle.page_documents.specs.Frames.{AreFramed};
+ghost use Rattle.element_tree.specs.Links.{number};
+ghost use Rattle.block_layout.specs.Seen.{as_size};
+ghost use Rattle.block_layout.specs.Trees.{layout_tree};
+ghost use Rattle.kept_layout.specs.Measures.{IsSized};
+ghost use Rattle.page_tree.specs.Items.{IsNatural, style_in, kind_in};
+ghost use Rattle.page_boxes.specs.Fresh.{IsFreshIn, IsFreshAbove};
+ghost use Rattle.page_boxes.specs.Pages.{seen_pair, seen_screen, IsScreen};
+
+use crate::view::{DocumentView, view_in};
+use block_layout::BoxOf;
+use element_tree::{NodeId, Tree};
+use kept_layout::Kept;
+use page_boxes::{Screen, ShownRoot, box_below, has_box_below};
+use page_tree::{Element, PageTree};
+use px_units::Size;
+use scrolling::Scrolls;
+use std::marker::Model;
+
+/// One document of a page, whose boxes and those of the document around it are held as they are now, with the page's scroll positions
+/// and the screen of `top`. A contract sees the document's number and what boxes and places are read from. Its readings are of
+/// elements of that document alone, and of the document itself. All that is read takes no memory.
+#[derive(Drop)]
+pub struct ShownDocument<'a> {
+    page: &'a PageTree,
+    boxes: &'a Kept,
+    scrolls: &'a Scrolls,
+    screen: Screen,
+    document: u32,
+    view: DocumentView,
+}
+
+impl<'a> Model for ShownDocument<'a> {
+    ghost use Rattle.std.specs.Prelude.{◌≡◌, option_map};
+    ghost use Rattle.element_tree.specs.Links.{number};
+    ghost use Rattle.page_geometry.specs.Documents.{ShownIn};
+
+    ghost Value = { ShownIn };
+
+    ghost use Rattle.page_model.specs.PageBoxes.{pair_of, view_of, viewport_of};
+    ghost use Rattle.page_model.specs.Shown.{shown_with};
+    ghost use Rattle.block_layout.specs.Seen.{as_size};
+    ghost use Rattle.page_tree.specs.Items.{IsNatural};
+    ghost use Rattle.page_boxes.specs.Fresh.{IsFreshIn};
+    ghost use Rattle.page_boxes.specs.Pages.{seen_screen, IsScreen};
+
+    ghost view = { λ s. record { shown = shown_with s.page.now.tree (seen_screen s.screen) s.scrolls.now; document = s.document } };
+
+    ghost invariant = { λ s. IsScreen s.screen
+        × IsFreshIn s.page.now.tree (seen_screen s.screen) s.boxes.now s.document
+        × option_map number s.view.root ≡ (view_of s.page.now.tree (seen_screen s.screen) s.document).root
+        × s.view.size ≡ as_size (pair_of (viewport_of s.page.now.tree (seen_screen s.screen) s.document))
+        × IsNatural s.view.size };
+}
+
+impl<'a> ShownDocument<'a> {
+    /// What is shown of a document, of which the boxes, and those of the document that its frame is in, are held as they are with
+    /// this screen of `top`. Nothing is asked of the boxes of other documents.
+    ///
+    /// It climbs once from frame to frame, and no reading does it again.
+    pub fn new(
+        page: &'a PageTree,
+        boxes: &'a Kept,
+        scrolls: &'a Scrolls,
+        screen: Screen,
+        document: u32,
+    ) -> ShownDocument<'a>
+        requires screen { IsScreen screen }
+        requires fresh { IsFreshIn page.now.tree (seen_screen screen) boxes.now document }
+        requires above { IsFreshAbove page.now.tree (seen_screen screen) boxes.now document }
+        ensures { result ≡ record { shown = shown_with page.now.tree (seen_screen screen) scrolls.now; document = document } }
+    {
+        let view = view_in(page, boxes, screen, document);
+        ShownDocument::with_view(page, boxes, scrolls, screen, document, view)
+    }
+
+    // The same, where what the document shows was found before.
+    pub(crate) fn with_view(
+        page: &'a PageTree,
+        boxes: &'a Kept,
+        scrolls: &'a Scrolls,
+        screen: Screen,
+        document: u32,
+        view: DocumentView,
+    ) -> ShownDocument<'a>
+        requires screen { IsScreen screen }
+        requires fresh { IsFreshIn page.now.tree (seen_screen screen) boxes.now document }
+        requires root { option_map number view.root ≡ (view_of page.now.tree (seen_screen screen) document).root }
+        requires size { view.size ≡ as_size (pair_of (viewport_of (shown_with page.now.tree (seen_screen screen) scrolls.now) document)) }
+        requires range { IsNatural view.size }
+        ensures { result ≡ record { shown = shown_with page.now.tree (seen_screen screen) scrolls.now; document = document } }
+    {
+        ShownDocument {
+            page,
+            boxes,
+            scrolls,
+            screen,
+            document,
+            view,
+        }
+    }
+
+    // What is so of the elements and documents of every page is told here.
+    fn page(&self) -> &PageTree
+        ensures tree { result.now.tree ≡ self.now.shown.tree }
+        ensures framed { AreFramed self.now.shown.tree }
+    {
+        self.page.document_count();
+        self.page
+    }
+
+    // The elements as layout reads them.
+    pub(crate) fn elements(&self) -> &Tree<Element>
+        ensures nodes { nodes_of self.now.shown.tree ≡ layout_tree style_in kind_in result.now.nodes }
+        ensures count { length result.now.nodes ≡ length self.now.shown.tree.elements }
+        ensures depth { result.now.most_depth ≤ 256 }
+    {
+        self.page.tree()
+    }
+
+    // The boxes that are kept, in a viewport of at most the largest length.
+    pub(crate) fn boxes(&self) -> &Kept
+        ensures fresh { IsFreshIn self.now.shown.tree self.now.shown.screen result.now self.now.document }
+        ensures sized { IsSized (view_of self.now.shown.tree self.now.shown.screen self.now.document) }
+    {
+        self.boxes
+    }
+
+    pub(crate) fn scrolls(&self) -> &Scrolls
+        ensures { result.now ≡ self.now.shown.scrolls }
+    {
+        self.scrolls
+    }
+
+    // What `top` is shown on.
+    pub(crate) fn screen(&self) -> Screen
+        ensures value { seen_screen result ≡ self.now.shown.screen }
+        ensures range { IsScreen result }
+    {
+        self.screen
+    }
+
+    // Its number.
+    pub(crate) fn document(&self) -> u32
+        ensures { result ≡ self.now.document }
+    {
+        self.document
+    }
+
+    /// The size of the document's viewport (CSSOM View, 4: `innerWidth`, `innerHeight`): for `top` that of its screen, and for another
+    /// document the content box of its frame, 0 by 0 where that has no box.
+    pub fn viewport(&self) -> Size
+        ensures value { result ≡ as_size (pair_of (viewport_of self.now.shown self.now.document)) }
+        ensures range { IsNatural result }
+    {
+        self.view.size
+    }
+
+    // The root element that the document shows, none where it isn't shown.
+    fn root(&self) -> Option<NodeId>
+        ensures { option_map number result ≡ (view_of self.now.shown.tree self.now.shown.screen self.now.document).root }
+    {
+        self.view.root
+    }
+
+    // The root element that the document shows, and the size of its viewport.
+    pub(crate) fn shown_root(&self) -> Option<ShownRoot>
+        ensures nothing { result ≡ None → (view_of self.now.shown.tree self.now.shown.screen self.now.document).root ≡ None }
+        ensures shown { IfSome result (λ shown. view_of self.now.shown.tree self.now.shown.screen self.now.document ≡ view_with (Some shown.root.0) (Some (seen_pair shown.size))) }
+        ensures top { IfSome result (λ shown. (element_at self.now.shown.tree shown.root.0).parent ≡ None) }
+        ensures made { IfSome result (λ shown. shown.root.0 < length self.now.shown.tree.elements) }
+        ensures size { IfSome result (λ shown. IsNatural shown.size) }
+    {
+        // It tells that root elements have no parents.
+        self.page();
+        match self.root() {
+            Some(root) => Some(ShownRoot {
+                root,
+                size: self.viewport(),
+            }),
+            None => None,
+        }
+    }
+
+    /// Whether an element of this document has a box (CSS 2.2, 9.2.4).
+    pub fn has_box(&self, node: NodeId) -> bool
+        requires { (element_at self.now.shown.tree node.0).document ≡ self.now.document }
+        ensures { result ≡ has_box self.now.shown node.0 }
+    {
+        has_box_below(self.page(), self.root(), node)
+    }
+
+    // The box of an element of this document, none where it has none.
+    pub(crate) fn box_of(&self, node: NodeId) -> Option<BoxOf>
+        requires { (element_at self.now.shown.tree node.0).document ≡ self.now.document }
+        ensures { result ≡ box_of self.now.shown node.0 }
+    {
+        box_below(self.page(), self.boxes(), self.root(), node)
+    }
+}

@@ -1,0 +1,36 @@
+//! What a document shows, and the size of the viewport that shows it.
+
+ghost use Rattle.std.specs.Prelude.{◌≡◌, option_map};
+ghost use Rattle.page_model.specs.PageBoxes.{pair_of, view_of, viewport_of};
+ghost use Rattle.element_tree.specs.Links.{number};
+ghost use Rattle.block_layout.specs.Seen.{as_size};
+ghost use Rattle.page_tree.specs.Items.{IsNatural};
+ghost use Rattle.page_boxes.specs.Fresh.{IsFreshAbove};
+ghost use Rattle.page_boxes.specs.Pages.{seen_screen, IsScreen};
+
+use element_tree::NodeId;
+use kept_layout::Kept;
+use page_boxes::{Screen, shown_root, viewport_of};
+use page_tree::PageTree;
+use px_units::Size;
+
+// The root element that a document shows, none where it isn't shown, and the size of its viewport.
+#[derive(Clone, Copy, Debug, PartialEq, Eq)]
+pub(crate) struct DocumentView {
+    pub(crate) root: Option<NodeId>,
+    pub(crate) size: Size,
+}
+
+// Finds both by a climb from frame to frame.
+pub(crate) fn view_in(page: &PageTree, boxes: &Kept, screen: Screen, document: u32) -> DocumentView
+    requires screen { IsScreen screen }
+    requires above { IsFreshAbove page.now.tree (seen_screen screen) boxes.now document }
+    ensures root { option_map number result.root ≡ (view_of page.now.tree (seen_screen screen) document).root }
+    ensures size { result.size ≡ as_size (pair_of (viewport_of page.now.tree (seen_screen screen) document)) }
+    ensures range { IsNatural result.size }
+{
+    DocumentView {
+        root: shown_root(page, document),
+        size: viewport_of(page, boxes, screen, document),
+    }
+}
