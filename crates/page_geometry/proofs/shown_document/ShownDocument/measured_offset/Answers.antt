@@ -10,7 +10,7 @@ use Rattle.page_tree.specs.Items.{style_in, kind_in}
 use Rattle.page_boxes.specs.Fresh.{HoldsAll}
 use Rattle.page_boxes.proofs.InForce.{view_start, view_within, view_rootless}
 use Rattle.page_boxes.proofs.Reaching.{view_range}
-use Rattle.page_geometry.proofs.shown_document.ShownDocument.view_offset.Goals as goal
+use Rattle.page_geometry.proofs.shown_document.ShownDocument.measured_offset.Goals as goal
 
 pub returns-then-is_at_start-clause-value : goal.returns-then-is_at_start-clause-value
 returns-then-is_at_start-clause-value c =
