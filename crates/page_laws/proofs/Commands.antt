@@ -123,11 +123,11 @@ module _ (name : List ℕ) (thing : Thing) (world : World) where
 
 scrolled-next : (left top : ℤ) (target : Option ScrollTarget) (world : World) → IsSuccessor world (scrolled_to left top target world)
 scrolled-next left top None world = still world
-scrolled-next left top (Some target) world = alike world _ refl refl refl refl refl
+scrolled-next left top (Some target) world = alike world _ refl
 
 scrolled-by-next : (left top : ℤ) (target : Option ScrollTarget) (world : World) → IsSuccessor world (scrolled_by left top target world)
 scrolled-by-next left top None world = still world
-scrolled-by-next left top (Some target) world = alike world _ refl refl refl refl refl
+scrolled-by-next left top (Some target) world = alike world _ refl
 
 pub does-next : (handlers : Handlers) (world : World) (present : Present) (action : Action) →
     OnDid (does handlers world present action) (λ effect. IsSuccessor world (effect.world))

@@ -142,8 +142,8 @@ pub record IsTreeNext (before after : Tree) : Type 0 where
   pub documents : length after.documents ≡ length before.documents
   pub states : (wanted : DocumentState) (document : ℕ) → IsTrue (came_to wanted before document) → IsTrue (came_to wanted after document)
 
-same-tree : (tree : Tree) → IsTreeNext tree tree
-same-tree tree = record { elements = omega arith; documents = refl; states = λ wanted document come. come }
+unchanged : (tree : Tree) → IsTreeNext tree tree
+unchanged tree = record { elements = omega arith; documents = refl; states = λ wanted document come. come }
 
 on : {first second third : Tree} → IsTreeNext first second → IsTreeNext second third → IsTreeNext first third
 on one two = record {
@@ -184,7 +184,7 @@ waking places tree alive = record {
 }
 
 unlinked-next : (tree : Tree) (n : ℕ) (container : Option Container) → IsTreeNext tree (unlinked tree n container)
-unlinked-next tree n None = same-tree tree
+unlinked-next tree n None = unchanged tree
 unlinked-next tree n (Some (InElement parent)) = on (element-changed _ n tree) (element-changed _ parent _)
 unlinked-next tree n (Some (InDocument document)) = document-changed (λ it. record it { root = None }) (λ it. refl) document tree
 
@@ -255,16 +255,21 @@ pub still : (world : World) → IsSuccessor world world
 still world = record { elements = omega arith; states = λ wanted document come. come; names = λ text thing is. is; clock = refl; begun = refl; version = refl }
 
 -- a world of the same tree, names, clock, count and version
-pub alike : (world after : World) → after.tree ≡ world.tree → after.names ≡ world.names → after.clock ≡ world.clock → after.begun ≡ world.begun →
-    after.version ≡ world.version → IsSuccessor world after
-alike world after tree names clock begun version = record {
-  elements = subst (λ (it : Tree). length world.tree.elements ≤ length it.elements) (sym tree) (still world).elements;
-  states = λ wanted document come. subst (λ (it : Tree). IsTrue (came_to wanted it document)) (sym tree) come;
-  names = λ text thing is. subst (λ (these : List Name). named_thing these text ≡ Some thing) (sym names) is;
-  clock = clock;
-  begun = begun;
-  version = version;
-}
+abbrev pub IsAlike : World → World → Type 0
+IsAlike world after = after ≡ record after { tree = world.tree; names = world.names; clock = world.clock; begun = world.begun; version = world.version }
+
+pub alike : (world after : World) → IsAlike world after → IsSuccessor world after
+alike world after same = subst (IsSuccessor world) (sym same) (record {
+  elements = omega arith;
+  states = λ wanted document come. come;
+  names = λ text thing is. is;
+  clock = refl;
+  begun = refl;
+  version = refl;
+})
+
+pub same-tree : (world after : World) → IsAlike world after → after.tree ≡ world.tree
+same-tree world after same = ap (λ (it : World). it.tree) same
 
 pub tree-next : (world : World) (tree : Tree) → IsTreeNext (world.tree) tree → IsSuccessor world (record world { tree = tree })
 tree-next world tree next = record { elements = next.elements; states = next.states; names = λ text thing is. is; clock = refl; begun = refl; version = refl }
