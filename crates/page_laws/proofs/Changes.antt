@@ -21,7 +21,8 @@ use Rattle.page_laws.specs.Successors.{IsSuccessor}
 use Rattle.page_laws.specs.Bounds.{AreTasksWithin}
 use Rattle.page_laws.proofs.Lists.{IsKept, all-add, all-append, all-filter, all-mapped, still-kept, then-kept, put-within, changed, mapped}
 use Rattle.page_laws.proofs.Ranges.{with-scrolls, resize-in, intersection-in, queries-in}
-use Rattle.page_laws.proofs.Parts.{resize-changed, no-queue-kept}
+use Rattle.page_laws.proofs.Changed.{QueueTaken}
+use Rattle.page_laws.proofs.Parts.{resize-changed, intersections-kept}
 use Rattle.page_laws.proofs.InRange.{frame-callbacks-in, timers-in, tasks-in, viewports-in}
 use Rattle.page_laws.proofs.Successors.{IsAlike, still, alike, same-tree}
 use Rattle.page_laws.proofs.Waiting.{tasks-alike, taken-within, unmarked-within, marked-within}
@@ -180,7 +181,7 @@ module _ (world : World) where
       apart _ refl refl refl refl refl (λ handlers within. intersection-in handlers world after (kept (counts_of handlers world)) within)
 
   pub queue-next : (observer : ℕ) → IsNext world (record world { intersection_observers = without_queue observer (world.intersection_observers) })
-  queue-next observer = intersection-next _ (λ counts. no-queue-kept counts (world.intersection_observers) observer)
+  queue-next observer = intersection-next _ (λ counts. intersections-kept counts (world.intersection_observers) (QueueTaken observer))
 
   pub inactive-next : (observer : ℕ) → IsNext world (record world { resize_observers = without_active observer (world.resize_observers) })
   inactive-next observer =

@@ -6,7 +6,9 @@ use Rattle.page_model.specs.World.{Element, DocumentState, Fresh, Active, Dead, 
 use Rattle.page_model.specs.Lookups.{change_at, change_each, change_element, change_document, document_at, no_document}
 use Rattle.page_model.specs.Names.{named_thing, with_name}
 use Rattle.page_model.specs.Documents.{is_active_state, is_fresh_state, led_to, documents_inside, inclusive_descendants, frames_in, frames_below, removed, inserted, unlinked, linked, adopted, shown, with_state, Container, InElement, InDocument, container_of, document_of_container, sibling_meant, stands_in_active, frame_levels}
-use Rattle.page_laws.specs.Successors.{has_come_to, is_come_to, came_to, IsSuccessor}
+use Rattle.page_model.specs.Commands.{placing}
+use Rattle.page_laws.specs.Successors.{has_come_to, is_come_to, came_to, IsSuccessor, OnDid}
+use Rattle.page_laws.proofs.Steps.{both, did}
 use Rattle.page_laws.proofs.Lists.{changed, changed-each, all-append}
 
 -- states of documents after changes
@@ -226,6 +228,10 @@ inserted-next tree container n sibling =
     on (removed-next tree n)
     (on (linked-next (removed tree n) container n (sibling_meant tree container n sibling))
     (on (adopted-next _ (document_of_container tree container) n) (shown-next _ n)))
+
+pub placing-next : (container : Container) (n : ℕ) (sibling : Option ℕ) (tree : Tree) → OnDid (placing container n sibling tree) (IsTreeNext tree)
+unfolding placing
+placing-next container n sibling tree = search (both, did, inserted-next) depth 9
 
 -- names
 
