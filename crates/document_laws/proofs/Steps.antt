@@ -1,5 +1,5 @@
 -- What commands do to the tree leaves it within its levels.
-use Rattle.std.proofs.Common.{◌≡◌, suc, inl, arith}
+use Rattle.std.proofs.Common.{◌≡◌, suc, inl, refl, arith}
 use Rattle.std.specs.Prelude.{ℕ, ◌<◌, length, Option, None}
 use Rattle.text_io.specs.Limits.{common_limit}
 use Rattle.text_io.specs.declared.kinds.LimitKind.TheVariants as limits
