@@ -11,7 +11,7 @@ use Rattle.page_model.specs.Lookups.{element_at, no_element}
 use Rattle.page_model.specs.Documents.{Container, InElement, InDocument, nodes_of, inclusive_descendants, element_depth, levels_of, removed, linked, sibling_meant, adopted, shown, inserted}
 use Rattle.page_model.specs.Steps.{Step, Did, ◌>>◌, throw_if, met_unless}
 use Rattle.page_model.specs.Commands.{placing, would_hold_itself, is_no_child, is_full, container_depth}
-use Rattle.page_laws.specs.Successors.{OnDid}
+use Rattle.page_laws.proofs.Steps.{of_did}
 use Rattle.page_laws.proofs.Depths.{parent-elsewhere, placing-depth}
 use Rattle.page_documents.specs.Frames.{MakeTrees, AreFramed}
 use Rattle.page_documents.specs.Places.{IsThere}
@@ -142,12 +142,6 @@ permitted tree after container n sibling is =
       levels = leb-true (container_depth tree container + levels_of tree n) 256 (four.0);
       is = let both : Did (inserted tree container n sibling) ≡ Did after = four.1 in cc;
     }
-
--- what is known of a step that came to this
-pub of_did : {A : Type 0} (step : Step A) (value : A) (Holds : A → Type 0) → step ≡ Did value → OnDid step Holds → Holds value
-unfolding OnDid
-of_did (Did other) value Holds is here = let both : Did other ≡ Did value = is in let same : other ≡ value = cc in subst Holds same here
-of_did step value Holds is here = cc
 
 module _ (tree after : Tree) (n : ℕ) (sibling : Option ℕ) (framed : AreFramed tree) (low : AreLow tree) (known : n < length tree.elements) (now : AreFramed after) where
   low_in : (container : Container) → placing container n sibling tree ≡ Did after → Permitted tree after container n sibling → AreLow after

@@ -1,6 +1,7 @@
 pub mod Lists
 pub mod Steps
 pub mod Ranges
+pub mod Changed
 pub mod Trees
 pub mod Made
 pub mod Parts
@@ -15,7 +16,6 @@ pub mod Keeping
 pub mod WholeRuns
 pub mod Later
 pub mod RunsInRange
-pub mod Targets
 pub mod Quiet
 pub mod Places
 pub mod Limits

@@ -1,18 +1,18 @@
 -- What the steps of the other parts make of them leaves their numbers in range.
+use Rattle.std.proofs.Common.{◌≡◌, subst}
 use Rattle.std.specs.Prelude.{ℕ, zero, suc, ◌<◌, ℤ, Bool, true, false, cond, List, [], ◌∷◌, ◌++◌, Option, Some, None, IfSome, slice_get, unwrap_or}
 use Rattle.std.specs.List.{AllByRecursion, list_any}
-use Rattle.px_units.specs.declared.BoxKind.{BoxKind}
-use Rattle.page_model.specs.World.{Extent, Screen, ScrollTarget, ScrolledElement, ScrolledDocument, Scrolls, ResizeObserver, ResizeObservers, IntersectionObserver, IntersectionObservers, Tree, World}
+use Rattle.page_model.specs.World.{Extent, Screen, ScrollTarget, ScrolledElement, ScrolledDocument, Scrolls, ResizeObserver, ResizeObservers, IntersectionObserver, IntersectionObservers, Table, Tree, World}
 use Rattle.page_model.specs.Lookups.{change_at, element_at}
 use Rattle.page_model.specs.Documents.{Container, InElement, InDocument, is_root_element}
 use Rattle.page_model.specs.PageBoxes.{is_scroller}
-use Rattle.page_model.specs.ResizeObserving.{without_observed, with_resize_target, without_resize_target, without_resize_targets}
-use Rattle.page_model.specs.IntersectionObserving.{with_registration, without_registration, without_registrations, without_queue}
+use Rattle.page_model.specs.ResizeObserving.{without_observed}
 use Rattle.page_model.specs.Scrolls.{is_same_scroll, pending_of, with_position, with_pending, moved_unless}
-use Rattle.page_model.specs.Scrolling.{scrolled_element, scrolled_thing, scroll_document, scrolled_to, scrolled_by}
-use Rattle.page_model.specs.Ranges.{Counts, counts_of, IsScrollIn, AreScrollsIn, IsResizeObserverIn, IsIntersectionObserverIn, IsTreeIn, IsInRange}
+use Rattle.page_model.specs.Scrolling.{scrolled_element, scrolled_thing, scroll_document, scrolled_to}
+use Rattle.page_model.specs.Ranges.{Counts, counts_of, IsScrollIn, AreScrollsIn, IsResizeObserverIn, IsIntersectionObserverIn, IsTreeIn, IsThingIn, IsInRange}
 use Rattle.page_laws.proofs.Lists.{IsKept, all-add, all-filter, all-put, put-within, changed}
 use Rattle.page_laws.proofs.Ranges.{with-scrolls}
+use Rattle.page_laws.proofs.Changed.{ResizeChange, Observed, Unobserved, Disconnected, IntersectionChange, Registered, Unregistered, AllUnregistered, QueueTaken, TableChange, Entered, Kept}
 use Rattle.page_laws.proofs.Trees.{IsContainerIn, found-in}
 
 -- observers
@@ -23,29 +23,27 @@ module _ (counts : Counts) (it : ResizeObservers) (observer : ℕ) where
       IsKept (IsResizeObserverIn counts) it.made (change_at change observer (it.made))
   resize-changed change each = changed (IsResizeObserverIn counts) change each observer (it.made)
 
-  pub target-kept : (n : ℕ) (observed : BoxKind) → n < counts.elements →
-      IsKept (IsResizeObserverIn counts) it.made (with_resize_target observer n observed it).made
-  target-kept n observed is-n =
-      resize-changed _ (λ each is. record {
-        document = is.document;
-        handler = is.handler;
-        targets = all-add _ (without_observed n (each.targets)) _ (all-filter _ _ (each.targets) is.targets) is-n;
-        active = is.active;
-        skipped = is.skipped;
-      })
-
-  pub no-target-kept : (n : ℕ) → IsKept (IsResizeObserverIn counts) it.made (without_resize_target observer n it).made
-  no-target-kept n =
-      resize-changed _ (λ each is. record {
-        document = is.document;
-        handler = is.handler;
-        targets = all-filter _ _ (each.targets) is.targets;
-        active = is.active;
-        skipped = is.skipped;
-      })
-
-  pub no-targets-kept : IsKept (IsResizeObserverIn counts) it.made (without_resize_targets observer it).made
-  no-targets-kept = resize-changed _ (λ each is. record { document = is.document; handler = is.handler; targets = tt; active = tt; skipped = is.skipped })
+pub resize-kept : (counts : Counts) (before : ResizeObservers) {after : ResizeObservers} → ResizeChange (IsThingIn counts) before after →
+    IsKept (IsResizeObserverIn counts) before.made after.made
+resize-kept counts before (Observed observer n observed known) =
+    resize-changed counts before observer _ (λ each is. record {
+      document = is.document;
+      handler = is.handler;
+      targets = all-add _ (without_observed n (each.targets)) _ (all-filter _ _ (each.targets) is.targets) known;
+      active = is.active;
+      skipped = is.skipped;
+    })
+resize-kept counts before (Unobserved observer n) =
+    resize-changed counts before observer _ (λ each is. record {
+      document = is.document;
+      handler = is.handler;
+      targets = all-filter _ _ (each.targets) is.targets;
+      active = is.active;
+      skipped = is.skipped;
+    })
+resize-kept counts before (Disconnected observer) =
+    resize-changed counts before observer _
+    (λ each is. record { document = is.document; handler = is.handler; targets = tt; active = tt; skipped = is.skipped })
 
 module _ (counts : Counts) (it : IntersectionObservers) (observer : ℕ) where
   pub intersection-changed : (change : IntersectionObserver → IntersectionObserver) →
@@ -53,33 +51,37 @@ module _ (counts : Counts) (it : IntersectionObservers) (observer : ℕ) where
       IsKept (IsIntersectionObserverIn counts) it.made (change_at change observer (it.made))
   intersection-changed change each = changed (IsIntersectionObserverIn counts) change each observer (it.made)
 
-  pub registration-kept : (n : ℕ) → n < counts.elements → IsKept (IsIntersectionObserverIn counts) it.made (with_registration observer n it).made
-  registration-kept n is-n =
-      intersection-changed _ (λ each is. record {
-        document = is.document;
-        handler = is.handler;
-        root = is.root;
-        registrations = all-add _ (each.registrations) _ is.registrations is-n;
-        queue = is.queue;
-      })
+pub intersections-kept : (counts : Counts) (before : IntersectionObservers) {after : IntersectionObservers} → IntersectionChange (IsThingIn counts) before after →
+    IsKept (IsIntersectionObserverIn counts) before.made after.made
+intersections-kept counts before (Registered observer n known) =
+    intersection-changed counts before observer _ (λ each is. record {
+      document = is.document;
+      handler = is.handler;
+      root = is.root;
+      registrations = all-add _ (each.registrations) _ is.registrations known;
+      queue = is.queue;
+    })
+intersections-kept counts before (Unregistered observer n) =
+    intersection-changed counts before observer _ (λ each is. record {
+      document = is.document;
+      handler = is.handler;
+      root = is.root;
+      registrations = all-filter _ _ (each.registrations) is.registrations;
+      queue = is.queue;
+    })
+intersections-kept counts before (AllUnregistered observer) =
+    intersection-changed counts before observer _
+    (λ each is. record { document = is.document; handler = is.handler; root = is.root; registrations = tt; queue = is.queue })
+intersections-kept counts before (QueueTaken observer) =
+    intersection-changed counts before observer _
+    (λ each is. record { document = is.document; handler = is.handler; root = is.root; registrations = is.registrations; queue = tt })
 
-  pub no-registration-kept : (n : ℕ) → IsKept (IsIntersectionObserverIn counts) it.made (without_registration observer n it).made
-  no-registration-kept n =
-      intersection-changed _ (λ each is. record {
-        document = is.document;
-        handler = is.handler;
-        root = is.root;
-        registrations = all-filter _ _ (each.registrations) is.registrations;
-        queue = is.queue;
-      })
+-- tables
 
-  pub no-registrations-kept : IsKept (IsIntersectionObserverIn counts) it.made (without_registrations observer it).made
-  no-registrations-kept =
-      intersection-changed _ (λ each is. record { document = is.document; handler = is.handler; root = is.root; registrations = tt; queue = is.queue })
-
-  pub no-queue-kept : IsKept (IsIntersectionObserverIn counts) it.made (without_queue observer it).made
-  no-queue-kept =
-      intersection-changed _ (λ each is. record { document = is.document; handler = is.handler; root = is.root; registrations = is.registrations; queue = tt })
+pub table-kept : {A : Type 0} {Holds : A → Type 0} (P : A → Type 0) → ((x : A) → Holds x → P x) → {before after : Table A} → TableChange A Holds before after →
+    AllByRecursion P before.held → AllByRecursion P after.held
+table-kept P each {before = before} (Entered make holds) all = all-add P (before.held) _ all (each _ holds)
+table-kept P each {before = before} (Kept test) all = all-filter P test (before.held) all
 
 -- scrolling
 
@@ -149,28 +151,13 @@ module _ (counts : Counts) where
   list-document-in tree (ScrolledDocument document) top within is = is
 
 module _ (handlers : ℕ) (world : World) (within : IsInRange handlers world) where
-  scroll-to-in : (left top : ℤ) (target : Option ScrollTarget) → IfSome target (IsScrollIn (counts_of handlers world)) →
-      IsInRange handlers (scrolled_to left top target world)
-  scroll-to-in left top None is = within
-  scroll-to-in left top (Some target) is =
+  pub scroll-in : (left top : ℤ) (container : Container) (target : ScrollTarget) → IsContainerIn (counts_of handlers world) container →
+      scrolled_thing (world.tree) (world.viewports.screen) container ≡ Some target → IsInRange handlers (scrolled_to left top (Some target) world)
+  scroll-in left top container target there is =
       let counts : Counts = counts_of handlers world in
+      let in_range : IsScrollIn counts target =
+      subst (λ found. IfSome found (IsScrollIn counts)) is
+      (thing-scroll-in counts (world.tree) (world.viewports.screen) container within.top within.tree there) in
       with-scrolls counts world _ within
       (scrolled-in counts _ (scroll_document (world.tree) target) target _ (world.scrolls)
-      (list-document-in counts (world.tree) target within.top within.tree is) is within.scrolls)
-
-  pub scroll-in : (left top : ℤ) (container : Container) → IsContainerIn (counts_of handlers world) container →
-      IsInRange handlers (scrolled_to left top (scrolled_thing (world.tree) (world.viewports.screen) container) world)
-  scroll-in left top container is =
-      scroll-to-in left top (scrolled_thing (world.tree) (world.viewports.screen) container)
-      (thing-scroll-in (counts_of handlers world) (world.tree) (world.viewports.screen) container within.top within.tree is)
-
-  scroll-by-to-in : (left top : ℤ) (target : Option ScrollTarget) → IfSome target (IsScrollIn (counts_of handlers world)) →
-      IsInRange handlers (scrolled_by left top target world)
-  scroll-by-to-in left top None is = within
-  scroll-by-to-in left top (Some target) is = scroll-to-in _ _ (Some target) is
-
-  pub scroll-by-in : (left top : ℤ) (container : Container) → IsContainerIn (counts_of handlers world) container →
-      IsInRange handlers (scrolled_by left top (scrolled_thing (world.tree) (world.viewports.screen) container) world)
-  scroll-by-in left top container is =
-      scroll-by-to-in left top (scrolled_thing (world.tree) (world.viewports.screen) container)
-      (thing-scroll-in (counts_of handlers world) (world.tree) (world.viewports.screen) container within.top within.tree is)
+      (list-document-in counts (world.tree) target within.top within.tree in_range) in_range within.scrolls)

@@ -6,7 +6,9 @@ use Rattle.page_model.specs.World.{Element, DocumentState, Fresh, Active, Dead, 
 use Rattle.page_model.specs.Lookups.{change_at, change_each, change_element, change_document, document_at, no_document}
 use Rattle.page_model.specs.Names.{named_thing, with_name}
 use Rattle.page_model.specs.Documents.{is_active_state, is_fresh_state, led_to, documents_inside, inclusive_descendants, frames_in, frames_below, removed, inserted, unlinked, linked, adopted, shown, with_state, Container, InElement, InDocument, container_of, document_of_container, sibling_meant, stands_in_active, frame_levels}
-use Rattle.page_laws.specs.Successors.{has_come_to, is_come_to, came_to, IsSuccessor}
+use Rattle.page_model.specs.Commands.{placing}
+use Rattle.page_laws.specs.Successors.{has_come_to, is_come_to, came_to, IsSuccessor, OnDid}
+use Rattle.page_laws.proofs.Steps.{both, did}
 use Rattle.page_laws.proofs.Lists.{changed, changed-each, all-append}
 
 -- states of documents after changes
@@ -142,8 +144,8 @@ pub record IsTreeNext (before after : Tree) : Type 0 where
   pub documents : length after.documents ≡ length before.documents
   pub states : (wanted : DocumentState) (document : ℕ) → IsTrue (came_to wanted before document) → IsTrue (came_to wanted after document)
 
-same-tree : (tree : Tree) → IsTreeNext tree tree
-same-tree tree = record { elements = omega arith; documents = refl; states = λ wanted document come. come }
+unchanged : (tree : Tree) → IsTreeNext tree tree
+unchanged tree = record { elements = omega arith; documents = refl; states = λ wanted document come. come }
 
 on : {first second third : Tree} → IsTreeNext first second → IsTreeNext second third → IsTreeNext first third
 on one two = record {
@@ -184,7 +186,7 @@ waking places tree alive = record {
 }
 
 unlinked-next : (tree : Tree) (n : ℕ) (container : Option Container) → IsTreeNext tree (unlinked tree n container)
-unlinked-next tree n None = same-tree tree
+unlinked-next tree n None = unchanged tree
 unlinked-next tree n (Some (InElement parent)) = on (element-changed _ n tree) (element-changed _ parent _)
 unlinked-next tree n (Some (InDocument document)) = document-changed (λ it. record it { root = None }) (λ it. refl) document tree
 
@@ -227,6 +229,10 @@ inserted-next tree container n sibling =
     (on (linked-next (removed tree n) container n (sibling_meant tree container n sibling))
     (on (adopted-next _ (document_of_container tree container) n) (shown-next _ n)))
 
+pub placing-next : (container : Container) (n : ℕ) (sibling : Option ℕ) (tree : Tree) → OnDid (placing container n sibling tree) (IsTreeNext tree)
+unfolding placing
+placing-next container n sibling tree = search (both, did, inserted-next) depth 9
+
 -- names
 
 name-step : (p : Name → Bool) (x : Name) (xs ys : List Name) (passes : Bool) (thing : Thing) →
@@ -255,16 +261,21 @@ pub still : (world : World) → IsSuccessor world world
 still world = record { elements = omega arith; states = λ wanted document come. come; names = λ text thing is. is; clock = refl; begun = refl; version = refl }
 
 -- a world of the same tree, names, clock, count and version
-pub alike : (world after : World) → after.tree ≡ world.tree → after.names ≡ world.names → after.clock ≡ world.clock → after.begun ≡ world.begun →
-    after.version ≡ world.version → IsSuccessor world after
-alike world after tree names clock begun version = record {
-  elements = subst (λ (it : Tree). length world.tree.elements ≤ length it.elements) (sym tree) (still world).elements;
-  states = λ wanted document come. subst (λ (it : Tree). IsTrue (came_to wanted it document)) (sym tree) come;
-  names = λ text thing is. subst (λ (these : List Name). named_thing these text ≡ Some thing) (sym names) is;
-  clock = clock;
-  begun = begun;
-  version = version;
-}
+abbrev pub IsAlike : World → World → Type 0
+IsAlike world after = after ≡ record after { tree = world.tree; names = world.names; clock = world.clock; begun = world.begun; version = world.version }
+
+pub alike : (world after : World) → IsAlike world after → IsSuccessor world after
+alike world after same = subst (IsSuccessor world) (sym same) (record {
+  elements = omega arith;
+  states = λ wanted document come. come;
+  names = λ text thing is. is;
+  clock = refl;
+  begun = refl;
+  version = refl;
+})
+
+pub same-tree : (world after : World) → IsAlike world after → after.tree ≡ world.tree
+same-tree world after same = ap (λ (it : World). it.tree) same
 
 pub tree-next : (world : World) (tree : Tree) → IsTreeNext (world.tree) tree → IsSuccessor world (record world { tree = tree })
 tree-next world tree next = record { elements = next.elements; states = next.states; names = λ text thing is. is; clock = refl; begun = refl; version = refl }

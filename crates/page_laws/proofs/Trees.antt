@@ -1,20 +1,14 @@
 -- What the steps of a tree make of it leaves its numbers in range.
-use Rattle.std.specs.Prelude.{ℕ, zero, suc, ◌<◌, nat_le, Bool, true, false, cond, not, ◌==◌, ◌+◌, ℤ, List, [], ◌∷◌, slice_get, unwrap_or, Option, Some, None}
+use Rattle.std.specs.Prelude.{ℕ, zero, suc, ◌<◌, Bool, true, false, cond, not, ◌==◌, List, [], ◌∷◌, slice_get, unwrap_or, Option, Some, None}
 use Rattle.std.specs.List.{AllByRecursion}
-use Rattle.layout_model.specs.Items.{Item}
-use Rattle.text_io.specs.declared.kinds.ThrowKind.TheVariants.{HierarchyRequestError, NotFoundError, TypeError}
-use Rattle.text_io.specs.declared.kinds.LimitKind.TheVariants as limits
-use Rattle.text_io.specs.Limits.{common_limit}
-use Rattle.script_model.specs.Syntax.{Dimension}
 use Rattle.page_model.specs.World.{Element, DocumentState, Active, Dead, Document, Tree}
 use Rattle.page_model.specs.Lookups.{no_element, without, element_at, change_element, change_document}
 use Rattle.page_model.specs.Documents.{Container, InElement, InDocument, is_active_state, is_fresh_state, container_of, stands_in_active, documents_inside, inclusive_descendants, with_state, unlinked, removed, placed_before, sibling_meant, linked, document_of_container, adopted, shown, inserted, levels_of}
-use Rattle.page_model.specs.Edits.{change_item, pixels_of, dimension_of, is_image}
-use Rattle.page_model.specs.Steps.{required, throw_if, met_unless}
-use Rattle.page_model.specs.Commands.{would_hold_itself, is_no_child, is_full, container_depth, placing, growing, loading}
-use Rattle.page_model.specs.Ranges.{Counts, IsElementIn, IsDocumentIn, IsTreeIn}
+use Rattle.page_model.specs.Commands.{placing}
+use Rattle.page_model.specs.Ranges.{Counts, IsElementIn, IsDocumentIn, IsTreeIn, IsThingIn}
 use Rattle.page_laws.specs.Successors.{OnDid}
-use Rattle.page_laws.proofs.Steps.{bind, both, did}
+use Rattle.page_laws.proofs.Changed.{container_thing, TreeChange, ItemChanged, TakenOut, Placed}
+use Rattle.page_laws.proofs.Steps.{both, did, of_did}
 use Rattle.page_laws.proofs.Lists.{all-add, all-filter, still-kept, then-kept, changed, changed-each}
 use Rattle.page_laws.proofs.Ranges.{IsTreeKept}
 
@@ -41,15 +35,10 @@ states-changed counts state places tree = record {
       changed-each (IsDocumentIn counts) (λ it. record it { state = state }) (λ it is. record { frame = is.frame; root = is.root }) places (tree.documents);
 }
 
-pub item-changed : (counts : Counts) (change : Item → Item) (n : ℕ) (tree : Tree) → IsTreeKept counts tree (change_item change n tree)
-item-changed counts change n tree =
-    element-changed counts _ (λ it is. record { parent = is.parent; children = is.children; document = is.document; framed = is.framed }) n tree
-
 -- insertion and removal
 
 abbrev pub IsContainerIn : Counts → Container → Type 0
-IsContainerIn counts (InElement parent) = parent < counts.elements
-IsContainerIn counts (InDocument document) = document < counts.documents
+IsContainerIn counts container = IsThingIn counts (container_thing container)
 
 all-placed_step : (P : ℕ → Type 0) (n child : ℕ) (children rest : List ℕ) (found : Bool) → P n → P child → AllByRecursion P children → AllByRecursion P rest →
     AllByRecursion P (cond found (n ∷ child ∷ children) (child ∷ rest))
@@ -136,27 +125,17 @@ inserted-kept counts tree container n sibling top within is-n is-container =
     (then-tree (adopted-kept counts _ (document_of_container tree container) n (document-in counts tree container top within is-container))
     (shown-kept counts _ n)))
 
--- steps of the tree
+-- changes of a tree
 
 pub placing-kept : (counts : Counts) (tree : Tree) (container : Container) (n : ℕ) (sibling : Option ℕ) → 0 < counts.documents → IsTreeIn counts tree →
     n < counts.elements → IsContainerIn counts container → OnDid (placing container n sibling tree) (IsTreeKept counts tree)
 unfolding placing
-placing-kept counts tree container n sibling top within is-n is-container =
-    let Holds : Tree → Type 0 = IsTreeKept counts tree in
-    both (throw_if (would_hold_itself tree container n) HierarchyRequestError) _ Holds
-    (both (throw_if (is_no_child tree container sibling) NotFoundError) _ Holds
-    (both (throw_if (is_full tree container) HierarchyRequestError) _ Holds
-    (both (met_unless (nat_le (container_depth tree container + levels_of tree n) (common_limit limits.Depth)) limits.Depth) _ Holds
-    (did _ Holds (inserted-kept counts tree container n sibling top within is-n is-container)))))
+placing-kept counts tree container n sibling top within is-n is-container = search (both, did, inserted-kept) depth 9
 
-pub growing-kept : (counts : Counts) (dimension : Dimension) (n : ℕ) (by : ℤ) (tree : Tree) → OnDid (growing dimension n by tree) (IsTreeKept counts tree)
-unfolding growing
-growing-kept counts dimension n by tree =
-    let Holds : Tree → Type 0 = IsTreeKept counts tree in
-    bind (required TypeError (pixels_of (dimension_of dimension (element_at tree n).item.style))) _ Holds (λ units. did _ Holds (item-changed counts _ n tree))
-
-pub loading-kept : (counts : Counts) (n width height : ℕ) (tree : Tree) → OnDid (loading n width height tree) (IsTreeKept counts tree)
-unfolding loading
-loading-kept counts n width height tree =
-    let Holds : Tree → Type 0 = IsTreeKept counts tree in
-    both (throw_if (not (is_image (element_at tree n).item.kind)) TypeError) _ Holds (did _ Holds (item-changed counts _ n tree))
+pub tree-kept : (counts : Counts) (before : Tree) {after : Tree} → 0 < counts.documents → IsTreeIn counts before →
+    TreeChange (IsThingIn counts) before after → IsTreeKept counts before after
+tree-kept counts before top within (ItemChanged change n known) =
+    element-changed counts _ (λ it is. record { parent = is.parent; children = is.children; document = is.document; framed = is.framed }) n before
+tree-kept counts before top within (TakenOut n known) = removed-kept counts before n
+tree-kept counts before top within (Placed container n sibling after there known is) =
+    of_did _ after (IsTreeKept counts before) is (placing-kept counts before container n sibling top within known there)
