@@ -1,99 +1,34 @@
 -- Loops go deeper from round to round, so they have few rounds.
 use Rattle.std.proofs.Common.{◌≡◌, refl, ap, sym, subst, arith, ◌≤◌}
-use Rattle.std.specs.Prelude.{ℕ, zero, suc, ◌+◌, ◌*◌, ◌<◌, min, max, ◌&&◌, List, [], ◌∷◌, length, map, fold, flat_map, sum_by, None, IfSome, Bool, true, false, ⊤}
+use Rattle.std.specs.Prelude.{ℕ, zero, suc, ◌+◌, ◌*◌, ◌<◌, min, max, ◌&&◌, List, [], ◌∷◌, length, fold, flat_map, sum_by, Bool, true, false, ⊤}
 use Rattle.std.specs.List.{AllByRecursion}
 use Rattle.std.proofs.lemmas.List.Sums.{sum_by-cons}
-use Rattle.layout_model.specs.Nodes.{Node, path_up, path_of, depth_of, levels}
-use Rattle.page_model.specs.World.{Tree, Observation, World}
-use Rattle.page_model.specs.Documents.{is_active, nodes_of, element_depth}
-use Rattle.page_model.specs.Gathering.{has_active, due_at}
+use Rattle.page_model.specs.World.{World}
+use Rattle.page_model.specs.Documents.{is_active}
+use Rattle.page_model.specs.Gathering.{has_active}
 use Rattle.page_model.specs.Runs.{Flow, Next, Thrown, Limited, most_steps}
 use Rattle.page_model.specs.Callbacks.{Script}
-use Rattle.page_model.specs.Loop.{Broadcast, gather, deliver_some, broadcast, round}
+use Rattle.page_model.specs.Loop.{gather, broadcast, round}
 use Rattle.page_laws.specs.Bounds.{IsWithinLimits}
-use Rattle.page_laws.proofs.Lists.{all-append}
 use Rattle.page_laws.proofs.Turns.{gather-within, round-within}
 use Rattle.loop_laws.specs.Moments.{onward, following, listed_if, along_repeat}
 use Rattle.loop_laws.specs.Rounds.{goes_on, round_depth, IsDeeper}
 use Rattle.loop_laws.specs.Uprooting.{uprootings}
 use Rattle.loop_laws.specs.WholeLoops.{round_starts, delivered_depths, greatest, GoesDeeper}
-use Rattle.loop_laws.proofs.Along.{places-along}
-use Rattle.loop_laws.proofs.Deeper.{all-split, of-some, rounds-go-deeper}
-use Rattle.loop_laws.proofs.Depths.{delivered-in}
+use Rattle.loop_laws.proofs.Folds.{all-split}
+use Rattle.loop_laws.proofs.Deeper.{of-some, rounds-go-deeper}
+use Rattle.loop_laws.proofs.Depths.{depth-positive, shallowest-in, all-delivered}
 use Rattle.loop_laws.proofs.Found.{round-finds}
 use Rattle.loop_laws.proofs.LoopsAtRest.{round-falls}
 use Rattle.loop_laws.proofs.Waiting.{gather-deeper}
 
--- bounds of the least depth ------------------------------------------------------------------------------------------------
-
-one-or-more : (at : ℕ → Node) (high n : ℕ) → 0 < length (path_up high at n)
-unfolding path_up
-one-or-more at zero n = omega arith
-one-or-more at (suc high) n = omega arith
-
-depth-positive : (tree : Tree) (n : ℕ) → 0 < element_depth tree n
-unfolding element_depth depth_of path_of
-depth-positive tree n = one-or-more (nodes_of tree) levels n
-
 module _ (script : Script) (document : ℕ) where
-  abbrev due_now : ℕ → Broadcast → List Observation
-  due_now observer so_far = due_at document observer (so_far.world.resize_observers)
-
-  abbrev depths_now : ℕ → Broadcast → List ℕ
-  depths_now observer so_far = map (λ (it : Observation). element_depth (so_far.world.tree) (it.target)) (due_now observer so_far)
-
-  module _ (P : ℕ → Type 0) (least : (a b : ℕ) → P a → P b → P (min a b)) where
-    -- where `P` holds of the depths that are delivered, it holds of the least one
-    abbrev Lists : Broadcast → List ℕ → Broadcast → Type 0
-    Lists before depths now = AllByRecursion P depths → IfSome (before.shallowest) P → IfSome (now.shallowest) P
-
-    unmapped : (tree : Tree) (delivered : List Observation) →
-        AllByRecursion P (map (λ (it : Observation). element_depth tree (it.target)) delivered) →
-        AllByRecursion (λ (it : Observation). P (element_depth tree (it.target))) delivered
-    unmapped tree [] all = tt
-    unmapped tree (it ∷ others) all = (all.0, unmapped tree others (all.1))
-
-    shallowest-in : (world : World) → AllByRecursion P (delivered_depths script document world) → IfSome (broadcast script document world).state.shallowest P
-    unfolding broadcast delivered_depths
-    shallowest-in world all =
-        places-along Lists
-        (record {
-          none = λ so_far all held. held;
-          both = λ a b c xs ys one other all held. let parts = all-split P xs ys all in other (parts.1) (one (parts.0) held);
-        })
-        (λ so_far. length (so_far.world.resize_observers.made))
-        (λ so_far. is_active (so_far.world.tree) document)
-        (λ observer so_far. deliver_some script document observer so_far (due_now observer so_far))
-        depths_now
-        (λ observer so_far all held. delivered-in P least script document observer so_far (due_now observer so_far) held
-        (unmapped (so_far.world.tree) (due_now observer so_far) all))
-        (record { world = world; shallowest = None })
-        all tt
-
-    depth-in : (world : World) → IsWithinLimits world → goes_on document world ≡ true → AllByRecursion P (delivered_depths script document world) →
-        P (round_depth script document world)
-    unfolding round_depth
-    depth-in world within goes all =
-        of-some P (broadcast script document world).state.shallowest (round-finds script document world (within.resize_observers) goes)
-        (shallowest-in world all)
-
-  -- what holds of every depth holds of those that are delivered
-  all-delivered : (P : ℕ → Type 0) → ((tree : Tree) (n : ℕ) → P (element_depth tree n)) → (world : World) →
-      AllByRecursion P (delivered_depths script document world)
-  unfolding delivered_depths
-  all-delivered P each world =
-      places-along (λ before depths now. AllByRecursion P depths)
-      (record { none = λ so_far. tt; both = λ a b c xs ys one other. all-append P xs ys one other })
-      (λ so_far. length (so_far.world.resize_observers.made))
-      (λ so_far. is_active (so_far.world.tree) document)
-      (λ observer so_far. deliver_some script document observer so_far (due_now observer so_far))
-      depths_now
-      (λ observer so_far. mapped (so_far.world.tree) (due_now observer so_far))
-      (record { world = world; shallowest = None })
-    where
-      mapped : (tree : Tree) (delivered : List Observation) → AllByRecursion P (map (λ (it : Observation). element_depth tree (it.target)) delivered)
-      mapped tree [] = tt
-      mapped tree (it ∷ others) = (each tree (it.target), mapped tree others)
+  depth-in : (P : ℕ → Type 0) → ((a b : ℕ) → P a → P b → P (min a b)) → (world : World) → IsWithinLimits world → goes_on document world ≡ true →
+      AllByRecursion P (delivered_depths script document world) → P (round_depth script document world)
+  unfolding round_depth
+  depth-in P least world within goes all =
+      of-some P (broadcast script document world).state.shallowest (round-finds script document world (within.resize_observers) goes)
+      (shallowest-in script document P least world all)
 
   -- from round to round ------------------------------------------------------------------------------------------------------
 
@@ -114,7 +49,7 @@ module _ (script : Script) (document : ℕ) where
   is-round depth start within deeper goes = record {
     deeper = rounds-go-deeper script document depth start within deeper goes;
     positive =
-        depth-in (λ d. 0 < d) (λ a b one other. omega (arith, one, other)) start within goes (all-delivered (λ d. 0 < d) depth-positive start);
+        depth-in (λ d. 0 < d) (λ a b one other. omega (arith, one, other)) start within goes (all-delivered script document (λ d. 0 < d) depth-positive start);
     most = λ most all. depth-in (λ d. d ≤ most) (λ a b one other. omega (arith, one, other)) start within goes all;
   }
 

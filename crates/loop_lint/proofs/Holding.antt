@@ -3,20 +3,10 @@ use Rattle.std.proofs.Common.{◌≡◌, refl, sym, ap, ◌∙◌, true≢false}
 use Rattle.std.proofs.lemmas.Slice.Eq.{bytes_eq-Decides}
 use Rattle.std.specs.Prelude.{ℕ, zero, suc, unwrap_or, option_map, slice_get, Bool, true, false, cond, List, [], ◌∷◌, ◌++◌, flat_map, Option, Some, None, ⊤}
 use Rattle.std.specs.List.{AllByRecursion}
-use Rattle.script_model.specs.Syntax.{Action, Viewport, SetRatio, MakeBlock, MakeImage, MakeFrame, Append, Before, Remove, SetStyle, Grow, Load, MakeResizeObserver, ObserveResize, UnobserveResize, DisconnectResize, MakeIntersectionObserver, ObserveIntersection, UnobserveIntersection, DisconnectIntersection, TakeIntersections, Listen, Unlisten, MakeQueryList, ScrollTo, ScrollBy, RequestFrame, CancelFrame, SetTimer, ClearTimer, Post, Say, Read, Command, Simple, Each, When, Block, NoMore, Then, Item, Outside, Tick, Handler}
+use Rattle.script_model.specs.Syntax.{Action, MakeResizeObserver, Command, Simple, Each, When, Block, NoMore, Then, Item, Outside, Tick, Handler}
 use Rattle.script_model.specs.Scripts.{NamedBlock, handlers_in}
-use Rattle.loop_lint.specs.LoopHandlers.{lines_in, block_lines, item_lines, is_empty, names_handler, naming_lines, is_unnamed, loop_handler_lines}
-
--- `P` of each command without a block, at any nesting
-unfoldable mutual
-  pub CommandHolds : (Action → Type 0) → Command → Type 0
-  CommandHolds P (Simple line action) = P action
-  CommandHolds P (Each line block end_line) = BlockHolds P block
-  CommandHolds P (When line condition block end_line) = BlockHolds P block
-
-  pub BlockHolds : (Action → Type 0) → Block → Type 0
-  BlockHolds P NoMore = ⊤
-  BlockHolds P (Then command others) = CommandHolds P command × BlockHolds P others
+use Rattle.loop_laws.proofs.Walk.{CommandHolds, BlockHolds}
+use Rattle.loop_lint.specs.LoopHandlers.{lines_in, block_lines, item_lines, is_empty, names_handler, naming_lines, is_unnamed, HasHandlersOf, loop_handler_lines}
 
 pub simple-holds : (P : Action → Type 0) (line : ℕ) (action : Action) → CommandHolds P (Simple line action) → P action
 unfolding CommandHolds
@@ -95,37 +85,7 @@ module _ (unnamed : List ℕ → Bool) where
   action-names : (action : Action) → Unnamed action → Names action
   action-names (MakeResizeObserver observer document None) none = tt
   action-names (MakeResizeObserver observer document (Some name)) none = named-so name none
-  action-names (Viewport width height) none = tt
-  action-names (SetRatio hundredths) none = tt
-  action-names (MakeBlock name document) none = tt
-  action-names (MakeImage name document width height) none = tt
-  action-names (MakeFrame name document inside) none = tt
-  action-names (Append parent node) none = tt
-  action-names (Before parent node sibling) none = tt
-  action-names (Remove node) none = tt
-  action-names (SetStyle node declaration) none = tt
-  action-names (Grow node dimension by) none = tt
-  action-names (Load node width height) none = tt
-  action-names (ObserveResize observer node observed) none = tt
-  action-names (UnobserveResize observer node) none = tt
-  action-names (DisconnectResize observer) none = tt
-  action-names (MakeIntersectionObserver made) none = tt
-  action-names (ObserveIntersection observer node) none = tt
-  action-names (UnobserveIntersection observer node) none = tt
-  action-names (DisconnectIntersection observer) none = tt
-  action-names (TakeIntersections observer) none = tt
-  action-names (Listen aim event handler) none = tt
-  action-names (Unlisten aim event handler) none = tt
-  action-names (MakeQueryList name document query) none = tt
-  action-names (ScrollTo scrolled left top) none = tt
-  action-names (ScrollBy scrolled left top) none = tt
-  action-names (RequestFrame document key handler) none = tt
-  action-names (CancelFrame document key) none = tt
-  action-names (SetTimer document key delay handler) none = tt
-  action-names (ClearTimer document key) none = tt
-  action-names (Post document handler) none = tt
-  action-names (Say word) none = tt
-  action-names (Read shown) none = tt
+  action-names action none = tt
 
   mutual
     unfolding CommandHolds
@@ -207,9 +167,8 @@ handler-lines-same test one other same (handler ∷ handlers) =
     ++ flat_map (λ (it : NamedBlock). cond (other (it.name)) [] (block_lines test (it.block))) handlers) (same (handler.name))
     ∙ ap (λ (rest : List ℕ). cond (one (handler.name)) [] (block_lines test (handler.block)) ++ rest) (handler-lines-same test one other same handlers)
 
-pub lines-same : (test : Action → Bool) (items other : List Item) → handlers_in other ≡ handlers_in items →
-    ((name : List ℕ) → is_unnamed other name ≡ is_unnamed items name) → loop_handler_lines test other ≡ loop_handler_lines test items
+pub lines-same : (test : Action → Bool) (items other : List Item) → HasHandlersOf items other → loop_handler_lines test other ≡ loop_handler_lines test items
 unfolding loop_handler_lines
-lines-same test items other same names =
-    ap (λ (handlers : List NamedBlock). flat_map (λ (handler : NamedBlock). cond (is_unnamed other (handler.name)) [] (block_lines test (handler.block))) handlers) same
-    ∙ handler-lines-same test (is_unnamed items) (is_unnamed other) names (handlers_in items)
+lines-same test items other has =
+    ap (λ (handlers : List NamedBlock). flat_map (λ (handler : NamedBlock). cond (is_unnamed other (handler.name)) [] (block_lines test (handler.block))) handlers) (has.same)
+    ∙ handler-lines-same test (is_unnamed items) (is_unnamed other) (has.named) (handlers_in items)

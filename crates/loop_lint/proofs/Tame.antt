@@ -5,7 +5,7 @@ use Rattle.std.specs.Prelude.{ℕ, ℤ, zero, suc, ◌+◌, Bool, true, false, n
 use Rattle.std.specs.List.{AllByRecursion, position_or_len}
 use Rattle.text_io.specs.declared.kinds.ThrowKind.TheVariants.{ReferenceError}
 use Rattle.layout_model.specs.Items.{Kind}
-use Rattle.script_model.specs.Syntax.{Action, Viewport, SetRatio, MakeBlock, MakeImage, MakeFrame, Append, Before, Remove, SetStyle, Grow, Load, MakeResizeObserver, ObserveResize, UnobserveResize, DisconnectResize, MakeIntersectionObserver, ObserveIntersection, UnobserveIntersection, DisconnectIntersection, TakeIntersections, Listen, Unlisten, MakeQueryList, ScrollTo, ScrollBy, RequestFrame, CancelFrame, SetTimer, ClearTimer, Post, Say, Read, Block}
+use Rattle.script_model.specs.Syntax.{Action, MakeResizeObserver, ObserveResize, UnobserveResize, DisconnectResize, Block}
 use Rattle.script_model.specs.Scripts.{NamedBlock, number_in}
 use Rattle.page_model.specs.World.{ResizeObserver, ResizeObservers, IntersectionObservers, Listener, Table, ScrollTarget, Tree, World}
 use Rattle.page_model.specs.Lookups.{change_at, resize_observer_at, no_resize_observer}
@@ -18,7 +18,8 @@ use Rattle.page_model.specs.Callbacks.{Script, handler_names, handler_block}
 use Rattle.page_laws.specs.Successors.{OnDid}
 use Rattle.page_laws.proofs.Steps.{bind, bind-in, both, did, required-in}
 use Rattle.page_laws.proofs.Lists.{all-add, changed, mapped}
-use Rattle.loop_lint.proofs.Holding.{BlockHolds, Fails, Names, IsNamedBy, IsClean}
+use Rattle.loop_laws.proofs.Walk.{BlockHolds, HandlerHolds}
+use Rattle.loop_lint.proofs.Holding.{Fails, Names, IsNamedBy, IsClean}
 
 -- the handler of a name --------------------------------------------------------------------------------------------------------
 
@@ -158,37 +159,11 @@ module _ (test : Action → Bool) (unnamed : List ℕ → Bool) where
 
         pub does-tame : (present : Present) (action : Action) → Names unnamed action → OnDid (does (handler_names script) world present action) Done
         unfolding does
-        does-tame present (Viewport width height) named = did _ Done here
-        does-tame present (SetRatio hundredths) named = did _ Done here
-        does-tame present (MakeBlock name made_in) named = making-tame name made_in _
-        does-tame present (MakeImage name made_in width height) named = making-tame name made_in _
-        does-tame present (MakeFrame name made_in inside) named = search (both, bind, did, here) depth 12
-        does-tame present (Append parent node) named = search (bind, tree-tame) depth 9
-        does-tame present (Before parent node sibling) named = search (bind, tree-tame) depth 9
-        does-tame present (Remove node) named = search (bind, did, here) depth 9
-        does-tame present (SetStyle node declaration) named = search (bind, did, here) depth 9
-        does-tame present (Grow node dimension by) named = search (bind, tree-tame) depth 9
-        does-tame present (Load node width height) named = search (bind, tree-tame) depth 9
         does-tame present (MakeResizeObserver name owner handler) named =
             both _ _ Done (bind _ _ Done (λ made_in. bind-in _ _ _ Done (given-tame handler named) (λ called tame.
             both _ _ Done (did _ Done (made-tame made_in called tame)))))
         does-tame present (ObserveResize observer node observed) named = search (both, bind, did, target-tame) depth 9
         does-tame present (UnobserveResize observer node) named = search (bind, did, target-tame) depth 9
         does-tame present (DisconnectResize observer) named = search (bind, did, target-tame) depth 9
-        does-tame present (MakeIntersectionObserver made) named = search (both, bind, did, here) depth 14
-        does-tame present (ObserveIntersection observer node) named = search (bind, intersections-tame) depth 9
-        does-tame present (UnobserveIntersection observer node) named = search (bind, did, here) depth 9
-        does-tame present (DisconnectIntersection observer) named = search (bind, did, here) depth 9
-        does-tame present (TakeIntersections observer) named = search (bind, did, here) depth 9
-        does-tame present (Listen aim event handler) named = search (bind, listeners-tame) depth 9
-        does-tame present (Unlisten aim event handler) named = search (bind, did, here) depth 9
-        does-tame present (MakeQueryList name owner query) named = search (both, bind, did, here) depth 9
-        does-tame present (ScrollTo scrolled left top) named = search (bind, did, scrolled-tame) depth 9
-        does-tame present (ScrollBy scrolled left top) named = search (bind, did, scrolled-by-tame) depth 9
-        does-tame present (RequestFrame owner key handler) named = search (both, bind, did, here) depth 9
-        does-tame present (CancelFrame owner key) named = search (bind, did, here) depth 9
-        does-tame present (SetTimer owner key delay handler) named = search (both, bind, did, here) depth 9
-        does-tame present (ClearTimer owner key) named = search (bind, did, here) depth 9
-        does-tame present (Post owner handler) named = search (both, bind, did, here) depth 9
-        does-tame present (Say word) named = did _ Done here
-        does-tame present (Read shown) named = search (bind, did, here) depth 9
+        does-tame present action named =
+            search (both, bind, did, here, tree-tame, making-tame, intersections-tame, listeners-tame, scrolled-tame, scrolled-by-tame) depth 14
