@@ -136,18 +136,6 @@ module _ (P : Observation → Type 0) (document : ℕ) (Spared : ℕ → Type 0)
   unfolding with_tree
   tree-step step kept = bind-in step _ _ Done kept (λ tree is. did _ Done (tree-done (world.names) tree is))
 
-  intersections-step : (step : Step IntersectionObservers) → OnDid (with_intersections world step) Done
-  unfolding with_intersections
-  intersections-step step = bind step _ Done (λ it. did _ Done (alike _ refl refl refl))
-
-  listeners-step : (step : Step (Table Listener)) → OnDid (with_listeners world step) Done
-  unfolding with_listeners
-  listeners-step step = bind step _ Done (λ it. did _ Done (alike _ refl refl refl))
-
-  making-done : (name made_in : List ℕ) (kind : Kind) → OnDid (making world name made_in kind) Done
-  unfolding making
-  making-done name made_in kind = search (both, bind, did, tree-done, element-kept) depth 9
-
   scrolled-done : (left top : ℤ) (target : Option ScrollTarget) → IsDone P document Spared world (scrolled_to left top target world)
   scrolled-done left top None = alike _ refl refl refl
   scrolled-done left top (Some target) = alike _ refl refl refl
@@ -159,7 +147,7 @@ module _ (P : Observation → Type 0) (document : ℕ) (Spared : ℕ → Type 0)
 module _ (P : Observation → Type 0) (document : ℕ) (handlers : Handlers) (world : World) (present : Present) where
   pub does-done : (action : Action) →
       OnDid (does handlers world present action) (λ effect. IsDone P document (IsSpared (world.names) present (moved_operand action)) world (effect.world))
-  unfolding does
+  unfolding does with_intersections with_listeners making
   does-done (Append parent node) = search (bind, known, tree-step, meant-placed) depth 9
   does-done (Before parent node sibling) = search (bind, known, tree-step, meant-placed) depth 9
   does-done (Remove node) = search (known, did, tree-done, meant-removed) depth 9
@@ -169,5 +157,4 @@ module _ (P : Observation → Type 0) (document : ℕ) (handlers : Handlers) (wo
   does-done (DisconnectResize observer) = search (bind, did, observers-done, no-targets-due) depth 9
   does-done (Grow node dimension by) = search (bind, tree-step, growing-kept) depth 9
   does-done (Load node width height) = search (bind, tree-step, loading-kept) depth 9
-  does-done action =
-      search (both, bind, did, alike, tree-done, frame-kept, item-kept, making-done, intersections-step, listeners-step, scrolled-done, scrolled-by-done, posted-done) depth 14
+  does-done action = search (both, bind, did, alike, tree-done, element-kept, frame-kept, item-kept, scrolled-done, scrolled-by-done, posted-done) depth 14

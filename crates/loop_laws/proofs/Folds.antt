@@ -1,10 +1,10 @@
 -- What holds from one step of a run to the next, over the lines that are said and what is listed between them, holds along its whole.
-use Rattle.std.proofs.Common.{◌≡◌, refl, sym, subst}
+use Rattle.std.proofs.Common.{◌≡◌, refl, sym, subst, ◌∙◌}
 use Rattle.std.proofs.lemmas.List.{append-nil}
 use Rattle.std.specs.Prelude.{ℕ, zero, suc, Bool, true, false, ◌&&◌, nat_lt, List, [], ◌∷◌, ◌++◌}
 use Rattle.std.specs.List.{AllByRecursion}
 use Rattle.script_model.specs.TraceLines.{TraceLine}
-use Rattle.page_model.specs.Runs.{Flow, Next, Thrown, Limited, Said, Turn, lifted, follow, ◌followed_by◌, only_if, for_each, repeat, by_place, at_place, most_steps}
+use Rattle.page_model.specs.Runs.{Flow, Next, Thrown, Limited, Said, Turn, behind, lifted, follow, ◌followed_by◌, only_if, for_each, repeat, by_place, at_place, most_steps}
 use Rattle.loop_laws.specs.Moments.{onward, following, listed_if, along_each, along_repeat, along_places}
 
 pub all-each : {A : Type 0} (P : A → Type 0) (xs : List A) → ((x : A) → P x) → AllByRecursion P xs
@@ -18,6 +18,17 @@ all-two P Q R each (x ∷ xs) one other = (each x (one.0) (other.0), all-two P Q
 pub all-split : {A : Type 0} (P : A → Type 0) (xs ys : List A) → AllByRecursion P (xs ++ ys) → AllByRecursion P xs × AllByRecursion P ys
 all-split P [] ys all = (tt, all)
 all-split P (x ∷ xs) ys all = let others = all-split P xs ys (all.1) in ((all.0, others.0), others.1)
+
+-- a rest that is run where neither a throw nor a limit came
+pub by-flow : {S : Type 0} (T : Said S → Type 0) (rest : S → Said S) (said : Said S) → (said.flow ≡ Next → T (behind (said.lines) (rest (said.state)))) →
+    ((said.flow ≡ Next → ⊥) → T said) → T (said followed_by rest)
+unfolding ◌followed_by◌ follow
+by-flow T rest said next never = by (said.flow) refl
+  where
+    by : (flow : Flow) → said.flow ≡ flow → T (follow flow rest said)
+    by Next is = next is
+    by Thrown is = never (λ other. absurd (let no : Thrown ≡ Next = sym is ∙ other in cc))
+    by Limited is = never (λ other. absurd (let no : Limited ≡ Next = sym is ∙ other in cc))
 
 -- `R a lines xs b`: from `a` to `b`, where these lines are said and `xs` are listed between them
 pub record IsJoined {S B : Type 0} (R : S → List TraceLine → List B → S → Type 0) : Type 0 where

@@ -3,14 +3,13 @@ use Rattle.std.proofs.Common.{◌≡◌, refl}
 use Rattle.std.specs.Prelude.{ℕ, false, map, List, [], ◌∷◌}
 use Rattle.std.specs.List.{AllByRecursion}
 use Rattle.text_io.specs.declared.kinds.Version.{Version}
-use Rattle.layout_model.specs.Items.{Kind}
 use Rattle.script_model.specs.Syntax.{Action, Say, Read, TakeIntersections}
 use Rattle.script_model.specs.TraceLines.{TraceLine}
-use Rattle.page_model.specs.World.{Screen, Scrolls, Name, Entry, IntersectionObservers, Listener, Table, Tree, World}
+use Rattle.page_model.specs.World.{Name, Entry, World}
 use Rattle.page_model.specs.Documents.{Container, InElement, InDocument}
 use Rattle.page_model.specs.Gathering.{SizeEntry}
 use Rattle.page_model.specs.EntryLines.{intersection_line, intersection_lines}
-use Rattle.page_model.specs.Steps.{Step, Effect}
+use Rattle.page_model.specs.Steps.{Effect}
 use Rattle.page_model.specs.Operands.{Present, Handlers}
 use Rattle.page_model.specs.Commands.{does, with_tree, with_intersections, with_listeners, making, taking}
 use Rattle.page_model.specs.Readings.{reading_of}
@@ -47,22 +46,6 @@ module _ (handlers : Handlers) (world : World) where
   nothing-said : (now : World) → Plainly (record { world = now; lines = [] })
   nothing-said now = tt
 
-  tree-plain : (step : Step Tree) → OnDid (with_tree world step) Plainly
-  unfolding with_tree
-  tree-plain step = bind step _ Plainly (λ it. did _ Plainly tt)
-
-  intersections-step : (step : Step IntersectionObservers) → OnDid (with_intersections world step) Plainly
-  unfolding with_intersections
-  intersections-step step = bind step _ Plainly (λ it. did _ Plainly tt)
-
-  listeners-step : (step : Step (Table Listener)) → OnDid (with_listeners world step) Plainly
-  unfolding with_listeners
-  listeners-step step = bind step _ Plainly (λ it. did _ Plainly tt)
-
-  making-plain : (name made_in : List ℕ) (kind : Kind) → OnDid (making world name made_in kind) Plainly
-  unfolding making
-  making-plain name made_in kind = search (both, bind, did, nothing-said) depth 9
-
   taking-plain : (observer : ℕ) (queue : List Entry) → OnDid (taking world observer queue) Plainly
   taking-plain observer queue = did _ Plainly (refl, intersections-plain (world.names) observer queue)
 
@@ -74,8 +57,8 @@ module _ (handlers : Handlers) (world : World) where
   reading-plain (InDocument document) = (refl, tt)
 
   pub does-plain : (present : Present) (action : Action) → OnDid (does handlers world present action) Plainly
-  unfolding does
+  unfolding does with_tree with_intersections with_listeners making
   does-plain present (TakeIntersections observer) = search (bind, taking-plain) depth 9
   does-plain present (Say word) = did _ Plainly (refl, tt)
   does-plain present (Read shown) = search (bind, did, reading-plain) depth 9
-  does-plain present action = search (both, bind, did, nothing-said, tree-plain, intersections-step, listeners-step, making-plain) depth 14
+  does-plain present action = search (both, bind, did, nothing-said) depth 14

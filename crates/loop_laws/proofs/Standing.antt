@@ -1,21 +1,62 @@
--- Where no command begins, a callback leaves the world as it was, and a broadcast all but the resize observers.
-use Rattle.std.proofs.Common.{◌≡◌, refl, sym, ap, ◌∙◌, arith}
-use Rattle.std.specs.Prelude.{ℕ, ◌<◌, List, Option, ⊤}
-use Rattle.script_model.specs.Syntax.{Action, Command, Block}
+-- The moments of a run are as many as the commands that were begun in it; and where none begins, a callback leaves the world as it was, and
+-- a broadcast all but the resize observers.
+use Rattle.std.proofs.Common.{◌≡◌, refl, arith, length-append, sym, ap, ◌∙◌}
+use Rattle.std.specs.Prelude.{ℕ, suc, ◌+◌, List, [], ◌∷◌, length, ⊤, ◌<◌}
+use Rattle.script_model.specs.Syntax.{Action}
 use Rattle.script_model.specs.TraceLines.{TraceLine}
 use Rattle.page_model.specs.World.{World, ResizeObservers}
-use Rattle.page_model.specs.Documents.{is_active}
 use Rattle.page_model.specs.Operands.{Present}
 use Rattle.page_model.specs.Commands.{does}
-use Rattle.page_model.specs.Callbacks.{Script, Entries, handler_names, run_command, run_block, call}
-use Rattle.page_model.specs.Loop.{Broadcast, gather, broadcast, round, round_ended}
+use Rattle.page_model.specs.Callbacks.{Script, handler_names}
+use Rattle.page_model.specs.Loop.{broadcast, Broadcast, gather, round, round_ended}
+use Rattle.page_model.specs.Documents.{is_active}
 use Rattle.page_laws.proofs.Steps.{on_did-map}
 use Rattle.page_laws.proofs.Commands.{does-next}
 use Rattle.page_laws.proofs.Keeping.{counted, then-keeps, only_if-keeps}
 use Rattle.page_laws.proofs.Later.{all-so}
-use Rattle.loop_laws.specs.Moments.{Moment}
+use Rattle.loop_laws.specs.Moments.{Moment, broadcast_moments}
 use Rattle.loop_laws.specs.Still.{IsStill, IsStillOutside}
-use Rattle.loop_laws.proofs.Walk.{IsAlong, any-command, any-block, any-call, broadcasts-along}
+use Rattle.loop_laws.proofs.Folds.{IsJoined}
+use Rattle.loop_laws.proofs.Walk.{IsAlong, any-call, broadcasts-along}
+
+abbrev pub Counts : World → List TraceLine → List Moment → World → Type 0
+Counts before lines moments now = now.begun ≡ before.begun + length moments
+
+all-counted : (a b c xs ys all : ℕ) → b ≡ a + xs → c ≡ b + ys → all ≡ xs + ys → c ≡ a + all
+all-counted a b c xs ys all one other sum = omega (arith, one, other, sum)
+
+none-counted : (n : ℕ) → n ≡ n + 0
+none-counted n = omega arith
+
+one-counted : (begun now : ℕ) → now ≡ suc begun → now ≡ begun + 1
+one-counted begun now is = omega (arith, is)
+
+counts-joined : IsJoined Counts
+counts-joined = record {
+  none = λ now. none-counted (now.begun);
+  both = λ a b c lines more xs ys one other. all-counted (a.begun) (b.begun) (c.begun) (length xs) (length ys) _ one other (length-append xs ys);
+}
+
+module _ (script : Script) where
+  pub counts-along : IsAlong script (λ (action : Action). ⊤) (λ (present : Present). ⊤) Counts
+  counts-along = record {
+    joined = counts-joined;
+    plain = λ world lines plain. none-counted (world.begun);
+    begun = λ world present command fits is room. one-counted (world.begun) _ refl;
+    does = λ line action present world fits is room. on_did-map (does (handler_names script) (counted world) present action) _ _
+        (λ effect next. one-counted (world.begun) (effect.world.begun) (next.begun)) (does-next (handler_names script) (counted world) present action);
+    none = tt;
+  }
+
+  pub broadcast-counts : (document : ℕ) (world : World) →
+      (broadcast script document world).state.world.begun ≡ world.begun + length (broadcast_moments script document world)
+  broadcast-counts document world =
+      (broadcasts-along script document (λ (world : World). ⊤) (λ (k : ℕ) (present : Present). ⊤) Counts (record {
+        joined = counts-joined;
+        due = λ observer now here. all-so _;
+        calls = λ observer delivered handed now are here. (tt, any-call script Counts counts-along document _ handed _);
+        emptied = λ observer before now lines moments is here there. (tt, there);
+      }) world tt).1
 
 -- callbacks ----------------------------------------------------------------------------------------------------------------
 
@@ -33,30 +74,18 @@ still-then a b c one other = record {
       other.same (omega (arith, fell, one.begun, other.begun)) ∙ one.same (omega (arith, fell, one.begun, other.begun));
 }
 
-module _ (script : Script) where
-  abbrev Stands : World → List TraceLine → List Moment → World → Type 0
-  Stands before lines moments now = IsStill before now
+abbrev pub Stands : World → List TraceLine → List Moment → World → Type 0
+Stands before lines moments now = IsStill before now
 
-  still-along : IsAlong script (λ (action : Action). ⊤) (λ (present : Present). ⊤) Stands
-  still-along = record {
-    joined = record { none = still-first; both = λ a b c lines more xs ys one other. still-then a b c one other };
-    plain = λ world lines plain. still-first world;
-    begun = λ world present command fits is room. begun-more world (counted world) (omega arith);
-    does = λ line action present world fits is room. on_did-map (does (handler_names script) (counted world) present action) _ _
-        (λ effect next. begun-more world (effect.world) (omega (arith, next.begun))) (does-next (handler_names script) (counted world) present action);
-    none = tt;
-  }
-
-  pub command-still : (entries : List Present) (command : Command) (present : Present) (world : World) →
-      IsStill world (run_command script entries command present world).state
-  command-still = any-command script Stands still-along
-
-  pub block-still : (entries : List Present) (block : Block) (present : Present) (world : World) →
-      IsStill world (run_block script entries block present world).state
-  block-still = any-block script Stands still-along
-
-  pub call-still : (document : ℕ) (handler : Option ℕ) (handed : Entries) (world : World) → IsStill world (call script document handler handed world).state
-  call-still = any-call script Stands still-along
+pub still-along : (script : Script) → IsAlong script (λ (action : Action). ⊤) (λ (present : Present). ⊤) Stands
+still-along script = record {
+  joined = record { none = still-first; both = λ a b c lines more xs ys one other. still-then a b c one other };
+  plain = λ world lines plain. still-first world;
+  begun = λ world present command fits is room. begun-more world (counted world) (omega arith);
+  does = λ line action present world fits is room. on_did-map (does (handler_names script) (counted world) present action) _ _
+      (λ effect next. begun-more world (effect.world) (omega (arith, next.begun))) (does-next (handler_names script) (counted world) present action);
+  none = tt;
+}
 
 -- resize observers changed, broadcasts and rounds ---------------------------------------------------------------------------
 
@@ -86,7 +115,7 @@ module _ (script : Script) (document : ℕ) where
         joined = record { none = outside-first; both = λ a b c lines more xs ys one other. outside-then a b c one other };
         due = λ observer now here. all-so _;
         calls = λ observer delivered handed now are here.
-            let called = call-still script document _ handed _ in
+            let called = any-call script Stands (still-along script) document _ handed _ in
             (tt, record { begun = called.begun; same = λ is. but-one now _ _ (called.same is) });
         emptied = λ observer before now lines moments is here there. (tt, outside-with before now _ there);
       }) world tt).1

@@ -397,16 +397,6 @@ module _ (script : Script) (P : World → Type 0) (In : ℕ → Present → Type
   called-fine document handler handed world are here =
       (walked.calls document handler handed world are here, plain-told _ (call-plain script document handler handed world))
 
-  said-fine : (line : TraceLine) (world : World) → IsPlain line → Fine world (say (line ∷ []) world)
-  said-fine line world plain here = (here, told.plain line plain)
-
-  active-line-fine : (tree : Tree) (document : ℕ) (line : TraceLine) (world : World) → IsPlain line → Fine world (say (line_while_active tree document line) world)
-  active-line-fine tree document line world plain here = by (is_active tree document)
-    where
-      by : (active : Bool) → P world × L (cond active (line ∷ []) []) []
-      by true = (here, told.plain line plain)
-      by false = (here, told.nothing)
-
   call-fine : (document : ℕ) (handler : Option ℕ) (world : World) → Fine world (call script document handler NoEntries world)
   call-fine document handler world = called-fine document handler NoEntries world tt
 
@@ -429,19 +419,35 @@ module _ (script : Script) (P : World → Type 0) (In : ℕ → Present → Type
       (then-fine world (say (EventLine event ∷ []) world) (invoke script target name) (λ here. (here, may)) (invoke-fine target name))
       (bubble-fine target name)
 
-  -- behind a change
+  -- behind a change: alone, with lines and a callback, and with an event
   from : (before now : World) (said : Said World) → IsNext before now → now.resize_observers ≡ before.resize_observers → Fine now said → Fine before said
   from before now said next same fine here = fine (walked.next before now next same here)
 
+  call-behind : (before now : World) (lines : List TraceLine) → IsNext before now → now.resize_observers ≡ before.resize_observers → AllByRecursion IsPlain lines →
+      (document handler : ℕ) → Fine before (say lines now followed_by call script document (Some handler) NoEntries)
+  call-behind before now lines next same plain document handler =
+      from before now (say lines now followed_by call script document (Some handler) NoEntries) next same
+      (then-fine now (say lines now) (call script document (Some handler) NoEntries) (λ here. (here, plain-told lines plain)) (call-fine document (Some handler)))
+
+  fire-behind : (before now : World) → IsNext before now → now.resize_observers ≡ before.resize_observers → (event : FiredEvent) (target : EventTarget) (name : EventKind) →
+      IsPlain (EventLine event) → (test : Bool) → Fine before (only_if (fire script event target name) now test)
+  fire-behind before now next same event target name plain test =
+      from before now (only_if (fire script event target name) now test) next same
+      (if-fine (fire script event target name) now test (λ is. fire-fine event target name (told.plain (EventLine event) plain) now))
+
   -- timers, and the parts of an update
+
+  active-plain : (tree : Tree) (document : ℕ) (line : TraceLine) → IsPlain line → AllByRecursion IsPlain (line_while_active tree document line)
+  active-plain tree document line plain = by (is_active tree document)
+    where
+      by : (active : Bool) → AllByRecursion IsPlain (cond active (line ∷ []) [])
+      by true = (plain, tt)
+      by false = tt
 
   timer-fine : (timer : Timer) (world : World) → Fine world (run_timer script timer world)
   timer-fine timer world =
-      let without = record world { timers = timer_taken (timer.serial) (world.timers) } in
-      let line = TimerLine (document_text (world.names) (timer.document)) (timer.key) in
-      from world without (run_timer script timer world) (timer-next world (timer.serial)) refl
-      (then-fine without (say (line_while_active (world.tree) (timer.document) line) without) (call script (timer.document) (Some (timer.handler)) NoEntries)
-      (active-line-fine (world.tree) (timer.document) line without refl) (call-fine (timer.document) (Some (timer.handler))))
+      call-behind world (record world { timers = timer_taken (timer.serial) (world.timers) }) _ (timer-next world (timer.serial)) refl
+      (active-plain (world.tree) (timer.document) (TimerLine (document_text (world.names) (timer.document)) (timer.key)) refl) (timer.document) (timer.handler)
 
   timers-fine : (world : World) → Fine world (run_timers script world)
   unfolding run_timers
@@ -453,13 +459,8 @@ module _ (script : Script) (P : World → Type 0) (In : ℕ → Present → Type
   unfolding resize_steps
   size-fine document world is =
       let size = viewport_of (world.tree) (world.viewports.screen) document in
-      let now = record world { viewports = with_noted document size (world.viewports) } in
-      let event = FiredResize (document_text (world.names) document) in
-      let differs = differs_from size (noted_size document (world.viewports)) in
-      from world now (only_if (fire script event (WindowTarget document) events.Resize) now differs)
-      (noted-next world document size (active-in (world.tree) document is)) refl
-      (if-fine (fire script event (WindowTarget document) events.Resize) now differs
-      (λ is. fire-fine event (WindowTarget document) events.Resize (told.plain (EventLine event) refl) now))
+      fire-behind world (record world { viewports = with_noted document size (world.viewports) }) (noted-next world document size (active-in (world.tree) document is)) refl
+      (FiredResize (document_text (world.names) document)) (WindowTarget document) events.Resize refl (differs_from size (noted_size document (world.viewports)))
 
   scroll-fine : (document : ℕ) (world : World) → is_active (world.tree) document ≡ true → Fine world (scroll_steps script document world)
   unfolding scroll_steps
@@ -475,12 +476,9 @@ module _ (script : Script) (P : World → Type 0) (In : ℕ → Present → Type
 
   evaluated-fine : (query : ℕ) (matched : Bool) (world : World) → Fine world (evaluated script query matched world)
   evaluated-fine query matched world =
-      let now = record world { queries = with_state matched query (world.queries) } in
-      let event = FiredChange (query_list_text (world.names) query) matched in
-      let turns = not (is_same_bool matched (query_list_at (world.queries) query).matched) in
-      from world now (only_if (fire script event (QueryTarget query) events.Change) now turns) (matched-next world matched query) refl
-      (if-fine (fire script event (QueryTarget query) events.Change) now turns
-      (λ is. fire-fine event (QueryTarget query) events.Change (told.plain (EventLine event) refl) now))
+      fire-behind world (record world { queries = with_state matched query (world.queries) }) (matched-next world matched query) refl
+      (FiredChange (query_list_text (world.names) query) matched) (QueryTarget query) events.Change refl
+      (not (is_same_bool matched (query_list_at (world.queries) query).matched))
 
   media-fine : (document : ℕ) (world : World) → is_active (world.tree) document ≡ true → Fine world (media_steps script document world)
   unfolding media_steps
@@ -492,11 +490,8 @@ module _ (script : Script) (P : World → Type 0) (In : ℕ → Present → Type
 
   callback-fine : (callback : FrameCallback) (world : World) → Fine world (run_frame_callback script callback world)
   callback-fine callback world =
-      let without = record world { frame_callbacks = frame_callback_taken (callback.serial) (world.frame_callbacks) } in
-      let line = FrameLine (document_text (world.names) (callback.document)) (callback.key) in
-      from world without (run_frame_callback script callback world) (frame-next world (callback.serial)) refl
-      (then-fine without (say (line ∷ []) without) (call script (callback.document) (Some (callback.handler)) NoEntries)
-      (said-fine line without refl) (call-fine (callback.document) (Some (callback.handler))))
+      call-behind world (record world { frame_callbacks = frame_callback_taken (callback.serial) (world.frame_callbacks) }) _ (frame-next world (callback.serial)) refl
+      (refl, tt) (callback.document) (callback.handler)
 
   frames-fine : (document : ℕ) (world : World) → is_active (world.tree) document ≡ true → Fine world (frame_steps script document world)
   unfolding frame_steps
@@ -563,11 +558,8 @@ module _ (script : Script) (P : World → Type 0) (In : ℕ → Present → Type
       (walked.next world _ (unnotified-next world document others are) refl here))
       (walked.next world _ (tasks-next world (Notify document) others are) refl here)
   first-fine (Posted document handler ∷ others) world are =
-      let without = record world { tasks = others } in
-      let line = TaskLine (document_text (world.names) document) (handler_text script handler) in
-      from world without (run_task script (Posted document handler) without) (tasks-next world (Posted document handler) others are) refl
-      (then-fine without (say (line_while_active (world.tree) document line) without) (call script document (Some handler) NoEntries)
-      (active-line-fine (world.tree) document line without refl) (call-fine document (Some handler)))
+      call-behind world (record world { tasks = others }) _ (tasks-next world (Posted document handler) others are) refl
+      (active-plain (world.tree) document (TaskLine (document_text (world.names) document) (handler_text script handler)) refl) document handler
 
   tasks-fine : (world : World) → Fine world (run_tasks script world)
   unfolding run_tasks
@@ -652,7 +644,7 @@ module _ (script : Script) (P : World → Type 0) (In : ℕ → Present → Type
         let begins = say (TickLine (world.clock) ∷ []) world followed_by run_timers script in
         then-behind Lists lists-joined world (tick_loops script world) (run_tasks script) (begins followed_by update_rendering script)
         (then-along Lists lists-joined world [] (update_rendering script) (update_loops script) begins
-        (then-fine world (say (TickLine (world.clock) ∷ []) world) (run_timers script) (said-fine (TickLine (world.clock)) world refl) timers-fine)
+        (then-fine world (say (TickLine (world.clock) ∷ []) world) (run_timers script) (λ here. (here, told.plain (TickLine (world.clock)) refl)) timers-fine)
         update-along)
         tasks-fine
 
@@ -662,9 +654,9 @@ module _ (script : Script) (P : World → Type 0) (In : ℕ → Present → Type
       unfolding run_item caught once_begun begun_in
       item-along (Outside command) outside world = λ here. (outside world here, plain-told _ (command-plain script [] command NoEntry world))
       item-along (Tick line time) outside world =
-          answered-along Lists line world _ _ (λ refusal plain. said-fine refusal world plain) (begun_in world)
+          answered-along Lists line world _ _ (λ refusal plain here. (here, told.plain refusal plain)) (begun_in world)
           (room-then limits.Commands (world.begun) (limit_number (world.version) limits.Commands) _ _ (λ room. did (counted world) _ (λ here.
-          answered-along Lists line (counted world) (tick script) (tick_loops script) (λ refusal plain. said-fine refusal (counted world) plain)
+          answered-along Lists line (counted world) (tick script) (tick_loops script) (λ refusal plain here. (here, told.plain refusal plain))
           (time_set time (counted world))
           (time-kept (λ now. Runs Lists (counted world) (tick_loops script now) (tick script now)) (counted world) time
           (λ later there. tick-along (record world { begun = suc world.begun; clock = time }) (timed time (counted world) there)))

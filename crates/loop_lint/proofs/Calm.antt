@@ -7,13 +7,13 @@ use Rattle.layout_model.specs.Items.{Kind}
 use Rattle.script_model.specs.Syntax.{Action, Viewport, SetRatio, Append, Before, Remove, SetStyle, Grow, Load, MakeResizeObserver, ObserveResize, UnobserveResize, DisconnectResize}
 use Rattle.script_model.specs.TraceLines.{TraceLine}
 use Rattle.page_model.specs.World.{Screen, Observation, ResizeObserver, ResizeObservers, IntersectionObservers, Listener, Table, ScrollTarget, Tree, World}
-use Rattle.page_model.specs.Lookups.{change_at, entry_or, no_resize_observer, resize_observer_at}
+use Rattle.page_model.specs.Lookups.{resize_observer_at}
 use Rattle.page_model.specs.Documents.{is_active}
 use Rattle.page_model.specs.Edits.{with_element, with_frame}
 use Rattle.page_model.specs.ResizeObserving.{without_observed, with_resize_observer, without_resize_target, without_resize_targets}
 use Rattle.page_model.specs.Gathering.{is_of}
 use Rattle.page_model.specs.PageBoxes.{size_of}
-use Rattle.page_model.specs.Steps.{Step, Effect}
+use Rattle.page_model.specs.Steps.{Effect}
 use Rattle.page_model.specs.Operands.{Present, Handlers}
 use Rattle.page_model.specs.Scrolling.{scrolled_to, scrolled_by}
 use Rattle.page_model.specs.Commands.{does, with_intersections, with_listeners, making}
@@ -27,6 +27,7 @@ use Rattle.page_laws.proofs.InRange.{does-in}
 use Rattle.page_laws.proofs.Keeping.{counted}
 use Rattle.page_laws.proofs.RunsInRange.{IsEntryIn, same-count}
 use Rattle.loop_laws.specs.Moments.{Moment}
+use Rattle.loop_laws.proofs.Waiting.{changed-at, made-at}
 use Rattle.loop_laws.proofs.Walk.{HandlerHolds, IsAlong, call-along, on_did-given}
 use Rattle.loop_lint.specs.Verdicts.{disturbs}
 use Rattle.loop_lint.proofs.Holding.{Fails}
@@ -38,23 +39,6 @@ use Rattle.loop_lint.proofs.More.{IsMore, element-more, frame-more}
 -- `P` of each of an observer's observations, under its active list, if it is one of the document
 abbrev pub Passes : (List Observation → Observation → Type 0) → ℕ → ResizeObserver → Type 0
 Passes P document it = is_of document it ≡ true → AllByRecursion (P (it.active)) (it.targets)
-
-changed-passes : (P : List Observation → Observation → Type 0) (document : ℕ) (change : ResizeObserver → ResizeObserver) →
-    ((it : ResizeObserver) → Passes P document it → Passes P document (change it)) → (place o : ℕ) (made : List ResizeObserver) →
-    Passes P document (entry_or no_resize_observer made o) → Passes P document (entry_or no_resize_observer (change_at change place made) o)
-changed-passes P document change each place o [] pass = pass
-changed-passes P document change each zero zero (x ∷ xs) pass = each x pass
-changed-passes P document change each zero (suc o) (x ∷ xs) pass = pass
-changed-passes P document change each (suc place) zero (x ∷ xs) pass = pass
-changed-passes P document change each (suc place) (suc o) (x ∷ xs) pass = changed-passes P document change each place o xs pass
-
-made-passes : (P : List Observation → Observation → Type 0) (document owner : ℕ) (handler : Option ℕ) (o : ℕ) (made : List ResizeObserver) →
-    Passes P document (entry_or no_resize_observer made o) →
-    Passes P document (entry_or no_resize_observer (made ++ record { document = owner; handler = handler; targets = []; active = []; skipped = [] } ∷ []) o)
-made-passes P document owner handler zero [] pass = λ own. tt
-made-passes P document owner handler (suc o) [] pass = pass
-made-passes P document owner handler zero (x ∷ xs) pass = pass
-made-passes P document owner handler (suc o) (x ∷ xs) pass = made-passes P document owner handler o xs pass
 
 -- pages ----------------------------------------------------------------------------------------------------------------------------
 
@@ -115,29 +99,17 @@ module _ (P : ℕ → List Observation → Observation → Type 0) (document : �
   observers-calm it targets = record { elements = here.elements; sizes = here.sizes; active = here.active; targets = targets }
 
   made-observer : (owner : ℕ) (handler : Option ℕ) → Becomes (world.tree) (with_resize_observer owner handler (world.resize_observers))
-  made-observer owner handler = observers-calm _ (λ o pass. made-passes (P o) document owner handler o (world.resize_observers.made) pass)
+  made-observer owner handler = observers-calm _ (λ o pass. made-at (Passes (P o) document) _ (λ own. tt) o (world.resize_observers.made) pass)
 
   no-target : (observer n : ℕ) → Becomes (world.tree) (without_resize_target observer n (world.resize_observers))
   no-target observer n =
-      observers-calm _ (λ o pass. changed-passes (P o) document (λ each. record each { targets = without_observed n (each.targets) })
+      observers-calm _ (λ o pass. changed-at (Passes (P o) document) (λ each. record each { targets = without_observed n (each.targets) })
       (λ it passes own. all-filter (P o (it.active)) (λ each. not (each.target == n)) (it.targets) (passes own)) observer o (world.resize_observers.made) pass)
 
   no-targets : (observer : ℕ) → Becomes (world.tree) (without_resize_targets observer (world.resize_observers))
   no-targets observer =
-      observers-calm _ (λ o pass. changed-passes (P o) document (λ each. record each { targets = []; active = [] }) (λ it passes own. tt) observer o
+      observers-calm _ (λ o pass. changed-at (Passes (P o) document) (λ each. record each { targets = []; active = [] }) (λ it passes own. tt) observer o
       (world.resize_observers.made) pass)
-
-  intersections-calm : (step : Step IntersectionObservers) → OnDid (with_intersections world step) Done
-  unfolding with_intersections
-  intersections-calm step = bind step _ Done (λ it. did _ Done here)
-
-  listeners-calm : (step : Step (Table Listener)) → OnDid (with_listeners world step) Done
-  unfolding with_listeners
-  listeners-calm step = bind step _ Done (λ it. did _ Done here)
-
-  making-calm : (name made_in : List ℕ) (kind : Kind) → OnDid (making world name made_in kind) Done
-  unfolding making
-  making-calm name made_in kind = search (both, bind, did, made-element) depth 9
 
   scrolled-calm : (left top : ℤ) (target : Option ScrollTarget) → Calm P document world (scrolled_to left top target world)
   scrolled-calm left top None = here
@@ -148,7 +120,7 @@ module _ (P : ℕ → List Observation → Observation → Type 0) (document : �
   scrolled-by-calm left top (Some target) = here
 
   pub does-calm : (present : Present) (action : Action) → disturbs action ≡ false → OnDid (does handlers world present action) Done
-  unfolding does
+  unfolding does with_intersections with_listeners making
   does-calm present (Viewport width height) quiet = absurd (true≢false quiet)
   does-calm present (SetRatio hundredths) quiet = absurd (true≢false quiet)
   does-calm present (Append parent node) quiet = absurd (true≢false quiet)
@@ -161,8 +133,7 @@ module _ (P : ℕ → List Observation → Observation → Type 0) (document : �
   does-calm present (MakeResizeObserver name owner handler) quiet = search (both, bind, did, made-observer) depth 12
   does-calm present (UnobserveResize observer node) quiet = search (bind, did, no-target) depth 9
   does-calm present (DisconnectResize observer) quiet = search (bind, did, no-targets) depth 9
-  does-calm present action quiet =
-      search (both, bind, did, here, making-calm, made-frame, intersections-calm, listeners-calm, scrolled-calm, scrolled-by-calm) depth 14
+  does-calm present action quiet = search (both, bind, did, here, made-element, made-frame, scrolled-calm, scrolled-by-calm) depth 14
 
 -- callbacks -------------------------------------------------------------------------------------------------------------------------
 

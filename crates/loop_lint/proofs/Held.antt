@@ -1,10 +1,10 @@
 -- What each world of a run is, where each `ro` names a loop handler: numbers are in range, limits are kept, and each handler of a
 -- resize observer is a loop handler.
 use Rattle.std.proofs.Common.{◌≡◌, refl, sym, subst, arith, ◌≤◌}
-use Rattle.std.specs.Prelude.{ℕ, ◌<◌, Bool, true, cond, List, [], length, Option, Some, None, ⊤}
+use Rattle.std.specs.Prelude.{ℕ, ◌<◌, Bool, true, cond, List, [], ◌∷◌, length, Option, Some, None, ⊤}
 use Rattle.std.specs.List.{AllByRecursion}
 use Rattle.script_model.specs.Syntax.{Action, Command, Item, Outside, Tick, Handler}
-use Rattle.script_model.specs.Scripts.{NamedBlock}
+use Rattle.script_model.specs.Scripts.{NamedBlock, handlers_in}
 use Rattle.script_model.specs.TraceLines.{TraceLine}
 use Rattle.text_io.specs.declared.kinds.Version.{Version}
 use Rattle.text_io.specs.Limits.{limit_number}
@@ -17,8 +17,8 @@ use Rattle.page_model.specs.Operands.{Present, NoEntry, ResizeEntry, Intersectio
 use Rattle.page_model.specs.Commands.{does}
 use Rattle.page_model.specs.Callbacks.{Script, Entries, handler_names, presents, run_command, call}
 use Rattle.page_model.specs.Ranges.{counts_of, IsInRange, IsPresentIn}
-use Rattle.page_model.specs.Loop.{gather}
-use Rattle.page_model.specs.Outcome.{opening_world}
+use Rattle.page_model.specs.Loop.{gather, resize_loop}
+use Rattle.page_model.specs.Outcome.{opening_world, run_items}
 use Rattle.page_laws.specs.Bounds.{IsWithinLimits}
 use Rattle.page_laws.proofs.Lists.{all-map}
 use Rattle.page_laws.proofs.Keeping.{counted}
@@ -29,8 +29,10 @@ use Rattle.page_laws.proofs.Turns.{call-within, command-within, opening-within}
 use Rattle.page_laws.proofs.RunsInRange.{IsEntryIn, observed-in, queue-in, if-own, call-in, command-in, opening-in}
 use Rattle.page_laws.proofs.Later.{all-so}
 use Rattle.loop_laws.specs.Moments.{Moment}
-use Rattle.loop_laws.proofs.Walk.{CommandHolds, BlockHolds, HandlerHolds, on_did-given, IsAlong, command-along, call-along, IsWalked, IsOutsideKept}
-use Rattle.loop_lint.proofs.Holding.{ItemHolds, Names, IsClean, block-holds}
+use Rattle.loop_laws.specs.RunLoops.{Loop, loops_of_run}
+use Rattle.loop_laws.proofs.Walk.{CommandHolds, BlockHolds, HandlerHolds, on_did-given, IsAlong, command-along, call-along, IsTold, IsWalked, IsOutsideKept, items-along}
+use Rattle.loop_lint.specs.LoopHandlers.{is_empty, is_unnamed, loop_handler_lines}
+use Rattle.loop_lint.proofs.Holding.{ItemHolds, Names, IsClean, block-holds, all-named, handlers-hold, loop-handlers-clean}
 use Rattle.loop_lint.proofs.Tame.{AreTame, changed-tame, gathering-tame, does-tame}
 
 pub present-in : (k : ℕ) (world : World) (present : Present) → k ≤ length world.tree.elements → IsEntryIn k present → IsPresentIn world present
@@ -57,7 +59,7 @@ module _ (test : Action → Bool) (unnamed : List ℕ → Bool) (script : Script
   unfolding gather
   gathered-tame document depth world here = gathering-tame test unnamed script (sight_of world) document depth (world.resize_observers) here
 
-  pub counts-held : (world : World) → world.begun < limit_number (world.version) limits.Commands → IsHeld world → IsHeld (counted world)
+  counts-held : (world : World) → world.begun < limit_number (world.version) limits.Commands → IsHeld world → IsHeld (counted world)
   counts-held world room here = record {
     range = counted-range (length script) world (here.range);
     limits = counted-within world (here.limits) room;
@@ -67,7 +69,7 @@ module _ (test : Action → Bool) (unnamed : List ℕ → Bool) (script : Script
       counted-range : (handlers : ℕ) (world : World) → IsInRange handlers world → IsInRange handlers (counted world)
       counted-range handlers world within = search
 
-  pub timed-held : (time : ℕ) (world : World) → IsHeld world → IsHeld (record world { clock = time })
+  timed-held : (time : ℕ) (world : World) → IsHeld world → IsHeld (record world { clock = time })
   timed-held time world here = record {
     range = timed-range (length script) world (here.range);
     limits = as-many world (here.limits) _ refl refl refl refl (tasks-alike world _ refl refl refl);
@@ -77,7 +79,7 @@ module _ (test : Action → Bool) (unnamed : List ℕ → Bool) (script : Script
       timed-range : (handlers : ℕ) (world : World) → IsInRange handlers world → IsInRange handlers (record world { clock = time })
       timed-range handlers world within = search
 
-  pub opening-held : (version : Version) → IsHeld (opening_world version)
+  opening-held : (version : Version) → IsHeld (opening_world version)
   opening-held version = record { range = opening-in (length script) version; limits = opening-within version; tame = record { each = tt } }
 
   module _ (clean : AllByRecursion (IsClean test unnamed) script)
@@ -118,7 +120,7 @@ module _ (test : Action → Bool) (unnamed : List ℕ → Bool) (script : Script
       tame = command-along script _ _ Tames tame-along [] tt command NoEntry world holds tt (here.tame);
     }
 
-    pub held-walked : IsWalked script IsHeld IsEntryIn
+    held-walked : IsWalked script IsHeld IsEntryIn
     held-walked = record {
       next = λ before now next same here.
           next-held before now next (subst (λ (it : ResizeObservers). AreTame test unnamed script it) (sym same) (here.tame)) here;
@@ -138,11 +140,32 @@ module _ (test : Action → Bool) (unnamed : List ℕ → Bool) (script : Script
           next-held world _ (gather-next document depth world) (gathered-tame document depth world (here.tame)) here;
     }
 
-    -- the items of a script
-    pub outside-held : (items : List Item) → AllByRecursion (ItemHolds (Names unnamed)) items → AllByRecursion (IsOutsideKept script IsHeld) items
-    outside-held items all = all-map (ItemHolds (Names unnamed)) (IsOutsideKept script IsHeld) outside items all
-      where
-        outside : (item : Item) → ItemHolds (Names unnamed) item → IsOutsideKept script IsHeld item
-        outside (Outside command) holds = command-held command holds
-        outside (Tick line time) holds = tt
-        outside (Handler line name block end_line) holds = tt
+-- of a script without lines of a test in its loop handlers
+module _ (test : Action → Bool) (items : List Item) (empty : is_empty (loop_handler_lines test items) ≡ true) where
+  abbrev pub HeldIn : World → Type 0
+  HeldIn world = IsHeld test (is_unnamed items) (handlers_in items) world
+
+  clean : AllByRecursion (IsClean test (is_unnamed items)) (handlers_in items)
+  clean = loop-handlers-clean test items empty
+
+  named : AllByRecursion (λ (handler : NamedBlock). BlockHolds (Names (is_unnamed items)) (handler.block)) (handlers_in items)
+  named = handlers-hold (Names (is_unnamed items)) items (all-named items)
+
+  pub walked-in : IsWalked (handlers_in items) HeldIn IsEntryIn
+  walked-in = held-walked test (is_unnamed items) (handlers_in items) clean named
+
+  outside : (item : Item) → ItemHolds (Names (is_unnamed items)) item → IsOutsideKept (handlers_in items) HeldIn item
+  outside (Outside command) holds = command-held test (is_unnamed items) (handlers_in items) clean named command holds
+  outside (Tick line time) holds = tt
+  outside (Handler line name block end_line) holds = tt
+
+  pub run-in : (L : List TraceLine → List Loop → Type 0) → IsTold L → ((document : ℕ) (world : World) → HeldIn world →
+      HeldIn (resize_loop (handlers_in items) document world).state
+      × L (resize_loop (handlers_in items) document world).lines (record { document = document; world = world } ∷ [])) → (version : Version) →
+      L (run_items items (opening_world version)).lines (loops_of_run version items)
+  unfolding run_items loops_of_run
+  run-in L told loops version =
+      (items-along (handlers_in items) HeldIn IsEntryIn walked-in L told loops (counts-held test (is_unnamed items) (handlers_in items))
+      (timed-held test (is_unnamed items) (handlers_in items)) items
+      (all-map (ItemHolds (Names (is_unnamed items))) (IsOutsideKept (handlers_in items) HeldIn) outside items (all-named items))
+      (opening_world version) (opening-held test (is_unnamed items) (handlers_in items) version)).1

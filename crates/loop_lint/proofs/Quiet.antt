@@ -3,7 +3,7 @@ use Rattle.std.proofs.Common.{◌≡◌, refl, ap, sym, subst, ◌∙◌, arith,
 use Rattle.std.specs.Prelude.{ℕ, zero, suc, ◌+◌, ◌<◌, ◌&&◌, nat_lt, Bool, true, false, cond, List, [], ◌∷◌, ◌++◌, map, length, unwrap_or, None, Ok, ⊤}
 use Rattle.std.specs.List.{AllByRecursion}
 use Rattle.script_model.specs.Syntax.{Item}
-use Rattle.script_model.specs.Scripts.{NamedBlock, handlers_in}
+use Rattle.script_model.specs.Scripts.{handlers_in}
 use Rattle.script_model.specs.Reading.{Reading, reading}
 use Rattle.script_model.specs.TraceLines.{TraceLine, EventLine, FiredError}
 use Rattle.text_io.specs.declared.kinds.Version.{Version}
@@ -13,7 +13,7 @@ use Rattle.page_model.specs.Documents.{is_active}
 use Rattle.page_model.specs.Lookups.{resize_observer_at}
 use Rattle.page_model.specs.Gathering.{sight_of, size_entry, with_reported, without_active, has_active, due_at}
 use Rattle.page_model.specs.Operands.{ResizeEntry}
-use Rattle.page_model.specs.Runs.{Flow, Next, Thrown, Limited, Said, Turn, silent, follow, ◌followed_by◌, only_if, lifted, repeat, by_place, at_place, most_steps}
+use Rattle.page_model.specs.Runs.{Next, Said, Turn, silent, ◌followed_by◌, only_if, lifted, repeat, by_place, at_place, most_steps}
 use Rattle.page_model.specs.Callbacks.{Script, SizeEntries, presents, call}
 use Rattle.page_model.specs.Loop.{Broadcast, gather, emptied, deliver_some, broadcast, round, round_ended, resize_loop}
 use Rattle.page_model.specs.Outcome.{opening_world, run_items, outcome, outcome_read}
@@ -24,16 +24,15 @@ use Rattle.loop_laws.specs.Rounds.{goes_on, rounds_up_to}
 use Rattle.loop_laws.specs.RunLoops.{Loop, is_loop_line}
 use Rattle.loop_laws.specs.WholeLoops.{resize_rounds, has_undelivered, fire_error}
 use Rattle.loop_laws.proofs.Bounded.{IsLess, rests, then-same}
-use Rattle.loop_laws.proofs.Errors.{errors-exact}
-use Rattle.loop_laws.proofs.LoopsAtRest.{rounds-rest, begins-below}
+use Rattle.loop_laws.proofs.Loops.{errors-exact, rounds-rest, begins-below}
+use Rattle.loop_laws.proofs.Folds.{by-flow}
 use Rattle.loop_laws.proofs.Waiting.{gather-deeper}
-use Rattle.loop_laws.proofs.Walk.{BlockHolds, count_of, goes_of, step_of, first_of, IsTold, IsWalked, delivery-along, delivers-fine, Fine, then-fine, round-fine, rounds-fine, items-along}
-use Rattle.loop_lint.specs.LoopHandlers.{is_unnamed}
+use Rattle.loop_laws.proofs.Walk.{count_of, goes_of, step_of, first_of, IsTold, IsWalked, delivery-along, delivers-fine, Fine, then-fine, round-fine, rounds-fine}
+use Rattle.loop_lint.specs.LoopHandlers.{is_empty, is_unnamed, loop_handler_lines}
 use Rattle.loop_lint.specs.Verdicts.{disturbs, is_quiet}
 use Rattle.loop_lint.specs.RunLoops.{is_error_line}
-use Rattle.loop_lint.proofs.Holding.{Names, IsClean, all-named, handlers-hold, loop-handlers-clean}
 use Rattle.loop_lint.proofs.Tame.{tame-at}
-use Rattle.loop_lint.proofs.Held.{IsHeld, held-walked, outside-held, counts-held, timed-held, opening-held}
+use Rattle.loop_lint.proofs.Held.{HeldIn, walked-in, run-in}
 use Rattle.loop_lint.proofs.Calm.{call-calm}
 use Rattle.loop_lint.proofs.Waiting.{AreFine, WaitsThere, Settled, passed-fine, reported-now, emptied-fine, calm-fine, gather-fine, settled-gather, rest-settled, all-waiting, all-settled}
 
@@ -73,14 +72,6 @@ module _ {S : Type 0} (P : S → Type 0) (count : S → ℕ) (goes_on : S → Bo
   turns-rest turn here few fewer first next =
       rests goes turns IsTurnLeft falls most_steps (suc limit) turn (record { here = here; near = omega (arith, first) }) fewer next
 
--- the rest of a run where its first part ended without a throw or a limit
-follow-known : {S : Type 0} (P : S → Type 0) (flow : Flow) (rest : S → Said S) (said : Said S) → said.flow ≡ flow → P said.state →
-    (said.flow ≡ Next → P (rest (said.state)).state) → P (follow flow rest said).state
-unfolding follow
-follow-known P Next rest said is here each = each is
-follow-known P Thrown rest said is here each = here
-follow-known P Limited rest said is here each = here
-
 if-true : (a b : Bool) → (a && b) ≡ false → a ≡ true → b ≡ false
 if-true true b none is = none
 if-true false b none is = absurd (true≢false (sym is))
@@ -95,18 +86,15 @@ module _ (items : List Item) (quiet : is_quiet items ≡ true) where
   abbrev script : Script
   script = handlers_in items
 
-  abbrev Held : World → Type 0
-  Held world = IsHeld disturbs (is_unnamed items) script world
-
-  clean : AllByRecursion (IsClean disturbs (is_unnamed items)) script
+  empty : is_empty (loop_handler_lines disturbs items) ≡ true
   unfolding is_quiet
-  clean = loop-handlers-clean disturbs items quiet
+  empty = quiet
 
-  named : AllByRecursion (λ (handler : NamedBlock). BlockHolds (Names (is_unnamed items)) (handler.block)) script
-  named = handlers-hold (Names (is_unnamed items)) items (all-named items)
+  abbrev Held : World → Type 0
+  Held world = HeldIn disturbs items empty world
 
   walked : IsWalked script Held IsEntryIn
-  walked = held-walked disturbs (is_unnamed items) script clean named
+  walked = walked-in disturbs items empty
 
   -- no line is an error's
   abbrev IsPlain : TraceLine → Type 0
@@ -226,12 +214,12 @@ module _ (items : List Item) (quiet : is_quiet items ≡ true) where
     ended-waiting so_far false is fine settled = fine
 
     round-waits : (world : World) → Held world → FineAt 0 world → FineAt 0 (round script document world).state
-    unfolding ◌followed_by◌
     round-waits world held fine =
         let said = broadcast script document world in
         let delivered = broadcast-delivers world held fine in
-        follow-known (λ (b : Broadcast). FineAt 0 (b.world)) (said.flow) _ said refl (delivered.waiting)
+        by-flow (λ (it : Said Broadcast). FineAt 0 (it.state.world)) _ said
         (λ next. ended-waiting (said.state) (is_active (said.state.world.tree) document) refl (delivered.waiting) (delivered.settled next))
+        (λ never. delivered.waiting)
 
     first-waits : (world : World) → FineAt 0 (gather document 0 world)
     unfolding gather
@@ -274,11 +262,7 @@ module _ (items : List Item) (quiet : is_quiet items ≡ true) where
         (rounds-fine script Held IsEntryIn walked Quiets quiets (λ text depth. (refl, tt)) document world) (λ now here. (here, tt)) held)
 
   pub quiet-lines : (version : Version) → AllByRecursion IsPlain (run_items items (opening_world version)).lines
-  unfolding run_items
-  quiet-lines version =
-      (items-along script Held IsEntryIn walked Quiets quiets loop-quiet (counts-held disturbs (is_unnamed items) script) (timed-held disturbs (is_unnamed items) script) items
-      (outside-held disturbs (is_unnamed items) script clean named items (all-named items))
-      (opening_world version) (opening-held disturbs (is_unnamed items) script version)).1
+  quiet-lines = run-in disturbs items empty Quiets quiets loop-quiet
 
 -- of the text of a script
 pub quiet-outcome : (text : List ℕ) (whole : WholeScript) → reading text ≡ Ok whole →

@@ -5,8 +5,8 @@ use Rattle.std.proofs.lemmas.List.Sums.{sum_by-cons}
 use Rattle.std.specs.Prelude.{ℕ, suc, ◌+◌, ◌*◌, Bool, true, false, cond, List, [], ◌∷◌, map, flat_map, length, sum_by, count_by, ⊤}
 use Rattle.std.specs.List.{AllByRecursion}
 use Rattle.text_io.specs.declared.kinds.Version.{Version}
-use Rattle.script_model.specs.Syntax.{Action, Append, Before, Remove, Command, Simple, Each, When, Item, Outside, Tick, Handler}
-use Rattle.script_model.specs.Scripts.{NamedBlock, handlers_in}
+use Rattle.script_model.specs.Syntax.{Action, Append, Before, Remove, Command, Simple, Each, When, Item}
+use Rattle.script_model.specs.Scripts.{handlers_in}
 use Rattle.script_model.specs.TraceLines.{TraceLine}
 use Rattle.page_model.specs.World.{World}
 use Rattle.page_model.specs.Operands.{Present}
@@ -14,7 +14,6 @@ use Rattle.page_model.specs.Commands.{does}
 use Rattle.page_model.specs.Runs.{most_steps}
 use Rattle.page_model.specs.Callbacks.{Script, handler_names, presents}
 use Rattle.page_model.specs.Loop.{gather, round}
-use Rattle.page_model.specs.Outcome.{opening_world}
 use Rattle.page_laws.proofs.Steps.{on_did-all}
 use Rattle.page_laws.proofs.Lists.{all-append, all-map}
 use Rattle.page_laws.proofs.Keeping.{counted}
@@ -27,13 +26,13 @@ use Rattle.loop_laws.specs.Uprooting.{moved_operand, lifts, uproots_by, uproots,
 use Rattle.loop_laws.specs.WholeLoops.{round_starts, GoesDeeper}
 use Rattle.loop_laws.proofs.Folds.{repeat-along}
 use Rattle.loop_laws.proofs.Loops.{loop-goes-deeper, loop-ends}
-use Rattle.loop_laws.proofs.Walk.{CommandHolds, BlockHolds, moment_of, IsAlong, call-along, IsDelivered, broadcasts-along, IsTold, IsWalked, IsOutsideKept, round-fine, loop-fine, items-along}
-use Rattle.loop_lint.specs.LoopHandlers.{is_unnamed}
+use Rattle.loop_laws.proofs.Walk.{CommandHolds, moment_of, IsAlong, call-along, IsDelivered, broadcasts-along, IsTold, IsWalked, round-fine, loop-fine}
+use Rattle.loop_lint.specs.LoopHandlers.{is_empty, is_unnamed, loop_handler_lines}
 use Rattle.loop_lint.specs.Verdicts.{moves, is_steady}
 use Rattle.loop_lint.specs.RunLoops.{AreGrowing, IsSteadyLoop}
-use Rattle.loop_lint.proofs.Holding.{ItemHolds, Fails, Names, IsClean, all-named, handlers-hold, loop-handlers-clean}
+use Rattle.loop_lint.proofs.Holding.{Fails}
 use Rattle.loop_lint.proofs.Tame.{tame-at}
-use Rattle.loop_lint.proofs.Held.{IsHeld, held-walked, outside-held, counts-held, timed-held, opening-held}
+use Rattle.loop_lint.proofs.Held.{HeldIn, walked-in, run-in}
 
 none-summed : {A : Type 0} (f : A → ℕ) (xs : List A) → AllByRecursion (λ x. f x ≡ 0) xs → sum_by f xs ≡ 0
 none-summed f [] all = refl
@@ -102,18 +101,15 @@ module _ (items : List Item) (steady : is_steady items ≡ true) where
   abbrev script : Script
   script = handlers_in items
 
-  abbrev Held : World → Type 0
-  Held world = IsHeld moves (is_unnamed items) script world
-
-  clean : AllByRecursion (IsClean moves (is_unnamed items)) script
+  empty : is_empty (loop_handler_lines moves items) ≡ true
   unfolding is_steady
-  clean = loop-handlers-clean moves items steady
+  empty = steady
 
-  named : AllByRecursion (λ (handler : NamedBlock). BlockHolds (Names (is_unnamed items)) (handler.block)) script
-  named = handlers-hold (Names (is_unnamed items)) items (all-named items)
+  abbrev Held : World → Type 0
+  Held world = HeldIn moves items empty world
 
   walked : IsWalked script Held IsEntryIn
-  walked = held-walked moves (is_unnamed items) script clean named
+  walked = walked-in moves items empty
 
   abbrev Any : List TraceLine → List Loop → Type 0
   Any lines loops = ⊤
@@ -174,10 +170,6 @@ module _ (items : List Item) (steady : is_steady items ≡ true) where
   }
 
   pub steady-loops : (version : Version) → AllByRecursion (IsSteadyLoop script) (loops_of_run version items)
-  unfolding loops_of_run
-  steady-loops version =
-      (items-along script Held IsEntryIn walked Steadies steadies
+  steady-loops =
+      run-in moves items empty Steadies steadies
       (λ document now here. ((loop-fine script Held IsEntryIn walked Any any (λ text depth. tt) document (λ text. tt) now here).0, (steady-loop document now here, tt)))
-      (counts-held moves (is_unnamed items) script) (timed-held moves (is_unnamed items) script) items
-      (outside-held moves (is_unnamed items) script clean named items (all-named items))
-      (opening_world version) (opening-held moves (is_unnamed items) script version)).1

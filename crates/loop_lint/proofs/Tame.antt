@@ -4,13 +4,12 @@ use Rattle.std.proofs.lemmas.Slice.Eq.{bytes_eq-Decides}
 use Rattle.std.specs.Prelude.{ℕ, ℤ, zero, suc, ◌+◌, Bool, true, false, not, cond, nat_lt, List, [], ◌∷◌, ◌++◌, length, slice_get, position, Option, Some, None, IfSome, option_map, unwrap_or, bytes_eq}
 use Rattle.std.specs.List.{AllByRecursion, position_or_len}
 use Rattle.text_io.specs.declared.kinds.ThrowKind.TheVariants.{ReferenceError}
-use Rattle.layout_model.specs.Items.{Kind}
 use Rattle.script_model.specs.Syntax.{Action, MakeResizeObserver, ObserveResize, UnobserveResize, DisconnectResize, Block}
 use Rattle.script_model.specs.Scripts.{NamedBlock, number_in}
-use Rattle.page_model.specs.World.{ResizeObserver, ResizeObservers, IntersectionObservers, Listener, Table, ScrollTarget, Tree, World}
+use Rattle.page_model.specs.World.{ResizeObserver, ResizeObservers, ScrollTarget, World}
 use Rattle.page_model.specs.Lookups.{change_at, resize_observer_at, no_resize_observer}
 use Rattle.page_model.specs.Gathering.{Sight, gathered_if, is_of, gathering}
-use Rattle.page_model.specs.Steps.{Step, Effect}
+use Rattle.page_model.specs.Steps.{Effect}
 use Rattle.page_model.specs.Operands.{Present, handler_named, handler_given}
 use Rattle.page_model.specs.Scrolling.{scrolled_to, scrolled_by}
 use Rattle.page_model.specs.Commands.{does, with_tree, with_intersections, with_listeners, making}
@@ -122,22 +121,6 @@ module _ (test : Action → Bool) (unnamed : List ℕ → Bool) where
         abbrev Done : Effect → Type 0
         Done effect = AreTame (effect.world.resize_observers)
 
-        tree-tame : (step : Step Tree) → OnDid (with_tree world step) Done
-        unfolding with_tree
-        tree-tame step = bind step _ Done (λ it. did _ Done here)
-
-        intersections-tame : (step : Step IntersectionObservers) → OnDid (with_intersections world step) Done
-        unfolding with_intersections
-        intersections-tame step = bind step _ Done (λ it. did _ Done here)
-
-        listeners-tame : (step : Step (Table Listener)) → OnDid (with_listeners world step) Done
-        unfolding with_listeners
-        listeners-tame step = bind step _ Done (λ it. did _ Done here)
-
-        making-tame : (name made_in : List ℕ) (kind : Kind) → OnDid (making world name made_in kind) Done
-        unfolding making
-        making-tame name made_in kind = search (both, bind, did, here) depth 9
-
         scrolled-tame : (left top : ℤ) (target : Option ScrollTarget) → AreTame (scrolled_to left top target world).resize_observers
         scrolled-tame left top None = here
         scrolled-tame left top (Some target) = here
@@ -158,12 +141,11 @@ module _ (test : Action → Bool) (unnamed : List ℕ → Bool) where
         target-tame change same given observer = changed-tame change same given observer (world.resize_observers) here
 
         pub does-tame : (present : Present) (action : Action) → Names unnamed action → OnDid (does (handler_names script) world present action) Done
-        unfolding does
+        unfolding does with_tree with_intersections with_listeners making
         does-tame present (MakeResizeObserver name owner handler) named =
             both _ _ Done (bind _ _ Done (λ made_in. bind-in _ _ _ Done (given-tame handler named) (λ called tame.
             both _ _ Done (did _ Done (made-tame made_in called tame)))))
         does-tame present (ObserveResize observer node observed) named = search (both, bind, did, target-tame) depth 9
         does-tame present (UnobserveResize observer node) named = search (bind, did, target-tame) depth 9
         does-tame present (DisconnectResize observer) named = search (bind, did, target-tame) depth 9
-        does-tame present action named =
-            search (both, bind, did, here, tree-tame, making-tame, intersections-tame, listeners-tame, scrolled-tame, scrolled-by-tame) depth 14
+        does-tame present action named = search (both, bind, did, here, scrolled-tame, scrolled-by-tame) depth 14
