@@ -16,7 +16,7 @@ use Rattle.page_model.specs.Lookups.{element_at}
 use Rattle.page_model.specs.Steps.{Step, Did, Threw, Met, Effect, is_did}
 use Rattle.page_model.specs.Operands.{Present, element_meant}
 use Rattle.page_model.specs.Commands.{does}
-use Rattle.page_laws.proofs.Lists.{all-mapped, all-append, all-map}
+use Rattle.page_laws.proofs.Lists.{all-mapped, all-map}
 use Rattle.page_laws.specs.Successors.{OnDid}
 use Rattle.page_laws.proofs.Steps.{did, on_did-all, on_did-with}
 use Rattle.page_laws.proofs.Depths.{or-false}
@@ -27,7 +27,7 @@ use Rattle.loop_laws.specs.Rounds.{deepest, round_depth, goes_on, IsDeeper}
 use Rattle.loop_laws.specs.WholeLoops.{delivered_depths}
 use Rattle.loop_laws.specs.Moments.{Moment, delivery_moments, broadcast_moments}
 use Rattle.loop_laws.specs.Uprooting.{moved_operand, comes_to, stands_above, lifts, uproots, targets_of, gathered_targets, uprootings}
-use Rattle.loop_laws.proofs.Folds.{all-each, all-split, IsJoined, all-two}
+use Rattle.loop_laws.proofs.Folds.{all-each, all-joined, all-split, IsJoined, all-two}
 use Rattle.loop_laws.proofs.Walk.{due_of, broadcast-along, moment_of, on_did-given, IsAlong, IsDelivered, any-call, delivery-along}
 use Rattle.loop_laws.proofs.Effects.{KeepsParents, IsSpared, does-done}
 use Rattle.loop_laws.proofs.Found.{round-finds}
@@ -114,7 +114,7 @@ module _ (script : Script) (document : ℕ) where
   unfolding delivered_depths
   all-delivered P each world =
       broadcast-along script document (λ (before : Broadcast) (lines : List TraceLine) (depths : List ℕ) (now : Broadcast). AllByRecursion P depths)
-      (record { none = λ so_far. tt; both = λ a b c lines more xs ys one other. all-append P xs ys one other })
+      (all-joined P)
       depths_now
       (λ observer so_far. all-mapped (λ (it : Observation). P (element_depth (so_far.world.tree) (it.target))) P
       (λ (it : Observation). element_depth (so_far.world.tree) (it.target)) (λ it is. is) (due_of document observer so_far)

@@ -5,6 +5,7 @@ use Rattle.std.specs.Prelude.{ℕ, zero, suc, Bool, true, false, ◌&&◌, nat_l
 use Rattle.std.specs.List.{AllByRecursion}
 use Rattle.script_model.specs.TraceLines.{TraceLine}
 use Rattle.page_model.specs.Runs.{Flow, Next, Thrown, Limited, Said, Turn, behind, lifted, follow, ◌followed_by◌, only_if, for_each, repeat, by_place, at_place, most_steps}
+use Rattle.page_laws.proofs.Lists.{all-append}
 use Rattle.loop_laws.specs.Moments.{onward, following, listed_if, along_each, along_repeat, along_places}
 
 pub all-each : {A : Type 0} (P : A → Type 0) (xs : List A) → ((x : A) → P x) → AllByRecursion P xs
@@ -50,6 +51,13 @@ while-joined P R joined = record {
       let second = other (first.0) in
       (second.0, joined.both a b c lines more xs ys (first.1) (second.1));
 }
+
+-- what holds of all that is listed, or of all lines
+pub all-joined : {S B : Type 0} (F : B → Type 0) → IsJoined (λ (a : S) (lines : List TraceLine) (xs : List B) (b : S). AllByRecursion F xs)
+all-joined F = record { none = λ s. tt; both = λ a b c lines more xs ys one other. all-append F xs ys one other }
+
+pub lines-joined : {S B : Type 0} (Q : TraceLine → Type 0) → IsJoined (λ (a : S) (lines : List TraceLine) (xs : List B) (b : S). AllByRecursion Q lines)
+lines-joined Q = record { none = λ s. tt; both = λ a b c lines more xs ys one other. all-append Q lines more one other }
 
 module _ {S B : Type 0} (R : S → List TraceLine → List B → S → Type 0) (joined : IsJoined R) where
   follow-along : (first : S) (xs : List B) (flow : Flow) (rest : S → Said S) (list : S → List B) (said : Said S) → Runs R first xs said →

@@ -18,13 +18,12 @@ use Rattle.page_model.specs.Callbacks.{Script}
 use Rattle.page_model.specs.Loop.{Broadcast, gather, broadcast, round, round_ended}
 use Rattle.page_model.specs.Ticks.{tick}
 use Rattle.page_model.specs.Outcome.{opening_world, run_items}
-use Rattle.page_laws.proofs.Lists.{all-append}
 use Rattle.page_laws.proofs.Later.{all-so}
 use Rattle.loop_laws.specs.Moments.{Moment, onward, following}
 use Rattle.loop_laws.specs.Rounds.{goes_on, rounds_up_to, round_depth}
 use Rattle.loop_laws.specs.RunLoops.{Loop, tick_loops, loops_of_run, is_loop_line, loop_lines, lines_of_loop}
 use Rattle.loop_laws.specs.WholeLoops.{resize_rounds, round_starts, line_of_round}
-use Rattle.loop_laws.proofs.Folds.{all-each, repeat-along}
+use Rattle.loop_laws.proofs.Folds.{all-each, lines-joined, repeat-along}
 use Rattle.loop_laws.proofs.Lines.{IsPlain}
 use Rattle.loop_laws.proofs.Walk.{IsTold, IsWalked, IsOutsideKept, call-plain, broadcasts-along, tick-along, items-along}
 
@@ -51,7 +50,7 @@ module _ (script : Script) (document : ℕ) where
   broadcast-plain world =
       (broadcasts-along script document (λ (world : World). ⊤) (λ (k : ℕ) (present : Present). ⊤)
       (λ (before : World) (lines : List TraceLine) (moments : List Moment) (now : World). AllByRecursion IsPlain lines) (record {
-        joined = record { none = λ now. tt; both = λ a b c lines more xs ys one other. all-append IsPlain lines more one other };
+        joined = lines-joined IsPlain;
         due = λ observer now here. all-so _;
         calls = λ observer delivered handed now are here. (tt, call-plain script document _ handed _);
         emptied = λ observer before now lines moments is here there. (tt, there);

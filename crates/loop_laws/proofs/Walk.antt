@@ -36,7 +36,6 @@ use Rattle.page_model.specs.Outcome.{run_tick, run_item}
 use Rattle.page_laws.specs.Successors.{OnDid}
 use Rattle.page_laws.proofs.Steps.{did, room-then, on_did-all, on_did-map}
 use Rattle.page_laws.proofs.Keeping.{counted}
-use Rattle.page_laws.proofs.Lists.{all-append}
 use Rattle.page_laws.proofs.Later.{all-so}
 use Rattle.page_laws.proofs.Changes.{IsNext, active-in, timer-next, frame-next, noted-next, pending-next, matched-next, tasks-next, unnotified-next, queue-next, update-next}
 use Rattle.page_laws.proofs.WholeRuns.{time-kept}
@@ -45,7 +44,7 @@ use Rattle.loop_laws.specs.Rounds.{goes_on}
 use Rattle.loop_laws.specs.WholeLoops.{resize_rounds, fire_error}
 use Rattle.loop_laws.specs.Rounds.{rounds_up_to}
 use Rattle.loop_laws.specs.RunLoops.{Loop, over, earlier_parts, document_loops, update_loops, tick_loops, item_loops}
-use Rattle.loop_laws.proofs.Folds.{IsJoined, Runs, While, while-joined, then-along, then-behind, if-along, each-along, repeat-along, split-along, places-along}
+use Rattle.loop_laws.proofs.Folds.{IsJoined, Runs, while-joined, lines-joined, then-along, then-behind, if-along, each-along, repeat-along, split-along, places-along}
 use Rattle.loop_laws.proofs.Lines.{IsPlain, entries-plain, does-plain}
 
 -- what a step comes to, and how it goes on with the value
@@ -203,7 +202,7 @@ module _ (script : Script) where
   lines-along : IsAlong script (λ (action : Action). ⊤) (λ (present : Present). ⊤)
       (λ (before : World) (lines : List TraceLine) (moments : List Moment) (now : World). AllByRecursion IsPlain lines)
   lines-along = record {
-    joined = record { none = λ world. tt; both = λ a b c lines more xs ys one other. all-append IsPlain lines more one other };
+    joined = lines-joined IsPlain;
     plain = λ world lines plain. plain;
     begun = λ world present command fits is room. tt;
     does = λ line action present world fits is room. does-plain (handler_names script) (counted world) present action;
@@ -263,13 +262,14 @@ module _ (script : Script) (document : ℕ) (P : World → Type 0) (In : ℕ →
   all-sized k observer world [] all = tt
   all-sized k observer world (x ∷ xs) all = (all.0, all-sized k observer world xs (all.1))
 
+  abbrev Delivers : Broadcast → List TraceLine → List Moment → Broadcast → Type 0
+  Delivers a lines moments b = P (a.world) → P (b.world) × R (a.world) lines moments (b.world)
+
   some-along : (observer : ℕ) (so_far : Broadcast) (delivered : List Observation) →
-      AllByRecursion (λ (it : Observation). In (length so_far.world.tree.elements) (ResizeEntry (it.target))) delivered → P (so_far.world) →
-      P (deliver_some script document observer so_far delivered).state.world
-      × R (so_far.world) (deliver_some script document observer so_far delivered).lines (delivery_moments script document observer so_far delivered)
-      (deliver_some script document observer so_far delivered).state.world
-  some-along observer so_far [] are here = (here, delivers.joined.none (so_far.world))
-  some-along observer so_far (first ∷ others) are here =
+      AllByRecursion (λ (it : Observation). In (length so_far.world.tree.elements) (ResizeEntry (it.target))) delivered →
+      Runs Delivers so_far (delivery_moments script document observer so_far delivered) (deliver_some script document observer so_far delivered)
+  some-along observer so_far [] are = λ here. (here, delivers.joined.none (so_far.world))
+  some-along observer so_far (first ∷ others) are = λ here.
       let world = so_far.world in
       let now = record world { resize_observers = with_reported (sight_of world) observer (first ∷ others) (world.resize_observers) } in
       let handler = (resize_observer_at (world.resize_observers) observer).handler in
@@ -285,15 +285,10 @@ module _ (script : Script) (document : ℕ) (P : World → Type 0) (In : ℕ →
       by_state called lines moments true is held there = delivers.emptied observer (so_far.world) called lines moments is held there
       by_state called lines moments false is held there = (held, there)
 
-  pub delivery-along : (observer : ℕ) (so_far : Broadcast) → P (so_far.world) →
-      P (step_of script document observer so_far).state.world
-      × R (so_far.world) (step_of script document observer so_far).lines (delivery_moments script document observer so_far (due_of document observer so_far))
-      (step_of script document observer so_far).state.world
-  delivery-along observer so_far here =
+  pub delivery-along : (observer : ℕ) (so_far : Broadcast) →
+      Runs Delivers so_far (delivery_moments script document observer so_far (due_of document observer so_far)) (step_of script document observer so_far)
+  delivery-along observer so_far = λ here.
       some-along observer so_far (due_of document observer so_far) (delivers.due observer (so_far.world) here) here
-
-  abbrev Delivers : Broadcast → List TraceLine → List Moment → Broadcast → Type 0
-  Delivers a lines moments b = P (a.world) → P (b.world) × R (a.world) lines moments (b.world)
 
   delivers-joined : IsJoined Delivers
   delivers-joined = record {
@@ -301,13 +296,11 @@ module _ (script : Script) (document : ℕ) (P : World → Type 0) (In : ℕ →
     both = λ a b c lines more xs ys one other. (while-joined P R (delivers.joined)).both (a.world) (b.world) (c.world) lines more xs ys one other;
   }
 
-  pub broadcasts-along : (world : World) → P world →
-      P (broadcast script document world).state.world
-      × R world (broadcast script document world).lines (broadcast_moments script document world) (broadcast script document world).state.world
+  pub broadcasts-along : (world : World) → Runs Delivers (first_of world) (broadcast_moments script document world) (broadcast script document world)
   unfolding broadcast_moments
-  broadcasts-along world here =
+  broadcasts-along world =
       broadcast-along script document Delivers delivers-joined
-      (λ observer so_far. delivery_moments script document observer so_far (due_of document observer so_far)) delivery-along world here
+      (λ observer so_far. delivery_moments script document observer so_far (due_of document observer so_far)) delivery-along world
 
 -- ticks ------------------------------------------------------------------------------------------------------------------------
 
@@ -350,22 +343,14 @@ module _ (script : Script) (P : World → Type 0) (In : ℕ → Present → Type
   Fine world said = P world → P (said.state) × L (said.lines) []
 
   lists-joined : IsJoined Lists
-  lists-joined = record {
-    none = λ world here. (here, told.nothing);
-    both = λ a b c lines more xs ys one other here.
-        let first = one here in
-        let second = other (first.0) in
-        (second.0, told.both lines more xs ys (first.1) (second.1));
-  }
+  lists-joined =
+      while-joined P (λ (a : World) (lines : List TraceLine) (loops : List Loop) (b : World). L lines loops)
+      (record { none = λ world. told.nothing; both = λ a b c lines more xs ys one other. told.both lines more xs ys one other })
 
   says-joined : IsJoined Says
-  says-joined = record {
-    none = λ world here. (here, told.nothing);
-    both = λ a b c lines more xs ys one other here.
-        let first = one here in
-        let second = other (first.0) in
-        (second.0, told.both lines more [] [] (first.1) (second.1));
-  }
+  says-joined =
+      while-joined P (λ (a : World) (lines : List TraceLine) (loops : List Loop) (b : World). L lines [])
+      (record { none = λ world. told.nothing; both = λ a b c lines more xs ys one other. told.both lines more [] [] one other })
 
   abbrev none_of : World → List Loop
   none_of world = []

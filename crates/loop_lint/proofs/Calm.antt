@@ -1,18 +1,19 @@
 -- What a command that a quiet handler may hold leaves: the sizes of all elements that there are, and each observation or none of it.
-use Rattle.std.proofs.Common.{◌≡◌, refl, sym, subst, ◌∙◌, arith, ◌≤◌, true≢false}
-use Rattle.std.specs.Prelude.{ℕ, ℤ, zero, suc, ◌<◌, ◌==◌, not, Bool, true, false, List, [], ◌∷◌, ◌++◌, length, Option, Some, None, IfSome}
+use Rattle.std.proofs.Common.{◌≡◌, refl, sym, subst, ◌∙◌, arith, ◌≤◌, true≢false, ap}
+use Rattle.std.specs.Prelude.{ℕ, ℤ, zero, suc, ◌<◌, ◌==◌, not, Bool, true, false, List, [], ◌∷◌, ◌++◌, length, Option, Some, None, IfSome, unwrap_or, option_map}
 use Rattle.std.specs.List.{AllByRecursion}
 use Rattle.px_units.specs.declared.BoxKind.{BoxKind}
 use Rattle.layout_model.specs.Items.{Kind}
+use Rattle.layout_model.specs.Boxes.{Box}
 use Rattle.script_model.specs.Syntax.{Action, Viewport, SetRatio, Append, Before, Remove, SetStyle, Grow, Load, MakeResizeObserver, ObserveResize, UnobserveResize, DisconnectResize}
 use Rattle.script_model.specs.TraceLines.{TraceLine}
-use Rattle.page_model.specs.World.{Screen, Observation, ResizeObserver, ResizeObservers, IntersectionObservers, Listener, Table, ScrollTarget, Tree, World}
-use Rattle.page_model.specs.Lookups.{resize_observer_at}
-use Rattle.page_model.specs.Documents.{is_active}
-use Rattle.page_model.specs.Edits.{with_element, with_frame}
+use Rattle.page_model.specs.World.{Screen, Observation, ResizeObserver, ResizeObservers, IntersectionObservers, Listener, Table, ScrollTarget, Tree, World, Document}
+use Rattle.page_model.specs.Lookups.{resize_observer_at, entry_or, no_document}
+use Rattle.page_model.specs.Documents.{is_active, is_active_state}
+use Rattle.page_model.specs.Edits.{with_element, with_frame, new_document}
 use Rattle.page_model.specs.ResizeObserving.{without_observed, with_resize_observer, without_resize_target, without_resize_targets}
 use Rattle.page_model.specs.Gathering.{is_of}
-use Rattle.page_model.specs.PageBoxes.{size_of}
+use Rattle.page_model.specs.PageBoxes.{size_of, size_by, extent_of}
 use Rattle.page_model.specs.Steps.{Effect}
 use Rattle.page_model.specs.Operands.{Present, Handlers}
 use Rattle.page_model.specs.Scrolling.{scrolled_to, scrolled_by}
@@ -21,18 +22,51 @@ use Rattle.page_model.specs.Callbacks.{Script, Entries, handler_names, presents,
 use Rattle.page_model.specs.Ranges.{IsInRange}
 use Rattle.page_laws.specs.Successors.{OnDid}
 use Rattle.page_laws.proofs.Steps.{bind, both, did, on_did-with}
-use Rattle.page_laws.proofs.Lists.{all-filter}
-use Rattle.page_laws.proofs.Unboxed.{in-range-made}
+use Rattle.page_laws.proofs.Lists.{all-filter, less-more}
+use Rattle.page_laws.proofs.Unboxed.{in-range-made, element-boxes, frame-boxes}
 use Rattle.page_laws.proofs.InRange.{does-in}
 use Rattle.page_laws.proofs.Keeping.{counted}
 use Rattle.page_laws.proofs.RunsInRange.{IsEntryIn, same-count}
+use Rattle.page_laws.specs.Making.{NamesMade, KeepsBoxes}
 use Rattle.loop_laws.specs.Moments.{Moment}
 use Rattle.loop_laws.proofs.Waiting.{changed-at, made-at}
 use Rattle.loop_laws.proofs.Walk.{HandlerHolds, IsAlong, call-along, on_did-given}
 use Rattle.loop_lint.specs.Verdicts.{disturbs}
 use Rattle.loop_lint.proofs.Holding.{Fails}
 use Rattle.loop_lint.proofs.Held.{present-in}
-use Rattle.loop_lint.proofs.More.{IsMore, element-more, frame-more}
+
+-- where elements and documents are made ---------------------------------------------------------------------------------------
+
+record IsMore (tree after : Tree) : Type 0 where
+  pub elements : length tree.elements ≤ length after.elements
+  pub sizes : (screen : Screen) (n : ℕ) (kind : BoxKind) → size_of after screen n kind ≡ size_of tree screen n kind
+  pub active : (d : ℕ) → is_active after d ≡ is_active tree d
+
+size-same : (tree after : Tree) → KeepsBoxes tree after → (screen : Screen) (n : ℕ) (kind : BoxKind) → size_of after screen n kind ≡ size_of tree screen n kind
+unfolding size_of
+size-same tree after keeps screen n kind =
+    ap (λ (box : Option Box). extent_of (unwrap_or (option_map (size_by (screen.ratio) kind) box) (0, 0))) (keeps.boxes screen n)
+
+fresh-idle : (documents : List Document) (frame d : ℕ) →
+    is_active_state (entry_or no_document (documents ++ new_document frame ∷ []) d).state ≡ is_active_state (entry_or no_document documents d).state
+fresh-idle [] frame zero = refl
+fresh-idle [] frame (suc d) = refl
+fresh-idle (x ∷ xs) frame zero = refl
+fresh-idle (x ∷ xs) frame (suc d) = fresh-idle xs frame d
+
+element-more : (kind : Kind) (made_in : ℕ) (framed : Option ℕ) (tree : Tree) → NamesMade tree → IsMore tree (with_element kind made_in framed tree)
+element-more kind made_in framed tree made = record {
+  elements = less-more (tree.elements) _;
+  sizes = size-same tree _ (element-boxes tree made kind made_in framed);
+  active = λ d. refl;
+}
+
+frame-more : (made_in : ℕ) (tree : Tree) → NamesMade tree → IsMore tree (with_frame made_in tree)
+frame-more made_in tree made = record {
+  elements = less-more (tree.elements) _;
+  sizes = size-same tree _ (frame-boxes tree made made_in);
+  active = fresh-idle (tree.documents) (length tree.elements);
+}
 
 -- observers -----------------------------------------------------------------------------------------------------------------------
 

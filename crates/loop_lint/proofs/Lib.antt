@@ -1,6 +1,5 @@
 mod Holding
 mod Tame
-mod More
 mod Held
 mod Calm
 mod Waiting

@@ -24,7 +24,7 @@ use Rattle.loop_laws.specs.Rounds.{goes_on, round_depth}
 use Rattle.loop_laws.specs.RunLoops.{Loop, loops_of_run}
 use Rattle.loop_laws.specs.Uprooting.{moved_operand, lifts, uproots_by, uproots, gathered_targets, uprootings}
 use Rattle.loop_laws.specs.WholeLoops.{round_starts, GoesDeeper}
-use Rattle.loop_laws.proofs.Folds.{repeat-along}
+use Rattle.loop_laws.proofs.Folds.{while-joined, all-joined, repeat-along}
 use Rattle.loop_laws.proofs.Loops.{loop-goes-deeper, loop-ends}
 use Rattle.loop_laws.proofs.Walk.{CommandHolds, moment_of, IsAlong, call-along, IsDelivered, broadcasts-along, IsTold, IsWalked, round-fine, loop-fine}
 use Rattle.loop_lint.specs.LoopHandlers.{is_empty, is_unnamed, loop_handler_lines}
@@ -77,7 +77,7 @@ module _ (script : Script) (targets : List ℕ) where
   gentle-along : IsAlong script (Fails moves) (λ (present : Present). ⊤) Gentles
   unfolding uproots
   gentle-along = record {
-    joined = record { none = λ world. tt; both = λ a b c lines more xs ys one other. all-append IsGentle xs ys one other };
+    joined = all-joined IsGentle;
     plain = λ world lines plain. tt;
     begun = λ world present command fits is room. (gentle (moment_of world present command) command fits, tt);
     does = λ line action present world fits is room. on_did-all (does (handler_names script) (counted world) present action) _
@@ -141,13 +141,7 @@ module _ (items : List Item) (steady : is_steady items ≡ true) where
     starts-rooted world here =
         (repeat-along (λ (before : World) (lines : List TraceLine) (starts : List World) (now : World).
         Held before → Held now × AllByRecursion (λ start. uprootings script document start ≡ 0) starts)
-        (record {
-          none = λ now held. (held, tt);
-          both = λ a b c lines more xs ys one other held.
-              let first = one held in
-              let second = other (first.0) in
-              (second.0, all-append (λ start. uprootings script document start ≡ 0) xs ys (first.1) (second.1));
-        })
+        (while-joined Held _ (all-joined (λ start. uprootings script document start ≡ 0)))
         (goes_on document) (round script document) (λ now. now ∷ []) most_steps
         (λ now goes held. ((round-fine script Held IsEntryIn walked Any any (λ text depth. tt) document now held).0, (rooted now held, tt)))
         (gather document 0 world) (walked.gathered document 0 world here)).1
