@@ -40,7 +40,20 @@ present-in k world NoEntry most is = tt
 present-in k world (ResizeEntry target) most is = omega (arith, most, is)
 present-in k world (IntersectionEntry target meets) most is = omega (arith, most, is)
 
-module _ (test : Action → Bool) (unnamed : List ℕ → Bool) (script : Script) where
+-- of a script without lines of a test in its loop handlers
+module _ (test : Action → Bool) (items : List Item) (empty : is_empty (loop_handler_lines test items) ≡ true) where
+  abbrev script : Script
+  script = handlers_in items
+
+  abbrev unnamed : List ℕ → Bool
+  unnamed = is_unnamed items
+
+  clean : AllByRecursion (IsClean test unnamed) script
+  clean = loop-handlers-clean test items empty
+
+  named : AllByRecursion (λ (handler : NamedBlock). BlockHolds (Names unnamed) (handler.block)) script
+  named = handlers-hold (Names unnamed) items (all-named items)
+
   -- a world of a run
   pub record IsHeld (world : World) : Type 0 where
     pub range : IsInRange (length script) world
@@ -82,90 +95,73 @@ module _ (test : Action → Bool) (unnamed : List ℕ → Bool) (script : Script
   opening-held : (version : Version) → IsHeld (opening_world version)
   opening-held version = record { range = opening-in (length script) version; limits = opening-within version; tame = record { each = tt } }
 
-  module _ (clean : AllByRecursion (IsClean test unnamed) script)
-      (named : AllByRecursion (λ (handler : NamedBlock). BlockHolds (Names unnamed) (handler.block)) script) where
-    abbrev Tames : World → List TraceLine → List Moment → World → Type 0
-    Tames before lines moments now = AreTame test unnamed script before.resize_observers → AreTame test unnamed script now.resize_observers
+  abbrev Tames : World → List TraceLine → List Moment → World → Type 0
+  Tames before lines moments now = AreTame test unnamed script before.resize_observers → AreTame test unnamed script now.resize_observers
 
-    tame-along : IsAlong script (Names unnamed) (λ (present : Present). ⊤) Tames
-    tame-along = record {
-      joined = record { none = λ world here. here; both = λ a b c lines more xs ys one other here. other (one here) };
-      plain = λ world lines plain here. here;
-      begun = λ world present command named is room here. here;
-      does = λ line action present world named is room. on_did-given (does (handler_names script) (counted world) present action)
-          (AreTame test unnamed script world.resize_observers) (λ effect. AreTame test unnamed script effect.world.resize_observers)
-          (λ here. does-tame test unnamed script clean (counted world) here present action named);
-      none = tt;
-    }
+  tame-along : IsAlong script (Names unnamed) (λ (present : Present). ⊤) Tames
+  tame-along = record {
+    joined = record { none = λ world here. here; both = λ a b c lines more xs ys one other here. other (one here) };
+    plain = λ world lines plain here. here;
+    begun = λ world present command named is room here. here;
+    does = λ line action present world named is room. on_did-given (does (handler_names script) (counted world) present action)
+        (AreTame test unnamed script world.resize_observers) (λ effect. AreTame test unnamed script effect.world.resize_observers)
+        (λ here. does-tame test unnamed script clean (counted world) here present action named);
+    none = tt;
+  }
 
-    handler-named : (handler : Option ℕ) → HandlerHolds (Names unnamed) script handler
-    handler-named None = tt
-    handler-named (Some h) = block-holds (Names unnamed) script named h
+  handler-named : (handler : Option ℕ) → HandlerHolds (Names unnamed) script handler
+  handler-named None = tt
+  handler-named (Some h) = block-holds (Names unnamed) script named h
 
-    call-held : (document : ℕ) (handler : Option ℕ) (handed : Entries) (world : World) → AllByRecursion (IsEntryIn (length world.tree.elements)) (presents handed) →
-        IsHeld world → IsHeld (call script document handler handed world).state
-    call-held document handler handed world are here = record {
-      range = call-in script world (here.range) document handler handed
-          (all-map (IsEntryIn (length world.tree.elements)) (IsPresentIn world) (λ present is. present-in (length world.tree.elements) world present (omega arith) is)
-          (presents handed) are);
-      limits = call-within script world (here.limits) document handler handed;
-      tame = call-along script _ _ Tames tame-along document handler handed world (all-so (presents handed)) (handler-named handler) (here.tame);
-    }
+  call-held : (document : ℕ) (handler : Option ℕ) (handed : Entries) (world : World) → AllByRecursion (IsEntryIn (length world.tree.elements)) (presents handed) →
+      IsHeld world → IsHeld (call script document handler handed world).state
+  call-held document handler handed world are here = record {
+    range = call-in script world (here.range) document handler handed
+        (all-map (IsEntryIn (length world.tree.elements)) (IsPresentIn world) (λ present is. present-in (length world.tree.elements) world present (omega arith) is)
+        (presents handed) are);
+    limits = call-within script world (here.limits) document handler handed;
+    tame = call-along script _ _ Tames tame-along document handler handed world (all-so (presents handed)) (handler-named handler) (here.tame);
+  }
 
-    command-held : (command : Command) → CommandHolds (Names unnamed) command → (world : World) → IsHeld world →
-        IsHeld (run_command script [] command NoEntry world).state
-    command-held command holds world here = record {
-      range = command-in script world (here.range) [] command NoEntry tt tt;
-      limits = command-within script world (here.limits) [] command NoEntry;
-      tame = command-along script _ _ Tames tame-along [] tt command NoEntry world holds tt (here.tame);
-    }
+  command-held : (command : Command) → CommandHolds (Names unnamed) command → (world : World) → IsHeld world →
+      IsHeld (run_command script [] command NoEntry world).state
+  command-held command holds world here = record {
+    range = command-in script world (here.range) [] command NoEntry tt tt;
+    limits = command-within script world (here.limits) [] command NoEntry;
+    tame = command-along script _ _ Tames tame-along [] tt command NoEntry world holds tt (here.tame);
+  }
 
-    held-walked : IsWalked script IsHeld IsEntryIn
-    held-walked = record {
-      next = λ before now next same here.
-          next-held before now next (subst (λ (it : ResizeObservers). AreTame test unnamed script it) (sym same) (here.tame)) here;
-      calls = call-held;
-      queued = λ world observer here. queue-in (counts_of (length script) world) (world.intersection_observers.made) observer here.range.intersection_observers;
-      due = λ document observer world here.
-          if-own (λ (it : Observation). it.target < length world.tree.elements) (is_of document (resize_observer_at (world.resize_observers) observer)) _
-          (observed-in (counts_of (length script) world) (world.resize_observers.made) observer here.range.resize_observers);
-      reported = λ observer delivered world here.
-          next-held world _ (reported-next world (sight_of world) observer delivered)
-          (changed-tame test unnamed script _ (λ it. refl) (world.resize_observers.given) observer (world.resize_observers) (here.tame)) here;
-      emptied = λ document observer world is here.
-          let now = record world { resize_observers = without_active observer (world.resize_observers) } in
-          next-held world now (subst (λ (active : Bool). IsNext world (cond active now world)) is (emptied-next world document observer))
-          (changed-tame test unnamed script _ (λ it. refl) (world.resize_observers.given) observer (world.resize_observers) (here.tame)) here;
-      gathered = λ document depth world here.
-          next-held world _ (gather-next document depth world) (gathered-tame document depth world (here.tame)) here;
-    }
+  pub held-walked : IsWalked script IsHeld IsEntryIn
+  held-walked = record {
+    next = λ before now next same here.
+        next-held before now next (subst (λ (it : ResizeObservers). AreTame test unnamed script it) (sym same) (here.tame)) here;
+    calls = call-held;
+    queued = λ world observer here. queue-in (counts_of (length script) world) (world.intersection_observers.made) observer here.range.intersection_observers;
+    due = λ document observer world here.
+        if-own (λ (it : Observation). it.target < length world.tree.elements) (is_of document (resize_observer_at (world.resize_observers) observer)) _
+        (observed-in (counts_of (length script) world) (world.resize_observers.made) observer here.range.resize_observers);
+    reported = λ observer delivered world here.
+        next-held world _ (reported-next world (sight_of world) observer delivered)
+        (changed-tame test unnamed script _ (λ it. refl) (world.resize_observers.given) observer (world.resize_observers) (here.tame)) here;
+    emptied = λ document observer world is here.
+        let now = record world { resize_observers = without_active observer (world.resize_observers) } in
+        next-held world now (subst (λ (active : Bool). IsNext world (cond active now world)) is (emptied-next world document observer))
+        (changed-tame test unnamed script _ (λ it. refl) (world.resize_observers.given) observer (world.resize_observers) (here.tame)) here;
+    gathered = λ document depth world here.
+        next-held world _ (gather-next document depth world) (gathered-tame document depth world (here.tame)) here;
+  }
 
--- of a script without lines of a test in its loop handlers
-module _ (test : Action → Bool) (items : List Item) (empty : is_empty (loop_handler_lines test items) ≡ true) where
-  abbrev pub HeldIn : World → Type 0
-  HeldIn world = IsHeld test (is_unnamed items) (handlers_in items) world
-
-  clean : AllByRecursion (IsClean test (is_unnamed items)) (handlers_in items)
-  clean = loop-handlers-clean test items empty
-
-  named : AllByRecursion (λ (handler : NamedBlock). BlockHolds (Names (is_unnamed items)) (handler.block)) (handlers_in items)
-  named = handlers-hold (Names (is_unnamed items)) items (all-named items)
-
-  pub walked-in : IsWalked (handlers_in items) HeldIn IsEntryIn
-  walked-in = held-walked test (is_unnamed items) (handlers_in items) clean named
-
-  outside : (item : Item) → ItemHolds (Names (is_unnamed items)) item → IsOutsideKept (handlers_in items) HeldIn item
-  outside (Outside command) holds = command-held test (is_unnamed items) (handlers_in items) clean named command holds
+  outside : (item : Item) → ItemHolds (Names unnamed) item → IsOutsideKept script IsHeld item
+  outside (Outside command) holds = command-held command holds
   outside (Tick line time) holds = tt
   outside (Handler line name block end_line) holds = tt
 
-  pub run-in : (L : List TraceLine → List Loop → Type 0) → IsTold L → ((document : ℕ) (world : World) → HeldIn world →
-      HeldIn (resize_loop (handlers_in items) document world).state
-      × L (resize_loop (handlers_in items) document world).lines (record { document = document; world = world } ∷ [])) → (version : Version) →
+  pub run-in : (L : List TraceLine → List Loop → Type 0) → IsTold L → ((document : ℕ) (world : World) → IsHeld world →
+      IsHeld (resize_loop script document world).state
+      × L (resize_loop script document world).lines (record { document = document; world = world } ∷ [])) → (version : Version) →
       L (run_items items (opening_world version)).lines (loops_of_run version items)
   unfolding run_items loops_of_run
   run-in L told loops version =
-      (items-along (handlers_in items) HeldIn IsEntryIn walked-in L told loops (counts-held test (is_unnamed items) (handlers_in items))
-      (timed-held test (is_unnamed items) (handlers_in items)) items
-      (all-map (ItemHolds (Names (is_unnamed items))) (IsOutsideKept (handlers_in items) HeldIn) outside items (all-named items))
-      (opening_world version) (opening-held test (is_unnamed items) (handlers_in items) version)).1
+      (items-along script IsHeld IsEntryIn held-walked L told loops counts-held timed-held items
+      (all-map (ItemHolds (Names unnamed)) (IsOutsideKept script IsHeld) outside items (all-named items))
+      (opening_world version) (opening-held version)).1

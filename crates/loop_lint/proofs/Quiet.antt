@@ -32,7 +32,7 @@ use Rattle.loop_lint.specs.LoopHandlers.{is_empty, is_unnamed, loop_handler_line
 use Rattle.loop_lint.specs.Verdicts.{disturbs, is_quiet}
 use Rattle.loop_lint.specs.RunLoops.{is_error_line}
 use Rattle.loop_lint.proofs.Tame.{tame-at}
-use Rattle.loop_lint.proofs.Held.{HeldIn, walked-in, run-in}
+use Rattle.loop_lint.proofs.Held.{IsHeld, held-walked, run-in}
 use Rattle.loop_lint.proofs.Calm.{call-calm}
 use Rattle.loop_lint.proofs.Waiting.{AreFine, WaitsThere, Settled, passed-fine, reported-now, emptied-fine, calm-fine, gather-fine, settled-gather, rest-settled, all-waiting, all-settled}
 
@@ -91,10 +91,10 @@ module _ (items : List Item) (quiet : is_quiet items ≡ true) where
   empty = quiet
 
   abbrev Held : World → Type 0
-  Held world = HeldIn disturbs items empty world
+  Held world = IsHeld disturbs items empty world
 
   walked : IsWalked script Held IsEntryIn
-  walked = walked-in disturbs items empty
+  walked = held-walked disturbs items empty
 
   -- no line is an error's
   abbrev IsPlain : TraceLine → Type 0

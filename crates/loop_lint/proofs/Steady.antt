@@ -32,7 +32,7 @@ use Rattle.loop_lint.specs.Verdicts.{moves, is_steady}
 use Rattle.loop_lint.specs.RunLoops.{AreGrowing, IsSteadyLoop}
 use Rattle.loop_lint.proofs.Holding.{Fails}
 use Rattle.loop_lint.proofs.Tame.{tame-at}
-use Rattle.loop_lint.proofs.Held.{HeldIn, walked-in, run-in}
+use Rattle.loop_lint.proofs.Held.{IsHeld, held-walked, run-in}
 
 none-summed : {A : Type 0} (f : A → ℕ) (xs : List A) → AllByRecursion (λ x. f x ≡ 0) xs → sum_by f xs ≡ 0
 none-summed f [] all = refl
@@ -106,10 +106,10 @@ module _ (items : List Item) (steady : is_steady items ≡ true) where
   empty = steady
 
   abbrev Held : World → Type 0
-  Held world = HeldIn moves items empty world
+  Held world = IsHeld moves items empty world
 
   walked : IsWalked script Held IsEntryIn
-  walked = walked-in moves items empty
+  walked = held-walked moves items empty
 
   abbrev Any : List TraceLine → List Loop → Type 0
   Any lines loops = ⊤
@@ -123,10 +123,10 @@ module _ (items : List Item) (steady : is_steady items ≡ true) where
       joined = (gentle-along script (gathered_targets document start)).joined;
       due = walked.due document;
       calls = λ observer delivered handed world are here. (
-        walked.calls document _ handed _ are (walked.reported observer delivered world here),
-        call-along script _ _ _ (gentle-along script (gathered_targets document start)) document _ handed _ (all-so (presents handed))
-            (tame-at moves (is_unnamed items) script (world.resize_observers) observer (here.tame)),
-      );
+            walked.calls document _ handed _ are (walked.reported observer delivered world here),
+            call-along script _ _ _ (gentle-along script (gathered_targets document start)) document _ handed _ (all-so (presents handed))
+                (tame-at moves (is_unnamed items) script (world.resize_observers) observer (here.tame)),
+          );
       emptied = λ observer before world lines moments is here there. (walked.emptied document observer world is here, there);
     }
 
