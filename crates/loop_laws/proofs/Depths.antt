@@ -18,7 +18,7 @@ use Rattle.page_model.specs.Operands.{Present, element_meant}
 use Rattle.page_model.specs.Commands.{does}
 use Rattle.page_laws.proofs.Lists.{all-mapped, all-map}
 use Rattle.page_laws.specs.Successors.{OnDid}
-use Rattle.page_laws.proofs.Steps.{did, on_did-all, on_did-with}
+use Rattle.page_laws.proofs.Steps.{on_did-all, on_did-with}
 use Rattle.page_laws.proofs.Depths.{or-false}
 use Rattle.page_laws.proofs.Keeping.{counted}
 use Rattle.page_laws.specs.Bounds.{IsWithinLimits}
@@ -314,12 +314,18 @@ module _ (script : Script) (document depth : ℕ) (start : World) where
   goes-delivered = record {
     joined = goes-joined;
     due = λ observer world here. all-so _;
-    calls = λ observer delivered handed world are here. (tt, λ gentle going.
-        any-call script Goes goes-along document _ handed _ gentle
-        (record { depths = going.depths; due = reported-due IsDeep document (world.resize_observers) (sight_of world) observer delivered (going.due) }));
-    emptied = λ observer before world lines moments is here there. (tt, λ gentle going.
-        let last = there gentle going in
-        record { depths = last.depths; due = emptied-due IsDeep document (world.resize_observers) observer (last.due) });
+    calls = λ observer delivered handed world are here. (
+      tt,
+      λ gentle going.
+          any-call script Goes goes-along document _ handed _ gentle
+          (record { depths = going.depths; due = reported-due IsDeep document (world.resize_observers) (sight_of world) observer delivered (going.due) }),
+    );
+    emptied = λ observer before world lines moments is here there. (
+      tt,
+      λ gentle going.
+          let last = there gentle going in
+          record { depths = last.depths; due = emptied-due IsDeep document (world.resize_observers) observer (last.due) },
+    );
   }
 
   -- with the least depth of what was delivered so far

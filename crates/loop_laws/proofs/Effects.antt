@@ -4,7 +4,7 @@ use Rattle.std.proofs.Common.{◌≡◌, ◌≢◌, refl, sym, subst, ◌∙◌,
 use Rattle.std.specs.Prelude.{ℕ, zero, suc, List, [], ◌∷◌, ◌++◌, length, Option, Some, None, ℤ, ⊤}
 use Rattle.layout_model.specs.Items.{Kind, Item}
 use Rattle.script_model.specs.Syntax.{Dimension, Operand, Action, Append, Before, Remove, Grow, Load, MakeResizeObserver, ObserveResize, UnobserveResize, DisconnectResize}
-use Rattle.page_model.specs.World.{Element, Observation, ResizeObservers, IntersectionObservers, Listener, Table, ScrollTarget, Task, Tree, Name, World}
+use Rattle.page_model.specs.World.{Element, Observation, ResizeObservers, ScrollTarget, Task, Tree, Name, World}
 use Rattle.page_model.specs.Documents.{Container, InElement, InDocument, container_of, removed, linked, inserted, adopted, shown, inclusive_descendants}
 use Rattle.page_model.specs.Edits.{with_element, with_frame, change_item}
 use Rattle.page_model.specs.Scrolling.{scrolled_to, scrolled_by}

@@ -19,7 +19,7 @@ use Rattle.page_model.specs.Loop.{Broadcast, gather, broadcast, round, round_end
 use Rattle.page_model.specs.Ticks.{tick}
 use Rattle.page_model.specs.Outcome.{opening_world, run_items}
 use Rattle.page_laws.proofs.Later.{all-so}
-use Rattle.loop_laws.specs.Moments.{Moment, onward, following}
+use Rattle.loop_laws.specs.Moments.{Moment, onward}
 use Rattle.loop_laws.specs.Rounds.{goes_on, rounds_up_to, round_depth}
 use Rattle.loop_laws.specs.RunLoops.{Loop, tick_loops, loops_of_run, is_loop_line, loop_lines, lines_of_loop}
 use Rattle.loop_laws.specs.WholeLoops.{resize_rounds, round_starts, line_of_round}

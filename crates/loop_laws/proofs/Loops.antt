@@ -196,8 +196,7 @@ module _ (script : Script) (document : ℕ) where
   rounds-if most depth start false goes within deeper each = tt
   rounds-if most depth start true goes within deeper each =
       let deep = deeper (and-first _ (has_active document (start.resize_observers)) goes) in
-      let ended = round script document start in
-      (
+      let ended = round script document start in (
         is-round depth start within deep goes,
         others-are most (round_depth script document start) (ended.state) (ended.flow)
             (λ next. each (round_depth script document start) (ended.state) (round-within script start within document)

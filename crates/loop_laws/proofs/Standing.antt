@@ -1,7 +1,7 @@
 -- The moments of a run are as many as the commands that were begun in it; and where none begins, a callback leaves the world as it was, and
 -- a broadcast all but the resize observers.
 use Rattle.std.proofs.Common.{◌≡◌, refl, arith, length-append, sym, ap, ◌∙◌}
-use Rattle.std.specs.Prelude.{ℕ, suc, ◌+◌, List, [], ◌∷◌, length, ⊤, ◌<◌}
+use Rattle.std.specs.Prelude.{ℕ, suc, ◌+◌, List, length, ⊤, ◌<◌}
 use Rattle.script_model.specs.Syntax.{Action}
 use Rattle.script_model.specs.TraceLines.{TraceLine}
 use Rattle.page_model.specs.World.{World, ResizeObservers}

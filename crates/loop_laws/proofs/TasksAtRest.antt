@@ -5,10 +5,9 @@ use Rattle.page_model.specs.World.{Observation, Task, Notify, Posted, Entry, Wor
 use Rattle.page_model.specs.Lookups.{intersection_observer_at}
 use Rattle.page_model.specs.Documents.{is_active}
 use Rattle.page_model.specs.Tasks.{has_tasks, without_notifying}
-use Rattle.page_model.specs.IntersectionObserving.{without_queue}
 use Rattle.page_model.specs.Operands.{Present}
 use Rattle.page_model.specs.Commands.{does}
-use Rattle.page_model.specs.Runs.{Said, Next, say, ◌followed_by◌, most_steps}
+use Rattle.page_model.specs.Runs.{Said, Next, say, most_steps}
 use Rattle.page_model.specs.Callbacks.{Script, Entries, CutEntries, handler_names, presents, call}
 use Rattle.page_model.specs.Intersections.{watchers, take_queue, notify_watcher, notify_watchers, notify}
 use Rattle.page_model.specs.Ticks.{run_task, run_first}

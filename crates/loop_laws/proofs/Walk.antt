@@ -1,16 +1,15 @@
 -- One walk of commands and callbacks, of the deliveries of a resize loop, of a tick and of a whole run: what holds of their parts, over
 -- the lines said and what is listed between them, holds of the whole.
 use Rattle.std.proofs.Common.{◌≡◌, refl}
-use Rattle.std.specs.Prelude.{ℕ, zero, suc, ◌<◌, ◌&&◌, ◌==◌, not, map, fold, Bool, true, false, cond, List, [], ◌∷◌, ◌++◌, length, Option, Some, None, IfSome, unwrap_or, option_map, slice_get, ⊤}
+use Rattle.std.specs.Prelude.{ℕ, suc, ◌<◌, ◌&&◌, ◌==◌, not, map, Bool, true, false, cond, List, [], ◌∷◌, ◌++◌, length, Option, Some, None, IfSome, ⊤}
 use Rattle.std.specs.List.{AllByRecursion, list_any}
 use Rattle.text_io.specs.declared.kinds.EventKind.{EventKind}
 use Rattle.text_io.specs.declared.kinds.EventKind.TheVariants as events
 use Rattle.text_io.specs.declared.kinds.LimitKind.TheVariants as limits
 use Rattle.text_io.specs.Limits.{limit_number}
 use Rattle.script_model.specs.Syntax.{Action, Command, Simple, Each, When, Block, NoMore, Then, Item, Outside, Tick, Handler}
-use Rattle.script_model.specs.Scripts.{NamedBlock}
-use Rattle.script_model.specs.TraceLines.{TraceLine, FiredEvent, FiredResize, FiredScroll, FiredChange, FiredError, EventLine, TimerLine, FrameLine, TaskLine, TickLine, RoundLine, ThrowLine, LimitLine}
-use Rattle.page_model.specs.World.{World, Tree, Entry, EventTarget, ElementTarget, DocumentTarget, WindowTarget, QueryTarget, IntersectionObservers, Observation, Task, Notify, Posted, Timer, FrameCallback}
+use Rattle.script_model.specs.TraceLines.{TraceLine, FiredEvent, FiredResize, FiredScroll, FiredChange, FiredError, EventLine, TimerLine, TaskLine, TickLine, RoundLine, ThrowLine, LimitLine}
+use Rattle.page_model.specs.World.{World, Tree, Entry, EventTarget, DocumentTarget, WindowTarget, QueryTarget, IntersectionObservers, Observation, Task, Notify, Posted, Timer, FrameCallback}
 use Rattle.page_model.specs.Lookups.{resize_observer_at, intersection_observer_at, query_list_at}
 use Rattle.page_model.specs.Documents.{is_active, active_documents}
 use Rattle.page_model.specs.Names.{document_text, query_list_text}
@@ -30,16 +29,16 @@ use Rattle.page_model.specs.Runs.{Said, silent, say, follow, ◌followed_by◌, 
 use Rattle.page_model.specs.Callbacks.{Script, handler_names, handler_block, handler_text, Entries, SizeEntries, CutEntries, NoEntries, entry_lines, presents, answered, once_begun, said_by, run_command, run_block, run_handler, while_active, call, notify_listener, invoke, bubble, fire, document_of_target}
 use Rattle.page_model.specs.Intersections.{is_same_bool, settling, found_now, watchers, with_notify_task, has_queued, update_intersections, take_queue, notify_watcher, notify_watchers, notify}
 use Rattle.page_model.specs.Gathering.{sight_of, size_entry, with_reported, without_active, has_skipped, due_at}
-use Rattle.page_model.specs.Loop.{Broadcast, shallower, gather, deliver_some, broadcast, round, round_ended, report_skipped, resize_loop}
-use Rattle.page_model.specs.Ticks.{line_while_active, scrolled_text, event_target_of, intersection_steps, run_timers, run_timer, resize_steps, scroll_steps, evaluated, evaluate, media_steps, frame_steps, run_frame_callback, update_rendering, run_task, run_first, run_tasks, time_set, tick}
-use Rattle.page_model.specs.Outcome.{run_tick, run_item}
+use Rattle.page_model.specs.Loop.{Broadcast, gather, deliver_some, broadcast, round, round_ended, report_skipped, resize_loop}
+use Rattle.page_model.specs.Ticks.{line_while_active, scrolled_text, event_target_of, intersection_steps, run_timers, run_timer, resize_steps, scroll_steps, evaluated, evaluate, media_steps, frame_steps, run_frame_callback, update_rendering, run_first, run_tasks, time_set, tick}
+use Rattle.page_model.specs.Outcome.{run_item}
 use Rattle.page_laws.specs.Successors.{OnDid}
-use Rattle.page_laws.proofs.Steps.{did, room-then, on_did-all, on_did-map}
+use Rattle.page_laws.proofs.Steps.{did, room-then, on_did-all}
 use Rattle.page_laws.proofs.Keeping.{counted}
 use Rattle.page_laws.proofs.Later.{all-so}
 use Rattle.page_laws.proofs.Changes.{IsNext, active-in, timer-next, frame-next, noted-next, pending-next, matched-next, tasks-next, unnotified-next, queue-next, update-next}
 use Rattle.page_laws.proofs.WholeRuns.{time-kept}
-use Rattle.loop_laws.specs.Moments.{Moment, onward, where_did, listed_if, along_each, along_places, command_moments, block_moments, handler_moments, call_moments, delivery_moments, broadcast_moments}
+use Rattle.loop_laws.specs.Moments.{Moment, where_did, listed_if, along_each, along_places, command_moments, block_moments, handler_moments, call_moments, delivery_moments, broadcast_moments}
 use Rattle.loop_laws.specs.Rounds.{goes_on}
 use Rattle.loop_laws.specs.WholeLoops.{resize_rounds, fire_error}
 use Rattle.loop_laws.specs.Rounds.{rounds_up_to}

@@ -1,13 +1,13 @@
 -- What a command that a quiet handler may hold leaves: the sizes of all elements that there are, and each observation or none of it.
 use Rattle.std.proofs.Common.{◌≡◌, refl, sym, subst, ◌∙◌, arith, ◌≤◌, true≢false, ap}
-use Rattle.std.specs.Prelude.{ℕ, ℤ, zero, suc, ◌<◌, ◌==◌, not, Bool, true, false, List, [], ◌∷◌, ◌++◌, length, Option, Some, None, IfSome, unwrap_or, option_map}
+use Rattle.std.specs.Prelude.{ℕ, ℤ, zero, suc, ◌<◌, ◌==◌, not, true, false, List, [], ◌∷◌, ◌++◌, length, Option, Some, None, unwrap_or, option_map}
 use Rattle.std.specs.List.{AllByRecursion}
 use Rattle.px_units.specs.declared.BoxKind.{BoxKind}
 use Rattle.layout_model.specs.Items.{Kind}
 use Rattle.layout_model.specs.Boxes.{Box}
 use Rattle.script_model.specs.Syntax.{Action, Viewport, SetRatio, Append, Before, Remove, SetStyle, Grow, Load, MakeResizeObserver, ObserveResize, UnobserveResize, DisconnectResize}
 use Rattle.script_model.specs.TraceLines.{TraceLine}
-use Rattle.page_model.specs.World.{Screen, Observation, ResizeObserver, ResizeObservers, IntersectionObservers, Listener, Table, ScrollTarget, Tree, World, Document}
+use Rattle.page_model.specs.World.{Screen, Observation, ResizeObserver, ResizeObservers, ScrollTarget, Tree, World, Document}
 use Rattle.page_model.specs.Lookups.{resize_observer_at, entry_or, no_document}
 use Rattle.page_model.specs.Documents.{is_active, is_active_state}
 use Rattle.page_model.specs.Edits.{with_element, with_frame, new_document}

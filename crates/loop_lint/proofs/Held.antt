@@ -10,7 +10,6 @@ use Rattle.text_io.specs.declared.kinds.Version.{Version}
 use Rattle.text_io.specs.Limits.{limit_number}
 use Rattle.text_io.specs.declared.kinds.LimitKind.TheVariants as limits
 use Rattle.page_model.specs.World.{World, Observation, ResizeObservers}
-use Rattle.page_model.specs.Documents.{is_active}
 use Rattle.page_model.specs.Lookups.{resize_observer_at}
 use Rattle.page_model.specs.Gathering.{sight_of, is_of, without_active}
 use Rattle.page_model.specs.Operands.{Present, NoEntry, ResizeEntry, IntersectionEntry}

@@ -1,6 +1,6 @@
 -- In a quiet script a loop has one round at most, behind which nothing has changed, and so no error.
 use Rattle.std.proofs.Common.{◌≡◌, refl, ap, sym, subst, ◌∙◌, arith, tests, ◌≤◌, true≢false}
-use Rattle.std.specs.Prelude.{ℕ, zero, suc, ◌+◌, ◌<◌, ◌&&◌, nat_lt, Bool, true, false, cond, List, [], ◌∷◌, ◌++◌, map, length, unwrap_or, None, Ok, ⊤}
+use Rattle.std.specs.Prelude.{ℕ, zero, suc, ◌+◌, ◌<◌, ◌&&◌, nat_lt, Bool, true, false, cond, List, [], ◌∷◌, map, length, unwrap_or, Ok}
 use Rattle.std.specs.List.{AllByRecursion}
 use Rattle.script_model.specs.Syntax.{Item}
 use Rattle.script_model.specs.Scripts.{handlers_in}
@@ -12,8 +12,7 @@ use Rattle.page_model.specs.World.{World, Observation}
 use Rattle.page_model.specs.Documents.{is_active}
 use Rattle.page_model.specs.Lookups.{resize_observer_at}
 use Rattle.page_model.specs.Gathering.{sight_of, size_entry, with_reported, without_active, has_active, due_at}
-use Rattle.page_model.specs.Operands.{ResizeEntry}
-use Rattle.page_model.specs.Runs.{Next, Said, Turn, silent, ◌followed_by◌, only_if, lifted, repeat, by_place, at_place, most_steps}
+use Rattle.page_model.specs.Runs.{Next, Said, Turn, silent, only_if, lifted, repeat, by_place, at_place, most_steps}
 use Rattle.page_model.specs.Callbacks.{Script, SizeEntries, presents, call}
 use Rattle.page_model.specs.Loop.{Broadcast, gather, emptied, deliver_some, broadcast, round, round_ended, resize_loop}
 use Rattle.page_model.specs.Outcome.{opening_world, run_items, outcome, outcome_read}
@@ -27,7 +26,7 @@ use Rattle.loop_laws.proofs.Bounded.{IsLess, rests, then-same}
 use Rattle.loop_laws.proofs.Loops.{errors-exact, rounds-rest, begins-below}
 use Rattle.loop_laws.proofs.Folds.{by-flow}
 use Rattle.loop_laws.proofs.Waiting.{gather-deeper}
-use Rattle.loop_laws.proofs.Walk.{count_of, goes_of, step_of, first_of, IsTold, IsWalked, delivery-along, delivers-fine, Fine, then-fine, round-fine, rounds-fine}
+use Rattle.loop_laws.proofs.Walk.{count_of, goes_of, step_of, first_of, IsTold, IsWalked, delivery-along, delivers-fine, then-fine, round-fine, rounds-fine}
 use Rattle.loop_lint.specs.LoopHandlers.{is_empty, is_unnamed, loop_handler_lines}
 use Rattle.loop_lint.specs.Verdicts.{disturbs, is_quiet}
 use Rattle.loop_lint.specs.RunLoops.{is_error_line}

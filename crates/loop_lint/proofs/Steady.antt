@@ -1,8 +1,8 @@
 -- In a steady script no command of a round uproots anything, so the depths of a loop grow.
-use Rattle.std.proofs.Common.{◌≡◌, refl, sym, subst, arith, ◌≤◌, true≢false}
+use Rattle.std.proofs.Common.{◌≡◌, refl, subst, arith, ◌≤◌, true≢false}
 use Rattle.std.proofs.lemmas.List.{length-map}
 use Rattle.std.proofs.lemmas.List.Sums.{sum_by-cons}
-use Rattle.std.specs.Prelude.{ℕ, suc, ◌+◌, ◌*◌, Bool, true, false, cond, List, [], ◌∷◌, map, flat_map, length, sum_by, count_by, ⊤}
+use Rattle.std.specs.Prelude.{ℕ, suc, ◌+◌, ◌*◌, Bool, true, false, cond, List, [], ◌∷◌, map, sum_by, count_by, ⊤}
 use Rattle.std.specs.List.{AllByRecursion}
 use Rattle.text_io.specs.declared.kinds.Version.{Version}
 use Rattle.script_model.specs.Syntax.{Action, Append, Before, Remove, Command, Simple, Each, When, Item}
@@ -123,10 +123,10 @@ module _ (items : List Item) (steady : is_steady items ≡ true) where
       joined = (gentle-along script (gathered_targets document start)).joined;
       due = walked.due document;
       calls = λ observer delivered handed world are here. (
-            walked.calls document _ handed _ are (walked.reported observer delivered world here),
-            call-along script _ _ _ (gentle-along script (gathered_targets document start)) document _ handed _ (all-so (presents handed))
-                (tame-at moves (is_unnamed items) script (world.resize_observers) observer (here.tame)),
-          );
+        walked.calls document _ handed _ are (walked.reported observer delivered world here),
+        call-along script _ _ _ (gentle-along script (gathered_targets document start)) document _ handed _ (all-so (presents handed))
+            (tame-at moves (is_unnamed items) script (world.resize_observers) observer (here.tame)),
+      );
       emptied = λ observer before world lines moments is here there. (walked.emptied document observer world is here, there);
     }
 

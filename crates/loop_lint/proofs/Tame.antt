@@ -2,11 +2,10 @@
 use Rattle.std.proofs.Common.{◌≡◌, refl, sym, subst, get_or}
 use Rattle.std.proofs.lemmas.List.Quantifiers.{position-Some}
 use Rattle.std.proofs.lemmas.Slice.Eq.{bytes_eq-Decides}
-use Rattle.std.specs.Prelude.{ℕ, ℤ, zero, suc, ◌+◌, Bool, true, false, not, cond, nat_lt, List, [], ◌∷◌, ◌++◌, length, slice_get, position, Option, Some, None, IfSome, unwrap_or, bytes_eq}
+use Rattle.std.specs.Prelude.{ℕ, ℤ, zero, suc, Bool, true, false, List, [], ◌∷◌, ◌++◌, slice_get, position, Option, Some, None, IfSome, unwrap_or, bytes_eq}
 use Rattle.std.specs.List.{AllByRecursion}
 use Rattle.text_io.specs.declared.kinds.ThrowKind.TheVariants.{ReferenceError}
 use Rattle.script_model.specs.Syntax.{Action, MakeResizeObserver, ObserveResize, UnobserveResize, DisconnectResize}
-use Rattle.script_model.specs.Scripts.{NamedBlock}
 use Rattle.page_model.specs.World.{ResizeObserver, ResizeObservers, ScrollTarget, World}
 use Rattle.page_model.specs.Lookups.{change_at, resize_observer_at, no_resize_observer}
 use Rattle.page_model.specs.Gathering.{Sight, gathered_if, is_of, gathering}
@@ -18,7 +17,7 @@ use Rattle.page_model.specs.Callbacks.{Script, handler_names, handler_block}
 use Rattle.page_laws.specs.Successors.{OnDid}
 use Rattle.page_laws.proofs.Steps.{bind, bind-in, both, did, required-in}
 use Rattle.page_laws.proofs.Lists.{all-add, changed, mapped}
-use Rattle.loop_laws.proofs.Walk.{BlockHolds, HandlerHolds}
+use Rattle.loop_laws.proofs.Walk.{BlockHolds}
 use Rattle.loop_lint.proofs.Holding.{Fails, Names, IsNamedBy, IsClean}
 
 -- the handler of a name --------------------------------------------------------------------------------------------------------
