@@ -17,15 +17,15 @@ use Rattle.page_model.specs.Runs.{Flow, Next, Thrown, Limited, Said, follow, ◌
 use Rattle.page_model.specs.Callbacks.{Script}
 use Rattle.page_model.specs.Loop.{Broadcast, gather, broadcast, round, round_ended}
 use Rattle.page_model.specs.Ticks.{tick}
-use Rattle.page_model.specs.Outcome.{opening_world, run_items}
+use Rattle.page_model.specs.Outcome.{opening_world, run_item, run_items}
 use Rattle.page_laws.proofs.Later.{all-so}
 use Rattle.loop_laws.specs.Moments.{Moment, onward}
 use Rattle.loop_laws.specs.Rounds.{goes_on, rounds_up_to, round_depth}
-use Rattle.loop_laws.specs.RunLoops.{Loop, tick_loops, loops_of_run, is_loop_line, loop_lines, lines_of_loop}
+use Rattle.loop_laws.specs.RunLoops.{Loop, tick_loops, item_loops, loops_of_run, is_loop_line, loop_lines, lines_of_loop}
 use Rattle.loop_laws.specs.WholeLoops.{resize_rounds, round_starts, line_of_round}
 use Rattle.loop_laws.proofs.Folds.{all-each, lines-joined, repeat-along}
 use Rattle.loop_laws.proofs.Lines.{IsPlain}
-use Rattle.loop_laws.proofs.Walk.{IsTold, IsWalked, IsOutsideKept, call-plain, broadcasts-along, tick-along, items-along}
+use Rattle.loop_laws.proofs.Walk.{IsTold, IsWalked, IsOutsideKept, call-plain, broadcasts-along, tick-along, item-along, items-along}
 
 -- the loop lines are those of what is listed
 abbrev TellsBy : {B : Type 0} → (B → List TraceLine) → List TraceLine → List B → Type 0
@@ -126,6 +126,11 @@ module _ (script : Script) where
   outside (Outside command) = λ world here. tt
   outside (Tick line time) = tt
   outside (Handler line name block end_line) = tt
+
+  pub item-tells : (item : Item) (world : World) → Tells (run_item script item world).lines (item_loops script item world)
+  item-tells item world =
+      (item-along script Any AnyEntry walked Tells tells (λ document now here. (tt, sym (append-nil _))) (λ now room here. tt) (λ time now here. tt) item
+      (outside item) world tt).1
 
 pub run-tells : (version : Version) (items : List Item) → Tells (handlers_in items) (run_items items (opening_world version)).lines (loops_of_run version items)
 unfolding run_items loops_of_run

@@ -634,7 +634,7 @@ module _ (script : Script) (P : World → Type 0) (In : ℕ → Present → Type
 
     module _ (counts : (world : World) → world.begun < limit_number (world.version) limits.Commands → P world → P (counted world))
         (timed : (time : ℕ) (world : World) → P world → P (record world { clock = time })) where
-      item-along : (item : Item) → IsOutsideKept script P item → (world : World) → Runs Lists world (item_loops script item world) (run_item script item world)
+      pub item-along : (item : Item) → IsOutsideKept script P item → (world : World) → Runs Lists world (item_loops script item world) (run_item script item world)
       unfolding run_item caught once_begun begun_in
       item-along (Outside command) outside world = λ here. (outside world here, plain-told _ (command-plain script [] command NoEntry world))
       item-along (Tick line time) outside world =
