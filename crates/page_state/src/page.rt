@@ -444,15 +444,22 @@ pub(crate) fn shown_in<'a>(
     ShownDocument::new(laid.page(), laid.boxes(), scrolls, screen, document)
 }
 
-// The same of the whole page for a reading of many elements, for which it is found once what each document shows.
+// What is shown of a page of whose boxes none is due, for an update of intersection observers. Where there are any, many elements may
+// be read, for which it is found once what each document shows and how far its viewport is scrolled.
 pub(crate) fn shown_at_once<'a>(
     laid: &'a LaidTree,
     scrolls: &'a Scrolls,
     screen: Screen,
+    watchers: &Watchers,
 ) -> Shown<'a>
     requires screen { IsScreen screen }
     requires done { (n : ℕ) → is_due laid.now.elements.tree (seen_screen screen) laid.now.kept n ≡ false }
     ensures { result ≡ shown_with laid.now.elements.tree (seen_screen screen) scrolls.now }
 {
-    shown_now(laid, scrolls, screen).with_documents()
+    let shown = shown_now(laid, scrolls, screen);
+    if watchers.count() > 0 {
+        shown.with_documents()
+    } else {
+        shown
+    }
 }
