@@ -22,9 +22,10 @@ use Rattle.page_model.specs.Steps.{Step, Did, Threw, Met, ◌>>=◌, ◌>>◌, E
 use Rattle.page_model.specs.Operands.{Present, NoEntry, ResizeEntry, IntersectionEntry, Handlers, thing_named, as_document, as_element, as_container, as_event_target, document_named, present_target, operand_thing, element_meant, container_meant, event_target_meant, root_at, root_meant, handler_named, handler_given}
 use Rattle.page_model.specs.Commands.{does, with_tree, with_intersections, with_listeners, making, growing, loading, placing, observing, listening}
 use Rattle.page_laws.specs.Successors.{IsSuccessor, OnDid}
-use Rattle.page_laws.proofs.Steps.{bind, bind-in, both, did, of_did, required-in, on_did-all, on_did-map}
+use Rattle.page_laws.proofs.Steps.{bind, bind-in, both, did, required-in, on_did-all, on_did-map}
 use Rattle.page_laws.proofs.Lists.{less-more, some-so}
-use Rattle.page_laws.proofs.Successors.{IsTreeNext, still, alike, element-changed, tree-next, placing-next, removed-next, more-documents, named-still}
+use Rattle.page_laws.proofs.Successors.{alike, more-documents, named-still}
+use Rattle.page_laws.proofs.Trees.{edited}
 use Rattle.page_laws.proofs.Changed.{container_thing, target_thing, IsRootOf, IsListenerOf, TreeChange, ItemChanged, TakenOut, Placed, ResizeChange, Observed, Unobserved, Disconnected, IntersectionChange, Registered, Unregistered, AllUnregistered, QueueTaken, TableChange, Entered, Kept, Change, Unchanged, ScreenSet, TreeChanged, ElementMade, FrameMade, Scrolled, ResizeObserverMade, ResizeChanged, IntersectionObserverMade, IntersectionsChanged, QueryListMade, ListenersChanged, FrameCallbacksChanged, TimersChanged, TaskPosted}
 
 -- operands
@@ -341,11 +342,6 @@ same-target handlers world present other action same =
 
 -- successors
 
-pub tree-change-next : {Known : Thing → Type 0} (before : Tree) {after : Tree} → TreeChange Known before after → IsTreeNext before after
-tree-change-next before (ItemChanged change n known) = element-changed _ n before
-tree-change-next before (TakenOut n known) = removed-next before n
-tree-change-next before (Placed container n sibling after there known is) = of_did _ after (IsTreeNext before) is (placing-next container n sibling before)
-
 with-name-next : (world after : World) (name : List ℕ) (thing : Thing) →
     after ≡ record after {
       tree = world.tree;
@@ -365,7 +361,10 @@ with-name-next world after name thing same = subst (IsSuccessor world) (sym same
 
 module _ {Known : Thing → Type 0} {handlers : ℕ} (world : World) where
   pub change-next : {after : World} → Change Known handlers world after → IsSuccessor world after
-  change-next (TreeChanged tree change) = tree-next world tree (tree-change-next (world.tree) change)
+  change-next (TreeChanged tree change) =
+      let it = edited (world.tree) change in
+      let same : length tree.elements ≡ length world.tree.elements = it.elements in
+      record { elements = omega (arith, same); states = it.states; names = λ text thing is. is; clock = refl; begun = refl; version = refl }
   change-next (ElementMade name kind document known) = record {
     elements = less-more (world.tree.elements) _;
     states = λ wanted each come. come;

@@ -15,7 +15,8 @@ use Rattle.page_laws.specs.Bounds.{AreTasksWithin, IsWithinLimits}
 use Rattle.page_laws.proofs.Steps.{on_did-map}
 use Rattle.page_laws.proofs.Lists.{changed}
 use Rattle.page_laws.proofs.Changed.{ResizeChange, Observed, Unobserved, Disconnected, Change, TreeChanged, FrameMade, ResizeObserverMade, ResizeChanged, QueryListMade, TaskPosted}
-use Rattle.page_laws.proofs.Commands.{does-any, tree-change-next}
+use Rattle.page_laws.proofs.Commands.{does-any}
+use Rattle.page_laws.proofs.Trees.{edited}
 use Rattle.page_laws.proofs.Waiting.{tasks-alike, posted-within}
 
 -- no version lets more commands begin
@@ -60,7 +61,7 @@ module _ (world : World) (within : IsWithinLimits world) where
   module _ {Known : Thing → Type 0} {handlers : ℕ} where
     pub change-within : {after : World} → Change Known handlers world after → IsWithinLimits after
     change-within (TreeChanged tree change) =
-        as-many _ refl refl refl refl (tasks-alike world _ (tree-change-next (world.tree) change).documents refl refl)
+        as-many _ refl refl refl refl (tasks-alike world _ (edited (world.tree) change).documents refl refl)
     change-within (FrameMade name inside document known less) = record {
       resize_observers = within.resize_observers;
       queries = within.queries;

@@ -158,24 +158,15 @@ pub with-queries : (counts : Counts) (world : World) (queries : List QueryList) 
     AllByRecursion (λ (list : QueryList). list.document < counts.documents) queries → IsWithin counts (record world { queries = queries })
 with-queries counts world queries within all = search
 
--- a tree after another one of as many elements and documents
-pub record IsTreeKept (counts : Counts) (before after : Tree) : Type 0 where
-  pub elements : IsKept (IsElementIn counts) before.elements after.elements
-  pub documents : IsKept (IsDocumentIn counts) before.documents after.documents
-
-pub tree-in : (handlers : ℕ) (world : World) (after : Tree) → IsTreeKept (counts_of handlers world) (world.tree) after → IsInRange handlers world →
+pub tree-in : (handlers : ℕ) (world : World) (after : Tree) → length after.elements ≡ length world.tree.elements →
+    length after.documents ≡ length world.tree.documents → IsTreeIn (counts_of handlers world) after → IsInRange handlers world →
     IsInRange handlers (record world { tree = after })
-tree-in handlers world after kept within =
+tree-in handlers world after elements documents is within =
     let counts : Counts = counts_of handlers world in
-    let elements : length after.elements ≡ length world.tree.elements = kept.elements.same in
-    let documents : length after.documents ≡ length world.tree.documents = kept.documents.same in
     within-more counts (counts_of handlers (record world { tree = after }))
     (grind arith)
     (record world { tree = after })
-    (with-tree counts world after within (record {
-      elements = kept.elements.within within.tree.elements;
-      documents = kept.documents.within within.tree.documents;
-    }))
+    (with-tree counts world after within is)
 
 pub resize-in : (handlers : ℕ) (world : World) (after : ResizeObservers) →
     IsKept (IsResizeObserverIn (counts_of handlers world)) world.resize_observers.made after.made → IsInRange handlers world →
