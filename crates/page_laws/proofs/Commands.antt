@@ -1,6 +1,6 @@
 -- Each command changes the world by one of the changes of `Changed`, and reads of the present entry its target alone. Here alone are all
 -- commands gone through.
-use Rattle.std.proofs.Common.{◌≡◌, refl, ap, sym, subst, arith, tests, ◌≤◌}
+use Rattle.std.proofs.Common.{◌≡◌, refl, ap, sym, subst, arith, tests}
 use Rattle.std.specs.Prelude.{ℕ, ℤ, pos, ◌+ℤ◌, ◌+◌, ◌<◌, nat_lt, Bool, true, false, List, [], length, position, unwrap_or, bytes_eq, cond, Option, Some, None, IfSome, ⊤}
 use Rattle.std.specs.List.{position_or_len}
 use Rattle.layout_model.specs.Items.{Kind}
@@ -10,7 +10,7 @@ use Rattle.text_io.specs.declared.kinds.LimitKind.TheVariants as limits
 use Rattle.text_io.specs.declared.kinds.ThrowKind.TheVariants.{RangeError, ReferenceError, SyntaxError}
 use Rattle.script_model.specs.MarginText.{margins_of, thresholds_of}
 use Rattle.script_model.specs.Syntax.{Dimension, Operand, Named, Target, Aim, PlainAim, WindowAim, Action, Viewport, SetRatio, MakeBlock, MakeImage, MakeFrame, Append, Before, Remove, SetStyle, Grow, Load, MakeResizeObserver, ObserveResize, UnobserveResize, DisconnectResize, MakeIntersectionObserver, ObserveIntersection, UnobserveIntersection, DisconnectIntersection, TakeIntersections, Listen, Unlisten, MakeQueryList, ScrollTo, ScrollBy, RequestFrame, CancelFrame, SetTimer, ClearTimer, Post, Say, Read}
-use Rattle.page_model.specs.World.{Thing, DocumentThing, ElementThing, ResizeObserverThing, IntersectionObserverThing, QueryListThing, Root, ScrollTarget, IntersectionObservers, EventTarget, Listener, Table, Tree, World}
+use Rattle.page_model.specs.World.{Thing, DocumentThing, ElementThing, QueryListThing, Root, ScrollTarget, IntersectionObservers, EventTarget, Listener, Table, Tree, World}
 use Rattle.page_model.specs.Lookups.{intersection_observer_at}
 use Rattle.page_model.specs.Names.{named_thing, with_name}
 use Rattle.page_model.specs.Documents.{Container, InElement, InDocument}
@@ -19,14 +19,14 @@ use Rattle.page_model.specs.PageBoxes.{scroll_offset}
 use Rattle.page_model.specs.IntersectionObserving.{is_registered, intersection_observations}
 use Rattle.page_model.specs.Listeners.{is_listening}
 use Rattle.page_model.specs.Steps.{Step, Did, Threw, Met, ◌>>=◌, ◌>>◌, Effect, required, met_unless, room}
-use Rattle.page_model.specs.Operands.{Present, NoEntry, ResizeEntry, IntersectionEntry, Handlers, thing_named, as_document, as_element, as_container, as_event_target, document_named, present_target, operand_thing, element_meant, container_meant, event_target_meant, root_at, root_meant, handler_named, handler_given}
+use Rattle.page_model.specs.Operands.{Present, Handlers, thing_named, as_document, as_element, as_container, as_event_target, document_named, present_target, operand_thing, element_meant, container_meant, event_target_meant, root_at, root_meant, handler_named, handler_given}
 use Rattle.page_model.specs.Commands.{does, with_tree, with_intersections, with_listeners, making, growing, loading, placing, observing, listening}
 use Rattle.page_laws.specs.Successors.{IsSuccessor, OnDid}
 use Rattle.page_laws.proofs.Steps.{bind, bind-in, both, did, required-in, on_did-all, on_did-map}
 use Rattle.page_laws.proofs.Lists.{less-more, some-so}
 use Rattle.page_laws.proofs.Successors.{alike, more-documents, named-still}
 use Rattle.page_laws.proofs.Trees.{edited}
-use Rattle.page_laws.proofs.Changed.{container_thing, target_thing, IsRootOf, IsListenerOf, TreeChange, ItemChanged, TakenOut, Placed, ResizeChange, Observed, Unobserved, Disconnected, IntersectionChange, Registered, Unregistered, AllUnregistered, QueueTaken, TableChange, Entered, Kept, Change, Unchanged, ScreenSet, TreeChanged, ElementMade, FrameMade, Scrolled, ResizeObserverMade, ResizeChanged, IntersectionObserverMade, IntersectionsChanged, QueryListMade, ListenersChanged, FrameCallbacksChanged, TimersChanged, TaskPosted}
+use Rattle.page_laws.proofs.Changed.{container_thing, target_thing, IsRootOf, IsListenerOf, TreeChange, ItemChanged, TakenOut, Placed, Observed, Unobserved, Disconnected, IntersectionChange, Registered, Unregistered, AllUnregistered, QueueTaken, TableChange, Entered, Kept, Change, Unchanged, ScreenSet, TreeChanged, ElementMade, FrameMade, Scrolled, ResizeObserverMade, ResizeChanged, IntersectionObserverMade, IntersectionsChanged, QueryListMade, ListenersChanged, FrameCallbacksChanged, TimersChanged, TaskPosted}
 
 -- operands
 

@@ -1,5 +1,5 @@
 -- What operands come to is in range, and so each command leaves the numbers of a world in range.
-use Rattle.std.specs.Prelude.{ℕ, ◌≤◌, Bool, true, false, cond, List, [], ◌∷◌, length, find, option_map, Option, Some, None, IfSome}
+use Rattle.std.specs.Prelude.{ℕ, ◌≤◌, Bool, true, false, cond, List, [], ◌∷◌, length, find, option_map, Some, IfSome}
 use Rattle.std.specs.List.{AllByRecursion}
 use Rattle.script_model.specs.Syntax.{Action}
 use Rattle.page_model.specs.World.{ElementThing, Root, ImplicitRoot, DocumentRoot, ElementRoot, Name, EventTarget, ElementTarget, DocumentTarget, WindowTarget, QueryTarget, Task, Listener, FrameCallback, Timer, Table, Viewports, World}

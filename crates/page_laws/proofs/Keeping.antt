@@ -1,35 +1,27 @@
 -- What every command and every change of a tick keeps is kept by callbacks, ticks and whole runs.
 use Rattle.std.proofs.Common.{◌≡◌, refl}
-use Rattle.std.specs.Prelude.{ℕ, zero, suc, ◌<◌, ◌&&◌, ◌==◌, not, map, Bool, true, false, nat_lt, List, [], ◌∷◌, length, Option, Some, None}
+use Rattle.std.specs.Prelude.{ℕ, zero, suc, ◌<◌, ◌&&◌, map, Bool, true, false, nat_lt, List, [], ◌∷◌, length, Option, Some, None}
 use Rattle.std.specs.List.{AllByRecursion}
 use Rattle.text_io.specs.declared.kinds.EventKind.{EventKind}
 use Rattle.text_io.specs.declared.kinds.EventKind.TheVariants as events
 use Rattle.text_io.specs.declared.kinds.LimitKind.TheVariants as limits
 use Rattle.script_model.specs.Syntax.{Action, Command, Simple, Each, When, Block, NoMore, Then}
-use Rattle.script_model.specs.TraceLines.{FiredEvent, FiredResize, FiredScroll, FiredChange, FiredError, EventLine, TimerLine, FrameLine, TaskLine, TickLine}
+use Rattle.script_model.specs.TraceLines.{FiredEvent}
 use Rattle.text_io.specs.Limits.{limit_number}
-use Rattle.page_model.specs.World.{World, Entry, EventTarget, ElementTarget, DocumentTarget, WindowTarget, QueryTarget, Observation, Task, Notify, Posted, Timer, FrameCallback}
-use Rattle.page_model.specs.Lookups.{resize_observer_at, intersection_observer_at, query_list_at}
+use Rattle.page_model.specs.World.{World, Entry, EventTarget, DocumentTarget, WindowTarget, Observation, Task, Notify, Posted, Timer, FrameCallback}
+use Rattle.page_model.specs.Lookups.{intersection_observer_at}
 use Rattle.page_model.specs.Documents.{is_active, active_documents}
-use Rattle.page_model.specs.Names.{document_text, query_list_text}
 use Rattle.page_model.specs.PageBoxes.{viewport_of}
-use Rattle.page_model.specs.Viewports.{differs_from, noted_size, with_noted}
-use Rattle.page_model.specs.Scrolls.{pending_of, without_pending}
-use Rattle.page_model.specs.QueryLists.{with_state}
-use Rattle.page_model.specs.Listeners.{listeners_of, listener_stands}
-use Rattle.page_model.specs.FrameCallbacks.{frame_callbacks_of, frame_callback_stands, frame_callback_taken}
-use Rattle.page_model.specs.Timers.{due_timers, timer_stands, timer_taken}
-use Rattle.page_model.specs.Tasks.{has_tasks, without_notifying}
-use Rattle.page_model.specs.IntersectionObserving.{without_queue}
-use Rattle.page_model.specs.Gathering.{sight_of, size_entry, has_active, has_skipped, with_reported, due_at}
+use Rattle.page_model.specs.Tasks.{has_tasks}
+use Rattle.page_model.specs.Gathering.{sight_of, size_entry, has_active, due_at}
 use Rattle.page_model.specs.Steps.{Step, Did, Threw, Met}
 use Rattle.page_model.specs.Operands.{Present, NoEntry, ResizeEntry, IntersectionEntry}
-use Rattle.page_model.specs.Commands.{does, holds, begun_in, matches_now}
+use Rattle.page_model.specs.Commands.{does, holds, begun_in}
 use Rattle.page_model.specs.Runs.{Flow, Next, Thrown, Limited, Said, Turn, silent, say, follow, ◌followed_by◌, caught, only_if, lifted, for_each, repeat, by_place, at_place, most_steps}
-use Rattle.page_model.specs.Callbacks.{Script, handler_names, handler_text, Entries, SizeEntries, CutEntries, NoEntries, answered, once_begun, said_by, run_command, run_block, run_handler, while_active, call, notify_listener, invoke, bubble, fire, presents, handler_block, entry_lines, document_of_target}
-use Rattle.page_model.specs.Intersections.{is_same_bool, watchers, take_queue, notify_watcher, notify_watchers, notify}
+use Rattle.page_model.specs.Callbacks.{Script, handler_names, Entries, SizeEntries, CutEntries, NoEntries, answered, once_begun, said_by, run_command, run_block, run_handler, while_active, call, invoke, bubble, fire, presents, handler_block, entry_lines}
+use Rattle.page_model.specs.Intersections.{take_queue, notify_watcher, notify}
 use Rattle.page_model.specs.Loop.{Broadcast, gather, deliver_some, broadcast, round, round_ended, report_skipped, resize_loop}
-use Rattle.page_model.specs.Ticks.{line_while_active, scrolled_text, event_target_of, intersection_steps, run_timers, run_timer, resize_steps, scroll_steps, evaluated, evaluate, media_steps, frame_steps, run_frame_callback, update_rendering, run_task, run_first, run_tasks, tick}
+use Rattle.page_model.specs.Ticks.{intersection_steps, run_timers, run_timer, resize_steps, scroll_steps, evaluated, evaluate, media_steps, frame_steps, run_frame_callback, parts_of_update, update_rendering, run_task, run_first, run_tasks, tick}
 use Rattle.page_laws.specs.Successors.{OnDid}
 use Rattle.page_laws.proofs.Steps.{did, on_did-all, room-then}
 use Rattle.page_laws.proofs.Changes.{IsNext, active-in, timer-next, frame-next, noted-next, pending-next, matched-next, tasks-next, unnotified-next, queue-next, emptied-next, reported-next, gather-next, update-next}
@@ -346,29 +338,30 @@ module _ (script : Script) (P : ℕ → World → Type 0) (In : ℕ → Present 
     unfolding frame_steps
     frames-keep document world here = search (for_each-keeps (P k), only_if-keeps (P k), callback-keeps)
 
-    documents-keep : (part : ℕ → World → Said World) (documents : List ℕ) →
-        ((document : ℕ) (world : World) → is_active (world.tree) document ≡ true → P k world → P k (part document world).state) → (world : World) →
-        P k world → P k (for_each (λ document. while_active document (part document)) documents world).state
-    documents-keep part documents each world here =
-        for_each-keeps (P k) _ _ (λ document now held. active-keeps document (part document) (each document) now held) world here
+    -- an update of the rendering: what each of its parts keeps for a document that is Active
+    abbrev IsPart : (ℕ → World → Said World) → Type 0
+    IsPart part = (document : ℕ) (world : World) → is_active (world.tree) document ≡ true → P k world → P k (part document world).state
+
+    sights-keep : IsPart intersection_steps
+    sights-keep document world is here = kept.next k world _ (update-next document world (active-in (world.tree) document is)) here
+
+    parts-keep : AllByRecursion IsPart (parts_of_update script)
+    parts-keep = (
+      size-keeps,
+      (λ document world is. scroll-keeps document world,
+      (λ document world is. media-keeps document world,
+      (λ document world is. frames-keep document world, (λ document world is. loop-keeps document world, (sights-keep, tt))))),
+    )
 
     update-keeps : (world : World) → P k world → P k (update_rendering script world).state
-    unfolding update_rendering for_each
+    unfolding update_rendering
     update-keeps world here =
-        let documents = active_documents (world.tree) in
-        let over : (ℕ → World → Said World) → World → Said World = λ part. for_each (λ document. while_active document (part document)) documents in
-        then-keeps (P k) (over (resize_steps script) world) _ (documents-keep (resize_steps script) documents size-keeps world here) (λ a ha.
-        then-keeps (P k) (over (scroll_steps script) a) _ (documents-keep (scroll_steps script) documents (λ document now is. scroll-keeps document now) a ha)
-        (λ b hb.
-        then-keeps (P k) (over (media_steps script) b) _ (documents-keep (media_steps script) documents (λ document now is. media-keeps document now) b hb)
-        (λ c hc.
-        then-keeps (P k) (over (frame_steps script) c) _ (documents-keep (frame_steps script) documents (λ document now is. frames-keep document now) c hc)
-        (λ d hd.
-        then-keeps (P k) (over (resize_loop script) d) _ (documents-keep (resize_loop script) documents (λ document now is. loop-keeps document now) d hd)
-        (λ e he.
-        then-keeps (P k) (over intersection_steps e) (λ f. silent f)
-        (documents-keep intersection_steps documents (λ document now is held. kept.next k now _
-        (update-next document now (active-in (now.tree) document is)) held) e he) (λ f hf. hf))))))
+        all_of-keeps (P k) IsPart (λ part. for_each (λ document. while_active document (part document)) (active_documents (world.tree))) (parts_of_update script)
+        parts-keep
+        (λ part now each. for_each-keeps (P k) (λ document. while_active document (part document)) (active_documents (world.tree))
+        (λ document. active-keeps document (part document) (each document)) now)
+        world
+        here
 
     -- tasks and ticks
 

@@ -1,6 +1,6 @@
 -- What the steps of the other parts make of them leaves their numbers in range.
 use Rattle.std.proofs.Common.{◌≡◌, subst}
-use Rattle.std.specs.Prelude.{ℕ, zero, suc, ◌<◌, ℤ, Bool, true, false, cond, List, [], ◌∷◌, ◌++◌, Option, Some, None, IfSome, slice_get, unwrap_or}
+use Rattle.std.specs.Prelude.{ℕ, zero, suc, ◌<◌, ℤ, Bool, true, false, cond, List, [], ◌∷◌, ◌++◌, Some, IfSome, slice_get, unwrap_or}
 use Rattle.std.specs.List.{AllByRecursion, list_any}
 use Rattle.page_model.specs.World.{Extent, Screen, ScrollTarget, ScrolledElement, ScrolledDocument, Scrolls, ResizeObserver, ResizeObservers, IntersectionObserver, IntersectionObservers, Table, Tree, World}
 use Rattle.page_model.specs.Lookups.{change_at, element_at}

@@ -1,6 +1,6 @@
 -- States of documents don't go back, and names stay: what goes over to a successor of a world.
-use Rattle.std.proofs.Common.{◌≡◌, refl, sym, ap, subst, arith, ◌≤◌, true≢false}
-use Rattle.std.specs.Prelude.{ℕ, zero, suc, Bool, true, false, cond, IsTrue, length, List, [], ◌∷◌, ◌++◌, Option, Some, None, slice_get, option_map, find, filter, flat_map, unwrap_or, bytes_eq}
+use Rattle.std.proofs.Common.{◌≡◌, refl, sym, ap, subst, arith, true≢false}
+use Rattle.std.specs.Prelude.{ℕ, zero, suc, Bool, true, false, cond, IsTrue, List, [], ◌∷◌, ◌++◌, Option, Some, None, slice_get, option_map, find, filter, flat_map, unwrap_or, bytes_eq}
 use Rattle.std.specs.List.{AllByRecursion}
 use Rattle.page_model.specs.World.{DocumentState, Fresh, Active, Dead, Document, Tree, Thing, Name, World}
 use Rattle.page_model.specs.Lookups.{change_at, change_each, document_at, no_document}
