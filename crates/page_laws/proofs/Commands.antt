@@ -22,7 +22,7 @@ use Rattle.page_model.specs.Steps.{Step, Did, Threw, Met, ◌>>=◌, ◌>>◌, E
 use Rattle.page_model.specs.Operands.{Present, Handlers, thing_named, as_document, as_element, as_container, as_event_target, document_named, present_target, operand_thing, element_meant, container_meant, event_target_meant, root_at, root_meant, handler_named, handler_given}
 use Rattle.page_model.specs.Commands.{does, with_tree, with_intersections, with_listeners, making, growing, loading, placing, observing, listening}
 use Rattle.page_laws.specs.Successors.{IsSuccessor, OnDid}
-use Rattle.page_laws.proofs.Steps.{bind, bind-in, both, did, required-in, on_did-all, on_did-map}
+use Rattle.page_laws.proofs.Steps.{bind, bind-in, both, did, known-did, required-in, on_did-all, on_did-map}
 use Rattle.page_laws.proofs.Lists.{less-more, some-so}
 use Rattle.page_laws.proofs.Successors.{alike, more-documents, named-still}
 use Rattle.page_laws.proofs.Trees.{edited}
@@ -203,14 +203,7 @@ module _ (handlers : Handlers) (world : World) (present other : Present) (same :
 
   placed : (at : Container) (n : ℕ) (sibling : Option ℕ) → Known (container_thing at) → Known (ElementThing n) →
       OnDid (with_tree world (placing at n sibling (world.tree))) Done
-  unfolding OnDid
-  placed at n sibling there known =
-      tree-step _ (by-step (placing at n sibling (world.tree)) refl)
-    where
-      by-step : (step : Step Tree) → placing at n sibling (world.tree) ≡ step → OnDid step (TreeChange Known (world.tree))
-      by-step (Did after) is = Placed at n sibling after there known is
-      by-step (Threw exception) is = tt
-      by-step (Met limit) is = tt
+  placed at n sibling there known = tree-step _ (known-did _ _ (λ after is. Placed at n sibling after there known is))
 
   grown : (dimension : Dimension) (n : ℕ) (by : ℤ) → Known (ElementThing n) → OnDid (growing dimension n by (world.tree)) (TreeChange Known (world.tree))
   unfolding growing

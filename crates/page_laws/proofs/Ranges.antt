@@ -23,13 +23,19 @@ below more less = omega arith
 at-most : {n a b : ℕ} → a ≤ b → n ≤ a → n ≤ b
 at-most more less = omega arith
 
+some-below : {a b : ℕ} → a ≤ b → (found : Option ℕ) → IfSome found (λ n. n < a) → IfSome found (λ n. n < b)
+some-below more found is = some-map _ _ (λ n. below more) found is
+
+all-below : {A : Type 0} {a b : ℕ} (number : A → ℕ) → a ≤ b → (xs : List A) → AllByRecursion (λ x. number x < a) xs → AllByRecursion (λ x. number x < b) xs
+all-below number more xs all = all-map _ _ (λ x. below more) xs all
+
 module _ (counts more : Counts) (grows : IsMore counts more) where
   element-more : (it : Element) → IsElementIn counts it → IsElementIn more it
   element-more it is = record {
-    parent = some-map (λ n. n < counts.elements) (λ n. n < more.elements) (λ n. below grows.elements) (it.parent) is.parent;
-    children = all-map (λ n. n < counts.elements) (λ n. n < more.elements) (λ n. below grows.elements) (it.children) is.children;
+    parent = some-below grows.elements (it.parent) is.parent;
+    children = all-below (λ n. n) grows.elements (it.children) is.children;
     document = below grows.documents is.document;
-    framed = some-map (λ n. n < counts.documents) (λ n. n < more.documents) (λ n. below grows.documents) (it.framed) is.framed;
+    framed = some-below grows.documents (it.framed) is.framed;
   }
 
   scroll-more : (it : ScrollTarget) → IsScrollIn counts it → IsScrollIn more it
@@ -37,10 +43,7 @@ module _ (counts more : Counts) (grows : IsMore counts more) where
   scroll-more (ScrolledDocument document) is = below grows.documents is
 
   document-more : (it : Document) → IsDocumentIn counts it → IsDocumentIn more it
-  document-more it is = record {
-    frame = some-map (λ n. n < counts.elements) (λ n. n < more.elements) (λ n. below grows.elements) (it.frame) is.frame;
-    root = some-map (λ n. n < counts.elements) (λ n. n < more.elements) (λ n. below grows.elements) (it.root) is.root;
-  }
+  document-more it is = record { frame = some-below grows.elements (it.frame) is.frame; root = some-below grows.elements (it.root) is.root }
 
   thing-more : (it : Thing) → IsThingIn counts it → IsThingIn more it
   thing-more (DocumentThing document) is = below grows.documents is
@@ -49,20 +52,13 @@ module _ (counts more : Counts) (grows : IsMore counts more) where
   thing-more (IntersectionObserverThing observer) is = below grows.intersection_observers is
   thing-more (QueryListThing query) is = below grows.queries is
 
-  observed-more : (xs : List Observation) → AreObserved counts xs → AreObserved more xs
-  observed-more xs is =
-      all-map (λ (each : Observation). each.target < counts.elements) (λ each. each.target < more.elements) (λ each. below grows.elements) xs is
-
-  handler-more : (it : Option ℕ) → IfSome it (λ handler. handler < counts.handlers) → IfSome it (λ handler. handler < more.handlers)
-  handler-more it is = some-map (λ n. n < counts.handlers) (λ n. n < more.handlers) (λ n. below grows.handlers) it is
-
   resize-more : (it : ResizeObserver) → IsResizeObserverIn counts it → IsResizeObserverIn more it
   resize-more it is = record {
     document = below grows.documents is.document;
-    handler = handler-more (it.handler) is.handler;
-    targets = observed-more (it.targets) is.targets;
-    active = observed-more (it.active) is.active;
-    skipped = observed-more (it.skipped) is.skipped;
+    handler = some-below grows.handlers (it.handler) is.handler;
+    targets = all-below (λ (each : Observation). each.target) grows.elements (it.targets) is.targets;
+    active = all-below (λ (each : Observation). each.target) grows.elements (it.active) is.active;
+    skipped = all-below (λ (each : Observation). each.target) grows.elements (it.skipped) is.skipped;
   }
 
   pub root-more : (it : Root) → IsRootIn counts it → IsRootIn more it
@@ -73,12 +69,10 @@ module _ (counts more : Counts) (grows : IsMore counts more) where
   intersection-more : (it : IntersectionObserver) → IsIntersectionObserverIn counts it → IsIntersectionObserverIn more it
   intersection-more it is = record {
     document = below grows.documents is.document;
-    handler = handler-more (it.handler) is.handler;
+    handler = some-below grows.handlers (it.handler) is.handler;
     root = root-more (it.root) is.root;
-    registrations =
-        all-map (λ (each : Registration). each.target < counts.elements) (λ each. each.target < more.elements) (λ each. below grows.elements)
-        (it.registrations) is.registrations;
-    queue = all-map (λ (each : Entry). each.target < counts.elements) (λ each. each.target < more.elements) (λ each. below grows.elements) (it.queue) is.queue;
+    registrations = all-below (λ (each : Registration). each.target) grows.elements (it.registrations) is.registrations;
+    queue = all-below (λ (each : Entry). each.target) grows.elements (it.queue) is.queue;
   }
 
   event-target-more : (it : EventTarget) → IsEventTargetIn counts it → IsEventTargetIn more it
@@ -115,9 +109,7 @@ module _ (counts more : Counts) (grows : IsMore counts more) where
     intersection_observers =
         all-map (IsIntersectionObserverIn counts) (IsIntersectionObserverIn more) intersection-more
         (world.intersection_observers.made) is.intersection_observers;
-    queries =
-        all-map (λ (list : QueryList). list.document < counts.documents) (λ list. list.document < more.documents) (λ list. below grows.documents)
-        (world.queries) is.queries;
+    queries = all-below (λ (list : QueryList). list.document) grows.documents (world.queries) is.queries;
     listeners =
         all-map (IsListenerIn counts) (IsListenerIn more) (λ it given. (event-target-more (it.target) (given.0), below grows.handlers (given.1)))
         (world.listeners.held) is.listeners;
