@@ -17,7 +17,7 @@ use Rattle.page_model.specs.Gathering.{sight_of, size_entry, has_active, due_at}
 use Rattle.page_model.specs.Steps.{Step, Did, Threw, Met}
 use Rattle.page_model.specs.Operands.{Present, NoEntry, ResizeEntry, IntersectionEntry}
 use Rattle.page_model.specs.Commands.{does, holds, begun_in}
-use Rattle.page_model.specs.Runs.{Flow, Next, Thrown, Limited, Said, Turn, silent, say, follow, ◌followed_by◌, caught, only_if, lifted, for_each, repeat, by_place, at_place, most_steps}
+use Rattle.page_model.specs.Runs.{Flow, Next, Thrown, Limited, Said, Turn, say, follow, ◌followed_by◌, caught, only_if, lifted, for_each, repeat, by_place, at_place, most_steps}
 use Rattle.page_model.specs.Callbacks.{Script, handler_names, Entries, SizeEntries, CutEntries, NoEntries, answered, once_begun, said_by, run_command, run_block, run_handler, while_active, call, invoke, bubble, fire, presents, handler_block, entry_lines}
 use Rattle.page_model.specs.Intersections.{take_queue, notify_watcher, notify}
 use Rattle.page_model.specs.Loop.{Broadcast, gather, deliver_some, broadcast, round, round_ended, report_skipped, resize_loop}
@@ -348,9 +348,13 @@ module _ (script : Script) (P : ℕ → World → Type 0) (In : ℕ → Present 
     parts-keep : AllByRecursion IsPart (parts_of_update script)
     parts-keep = (
       size-keeps,
-      (λ document world is. scroll-keeps document world,
-      (λ document world is. media-keeps document world,
-      (λ document world is. frames-keep document world, (λ document world is. loop-keeps document world, (sights-keep, tt))))),
+      (
+        λ document world is. scroll-keeps document world,
+        (
+          λ document world is. media-keeps document world,
+          (λ document world is. frames-keep document world, (λ document world is. loop-keeps document world, (sights-keep, tt))),
+        ),
+      ),
     )
 
     update-keeps : (world : World) → P k world → P k (update_rendering script world).state

@@ -245,9 +245,13 @@ IsHushedPart part = (world : World) → IsQuiet world → IsHushed (part 0 world
 parts-hushed : (script : Script) → AllByRecursion IsHushedPart (parts_of_update script)
 parts-hushed script = (
   resize-hushed script,
-  (scroll-hushed script,
-  (media-hushed script,
-  (frames-hushed script, (loop-hushed script, (λ world quiet. stays (update_intersections 0 world) (updated-quiet world quiet), tt))))),
+  (
+    scroll-hushed script,
+    (
+      media-hushed script,
+      (frames-hushed script, (loop-hushed script, (λ world quiet. stays (update_intersections 0 world) (updated-quiet world quiet), tt))),
+    ),
+  ),
 )
 
 update-hushed : (script : Script) (world : World) → IsQuiet world → IsHushed (update_rendering script world)

@@ -4,7 +4,7 @@ use Rattle.std.specs.Prelude.{ℕ, ◌<◌, List, length, Option, IfSome}
 use Rattle.std.specs.List.{AllByRecursion}
 use Rattle.script_model.specs.Margins.{Margins}
 use Rattle.page_model.specs.World.{Element, Document, Tree, Scrolls, ScrollTarget, ScrolledElement, ScrolledDocument, Thing, DocumentThing, ElementThing, ResizeObserverThing, IntersectionObserverThing, QueryListThing, Name, Observation, ResizeObserver, ResizeObservers, Root, ImplicitRoot, DocumentRoot, ElementRoot, Registration, Entry, IntersectionObserver, IntersectionObservers, QueryList, EventTarget, ElementTarget, DocumentTarget, WindowTarget, QueryTarget, Task, Notify, Posted, World}
-use Rattle.page_model.specs.Ranges.{Counts, counts_of, IsElementIn, IsScrollIn, IsDocumentIn, IsTreeIn, AreScrollsIn, IsThingIn, AreObserved, IsResizeObserverIn, IsRootIn, IsIntersectionObserverIn, IsEventTargetIn, IsListenerIn, IsFrameCallbackIn, IsTimerIn, IsTaskIn, IsWithin, IsInRange}
+use Rattle.page_model.specs.Ranges.{Counts, counts_of, IsElementIn, IsScrollIn, IsDocumentIn, IsTreeIn, AreScrollsIn, IsThingIn, IsResizeObserverIn, IsRootIn, IsIntersectionObserverIn, IsEventTargetIn, IsListenerIn, IsFrameCallbackIn, IsTimerIn, IsTaskIn, IsWithin, IsInRange}
 use Rattle.page_laws.proofs.Lists.{all-map, some-map, IsKept}
 
 -- more of each thing
