@@ -15,7 +15,7 @@ use Rattle.page_model.specs.Commands.{does, placing}
 use Rattle.page_model.specs.Ranges.{counts_of, IsThingIn, IsInRange, IsPresentIn}
 use Rattle.page_laws.specs.Successors.{OnDid}
 use Rattle.page_laws.proofs.Trees.{placing-same}
-use Rattle.page_laws.proofs.Changed.{container_thing, TreeChange, ItemChanged, TakenOut, Placed, Change, TreeChanged, ElementMade, FrameMade}
+use Rattle.page_laws.specs.Changed.{container_thing, TreeChange, ItemChanged, TakenOut, Placed, Change, TreeChanged, ElementMade, FrameMade}
 use Rattle.page_laws.proofs.InRange.{does-known}
 use Rattle.page_laws.proofs.Steps.{on_did-map}
 use Rattle.page_documents.specs.Places.{IsThere}

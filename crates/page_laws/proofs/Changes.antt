@@ -21,7 +21,7 @@ use Rattle.page_laws.specs.Successors.{IsSuccessor}
 use Rattle.page_laws.specs.Bounds.{AreTasksWithin}
 use Rattle.page_laws.proofs.Lists.{IsKept, all-add, all-append, all-filter, all-mapped, still-kept, then-kept, put-within, changed, mapped}
 use Rattle.page_laws.proofs.Ranges.{with-scrolls, resize-in, intersection-in, queries-in}
-use Rattle.page_laws.proofs.Changed.{QueueTaken}
+use Rattle.page_laws.specs.Changed.{QueueTaken}
 use Rattle.page_laws.proofs.Parts.{lists-in, registered-in, resize-changed, intersections-kept}
 use Rattle.page_laws.proofs.InRange.{frame-callbacks-in, timers-in, tasks-in, viewports-in}
 use Rattle.page_laws.proofs.Successors.{IsAlike, still, alike, same-tree}

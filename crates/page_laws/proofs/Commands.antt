@@ -1,7 +1,7 @@
 -- Each command changes the world by one of the changes of `Changed`, and reads of the present entry its target alone. Here alone are all
 -- commands gone through.
 use Rattle.std.proofs.Common.{◌≡◌, refl, ap, sym, subst, arith, tests}
-use Rattle.std.specs.Prelude.{ℕ, ℤ, pos, ◌+ℤ◌, ◌+◌, ◌<◌, nat_lt, Bool, true, false, List, [], length, position, unwrap_or, bytes_eq, cond, Option, Some, None, IfSome, ⊤}
+use Rattle.std.specs.Prelude.{ℕ, ℤ, pos, ◌+ℤ◌, ◌+◌, ◌<◌, nat_lt, Bool, true, false, List, [], length, position, unwrap_or, bytes_eq, cond, Option, Some, None, IfSome}
 use Rattle.std.specs.List.{position_or_len}
 use Rattle.layout_model.specs.Items.{Kind}
 use Rattle.text_io.specs.declared.kinds.EventKind.{EventKind}
@@ -26,7 +26,7 @@ use Rattle.page_laws.proofs.Steps.{bind, bind-in, both, did, known-did, required
 use Rattle.page_laws.proofs.Lists.{less-more, some-so}
 use Rattle.page_laws.proofs.Successors.{alike, more-documents, named-still}
 use Rattle.page_laws.proofs.Trees.{edited}
-use Rattle.page_laws.proofs.Changed.{container_thing, target_thing, IsRootOf, IsListenerOf, TreeChange, ItemChanged, TakenOut, Placed, Observed, Unobserved, Disconnected, IntersectionChange, Registered, Unregistered, AllUnregistered, QueueTaken, TableChange, Entered, Kept, Change, Unchanged, ScreenSet, TreeChanged, ElementMade, FrameMade, Scrolled, ResizeObserverMade, ResizeChanged, IntersectionObserverMade, IntersectionsChanged, QueryListMade, ListenersChanged, FrameCallbacksChanged, TimersChanged, TaskPosted}
+use Rattle.page_laws.specs.Changed.{AnyThing, container_thing, target_thing, IsRootOf, IsListenerOf, TreeChange, ItemChanged, TakenOut, Placed, Observed, Unobserved, Disconnected, IntersectionChange, Registered, Unregistered, AllUnregistered, QueueTaken, TableChange, Entered, Kept, Change, Unchanged, ScreenSet, TreeChanged, ElementMade, FrameMade, Scrolled, ResizeObserverMade, ResizeChanged, IntersectionObserverMade, IntersectionsChanged, QueryListMade, ListenersChanged, FrameCallbacksChanged, TimersChanged, TaskPosted}
 
 -- operands
 
@@ -315,17 +315,11 @@ does-change handlers world present Known named target action = (does-both handle
 
 -- where nothing is known of what operands mean
 
-abbrev pub AnyThing : Thing → Type 0
-AnyThing thing = ⊤
-
-abbrev pub AnyChange : Handlers → World → World → Type 0
-AnyChange handlers world after = Change AnyThing (length handlers) world after
-
 any-target : (present : Present) → OnDid (present_target present) (λ n. AnyThing (ElementThing n))
 any-target present = on_did-all (present_target present) (λ n. AnyThing (ElementThing n)) (λ n. tt)
 
 pub does-any : (handlers : Handlers) (world : World) (present : Present) (action : Action) →
-    OnDid (does handlers world present action) (λ effect. AnyChange handlers world (effect.world))
+    OnDid (does handlers world present action) (λ effect. Change AnyThing (length handlers) world (effect.world))
 does-any handlers world present action = does-change handlers world present AnyThing (λ name. some-so (named_thing (world.names) name)) (any-target present) action
 
 pub same-target : (handlers : Handlers) (world : World) (present other : Present) (action : Action) → present_target present ≡ present_target other →

@@ -9,7 +9,7 @@ use Rattle.page_model.specs.Ranges.{Counts, counts_of, IsThingIn, IsRootIn, IsEv
 use Rattle.page_laws.specs.Successors.{OnDid}
 use Rattle.page_laws.proofs.Steps.{on_did-map}
 use Rattle.page_laws.proofs.Lists.{all-add}
-use Rattle.page_laws.proofs.Changed.{target_thing, IsRootOf, Change, Unchanged, ScreenSet, TreeChanged, ElementMade, FrameMade, Scrolled, ResizeObserverMade, ResizeChanged, IntersectionObserverMade, IntersectionsChanged, QueryListMade, ListenersChanged, FrameCallbacksChanged, TimersChanged, TaskPosted}
+use Rattle.page_laws.specs.Changed.{target_thing, IsRootOf, Change, Unchanged, ScreenSet, TreeChanged, ElementMade, FrameMade, Scrolled, ResizeObserverMade, ResizeChanged, IntersectionObserverMade, IntersectionsChanged, QueryListMade, ListenersChanged, FrameCallbacksChanged, TimersChanged, TaskPosted}
 use Rattle.page_laws.proofs.Commands.{does-change}
 use Rattle.page_laws.proofs.Ranges.{tree-in, resize-in, intersection-in}
 use Rattle.page_laws.proofs.Trees.{edited}

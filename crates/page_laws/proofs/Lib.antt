@@ -1,7 +1,6 @@
 pub mod Lists
 pub mod Steps
 pub mod Ranges
-pub mod Changed
 pub mod Successors
 pub mod Trees
 pub mod Made

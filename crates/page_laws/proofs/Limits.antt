@@ -14,7 +14,7 @@ use Rattle.page_laws.specs.Successors.{OnDid}
 use Rattle.page_laws.specs.Bounds.{AreTasksWithin, IsWithinLimits}
 use Rattle.page_laws.proofs.Steps.{on_did-map}
 use Rattle.page_laws.proofs.Lists.{changed}
-use Rattle.page_laws.proofs.Changed.{ResizeChange, Observed, Unobserved, Disconnected, Change, TreeChanged, FrameMade, ResizeObserverMade, ResizeChanged, QueryListMade, TaskPosted}
+use Rattle.page_laws.specs.Changed.{ResizeChange, Observed, Unobserved, Disconnected, Change, TreeChanged, FrameMade, ResizeObserverMade, ResizeChanged, QueryListMade, TaskPosted}
 use Rattle.page_laws.proofs.Commands.{does-any}
 use Rattle.page_laws.proofs.Trees.{edited}
 use Rattle.page_laws.proofs.Waiting.{tasks-alike, posted-within}

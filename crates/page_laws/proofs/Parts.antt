@@ -12,7 +12,7 @@ use Rattle.page_model.specs.Scrolling.{scrolled_element, scrolled_thing, scroll_
 use Rattle.page_model.specs.Ranges.{Counts, counts_of, IsScrollIn, AreScrollsIn, AreObserved, IsResizeObserverIn, IsIntersectionObserverIn, IsTreeIn, IsThingIn, IsInRange}
 use Rattle.page_laws.proofs.Lists.{IsKept, all-add, all-filter, all-put, put-within, changed}
 use Rattle.page_laws.proofs.Ranges.{with-scrolls}
-use Rattle.page_laws.proofs.Changed.{ResizeChange, Observed, Unobserved, Disconnected, IntersectionChange, Registered, Unregistered, AllUnregistered, QueueTaken, TableChange, Entered, Kept}
+use Rattle.page_laws.specs.Changed.{ResizeChange, Observed, Unobserved, Disconnected, IntersectionChange, Registered, Unregistered, AllUnregistered, QueueTaken, TableChange, Entered, Kept}
 use Rattle.page_laws.proofs.Trees.{IsContainerIn, found-in}
 
 -- observers

@@ -9,7 +9,7 @@ use Rattle.page_model.specs.Steps.{Did}
 use Rattle.page_model.specs.Commands.{placing}
 use Rattle.page_model.specs.Ranges.{Counts, IsElementIn, IsDocumentIn, IsTreeIn, IsThingIn}
 use Rattle.page_laws.specs.Successors.{came_to, OnDid}
-use Rattle.page_laws.proofs.Changed.{container_thing, TreeChange, ItemChanged, TakenOut, Placed}
+use Rattle.page_laws.specs.Changed.{container_thing, TreeChange, ItemChanged, TakenOut, Placed}
 use Rattle.page_laws.proofs.Steps.{both, did, of_did}
 use Rattle.page_laws.proofs.Lists.{all-add, all-filter, changed, changed-each}
 use Rattle.page_laws.proofs.Successors.{HasCome, AllAlive, into, changed-entry, dying-each, waking-each, fresh-all-alive, led-pass}
