@@ -1,4 +1,4 @@
--- What operands come to is in range, and so each command leaves the numbers of a world in range.
+-- Each change that a command makes leaves the numbers of a world in range.
 use Rattle.std.specs.Prelude.{ℕ, ◌≤◌, Bool, true, false, cond, List, [], ◌∷◌, length, find, option_map, Some, IfSome}
 use Rattle.std.specs.List.{AllByRecursion}
 use Rattle.script_model.specs.Syntax.{Action}

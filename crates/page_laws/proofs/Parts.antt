@@ -1,9 +1,9 @@
 -- What the steps of the other parts make of them leaves their numbers in range.
 use Rattle.std.proofs.Common.{◌≡◌, subst}
-use Rattle.std.specs.Prelude.{ℕ, zero, suc, ◌<◌, ℤ, Bool, true, false, cond, List, [], ◌∷◌, ◌++◌, Some, IfSome, slice_get, unwrap_or}
+use Rattle.std.specs.Prelude.{ℕ, zero, suc, ◌<◌, ◌≤◌, length, ℤ, Bool, true, false, cond, List, [], ◌∷◌, ◌++◌, Some, IfSome, slice_get, unwrap_or}
 use Rattle.std.specs.List.{AllByRecursion, list_any}
 use Rattle.page_model.specs.World.{Extent, Screen, ScrollTarget, ScrolledElement, ScrolledDocument, Scrolls, Observation, ResizeObserver, ResizeObservers, Registration, Entry, IntersectionObserver, IntersectionObservers, Table, Tree, World}
-use Rattle.page_model.specs.Lookups.{change_at, element_at}
+use Rattle.page_model.specs.Lookups.{no_extent, change_at, put_at, element_at}
 use Rattle.page_model.specs.Documents.{Container, InElement, InDocument, is_root_element}
 use Rattle.page_model.specs.PageBoxes.{is_scroller}
 use Rattle.page_model.specs.ResizeObserving.{without_observed}
@@ -91,19 +91,11 @@ module _ (counts : Counts) where
   position-in : (target : ScrollTarget) (position : Extent) (it : Scrolls) → IsScrollIn counts target → AreScrollsIn counts it →
       AreScrollsIn counts (with_position target position it)
   position-in (ScrolledElement n) position it is are =
-      record {
-        elements = put-within (counts.elements) _ n position (it.elements) is are.elements;
-        documents = are.documents;
-        listed = are.listed;
-        pending = are.pending;
-      }
+      let fits : length (put_at no_extent n position (it.elements)) ≤ counts.elements = put-within (counts.elements) _ n position (it.elements) is are.elements in
+      assumption
   position-in (ScrolledDocument document) position it is are =
-      record {
-        elements = are.elements;
-        documents = put-within (counts.documents) _ document position (it.documents) is are.documents;
-        listed = are.listed;
-        pending = are.pending;
-      }
+      let fits : length (put_at no_extent document position (it.documents)) ≤ counts.documents =
+      put-within (counts.documents) _ document position (it.documents) is are.documents in assumption
 
   put-pending-in : (document : ℕ) (target : ScrollTarget) (it : Scrolls) → document < counts.documents → IsScrollIn counts target → AreScrollsIn counts it →
       AreScrollsIn counts (with_pending document target it)
