@@ -10,7 +10,8 @@ use Rattle.page_documents.proofs.Entries.{kept_each}
 use Rattle.page_documents.proofs.Shape.{trees_same}
 use Rattle.document_laws.specs.Levels.{MakeLowTrees, IsWithinLevels}
 use Rattle.document_laws.specs.Insertions.{placed_in, owned_in, IsLowThroughout}
-use Rattle.document_laws.proofs.Depths.{cut_low, permitted}
+use Rattle.page_laws.proofs.Depths.{permitted}
+use Rattle.document_laws.proofs.Depths.{cut_low}
 use Rattle.document_laws.proofs.Steps.{removed_levels, placing_levels}
 use Rattle.document_laws.proofs.Cutting.{low_trees}
 

@@ -14,10 +14,10 @@ use Rattle.page_model.specs.Operands.{Present, Handlers}
 use Rattle.page_model.specs.Commands.{does, placing}
 use Rattle.page_model.specs.Ranges.{counts_of, IsThingIn, IsInRange, IsPresentIn}
 use Rattle.page_laws.specs.Successors.{OnDid}
-use Rattle.page_laws.proofs.Successors.{IsTreeNext, placing-next}
-use Rattle.page_laws.proofs.Changed.{container_thing, TreeChange, ItemChanged, TakenOut, Placed, Change, TreeChanged, ElementMade, FrameMade}
+use Rattle.page_laws.proofs.Trees.{placing-same}
+use Rattle.page_laws.specs.Changed.{container_thing, TreeChange, ItemChanged, TakenOut, Placed, Change, TreeChanged, ElementMade, FrameMade}
 use Rattle.page_laws.proofs.InRange.{does-known}
-use Rattle.page_laws.proofs.Steps.{of_did, on_did-map}
+use Rattle.page_laws.proofs.Steps.{on_did-map}
 use Rattle.page_documents.specs.Places.{IsThere}
 use Rattle.page_documents.proofs.Entries.{kept, append_part, append_length}
 use Rattle.page_documents.proofs.Making.{item_framed, element_framed, frame_framed}
@@ -70,7 +70,7 @@ module _ (tree : Tree) (levels : IsWithinLevels tree) where
     }
 
     pub placing_levels : (after : Tree) → placing container n sibling tree ≡ Did after → IsWithinLevels after
-    placing_levels after is = placed after is (of_did _ after (IsTreeNext tree) is (placing-next container n sibling tree)).documents
+    placing_levels after is = placed after is (placing-same tree after container n sibling is)
 
 -- commands ------------------------------------------------------------------------------------------------------------------------------
 

@@ -21,8 +21,8 @@ use Rattle.page_laws.specs.Successors.{IsSuccessor}
 use Rattle.page_laws.specs.Bounds.{AreTasksWithin}
 use Rattle.page_laws.proofs.Lists.{IsKept, all-add, all-append, all-filter, all-mapped, still-kept, then-kept, put-within, changed, mapped}
 use Rattle.page_laws.proofs.Ranges.{with-scrolls, resize-in, intersection-in, queries-in}
-use Rattle.page_laws.proofs.Changed.{QueueTaken}
-use Rattle.page_laws.proofs.Parts.{resize-changed, intersections-kept}
+use Rattle.page_laws.specs.Changed.{QueueTaken}
+use Rattle.page_laws.proofs.Parts.{lists-in, registered-in, resize-changed, intersections-kept}
 use Rattle.page_laws.proofs.InRange.{frame-callbacks-in, timers-in, tasks-in, viewports-in}
 use Rattle.page_laws.proofs.Successors.{IsAlike, still, alike, same-tree}
 use Rattle.page_laws.proofs.Waiting.{tasks-alike, taken-within, unmarked-within, marked-within}
@@ -186,7 +186,7 @@ module _ (world : World) where
   pub inactive-next : (observer : ℕ) → IsNext world (record world { resize_observers = without_active observer (world.resize_observers) })
   inactive-next observer =
       resize-next _ (λ counts. resize-changed counts (world.resize_observers) observer _
-      (λ each is. record { document = is.document; handler = is.handler; targets = is.targets; active = tt; skipped = is.skipped }))
+      (λ each is. lists-in counts each is _ [] _ is.targets tt is.skipped))
 
   emptied-if : (test : Bool) (observer : ℕ) → IsNext world
       (cond test (record world { resize_observers = without_active observer (world.resize_observers) }) world)
@@ -209,28 +209,18 @@ reported-at counts sight delivered it is = by_test (list_any (λ (each : Observa
 pub reported-next : (world : World) (sight : Sight) (observer : ℕ) (delivered : List Observation) →
     IsNext world (record world { resize_observers = with_reported sight observer delivered (world.resize_observers) })
 reported-next world sight observer delivered =
-    resize-next world _ (λ counts. resize-changed counts (world.resize_observers) observer _ (λ each is. record {
-      document = is.document;
-      handler = is.handler;
-      targets =
-          all-mapped (λ (it : Observation). it.target < counts.elements) (λ it. it.target < counts.elements) (reported sight delivered)
-          (reported-at counts sight delivered) (each.targets) is.targets;
-      active = is.active;
-      skipped = is.skipped;
-    }))
+    resize-next world _ (λ counts. resize-changed counts (world.resize_observers) observer _ (λ each is. lists-in counts each is _ _ _
+    (all-mapped (λ (it : Observation). it.target < counts.elements) (λ it. it.target < counts.elements) (reported sight delivered)
+    (reported-at counts sight delivered) (each.targets) is.targets) is.active is.skipped))
 
 gathered-if-in : (counts : Counts) (test : Bool) (sight : Sight) (depth : ℕ) (it : ResizeObserver) → IsResizeObserverIn counts it →
     IsResizeObserverIn counts (gathered_if test sight depth it)
 gathered-if-in counts false sight depth it is = is
 gathered-if-in counts true sight depth it is =
     let changed_ones : AreObserved counts (filter (has_changed sight) (it.targets)) = all-filter _ (has_changed sight) (it.targets) is.targets in
-    record {
-      document = is.document;
-      handler = is.handler;
-      targets = is.targets;
-      active = all-filter _ (is_deeper sight depth) (filter (has_changed sight) (it.targets)) changed_ones;
-      skipped = all-filter _ (λ observation. not (is_deeper sight depth observation)) (filter (has_changed sight) (it.targets)) changed_ones;
-    }
+    lists-in counts it is _ _ _ is.targets
+    (all-filter _ (is_deeper sight depth) (filter (has_changed sight) (it.targets)) changed_ones)
+    (all-filter _ (λ observation. not (is_deeper sight depth observation)) (filter (has_changed sight) (it.targets)) changed_ones)
 
 pub gather-next : (document depth : ℕ) (world : World) → IsNext world (gather document depth world)
 unfolding gather
@@ -266,15 +256,11 @@ entries-settled counts time find registrations all =
 
 settled-in : (counts : Counts) (time : ℕ) (find : IntersectionObserver → ℕ → Finding) (it : IntersectionObserver) → IsIntersectionObserverIn counts it →
     IsIntersectionObserverIn counts (settled_observer time find it)
-settled-in counts time find it is = record {
-  document = is.document;
-  handler = is.handler;
-  root = is.root;
-  registrations =
-      all-mapped _ _ _ (λ settled_one held. held) _ (all-mapped _ (λ (each : Settled). each.registration.target < counts.elements) _
-      (λ registration held. held) (it.registrations) is.registrations);
-  queue = all-append _ (it.queue) _ is.queue (entries-settled counts time (find it) (it.registrations) is.registrations);
-}
+settled-in counts time find it is =
+    registered-in counts it is _ _
+    (all-mapped _ _ _ (λ settled_one held. held) _ (all-mapped _ (λ (each : Settled). each.registration.target < counts.elements) _
+    (λ registration held. held) (it.registrations) is.registrations))
+    (all-append _ (it.queue) _ is.queue (entries-settled counts time (find it) (it.registrations) is.registrations))
 
 -- observers settled one after the other
 settling-kept : (counts : Counts) (time : ℕ) (find : ℕ → IntersectionObserver → ℕ → Finding) (observers : List ℕ) (it : IntersectionObservers) →

@@ -1,7 +1,7 @@
 -- Each command changes the world by one of the changes of `Changed`, and reads of the present entry its target alone. Here alone are all
 -- commands gone through.
-use Rattle.std.proofs.Common.{◌≡◌, refl, ap, sym, subst, arith, tests, ◌≤◌}
-use Rattle.std.specs.Prelude.{ℕ, ℤ, pos, ◌+ℤ◌, ◌+◌, ◌<◌, nat_lt, Bool, true, false, List, [], length, position, unwrap_or, bytes_eq, cond, Option, Some, None, IfSome, ⊤}
+use Rattle.std.proofs.Common.{◌≡◌, refl, ap, sym, subst, arith, tests}
+use Rattle.std.specs.Prelude.{ℕ, ℤ, pos, ◌+ℤ◌, ◌+◌, ◌<◌, nat_lt, Bool, true, false, List, [], length, position, unwrap_or, bytes_eq, cond, Option, Some, None, IfSome}
 use Rattle.std.specs.List.{position_or_len}
 use Rattle.layout_model.specs.Items.{Kind}
 use Rattle.text_io.specs.declared.kinds.EventKind.{EventKind}
@@ -10,7 +10,7 @@ use Rattle.text_io.specs.declared.kinds.LimitKind.TheVariants as limits
 use Rattle.text_io.specs.declared.kinds.ThrowKind.TheVariants.{RangeError, ReferenceError, SyntaxError}
 use Rattle.script_model.specs.MarginText.{margins_of, thresholds_of}
 use Rattle.script_model.specs.Syntax.{Dimension, Operand, Named, Target, Aim, PlainAim, WindowAim, Action, Viewport, SetRatio, MakeBlock, MakeImage, MakeFrame, Append, Before, Remove, SetStyle, Grow, Load, MakeResizeObserver, ObserveResize, UnobserveResize, DisconnectResize, MakeIntersectionObserver, ObserveIntersection, UnobserveIntersection, DisconnectIntersection, TakeIntersections, Listen, Unlisten, MakeQueryList, ScrollTo, ScrollBy, RequestFrame, CancelFrame, SetTimer, ClearTimer, Post, Say, Read}
-use Rattle.page_model.specs.World.{Thing, DocumentThing, ElementThing, ResizeObserverThing, IntersectionObserverThing, QueryListThing, Root, ScrollTarget, IntersectionObservers, EventTarget, Listener, Table, Tree, World}
+use Rattle.page_model.specs.World.{Thing, DocumentThing, ElementThing, QueryListThing, Root, ScrollTarget, IntersectionObservers, EventTarget, Listener, Table, Tree, World}
 use Rattle.page_model.specs.Lookups.{intersection_observer_at}
 use Rattle.page_model.specs.Names.{named_thing, with_name}
 use Rattle.page_model.specs.Documents.{Container, InElement, InDocument}
@@ -19,13 +19,14 @@ use Rattle.page_model.specs.PageBoxes.{scroll_offset}
 use Rattle.page_model.specs.IntersectionObserving.{is_registered, intersection_observations}
 use Rattle.page_model.specs.Listeners.{is_listening}
 use Rattle.page_model.specs.Steps.{Step, Did, Threw, Met, ◌>>=◌, ◌>>◌, Effect, required, met_unless, room}
-use Rattle.page_model.specs.Operands.{Present, NoEntry, ResizeEntry, IntersectionEntry, Handlers, thing_named, as_document, as_element, as_container, as_event_target, document_named, present_target, operand_thing, element_meant, container_meant, event_target_meant, root_at, root_meant, handler_named, handler_given}
+use Rattle.page_model.specs.Operands.{Present, Handlers, thing_named, as_document, as_element, as_container, as_event_target, document_named, present_target, operand_thing, element_meant, container_meant, event_target_meant, root_at, root_meant, handler_named, handler_given}
 use Rattle.page_model.specs.Commands.{does, with_tree, with_intersections, with_listeners, making, growing, loading, placing, observing, listening}
 use Rattle.page_laws.specs.Successors.{IsSuccessor, OnDid}
-use Rattle.page_laws.proofs.Steps.{bind, bind-in, both, did, of_did, required-in, on_did-all, on_did-map}
+use Rattle.page_laws.proofs.Steps.{bind, bind-in, both, did, known-did, required-in, on_did-all, on_did-map}
 use Rattle.page_laws.proofs.Lists.{less-more, some-so}
-use Rattle.page_laws.proofs.Successors.{IsTreeNext, still, alike, element-changed, tree-next, placing-next, removed-next, more-documents, named-still}
-use Rattle.page_laws.proofs.Changed.{container_thing, target_thing, IsRootOf, IsListenerOf, TreeChange, ItemChanged, TakenOut, Placed, ResizeChange, Observed, Unobserved, Disconnected, IntersectionChange, Registered, Unregistered, AllUnregistered, QueueTaken, TableChange, Entered, Kept, Change, Unchanged, ScreenSet, TreeChanged, ElementMade, FrameMade, Scrolled, ResizeObserverMade, ResizeChanged, IntersectionObserverMade, IntersectionsChanged, QueryListMade, ListenersChanged, FrameCallbacksChanged, TimersChanged, TaskPosted}
+use Rattle.page_laws.proofs.Successors.{alike, more-documents, named-still}
+use Rattle.page_laws.proofs.Trees.{edited}
+use Rattle.page_laws.specs.Changed.{AnyThing, container_thing, target_thing, IsRootOf, IsListenerOf, TreeChange, ItemChanged, TakenOut, Placed, Observed, Unobserved, Disconnected, IntersectionChange, Registered, Unregistered, AllUnregistered, QueueTaken, TableChange, Entered, Kept, Change, Unchanged, ScreenSet, TreeChanged, ElementMade, FrameMade, Scrolled, ResizeObserverMade, ResizeChanged, IntersectionObserverMade, IntersectionsChanged, QueryListMade, ListenersChanged, FrameCallbacksChanged, TimersChanged, TaskPosted}
 
 -- operands
 
@@ -202,14 +203,7 @@ module _ (handlers : Handlers) (world : World) (present other : Present) (same :
 
   placed : (at : Container) (n : ℕ) (sibling : Option ℕ) → Known (container_thing at) → Known (ElementThing n) →
       OnDid (with_tree world (placing at n sibling (world.tree))) Done
-  unfolding OnDid
-  placed at n sibling there known =
-      tree-step _ (by-step (placing at n sibling (world.tree)) refl)
-    where
-      by-step : (step : Step Tree) → placing at n sibling (world.tree) ≡ step → OnDid step (TreeChange Known (world.tree))
-      by-step (Did after) is = Placed at n sibling after there known is
-      by-step (Threw exception) is = tt
-      by-step (Met limit) is = tt
+  placed at n sibling there known = tree-step _ (known-did _ _ (λ after is. Placed at n sibling after there known is))
 
   grown : (dimension : Dimension) (n : ℕ) (by : ℤ) → Known (ElementThing n) → OnDid (growing dimension n by (world.tree)) (TreeChange Known (world.tree))
   unfolding growing
@@ -321,17 +315,11 @@ does-change handlers world present Known named target action = (does-both handle
 
 -- where nothing is known of what operands mean
 
-abbrev pub AnyThing : Thing → Type 0
-AnyThing thing = ⊤
-
-abbrev pub AnyChange : Handlers → World → World → Type 0
-AnyChange handlers world after = Change AnyThing (length handlers) world after
-
 any-target : (present : Present) → OnDid (present_target present) (λ n. AnyThing (ElementThing n))
 any-target present = on_did-all (present_target present) (λ n. AnyThing (ElementThing n)) (λ n. tt)
 
 pub does-any : (handlers : Handlers) (world : World) (present : Present) (action : Action) →
-    OnDid (does handlers world present action) (λ effect. AnyChange handlers world (effect.world))
+    OnDid (does handlers world present action) (λ effect. Change AnyThing (length handlers) world (effect.world))
 does-any handlers world present action = does-change handlers world present AnyThing (λ name. some-so (named_thing (world.names) name)) (any-target present) action
 
 pub same-target : (handlers : Handlers) (world : World) (present other : Present) (action : Action) → present_target present ≡ present_target other →
@@ -340,11 +328,6 @@ same-target handlers world present other action same =
     (does-both handlers world present other same AnyThing (λ name. some-so (named_thing (world.names) name)) (any-target present) action).either
 
 -- successors
-
-pub tree-change-next : {Known : Thing → Type 0} (before : Tree) {after : Tree} → TreeChange Known before after → IsTreeNext before after
-tree-change-next before (ItemChanged change n known) = element-changed _ n before
-tree-change-next before (TakenOut n known) = removed-next before n
-tree-change-next before (Placed container n sibling after there known is) = of_did _ after (IsTreeNext before) is (placing-next container n sibling before)
 
 with-name-next : (world after : World) (name : List ℕ) (thing : Thing) →
     after ≡ record after {
@@ -365,7 +348,10 @@ with-name-next world after name thing same = subst (IsSuccessor world) (sym same
 
 module _ {Known : Thing → Type 0} {handlers : ℕ} (world : World) where
   pub change-next : {after : World} → Change Known handlers world after → IsSuccessor world after
-  change-next (TreeChanged tree change) = tree-next world tree (tree-change-next (world.tree) change)
+  change-next (TreeChanged tree change) =
+      let it = edited (world.tree) change in
+      let same : length tree.elements ≡ length world.tree.elements = it.elements in
+      record { elements = omega (arith, same); states = it.states; names = λ text thing is. is; clock = refl; begun = refl; version = refl }
   change-next (ElementMade name kind document known) = record {
     elements = less-more (world.tree.elements) _;
     states = λ wanted each come. come;

@@ -1,5 +1,5 @@
--- What operands come to is in range, and so each command leaves the numbers of a world in range.
-use Rattle.std.specs.Prelude.{ℕ, ◌≤◌, Bool, true, false, cond, List, [], ◌∷◌, length, find, option_map, Option, Some, None, IfSome}
+-- Each change that a command makes leaves the numbers of a world in range.
+use Rattle.std.specs.Prelude.{ℕ, ◌≤◌, Bool, true, false, cond, List, [], ◌∷◌, length, find, option_map, Some, IfSome}
 use Rattle.std.specs.List.{AllByRecursion}
 use Rattle.script_model.specs.Syntax.{Action}
 use Rattle.page_model.specs.World.{ElementThing, Root, ImplicitRoot, DocumentRoot, ElementRoot, Name, EventTarget, ElementTarget, DocumentTarget, WindowTarget, QueryTarget, Task, Listener, FrameCallback, Timer, Table, Viewports, World}
@@ -9,10 +9,10 @@ use Rattle.page_model.specs.Ranges.{Counts, counts_of, IsThingIn, IsRootIn, IsEv
 use Rattle.page_laws.specs.Successors.{OnDid}
 use Rattle.page_laws.proofs.Steps.{on_did-map}
 use Rattle.page_laws.proofs.Lists.{all-add}
-use Rattle.page_laws.proofs.Changed.{target_thing, IsRootOf, Change, Unchanged, ScreenSet, TreeChanged, ElementMade, FrameMade, Scrolled, ResizeObserverMade, ResizeChanged, IntersectionObserverMade, IntersectionsChanged, QueryListMade, ListenersChanged, FrameCallbacksChanged, TimersChanged, TaskPosted}
+use Rattle.page_laws.specs.Changed.{target_thing, IsRootOf, Change, Unchanged, ScreenSet, TreeChanged, ElementMade, FrameMade, Scrolled, ResizeObserverMade, ResizeChanged, IntersectionObserverMade, IntersectionsChanged, QueryListMade, ListenersChanged, FrameCallbacksChanged, TimersChanged, TaskPosted}
 use Rattle.page_laws.proofs.Commands.{does-change}
 use Rattle.page_laws.proofs.Ranges.{tree-in, resize-in, intersection-in}
-use Rattle.page_laws.proofs.Trees.{tree-kept}
+use Rattle.page_laws.proofs.Trees.{edited}
 use Rattle.page_laws.proofs.Made.{made-in, frame-in, resize-made-in, intersection-made-in, query-made-in}
 use Rattle.page_laws.proofs.Parts.{resize-kept, intersections-kept, table-kept, scroll-in}
 
@@ -71,7 +71,9 @@ module _ (handlers : ℕ) (world : World) (within : IsInRange handlers world) wh
   pub change-in : {after : World} → Change (IsThingIn counts) handlers world after → IsInRange handlers after
   change-in Unchanged = within
   change-in (ScreenSet screen) = viewports-in handlers world within _ within.noted
-  change-in (TreeChanged tree change) = tree-in handlers world tree (tree-kept counts (world.tree) within.top within.tree change) within
+  change-in (TreeChanged tree change) =
+      let it = edited (world.tree) change in
+      tree-in handlers world tree it.elements it.documents (it.within counts ((λ thing is. is), within.top, within.tree) within.tree) within
   change-in (ElementMade name kind document known) = made-in handlers world within name kind document known
   change-in (FrameMade name inside document known less) = frame-in handlers world within name inside document known
   change-in (Scrolled left top container target there is) = scroll-in handlers world within left top container target there is

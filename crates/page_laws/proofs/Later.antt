@@ -68,24 +68,10 @@ later-kept script first =
       begun = subst (λ n. first.begun ≤ n) (sym (next.begun)) (later.begun);
       version = next.version ∙ later.version;
     })
-    (λ world later. record {
-      elements = later.elements;
-      states = later.states;
-      names = later.names;
-      clock = later.clock;
-      begun = let so_far : first.begun ≤ world.begun = later.begun in omega (arith, so_far);
-      version = later.version;
-    })
+    (λ world later. let more : first.begun ≤ suc world.begun = omega (arith, later.begun) in assumption)
 
 later-timed : (first : World) (time : ℕ) (world : World) → IsLater first world → nat_lt time world.clock ≡ false → IsLater first (record world { clock = time })
-later-timed first time world later is = record {
-  elements = later.elements;
-  states = later.states;
-  names = later.names;
-  clock = let so_far : first.clock ≤ world.clock = later.clock in grind (arith, so_far, is);
-  begun = later.begun;
-  version = later.version;
-}
+later-timed first time world later is = let so_far : first.clock ≤ time = grind (arith, later.clock, is) in assumption
 
 pub command-later : (script : Script) (entries : List Present) (command : Command) (present : Present) (world : World) →
     IsLater world (run_command script entries command present world).state

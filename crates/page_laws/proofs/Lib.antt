@@ -1,12 +1,11 @@
 pub mod Lists
 pub mod Steps
 pub mod Ranges
-pub mod Changed
+pub mod Successors
 pub mod Trees
 pub mod Made
 pub mod Parts
 pub mod InRange
-pub mod Successors
 pub mod Commands
 pub mod Readings
 pub mod Depths

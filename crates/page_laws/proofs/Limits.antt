@@ -14,8 +14,9 @@ use Rattle.page_laws.specs.Successors.{OnDid}
 use Rattle.page_laws.specs.Bounds.{AreTasksWithin, IsWithinLimits}
 use Rattle.page_laws.proofs.Steps.{on_did-map}
 use Rattle.page_laws.proofs.Lists.{changed}
-use Rattle.page_laws.proofs.Changed.{ResizeChange, Observed, Unobserved, Disconnected, Change, TreeChanged, FrameMade, ResizeObserverMade, ResizeChanged, QueryListMade, TaskPosted}
-use Rattle.page_laws.proofs.Commands.{does-any, tree-change-next}
+use Rattle.page_laws.specs.Changed.{ResizeChange, Observed, Unobserved, Disconnected, Change, TreeChanged, FrameMade, ResizeObserverMade, ResizeChanged, QueryListMade, TaskPosted}
+use Rattle.page_laws.proofs.Commands.{does-any}
+use Rattle.page_laws.proofs.Trees.{edited}
 use Rattle.page_laws.proofs.Waiting.{tasks-alike, posted-within}
 
 -- no version lets more commands begin
@@ -40,57 +41,45 @@ resize-same before (Unobserved observer n) = length-changed _ observer (before.m
 resize-same before (Disconnected observer) = length-changed _ observer (before.made)
 
 module _ (world : World) (within : IsWithinLimits world) where
-  pub as-many : (after : World) → length after.resize_observers.made ≡ length world.resize_observers.made → length after.queries ≡ length world.queries →
-      after.begun ≡ world.begun → after.version ≡ world.version → (AreTasksWithin world → AreTasksWithin after) → IsWithinLimits after
-  as-many after observers queries begun version tasks = record {
+  made-within : (after : World) → length after.resize_observers.made ≤ limit_number (world.version) limits.ResizeObservers →
+      length after.queries ≤ limit_number (world.version) limits.Queries → after.begun ≡ world.begun → after.version ≡ world.version →
+      (AreTasksWithin world → AreTasksWithin after) → IsWithinLimits after
+  made-within after observers queries begun version tasks = record {
     tasks = tasks (within.tasks);
-    resize_observers = omega (arith, within.resize_observers);
-    queries = omega (arith, within.queries);
+    resize_observers = observers;
+    queries = queries;
     commands = subst (λ (it : Version). after.begun ≤ limit_number it limits.Commands) (sym version) (omega (arith, within.commands, begun));
   }
 
+  pub as-many : (after : World) → length after.resize_observers.made ≡ length world.resize_observers.made → length after.queries ≡ length world.queries →
+      after.begun ≡ world.begun → after.version ≡ world.version → (AreTasksWithin world → AreTasksWithin after) → IsWithinLimits after
+  as-many after observers queries begun version tasks =
+      made-within after (omega (arith, within.resize_observers, observers)) (omega (arith, within.queries, queries)) begun version tasks
+
   pub counted-within : world.begun < limit_number (world.version) limits.Commands → IsWithinLimits (record world { begun = suc world.begun })
-  counted-within room = record {
-    resize_observers = within.resize_observers;
-    queries = within.queries;
-    commands = omega (arith, room);
-    tasks = tasks-alike world _ refl refl refl (within.tasks);
-  }
+  counted-within room =
+      let one_more : suc world.begun ≤ limit_number (world.version) limits.Commands = omega (arith, room) in
+      let tasks : AreTasksWithin (record world { begun = suc world.begun }) = tasks-alike world _ refl refl refl (within.tasks) in
+      assumption
 
   module _ {Known : Thing → Type 0} {handlers : ℕ} where
     pub change-within : {after : World} → Change Known handlers world after → IsWithinLimits after
     change-within (TreeChanged tree change) =
-        as-many _ refl refl refl refl (tasks-alike world _ (tree-change-next (world.tree) change).documents refl refl)
-    change-within (FrameMade name inside document known less) = record {
-      resize_observers = within.resize_observers;
-      queries = within.queries;
-      commands = within.commands;
-      tasks = record {
-        documents = one-fits _ (world.tree.documents) _ less;
-        marks = within.tasks.marks;
-        posted = within.tasks.posted;
-        notifying = within.tasks.notifying;
-      };
-    }
-    change-within (ResizeObserverMade name document handler known is less) = record {
-      resize_observers = one-fits _ (world.resize_observers.made) _ less;
-      queries = within.queries;
-      commands = within.commands;
-      tasks = tasks-alike world _ refl refl refl (within.tasks);
-    }
+        as-many _ refl refl refl refl (tasks-alike world _ (edited (world.tree) change).documents refl refl)
+    change-within (FrameMade name inside document known less) =
+        made-within _ within.resize_observers within.queries refl refl (λ tasks. record {
+          documents = one-fits _ (world.tree.documents) _ less;
+          marks = tasks.marks;
+          posted = tasks.posted;
+          notifying = tasks.notifying;
+        })
+    change-within (ResizeObserverMade name document handler known is less) =
+        made-within _ (one-fits _ (world.resize_observers.made) _ less) within.queries refl refl (tasks-alike world _ refl refl refl)
     change-within (ResizeChanged it change) = as-many _ (resize-same (world.resize_observers) change) refl refl refl (tasks-alike world _ refl refl refl)
-    change-within (QueryListMade name document query matched known less) = record {
-      resize_observers = within.resize_observers;
-      queries = one-fits _ (world.queries) _ less;
-      commands = within.commands;
-      tasks = tasks-alike world _ refl refl refl (within.tasks);
-    }
-    change-within (TaskPosted document handler known is less) = record {
-      resize_observers = within.resize_observers;
-      queries = within.queries;
-      commands = within.commands;
-      tasks = posted-within world document handler less (within.tasks);
-    }
+    change-within (QueryListMade name document query matched known less) =
+        made-within _ within.resize_observers (one-fits _ (world.queries) _ less) refl refl (tasks-alike world _ refl refl refl)
+    change-within (TaskPosted document handler known is less) =
+        made-within _ within.resize_observers within.queries refl refl (posted-within world document handler less)
     change-within change = as-many _ refl refl refl refl (tasks-alike world _ refl refl refl)
 
   pub does-within : (handlers : Handlers) (present : Present) (action : Action) →

@@ -1,80 +1,68 @@
 -- What the steps of the other parts make of them leaves their numbers in range.
 use Rattle.std.proofs.Common.{◌≡◌, subst}
-use Rattle.std.specs.Prelude.{ℕ, zero, suc, ◌<◌, ℤ, Bool, true, false, cond, List, [], ◌∷◌, ◌++◌, Option, Some, None, IfSome, slice_get, unwrap_or}
+use Rattle.std.specs.Prelude.{ℕ, zero, suc, ◌<◌, ◌≤◌, length, ℤ, Bool, true, false, cond, List, [], ◌∷◌, ◌++◌, Some, IfSome, slice_get, unwrap_or}
 use Rattle.std.specs.List.{AllByRecursion, list_any}
-use Rattle.page_model.specs.World.{Extent, Screen, ScrollTarget, ScrolledElement, ScrolledDocument, Scrolls, ResizeObserver, ResizeObservers, IntersectionObserver, IntersectionObservers, Table, Tree, World}
-use Rattle.page_model.specs.Lookups.{change_at, element_at}
+use Rattle.page_model.specs.World.{Extent, Screen, ScrollTarget, ScrolledElement, ScrolledDocument, Scrolls, Observation, ResizeObserver, ResizeObservers, Registration, Entry, IntersectionObserver, IntersectionObservers, Table, Tree, World}
+use Rattle.page_model.specs.Lookups.{no_extent, change_at, put_at, element_at}
 use Rattle.page_model.specs.Documents.{Container, InElement, InDocument, is_root_element}
 use Rattle.page_model.specs.PageBoxes.{is_scroller}
 use Rattle.page_model.specs.ResizeObserving.{without_observed}
 use Rattle.page_model.specs.Scrolls.{is_same_scroll, pending_of, with_position, with_pending, moved_unless}
 use Rattle.page_model.specs.Scrolling.{scrolled_element, scrolled_thing, scroll_document, scrolled_to}
-use Rattle.page_model.specs.Ranges.{Counts, counts_of, IsScrollIn, AreScrollsIn, IsResizeObserverIn, IsIntersectionObserverIn, IsTreeIn, IsThingIn, IsInRange}
+use Rattle.page_model.specs.Ranges.{Counts, counts_of, IsScrollIn, AreScrollsIn, AreObserved, IsResizeObserverIn, IsIntersectionObserverIn, IsTreeIn, IsThingIn, IsInRange}
 use Rattle.page_laws.proofs.Lists.{IsKept, all-add, all-filter, all-put, put-within, changed}
 use Rattle.page_laws.proofs.Ranges.{with-scrolls}
-use Rattle.page_laws.proofs.Changed.{ResizeChange, Observed, Unobserved, Disconnected, IntersectionChange, Registered, Unregistered, AllUnregistered, QueueTaken, TableChange, Entered, Kept}
+use Rattle.page_laws.specs.Changed.{ResizeChange, Observed, Unobserved, Disconnected, IntersectionChange, Registered, Unregistered, AllUnregistered, QueueTaken, TableChange, Entered, Kept}
 use Rattle.page_laws.proofs.Trees.{IsContainerIn, found-in}
 
 -- observers
 
-module _ (counts : Counts) (it : ResizeObservers) (observer : ℕ) where
-  pub resize-changed : (change : ResizeObserver → ResizeObserver) →
-      ((each : ResizeObserver) → IsResizeObserverIn counts each → IsResizeObserverIn counts (change each)) →
-      IsKept (IsResizeObserverIn counts) it.made (change_at change observer (it.made))
-  resize-changed change each = changed (IsResizeObserverIn counts) change each observer (it.made)
+-- with other lists
+pub lists-in : (counts : Counts) (it : ResizeObserver) → IsResizeObserverIn counts it → (targets active skipped : List Observation) →
+    AreObserved counts targets → AreObserved counts active → AreObserved counts skipped →
+    IsResizeObserverIn counts (record it { targets = targets; active = active; skipped = skipped })
+lists-in counts it is targets active skipped all due passed =
+    record { document = is.document; handler = is.handler; targets = all; active = due; skipped = passed }
+
+pub registered-in : (counts : Counts) (it : IntersectionObserver) → IsIntersectionObserverIn counts it → (registrations : List Registration) (queue : List Entry) →
+    AllByRecursion (λ (each : Registration). each.target < counts.elements) registrations → AllByRecursion (λ (each : Entry). each.target < counts.elements) queue →
+    IsIntersectionObserverIn counts (record it { registrations = registrations; queue = queue })
+registered-in counts it is registrations queue all queued =
+    record { document = is.document; handler = is.handler; root = is.root; registrations = all; queue = queued }
+
+pub resize-changed : (counts : Counts) (it : ResizeObservers) (observer : ℕ) (change : ResizeObserver → ResizeObserver) →
+    ((each : ResizeObserver) → IsResizeObserverIn counts each → IsResizeObserverIn counts (change each)) →
+    IsKept (IsResizeObserverIn counts) it.made (change_at change observer (it.made))
+resize-changed counts it observer change each = changed (IsResizeObserverIn counts) change each observer (it.made)
 
 pub resize-kept : (counts : Counts) (before : ResizeObservers) {after : ResizeObservers} → ResizeChange (IsThingIn counts) before after →
     IsKept (IsResizeObserverIn counts) before.made after.made
 resize-kept counts before (Observed observer n observed known) =
-    resize-changed counts before observer _ (λ each is. record {
-      document = is.document;
-      handler = is.handler;
-      targets = all-add _ (without_observed n (each.targets)) _ (all-filter _ _ (each.targets) is.targets) known;
-      active = is.active;
-      skipped = is.skipped;
-    })
+    resize-changed counts before observer _ (λ each is. lists-in counts each is _ _ _
+    (all-add _ (without_observed n (each.targets)) _ (all-filter _ _ (each.targets) is.targets) known) is.active is.skipped)
 resize-kept counts before (Unobserved observer n) =
-    resize-changed counts before observer _ (λ each is. record {
-      document = is.document;
-      handler = is.handler;
-      targets = all-filter _ _ (each.targets) is.targets;
-      active = is.active;
-      skipped = is.skipped;
-    })
-resize-kept counts before (Disconnected observer) =
     resize-changed counts before observer _
-    (λ each is. record { document = is.document; handler = is.handler; targets = tt; active = tt; skipped = is.skipped })
+    (λ each is. lists-in counts each is _ _ _ (all-filter _ _ (each.targets) is.targets) is.active is.skipped)
+resize-kept counts before (Disconnected observer) =
+    resize-changed counts before observer _ (λ each is. lists-in counts each is [] [] _ tt tt is.skipped)
 
-module _ (counts : Counts) (it : IntersectionObservers) (observer : ℕ) where
-  pub intersection-changed : (change : IntersectionObserver → IntersectionObserver) →
-      ((each : IntersectionObserver) → IsIntersectionObserverIn counts each → IsIntersectionObserverIn counts (change each)) →
-      IsKept (IsIntersectionObserverIn counts) it.made (change_at change observer (it.made))
-  intersection-changed change each = changed (IsIntersectionObserverIn counts) change each observer (it.made)
+intersection-changed : (counts : Counts) (it : IntersectionObservers) (observer : ℕ) (change : IntersectionObserver → IntersectionObserver) →
+    ((each : IntersectionObserver) → IsIntersectionObserverIn counts each → IsIntersectionObserverIn counts (change each)) →
+    IsKept (IsIntersectionObserverIn counts) it.made (change_at change observer (it.made))
+intersection-changed counts it observer change each = changed (IsIntersectionObserverIn counts) change each observer (it.made)
 
 pub intersections-kept : (counts : Counts) (before : IntersectionObservers) {after : IntersectionObservers} → IntersectionChange (IsThingIn counts) before after →
     IsKept (IsIntersectionObserverIn counts) before.made after.made
 intersections-kept counts before (Registered observer n known) =
-    intersection-changed counts before observer _ (λ each is. record {
-      document = is.document;
-      handler = is.handler;
-      root = is.root;
-      registrations = all-add _ (each.registrations) _ is.registrations known;
-      queue = is.queue;
-    })
+    intersection-changed counts before observer _
+    (λ each is. registered-in counts each is _ _ (all-add _ (each.registrations) _ is.registrations known) is.queue)
 intersections-kept counts before (Unregistered observer n) =
-    intersection-changed counts before observer _ (λ each is. record {
-      document = is.document;
-      handler = is.handler;
-      root = is.root;
-      registrations = all-filter _ _ (each.registrations) is.registrations;
-      queue = is.queue;
-    })
+    intersection-changed counts before observer _
+    (λ each is. registered-in counts each is _ _ (all-filter _ _ (each.registrations) is.registrations) is.queue)
 intersections-kept counts before (AllUnregistered observer) =
-    intersection-changed counts before observer _
-    (λ each is. record { document = is.document; handler = is.handler; root = is.root; registrations = tt; queue = is.queue })
+    intersection-changed counts before observer _ (λ each is. registered-in counts each is [] _ tt is.queue)
 intersections-kept counts before (QueueTaken observer) =
-    intersection-changed counts before observer _
-    (λ each is. record { document = is.document; handler = is.handler; root = is.root; registrations = is.registrations; queue = tt })
+    intersection-changed counts before observer _ (λ each is. registered-in counts each is _ [] is.registrations tt)
 
 -- tables
 
@@ -103,19 +91,11 @@ module _ (counts : Counts) where
   position-in : (target : ScrollTarget) (position : Extent) (it : Scrolls) → IsScrollIn counts target → AreScrollsIn counts it →
       AreScrollsIn counts (with_position target position it)
   position-in (ScrolledElement n) position it is are =
-      record {
-        elements = put-within (counts.elements) _ n position (it.elements) is are.elements;
-        documents = are.documents;
-        listed = are.listed;
-        pending = are.pending;
-      }
+      let fits : length (put_at no_extent n position (it.elements)) ≤ counts.elements = put-within (counts.elements) _ n position (it.elements) is are.elements in
+      assumption
   position-in (ScrolledDocument document) position it is are =
-      record {
-        elements = are.elements;
-        documents = put-within (counts.documents) _ document position (it.documents) is are.documents;
-        listed = are.listed;
-        pending = are.pending;
-      }
+      let fits : length (put_at no_extent document position (it.documents)) ≤ counts.documents =
+      put-within (counts.documents) _ document position (it.documents) is are.documents in assumption
 
   put-pending-in : (document : ℕ) (target : ScrollTarget) (it : Scrolls) → document < counts.documents → IsScrollIn counts target → AreScrollsIn counts it →
       AreScrollsIn counts (with_pending document target it)

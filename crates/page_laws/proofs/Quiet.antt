@@ -1,7 +1,7 @@
 -- In a quiet page no part of a tick says anything, and the page stays quiet.
 use Rattle.std.proofs.Common.{◌≡◌, refl, sym, ap, ◌∙◌, subst, eq-eqb}
-use Rattle.std.specs.Prelude.{ℕ, zero, suc, ◌&&◌, ◌==◌, Bool, true, false, not, cond, nat_lt, nat_le, List, [], ◌∷◌, ◌++◌, map, filter, length, Option, Some, None, slice_get, unwrap_or}
-use Rattle.std.specs.List.{list_any}
+use Rattle.std.specs.Prelude.{ℕ, zero, suc, ◌&&◌, ◌==◌, Bool, true, false, not, cond, nat_lt, nat_le, List, [], ◌∷◌, map, filter, length, Option, Some, None, slice_get, unwrap_or, ⊤}
+use Rattle.std.specs.List.{AllByRecursion, list_any}
 use Rattle.text_io.specs.declared.kinds.EventKind.TheVariants as events
 use Rattle.script_model.specs.TraceLines.{TraceLine, TickLine, FiredResize, FiredScroll, FiredError}
 use Rattle.page_model.specs.World.{World, Document, Extent, ScrollTarget, Timer, FrameCallback, ResizeObserver, Finding, IntersectionObserver, IntersectionObservers, WindowTarget}
@@ -19,8 +19,9 @@ use Rattle.page_model.specs.Runs.{Said, Turn, silent, say, behind, ◌followed_b
 use Rattle.page_model.specs.Callbacks.{Script, while_active, fire}
 use Rattle.page_model.specs.Intersections.{places_from, is_rooted_in, settled_observer, settling, watchers, has_queued, found_now, update_intersections, with_notify_task}
 use Rattle.page_model.specs.Loop.{gather, round, report_skipped, resize_loop}
-use Rattle.page_model.specs.Ticks.{run_timer, run_timers, resize_steps, event_target_of, scrolled_text, scroll_steps, evaluate, media_steps, run_frame_callback, frame_steps, intersection_steps, update_rendering, run_first, run_tasks, tick}
+use Rattle.page_model.specs.Ticks.{run_timer, run_timers, resize_steps, event_target_of, scrolled_text, scroll_steps, evaluate, media_steps, run_frame_callback, frame_steps, parts_of_update, update_rendering, run_first, run_tasks, tick}
 use Rattle.page_laws.specs.Quiet.{IsQuiet}
+use Rattle.page_laws.proofs.Later.{all-so}
 use Rattle.page_laws.proofs.Places.{repeat-not, and-false}
 
 -- nothing is said, and the page is quiet
@@ -40,12 +41,12 @@ after-hushed : (rest : World → Said World) (said : Said World) → ((world : W
 unfolding ◌followed_by◌
 after-hushed rest said each here = subst (λ it. IsHushed (it followed_by rest)) (sym (here.is)) (each (here.world) (here.quiet))
 
-for_each-hushed : {A : Type 0} (step : A → World → Said World) (items : List A) → ((item : A) (world : World) → IsQuiet world → IsHushed (step item world)) →
-    (world : World) → IsQuiet world → IsHushed (for_each step items world)
+all-hushed : {A : Type 0} (In : A → Type 0) (step : A → World → Said World) (items : List A) → AllByRecursion In items →
+    ((item : A) → In item → (world : World) → IsQuiet world → IsHushed (step item world)) → (world : World) → IsQuiet world → IsHushed (for_each step items world)
 unfolding for_each
-for_each-hushed step [] each world quiet = stays world quiet
-for_each-hushed step (item ∷ others) each world quiet =
-    after-hushed (for_each step others) (step item world) (for_each-hushed step others each) (each item world quiet)
+all-hushed In step [] all each world quiet = stays world quiet
+all-hushed In step (item ∷ others) all each world quiet =
+    after-hushed (for_each step others) (step item world) (all-hushed In step others (all.1) each) (each item (all.0) world quiet)
 
 for_each-none : {A : Type 0} (step : A → World → Said World) (items : List A) (world : World) → items ≡ [] → IsQuiet world →
     IsHushed (for_each step items world)
@@ -237,28 +238,31 @@ updated-quiet world quiet =
     (sym (ap (λ these. list_any (has_queued (world.intersection_observers) (now.intersection_observers)) (watching these)) (quiet.intersection_observers)))
     still
 
+-- a part of an update of the rendering
+abbrev IsHushedPart : (ℕ → World → Said World) → Type 0
+IsHushedPart part = (world : World) → IsQuiet world → IsHushed (part 0 world)
+
+parts-hushed : (script : Script) → AllByRecursion IsHushedPart (parts_of_update script)
+parts-hushed script = (
+  resize-hushed script,
+  (
+    scroll-hushed script,
+    (
+      media-hushed script,
+      (frames-hushed script, (loop-hushed script, (λ world quiet. stays (update_intersections 0 world) (updated-quiet world quiet), tt))),
+    ),
+  ),
+)
+
 update-hushed : (script : Script) (world : World) → IsQuiet world → IsHushed (update_rendering script world)
-unfolding update_rendering for_each
+unfolding update_rendering
 update-hushed script world quiet =
     let documents = active_documents (world.tree) in
-    let over : (ℕ → World → Said World) → World → Said World = λ part. for_each (λ document. while_active document (part document)) documents in
-    after-hushed _ (over (resize_steps script) world) (λ a qa.
-    after-hushed _ (over (scroll_steps script) a) (λ b qb.
-    after-hushed _ (over (media_steps script) b) (λ c qc.
-    after-hushed _ (over (frame_steps script) c) (λ d qd.
-    after-hushed _ (over (resize_loop script) d) (λ e qe.
-    after-hushed (λ f. silent f) (over intersection_steps e) stays
-    (documents-hushed intersection_steps documents (λ now quiet. stays (update_intersections 0 now) (updated-quiet now quiet)) e qe))
-    (documents-hushed (resize_loop script) documents (loop-hushed script) d qd))
-    (documents-hushed (frame_steps script) documents (frames-hushed script) c qc))
-    (documents-hushed (media_steps script) documents (media-hushed script) b qb))
-    (documents-hushed (scroll_steps script) documents (scroll-hushed script) a qa))
-    (documents-hushed (resize_steps script) documents (resize-hushed script) world quiet)
-  where
-    documents-hushed : (part : ℕ → World → Said World) (documents : List ℕ) → ((now : World) → IsQuiet now → IsHushed (part 0 now)) → (now : World) →
-        IsQuiet now → IsHushed (for_each (λ document. while_active document (part document)) documents now)
-    documents-hushed part documents each now here =
-        for_each-hushed (λ document. while_active document (part document)) documents (λ document it quiet. active-hushed document part each it quiet) now here
+    all-hushed IsHushedPart (λ part. for_each (λ document. while_active document (part document)) documents) (parts_of_update script) (parts-hushed script)
+    (λ part each. all-hushed (λ (document : ℕ). ⊤) (λ document. while_active document (part document)) documents (all-so documents)
+    (λ document is. active-hushed document part each))
+    world
+    quiet
 
 tasks-hushed : (script : Script) (world : World) → IsQuiet world → IsHushed (run_tasks script world)
 unfolding run_tasks

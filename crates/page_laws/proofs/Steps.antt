@@ -36,6 +36,12 @@ unfolding OnDid
 of_did (Did other) value Holds is here = let both : Did other ≡ Did value = is in let same : other ≡ value = cc in subst Holds same here
 of_did step value Holds is here = cc
 
+pub known-did : {A : Type 0} (step : Step A) (Holds : A → Type 0) → ((value : A) → step ≡ Did value → Holds value) → OnDid step Holds
+unfolding OnDid
+known-did (Did value) Holds each = each value refl
+known-did (Threw exception) Holds each = tt
+known-did (Met limit) Holds each = tt
+
 -- the next step where something is known of the value
 pub bind-in : {A B : Type 0} (step : Step A) (next : A → Step B) (Fact : A → Type 0) (Holds : B → Type 0) → OnDid step Fact →
     ((value : A) → Fact value → OnDid (next value) Holds) → OnDid (step >>= next) Holds

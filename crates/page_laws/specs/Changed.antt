@@ -1,4 +1,5 @@
--- What a command changes: one part of the world, or one part and the names. `Known` is what holds of the things that its operands mean.
+-- What a command changes: one part of the world, or one part and the names; and what is known of its operands then. `Known` is what holds
+-- of the things that they mean.
 use Rattle.std.specs.Prelude.{◌≡◌, ℕ, ℤ, ◌<◌, Bool, List, length, Option, Some, None, IfSome, ⊤}
 use Rattle.px_units.specs.declared.BoxKind.{BoxKind}
 use Rattle.layout_model.specs.Items.{Item, Kind}
@@ -44,6 +45,10 @@ IsFrameCallbackOf Known handlers it = Known (DocumentThing (it.document)) × it.
 
 abbrev pub IsTimerOf : (Thing → Type 0) → ℕ → Timer → Type 0
 IsTimerOf Known handlers it = Known (DocumentThing (it.document)) × it.handler < handlers
+
+-- nothing is asked of them
+abbrev pub AnyThing : Thing → Type 0
+AnyThing thing = ⊤
 
 -- parts of a world
 
