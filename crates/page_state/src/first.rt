@@ -11,18 +11,20 @@ ghost use Rattle.kept_clips.specs.Looked.{MayBeSeen};
 ghost use Rattle.kept_findings.specs.Held.{no_findings, IsRoomier};
 ghost use Rattle.kept_findings.specs.Registered.{AreRegistered};
 
+use crate::by_document::ByDocument;
 use crate::names::{Names, Thing};
 use crate::page::most;
 use clip_chain::Spot;
 use event_tables::{FrameCallbacks, Listeners, Tasks, Timers};
 use intersection_observer::Watchers;
 use kept_findings::KeptFindings;
+use px_units::Size;
 use resize_observer::Observers;
 use std::alloc::{AllocError, Global};
 use text_io::{LimitKind, Name, Version};
 
 // The names: that of the document `top`.
-pub(crate) fn names(alloc: Global) -> Result<Names, AllocError>
+fn names(alloc: Global) -> Result<Names, AllocError>
     ensures { IfOk result (λ names. names.list ≡ record { text = codes "top"; thing = DocumentThing 0 } ∷ []) }
 {
     let Some(top) = Name::read(b"top") else {
@@ -34,7 +36,7 @@ pub(crate) fn names(alloc: Global) -> Result<Names, AllocError>
 }
 
 // What is kept of registrations: nothing but the room for what is seen of `top`.
-pub(crate) fn findings(alloc: Global) -> Result<KeptFindings, AllocError>
+fn findings(alloc: Global) -> Result<KeptFindings, AllocError>
     ensures roomier { IfOk result (λ it. IsRoomier no_findings it) }
     ensures room { IfOk result (λ it. MayBeSeen it.seen it.clips (View 0)) }
     ensures registered { (watchers : IntersectionObservers) (margins : List ScrollMargins) → ((serial : ℕ) → standing_of serial watchers ≡ None) → IfOk result (AreRegistered watchers margins) }
@@ -42,6 +44,33 @@ pub(crate) fn findings(alloc: Global) -> Result<KeptFindings, AllocError>
     let mut findings = KeptFindings::new(alloc);
     findings.add(Spot::View(0))?;
     Ok(findings)
+}
+
+// All of a page but its elements and documents that may be refused memory: the names, what is kept of registrations, no document to which a
+// notify task is told, and no noted size.
+pub(crate) fn parts(
+    alloc: Global,
+) -> Result<
+    (
+        Names,
+        KeptFindings,
+        ByDocument<bool>,
+        ByDocument<Option<Size>>,
+    ),
+    AllocError,
+>
+    ensures names { IfOk result (λ parts. parts.0.list ≡ record { text = codes "top"; thing = DocumentThing 0 } ∷ []) }
+    ensures roomier { IfOk result (λ parts. IsRoomier no_findings parts.1) }
+    ensures room { IfOk result (λ parts. MayBeSeen parts.1.seen parts.1.clips (View 0)) }
+    ensures registered { (watchers : IntersectionObservers) (margins : List ScrollMargins) → ((serial : ℕ) → standing_of serial watchers ≡ None) → IfOk result (λ parts. AreRegistered watchers margins parts.1) }
+    ensures notifying { IfOk result (λ parts. parts.2 ≡ []) }
+    ensures noted { IfOk result (λ parts. parts.3 ≡ []) }
+{
+    let notifying = ByDocument::new(alloc)?;
+    let noted = ByDocument::new(alloc)?;
+    let names = names(alloc)?;
+    let findings = findings(alloc)?;
+    Ok((names, findings, notifying, noted))
 }
 
 // The resize observers that a page for a script of a version begins with: none.

@@ -121,11 +121,8 @@ impl Page {
         ensures findings { IfOk result (λ page. IsRoomier no_findings page.found) }
     {
         // What may be refused comes first, where little is made that would have to be dropped.
-        let names = first::names(alloc)?;
-        let findings = first::findings(alloc)?;
-        let notifying = ByDocument::new(alloc)?;
-        let noted = ByDocument::new(alloc)?;
         let laid = LaidTree::new(alloc, version)?;
+        let (names, findings, notifying, noted) = first::parts(alloc)?;
         let (listeners, frame_callbacks, timers, tasks) = first::tables(alloc, version);
         Ok(Page {
             names,

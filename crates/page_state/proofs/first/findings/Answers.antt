@@ -1,4 +1,4 @@
--- Nothing is kept of registrations at first, whatever stands is none.
+-- Once there is room for what is seen of `top`, nothing is kept of registrations as before.
 use Rattle.kept_findings.proofs.Settled.{registered_roomier}
 use Rattle.page_state.proofs.first.findings.Goals as goal
 

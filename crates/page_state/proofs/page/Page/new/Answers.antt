@@ -7,7 +7,7 @@ pub invariant_of-result : goal.invariant_of-result
 invariant_of-result c =
     record {
       version = search rules;
-      known = known_first _ _ _ _ _ _ _ c.in_ok-names.ensures (search rules) (search rules) (search rules) (search rules) (search rules);
+      known = known_first _ _ _ _ _ _ _ c.in_ok-names.ensures.names (search rules) (search rules) (search rules) (search rules) (search rules);
       elements = no_elements _ _ (search rules) (search rules);
       limited = search rules;
       observations = search rules;
@@ -17,8 +17,8 @@ invariant_of-result c =
       timers = search rules;
       watched = search rules;
       margins = search rules;
-      registered = c.in_ok-findings.ensures.registered _ _ (λ serial. search rules);
-      room = room_first _ _ _ (search rules) (search rules) c.in_ok-findings.ensures.room;
+      registered = c.in_ok-names.ensures.registered _ _ (λ serial. search rules);
+      room = room_first _ _ _ (search rules) (search rules) c.in_ok-names.ensures.room;
       asked = search rules;
       sized = search rules;
       noted = search rules;
