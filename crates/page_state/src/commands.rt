@@ -108,12 +108,14 @@ impl Page {
         ensures findings { IsRoomier self.old.found self.new.found }
     {
         self.making_leaves_boxes();
-        self.names.check_free(name)?;
+        self.check_free(name)?;
         let document = self.document(document)?;
         let node = self.laid.reserve()?;
         self.findings.add(Spot::Node(node))?;
         self.names.insert(name, Thing::Element(node))?;
-        let _node = self.laid.make(document, name, kind)?;
+        let Ok(_) = self.laid.make(document, name, kind) else {
+            unreachable!();
+        };
         Ok(Effect::Nothing)
     }
 
@@ -130,9 +132,9 @@ impl Page {
         ensures findings { IsRoomier self.old.found self.new.found }
     {
         self.making_leaves_boxes();
-        self.names.check_free(name)?;
+        self.check_free(name)?;
         let document = self.document(document)?;
-        self.names.check_also_free(name, inside)?;
+        self.check_also_free(name, inside)?;
         let page = self.laid.page();
         if page.is_full() {
             return Err(PageFault::Limit(LimitKind::Nodes));
@@ -145,9 +147,11 @@ impl Page {
         self.findings.add(Spot::Node(node))?;
         self.findings.add(Spot::View(framed))?;
         self.names.reserve(2)?;
-        self.names.insert(name, Thing::Element(node))?;
-        self.names.insert(inside, Thing::Document(framed))?;
-        let _made = self.laid.make_frame(document, name)?;
+        self.names.insert_reserved(name, Thing::Element(node));
+        self.names.insert_reserved(inside, Thing::Document(framed));
+        let Ok(_) = self.laid.make_frame(document, name) else {
+            unreachable!();
+        };
         Ok(Effect::Nothing)
     }
 
