@@ -74,7 +74,7 @@ module _ (handlers : Handlers) (world : World) (present : Present) (making : Obs
 -- the same of a page
 module _ (inside : Inside) (now : PageView) (view_is : view_of inside ≡ now) (many : length inside.scroll_margins.items ≡ length inside.watchers.part.made)
     (making : ObserverMaking) (owner : ℕ) (called : Option ℕ) (root : Root) (margins moves : Margins) (thresholds : List ℕ) (handlers : Handlers) (present : Present)
-    (free : new_name now.world.names making.name ≡ Did tt) (there : document_named now.world.names making.document ≡ Did owner) (handler : handler_given handlers making.handler ≡ Did called)
+    (free : new_name inside.names.list making.name ≡ Did tt) (there : document_named now.world.names making.document ≡ Did owner) (handler : handler_given handlers making.handler ≡ Did called)
     (at : root_meant now.world.names present making.root ≡ Did root) (read : required SyntaxError (margins_of making.margin) ≡ Did margins)
     (scrolled : required SyntaxError (margins_of (unwrap_or making.scroll [])) ≡ Did moves)
     (given : new_thresholds now.world.version making.thresholds now.world.intersection_observers ≡ Did thresholds) where
@@ -84,7 +84,7 @@ module _ (inside : Inside) (now : PageView) (view_is : view_of inside ≡ now) (
     scroll_margins = now.world.scroll_margins ++ moves ∷ [];
   })
   makes_here =
-      makes handlers (now.world) present making owner called root margins moves thresholds free there handler at read scrolled given
+      makes handlers (now.world) present making owner called root margins moves thresholds (subst (λ (v : PageView). new_name v.world.names making.name ≡ Did tt) view_is free) there handler at read scrolled given
       (subst (λ (v : PageView). length v.world.scroll_margins ≡ length v.world.intersection_observers.made) view_is many)
 
   pub made_page : (names : KnownNames) (after : HeldWatchers) (scroll : Vec Margins) (n : ℕ) → names.list ≡ inside.names.list ++ record { text = making.name; thing = IntersectionObserverThing n } ∷ []

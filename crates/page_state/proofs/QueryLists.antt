@@ -149,18 +149,17 @@ module _ (inside : Inside) (text : List ℕ) (query : List MediaQuery) (owner : 
       ∙ ap (λ (first : Bool). with_query_list owner query first (map seen_query_list inside.queries.items)) matches_first
 
   pub asks_page : (now : PageView) → view_of inside ≡ now → (present : Present) (document : List ℕ)
-      → new_name now.world.names text ≡ Did tt → document_named now.world.names document ≡ Did owner → length inside.queries.items < 4096
+      → new_name inside.names.list text ≡ Did tt → document_named now.world.names document ≡ Did owner → length inside.queries.items < 4096
       → Keeps now (record (view_of inside) { world = record (world_of inside) { names = names; queries = map seen_query_list queries } }) (Ok Nothing)
       (λ handlers. does handlers now.world present (MakeQueryList text document query))
   asks_page now view_is present document free there few =
       let then_is : PageView = record (view_of inside) { world = record (world_of inside) { names = names; queries = map seen_query_list queries } } in
-      let free' : new_name inside.names.list text ≡ Did tt = subst (λ (v : PageView). new_name v.world.names text ≡ Did tt) (sym view_is) free in
       let found : document_named inside.names.list document ≡ Did owner = subst (λ (v : PageView). document_named v.world.names document ≡ Did owner) (sym view_is) there in
       let room : nat_lt (length (map seen_query_list inside.queries.items)) 4096 ≡ true =
       subst (λ (count : ℕ). nat_lt count 4096 ≡ true) (sym (length-map inside.queries.items seen_query_list)) (search (rules, tests, few)) in
       subst (λ (v : PageView). Keeps v then_is (Ok Nothing) (λ handlers. does handlers v.world present (MakeQueryList text document query))) view_is
       (record {
-        applied = λ handlers. asks handlers (world_of inside) present text document query owner free' found room
+        applied = λ handlers. asks handlers (world_of inside) present text document query owner free found room
             ∙ (λ i. becomes (record (world_of inside) { names = sym name_given i; queries = sym list_made i }));
         begun = refl;
         handed = tt;

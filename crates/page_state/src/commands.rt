@@ -108,14 +108,12 @@ impl Page {
         ensures findings { IsRoomier self.old.found self.new.found }
     {
         self.making_leaves_boxes();
-        self.check_free(name)?;
+        self.names.check_free(name)?;
         let document = self.document(document)?;
         let node = self.laid.reserve()?;
         self.findings.add(Spot::Node(node))?;
         self.names.insert(name, Thing::Element(node))?;
-        let Ok(_) = self.laid.make(document, name, kind) else {
-            unreachable!();
-        };
+        let _node = self.laid.make(document, name, kind)?;
         Ok(Effect::Nothing)
     }
 
@@ -132,9 +130,9 @@ impl Page {
         ensures findings { IsRoomier self.old.found self.new.found }
     {
         self.making_leaves_boxes();
-        self.check_free(name)?;
+        self.names.check_free(name)?;
         let document = self.document(document)?;
-        self.check_also_free(name, inside)?;
+        self.names.check_also_free(name, inside)?;
         let page = self.laid.page();
         if page.is_full() {
             return Err(PageFault::Limit(LimitKind::Nodes));
@@ -147,11 +145,9 @@ impl Page {
         self.findings.add(Spot::Node(node))?;
         self.findings.add(Spot::View(framed))?;
         self.names.reserve(2)?;
-        self.names.insert_reserved(name, Thing::Element(node));
-        self.names.insert_reserved(inside, Thing::Document(framed));
-        let Ok(_) = self.laid.make_frame(document, name) else {
-            unreachable!();
-        };
+        self.names.insert(name, Thing::Element(node))?;
+        self.names.insert(inside, Thing::Document(framed))?;
+        let _made = self.laid.make_frame(document, name)?;
         Ok(Effect::Nothing)
     }
 

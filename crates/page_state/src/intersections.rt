@@ -41,7 +41,7 @@ impl Page {
         ensures boxes { self.new.kept ≡ self.old.kept }
         ensures findings { self.new.found ≡ self.old.found }
     {
-        self.check_free(making.name)?;
+        self.names.check_free(making.name)?;
         let document = self.document(making.document)?;
         let handler = handler_given(script, making.handler)?;
         let root = self.root(making.root, subject)?;
@@ -57,7 +57,7 @@ impl Page {
             return Err(PageFault::Memory);
         };
         self.names
-            .insert_reserved(making.name, Thing::IntersectionObserver(watcher));
+            .insert(making.name, Thing::IntersectionObserver(watcher))?;
         self.scroll_margins.push_reserved(scroll_margins);
         Ok(Effect::Nothing)
     }

@@ -1,9 +1,8 @@
 //! Operands looked up on a page: what is found is there.
 
-ghost use Rattle.std.specs.Prelude.{◌≡◌, ◌<◌, None, false, bytes_eq, length, option_map, IfOk, OnOk};
+ghost use Rattle.std.specs.Prelude.{◌≡◌, ◌<◌, length, option_map, IfOk};
 ghost use Rattle.element_tree.specs.Links.{number};
-ghost use Rattle.page_model.specs.Names.{named_thing};
-ghost use Rattle.page_model.specs.Operands.{new_name, other_new_name, document_named, element_meant, container_meant, resize_observer_named, intersection_observer_named, query_list_named, root_meant, event_target_meant, handler_named, handler_given};
+ghost use Rattle.page_model.specs.Operands.{document_named, element_meant, container_meant, resize_observer_named, intersection_observer_named, query_list_named, root_meant, event_target_meant, handler_named, handler_given};
 ghost use Rattle.page_model.specs.Callbacks.{handler_names};
 ghost use Rattle.page_tree.specs.Steps.{seen_container};
 ghost use Rattle.event_tables.specs.Seen.{seen_target};
@@ -27,23 +26,6 @@ use script_syntax::{Aim, Operand, Script};
 use text_io::{Name, ThrowKind};
 
 impl Page {
-    // A new name has to be free.
-    pub(crate) fn check_free(&self, name: Name) -> Result<(), ThrowKind>
-        ensures answer { Finds (λ done. done) result (new_name self.now.world.names name) }
-        ensures free { OnOk result (named_thing self.now.world.names name ≡ None) }
-    {
-        self.names.check_free(name)
-    }
-
-    // A second new name of one command has to be free too, and another one than the first.
-    pub(crate) fn check_also_free(&self, first: Name, name: Name) -> Result<(), ThrowKind>
-        ensures answer { Finds (λ done. done) result (other_new_name self.now.world.names first name) }
-        ensures free { OnOk result (named_thing self.now.world.names name ≡ None) }
-        ensures other { OnOk result (bytes_eq first name ≡ false) }
-    {
-        self.names.check_also_free(first, name)
-    }
-
     pub(crate) fn document(&self, name: Name) -> Result<u32, ThrowKind>
         ensures answer { Finds (λ document. document) result (document_named self.now.world.names name) }
         ensures there { IfOk result (λ document. document < length self.now.world.tree.documents) }

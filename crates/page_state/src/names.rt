@@ -129,18 +129,6 @@ impl Names {
         Ok(())
     }
 
-    // Gives a name that is free, for which room was made.
-    pub(crate) fn insert_reserved(&mut self, name: Name, thing: Thing)
-        requires free { named_thing self.old.list name ≡ None }
-        requires roomy { 0 < self.old.room }
-        ensures given { self.new.list ≡ self.old.list ++ record { text = name; thing = seen_thing thing } ∷ [] }
-        ensures left { self.old.room ≤ self.new.room + 1 }
-    {
-        let Ok(()) = self.insert(name, thing) else {
-            unreachable!();
-        };
-    }
-
     // The name of a thing: the first that stands for it.
     pub(crate) fn name_of(&self, thing: Thing) -> Option<Name>
         ensures { result ≡ option_map (λ (named : ModelName). named.text) (find (λ (named : ModelName). is_same_thing named.thing (seen_thing thing)) self.now.list) }

@@ -76,7 +76,7 @@ impl Page {
         ensures boxes { ComputesIn self.old.world (viewport_rests_on self.old.world document) self.old.kept self.new.kept steps.old steps.new }
         ensures findings { self.new.found ≡ self.old.found }
     {
-        self.check_free(name)?;
+        self.names.check_free(name)?;
         let document = self.document(document)?;
         let number = self.queries.len();
         if number >= most(LimitKind::Queries, self.version) as usize {
@@ -94,8 +94,7 @@ impl Page {
         let Ok(()) = self.queries.push(list) else {
             return Err(PageFault::Memory);
         };
-        self.names
-            .insert_reserved(name, Thing::QueryList(number as u32));
+        self.names.insert(name, Thing::QueryList(number as u32))?;
         Ok(Effect::Nothing)
     }
 

@@ -33,7 +33,7 @@ impl Page {
         ensures boxes { self.new.kept ≡ self.old.kept }
         ensures findings { self.new.found ≡ self.old.found }
     {
-        self.check_free(name)?;
+        self.names.check_free(name)?;
         let document = self.document(document)?;
         let handler = handler_given(script, handler)?;
         if self.observers.is_full() {
@@ -45,8 +45,7 @@ impl Page {
             Err(ObserveFault::Limit) => return Err(PageFault::Limit(LimitKind::ResizeObservers)),
             Err(ObserveFault::Memory) => return Err(PageFault::Memory),
         };
-        self.names
-            .insert_reserved(name, Thing::ResizeObserver(observer));
+        self.names.insert(name, Thing::ResizeObserver(observer))?;
         Ok(Effect::Nothing)
     }
 

@@ -1,19 +1,14 @@
 -- An element is made with its name.
-use Rattle.std.proofs.Common.{◌≡◌, ◌+◌, ◌++◌, ◌∷◌, [], None, length, ap, refl, sym, subst, ◌∙◌}
-use Rattle.page_model.specs.Names.{named_thing}
+use Rattle.std.proofs.Common.{◌+◌, ◌++◌, ◌∷◌, [], None, length, ap, refl, ◌∙◌}
 use Rattle.page_tree.specs.Views.{PageElements}
 use Rattle.page_model.specs.Edits.{with_element}
 use Rattle.block_layout.specs.Seen.{seen_kind}
-use Rattle.page_state.specs.Views.{PageView}
 use Rattle.page_state.proofs.Inside.{prepared, enlarged}
 use Rattle.page_state.proofs.Made.{due_made, due_still}
 use Rattle.page_state.proofs.page.Page.make.Goals as goal
 
 pub invariant_of-self-in_err-add : goal.invariant_of-self-in_err-add
 invariant_of-self-in_err-add c = prepared c.self.inside c.reserve.new.self c.self.inside.names c.add.new.self c.self.invariant c.reserve.ensures.same refl c.add.ensures.roomier
-
-pub insert-requires : goal.insert-requires
-insert-requires c = subst (λ (v : PageView). named_thing v.world.names c.args.name ≡ None) (sym c.self.view_is) c.in_ok-check_free.ensures.free
 
 pub invariant_of-self-in_err-insert : goal.invariant_of-self-in_err-insert
 invariant_of-self-in_err-insert c =
@@ -22,11 +17,11 @@ invariant_of-self-in_err-insert c =
 pub invariant_of-self-2 : goal.invariant_of-self-2
 invariant_of-self-2 c =
     enlarged c.self.inside c.self.invariant c.make.new.self c.insert.new.self c.add.new.self c.add.ensures.roomier c.args.name
-    (ap (λ (it : PageElements). it.version) c.in-Ok.ensures.made ∙ ap (λ (it : PageElements). it.version) c.in_ok-node.ensures.same)
-    (ap (λ (it : PageElements). it.names) c.in-Ok.ensures.made ∙ ap (λ (it : PageElements). it.names ++ c.args.name ∷ []) c.in_ok-node.ensures.same)
-    (c.in-Ok.ensures.count ∙ ap (λ (it : PageElements). length it.tree.elements + 1) c.in_ok-node.ensures.same)
+    (ap (λ (it : PageElements). it.version) c.in_ok-_node.ensures.made ∙ ap (λ (it : PageElements). it.version) c.in_ok-node.ensures.same)
+    (ap (λ (it : PageElements). it.names) c.in_ok-_node.ensures.made ∙ ap (λ (it : PageElements). it.names ++ c.args.name ∷ []) c.in_ok-node.ensures.same)
+    (c.in_ok-_node.ensures.count ∙ ap (λ (it : PageElements). length it.tree.elements + 1) c.in_ok-node.ensures.same)
     c.in_ok-node.node.0 c.in_ok-node.ensures.node c.in_ok-insert.ensures.given
-    (c.in-Ok.ensures.documents ∙ ap (λ (it : PageElements). length it.tree.documents) c.in_ok-node.ensures.same)
+    (c.in_ok-_node.ensures.documents ∙ ap (λ (it : PageElements). length it.tree.documents) c.in_ok-node.ensures.same)
     c.in_ok-add.ensures.room
 
 pub returns-in_err-node-clause-boxes : goal.returns-in_err-node-clause-boxes
@@ -48,6 +43,6 @@ pub returns-clause-boxes : goal.returns-clause-boxes
 returns-clause-boxes c =
     let kind = seen_kind c.args.kind in
     let document = c.in_ok-document.document in
-    due_made c.self.inside c.args.self.now c.self.view_is c.making_leaves_boxes.ensures.leaves c.make.new.self (λ n. c.in-Ok.ensures.marks n ∙ c.in_ok-node.ensures.marks n)
+    due_made c.self.inside c.args.self.now c.self.view_is c.making_leaves_boxes.ensures.leaves c.make.new.self (λ n. c.in_ok-_node.ensures.marks n ∙ c.in_ok-node.ensures.marks n)
     (with_element kind document None) (c.making_leaves_boxes.ensures.elements c.args.kind document)
-    (ap (λ (it : PageElements). it.tree) c.in-Ok.ensures.made ∙ ap (λ (it : PageElements). with_element kind document None (it.tree)) c.in_ok-node.ensures.same)
+    (ap (λ (it : PageElements). it.tree) c.in_ok-_node.ensures.made ∙ ap (λ (it : PageElements). with_element kind document None (it.tree)) c.in_ok-node.ensures.same)

@@ -1,10 +1,9 @@
 -- A frame is made with its name, and the document in it with its own.
-use Rattle.std.proofs.Common.{◌≡◌, ◌+◌, ◌++◌, ◌∷◌, [], None, List, length, ap, refl, sym, subst, ◌∙◌}
+use Rattle.std.proofs.Common.{◌+◌, ◌++◌, ◌∷◌, [], List, length, ap, refl, ◌∙◌}
 use Rattle.page_model.specs.World.{DocumentThing, ElementThing, Name, Tree}
 use Rattle.page_model.specs.Names.{named_thing}
 use Rattle.page_tree.specs.Views.{PageElements}
 use Rattle.clip_chain.specs.Worlds.{element_spot}
-use Rattle.page_state.specs.Views.{PageView}
 use Rattle.page_state.proofs.Findings.{roomier_then}
 use Rattle.page_state.proofs.Found.{still_free}
 use Rattle.page_model.specs.Edits.{with_frame}
@@ -25,32 +24,26 @@ invariant_of-self-in_err-reserve c =
     prepared c.self.inside c.reserve.new.self c.reserve-2.new.self c.add-2.new.self c.self.invariant c.reserve.ensures.same c.reserve-2.ensures.same
     (roomier_then c.add.ensures.roomier c.add-2.ensures.roomier)
 
-pub insert_reserved-requires-clause-free : goal.insert_reserved-requires-clause-free
-insert_reserved-requires-clause-free c =
-    ap (λ (list : List Name). named_thing list c.args.name) c.in_ok-reserve.ensures.same
-    ∙ subst (λ (v : PageView). named_thing v.world.names c.args.name ≡ None) (sym c.self.view_is) c.in_ok-check_free.ensures.free
-
-pub insert_reserved-requires-2-clause-free : goal.insert_reserved-requires-2-clause-free
-insert_reserved-requires-2-clause-free c =
+pub insert-requires-2 : goal.insert-requires-2
+insert-requires-2 c =
     let last : Name = record { text = c.args.name; thing = ElementThing c.in_ok-node.node.0 } in
-    let free = subst (λ (v : PageView). named_thing v.world.names c.args.inside ≡ None) (sym c.self.view_is) c.in_ok-check_also_free.ensures.free in
-    ap (λ (list : List Name). named_thing list c.args.inside) (c.insert_reserved.ensures.given ∙ ap (λ (list : List Name). list ++ last ∷ []) c.in_ok-reserve.ensures.same)
-    ∙ still_free c.self.inside.names.list c.args.inside last free c.in_ok-check_also_free.ensures.other
+    ap (λ (list : List Name). named_thing list c.args.inside) (c.in_ok-insert.ensures.given ∙ ap (λ (list : List Name). list ++ last ∷ []) c.in_ok-reserve.ensures.same)
+    ∙ still_free c.self.inside.names.list c.args.inside last c.in_ok-check_also_free.ensures.free c.in_ok-check_also_free.ensures.other
 
 pub invariant_of-self-2 : goal.invariant_of-self-2
 invariant_of-self-2 c =
     let p = c.self.inside in
     let before = c.in_ok-node.ensures.same in
-    framed_page p c.self.invariant c.make_frame.new.self c.insert_reserved-2.new.self c.add-2.new.self (roomier_then c.add.ensures.roomier c.add-2.ensures.roomier) c.args.name
-    (ap (λ (it : PageElements). it.version) c.in-Ok.ensures.made ∙ ap (λ (it : PageElements). it.version) before)
-    (ap (λ (it : PageElements). it.names) c.in-Ok.ensures.made ∙ ap (λ (it : PageElements). it.names ++ c.args.name ∷ []) before)
-    (c.in-Ok.ensures.count ∙ ap (λ (it : PageElements). length it.tree.elements + 1) before)
+    framed_page p c.self.invariant c.make_frame.new.self c.insert-2.new.self c.add-2.new.self (roomier_then c.add.ensures.roomier c.add-2.ensures.roomier) c.args.name
+    (ap (λ (it : PageElements). it.version) c.in_ok-_made.ensures.made ∙ ap (λ (it : PageElements). it.version) before)
+    (ap (λ (it : PageElements). it.names) c.in_ok-_made.ensures.made ∙ ap (λ (it : PageElements). it.names ++ c.args.name ∷ []) before)
+    (c.in_ok-_made.ensures.count ∙ ap (λ (it : PageElements). length it.tree.elements + 1) before)
     c.in_ok-node.node.0 c.document_count-framed.result c.args.inside c.in_ok-node.ensures.node
     (c.document_count-framed.ensures.value ∙ ap (λ (it : Tree). length it.documents) c.page.ensures.tree ∙ ap (λ (it : PageElements). length it.tree.documents) before)
-    (c.insert_reserved-2.ensures.given
+    (c.in_ok-insert-2.ensures.given
     ∙ ap (λ (list : List Name). list ++ record { text = c.args.inside; thing = DocumentThing c.document_count-framed.result } ∷ [])
-    (c.insert_reserved.ensures.given ∙ ap (λ (list : List Name). list ++ record { text = c.args.name; thing = ElementThing c.in_ok-node.node.0 } ∷ []) c.in_ok-reserve.ensures.same))
-    (c.in-Ok.ensures.documents ∙ ap (λ (it : PageElements). length it.tree.documents + 1) before)
+    (c.in_ok-insert.ensures.given ∙ ap (λ (list : List Name). list ++ record { text = c.args.name; thing = ElementThing c.in_ok-node.node.0 } ∷ []) c.in_ok-reserve.ensures.same))
+    (c.in_ok-_made.ensures.documents ∙ ap (λ (it : PageElements). length it.tree.documents + 1) before)
     (c.add-2.ensures.roomier.room (element_spot c.in_ok-node.node.0) c.in_ok-add.ensures.room)
     c.in_ok-add-2.ensures.room
 
@@ -77,6 +70,6 @@ returns-in_err-reserve-clause-boxes c =
 pub returns-clause-boxes : goal.returns-clause-boxes
 returns-clause-boxes c =
     let document = c.in_ok-document.document in
-    due_made c.self.inside c.args.self.now c.self.view_is c.making_leaves_boxes.ensures.leaves c.make_frame.new.self (λ n. c.in-Ok.ensures.marks n ∙ c.in_ok-node.ensures.marks n)
+    due_made c.self.inside c.args.self.now c.self.view_is c.making_leaves_boxes.ensures.leaves c.make_frame.new.self (λ n. c.in_ok-_made.ensures.marks n ∙ c.in_ok-node.ensures.marks n)
     (with_frame document) (c.making_leaves_boxes.ensures.frames document)
-    (ap (λ (it : PageElements). it.tree) c.in-Ok.ensures.made ∙ ap (λ (it : PageElements). with_frame document (it.tree)) c.in_ok-node.ensures.same)
+    (ap (λ (it : PageElements). it.tree) c.in_ok-_made.ensures.made ∙ ap (λ (it : PageElements). with_frame document (it.tree)) c.in_ok-node.ensures.same)

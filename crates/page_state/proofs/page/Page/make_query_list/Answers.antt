@@ -1,8 +1,7 @@
 -- A query list is made with its name.
-use Rattle.std.proofs.Common.{◌≡◌, ◌<◌, ◌++◌, ◌∷◌, [], None, ℕ, List, length, ap, sym, subst, rules, arith, ◌∙◌}
+use Rattle.std.proofs.Common.{◌≡◌, ◌<◌, ◌++◌, ◌∷◌, [], ℕ, List, length, ap, sym, subst, rules, arith, ◌∙◌}
 use Rattle.page_state.specs.Views.{PageView}
 use Rattle.page_model.specs.World.{QueryListThing, Name}
-use Rattle.page_model.specs.Names.{named_thing}
 use Rattle.page_boxes.specs.Pages.{seen_size}
 use Rattle.page_state.specs.declared.queries.QueryList.{QueryList}
 use Rattle.page_state.proofs.Laid.{view_refreshed}
@@ -11,22 +10,17 @@ use Rattle.page_state.proofs.QueryLists.{asks_page}
 use Rattle.page_state.proofs.Doing.{keeps_since}
 use Rattle.page_state.proofs.page.Page.make_query_list.Goals as goal
 
-pub insert_reserved-requires-clause-free : goal.insert_reserved-requires-clause-free
-insert_reserved-requires-clause-free g c =
-    ap (λ (list : List Name). named_thing list c.args.name) c.in_ok-reserve.ensures.same
-    ∙ subst (λ (v : PageView). named_thing v.world.names c.args.name ≡ None) (sym c.self.view_is) c.in_ok-check_free.ensures.free
-
 pub invariant_of-self-2 : goal.invariant_of-self-2
 invariant_of-self-2 g c =
     let p = c.self.inside in
-    let names = c.insert_reserved.new.self in
+    let names = c.insert.new.self in
     let queries = c.push.new.self.items in
     let last : QueryList = record { document = c.in_ok-document.document; query = c.in_ok-query.query; matched = c.matches-matched.result } in
     let number : c.len-number.result ≡ length p.queries.items = c.len-number.ensures ∙ c.self.inside.queries.ok.0 in
     let most : c.most.result ≡ 4096 = c.most.ensures in
     let made : queries ≡ p.queries.items ++ last ∷ [] = c.in-Ok.ensures.items in
     let given : names.list ≡ p.names.list ++ record { text = c.args.name; thing = QueryListThing c.len-number.result } ∷ [] =
-    c.insert_reserved.ensures.given ∙ ap (λ (list : List Name). list ++ record { text = c.args.name; thing = QueryListThing c.len-number.result } ∷ []) c.in_ok-reserve.ensures.same in
+    c.in_ok-insert.ensures.given ∙ ap (λ (list : List Name). list ++ record { text = c.args.name; thing = QueryListThing c.len-number.result } ∷ []) c.in_ok-reserve.ensures.same in
     let there : c.in_ok-document.document < length p.laid.elements.tree.documents = subst (λ (v : PageView). c.in_ok-document.document < length v.world.tree.documents) (sym c.self.view_is) c.in_ok-document.ensures.there in
     let known = query_known p names queries c.args.name last c.len-number.result c.self.invariant given number made in
     let elements = query_elements p names queries c.args.name last c.len-number.result c.self.invariant given number made in
@@ -39,8 +33,8 @@ returns-clause-done g c present =
     let view_is = view_refreshed c.self.inside c.viewport_now-viewport.new.laid c.viewport_now-viewport.ensures.same c.args.self.now c.self.view_is in
     let number : c.len-number.result ≡ length p.queries.items = c.len-number.ensures ∙ c.self.inside.queries.ok.0 in
     let most : c.most.result ≡ 4096 = c.most.ensures in
-    keeps_since (asks_page p c.args.name c.args.query.now c.in_ok-document.document c.insert_reserved.new.self.list c.push.new.self.items c.in_ok-query.query c.matches-matched.result (seen_size c.viewport_now-viewport.result)
-    (c.insert_reserved.ensures.given
+    keeps_since (asks_page p c.args.name c.args.query.now c.in_ok-document.document c.insert.new.self.list c.push.new.self.items c.in_ok-query.query c.matches-matched.result (seen_size c.viewport_now-viewport.result)
+    (c.in_ok-insert.ensures.given
     ∙ ap (λ (list : List Name). list ++ record { text = c.args.name; thing = QueryListThing c.len-number.result } ∷ []) c.in_ok-reserve.ensures.same
     ∙ ap (λ (n : ℕ). p.names.list ++ record { text = c.args.name; thing = QueryListThing n } ∷ []) number)
     c.in-Ok.ensures.items c.in_ok-query.ensures c.matches-matched.ensures c.viewport_now-viewport.ensures.value
