@@ -10,3 +10,4 @@ mod Found
 pub mod Bounded
 mod TasksAtRest
 pub mod Loops
+mod ExactLoops

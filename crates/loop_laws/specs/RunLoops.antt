@@ -1,6 +1,6 @@
 -- The resize loops of a tick and of a script's run, read off them as page_model has them: each with its document and the page in which it
--- begins; and the lines that resize loops alone write.
-use Rattle.std.specs.Prelude.{ℕ, Bool, true, false, List, [], ◌∷◌, filter}
+-- begins; what is so of each; and the lines that resize loops alone write.
+use Rattle.std.specs.Prelude.{◌≡◌, ◌&&◌, ℕ, Bool, true, false, List, [], ◌∷◌, filter}
 use Rattle.text_io.specs.declared.kinds.Version.{Version}
 use Rattle.script_model.specs.Syntax.{Item, Outside, Tick, Handler}
 use Rattle.script_model.specs.Scripts.{handlers_in}
@@ -8,12 +8,13 @@ use Rattle.script_model.specs.TraceLines.{TraceLine, RoundLine, EventLine, Fired
 use Rattle.page_model.specs.World.{World}
 use Rattle.page_model.specs.Documents.{is_active, active_documents}
 use Rattle.page_model.specs.Commands.{begun_in}
-use Rattle.page_model.specs.Runs.{Said, for_each}
+use Rattle.page_model.specs.Runs.{Said, ◌followed_by◌, only_if, for_each}
 use Rattle.page_model.specs.Callbacks.{Script, while_active}
 use Rattle.page_model.specs.Loop.{resize_loop}
 use Rattle.page_model.specs.Ticks.{run_timers, resize_steps, scroll_steps, media_steps, frame_steps, time_set}
 use Rattle.page_model.specs.Outcome.{opening_world, run_item}
 use Rattle.loop_laws.specs.Moments.{following, where_did, along_each, listed_if}
+use Rattle.loop_laws.specs.WholeLoops.{resize_rounds, round_starts, GoesDeeper, HasFewRounds, has_undelivered, fire_error}
 
 -- a resize loop that is run for a document, and the page as it begins
 pub record Loop : Type 0 where
@@ -55,6 +56,16 @@ item_loops script (Handler line name block end_line) world = []
 unfoldable pub loops_of_run : Version → List Item → List Loop
 unfolding along_each tick_loops run_item handlers_in begun_in
 loops_of_run version items = along_each (item_loops (handlers_in items)) (run_item (handlers_in items)) items (opening_world version)
+
+-- each round is deeper than the one before, unless a command of it moves an inclusive ancestor of what was gathered in it; by the
+-- number of such commands and the greatest depth that is delivered there are few rounds; and the error is fired exactly where the
+-- rounds end with the document Active and a target of one of its observers has a size that differs from its last reported one
+pub record IsExact (script : Script) (loop : Loop) : Type 0 where
+  pub deeper : GoesDeeper script loop.document 0 (round_starts script loop.document loop.world)
+  pub few : HasFewRounds script loop.document loop.world
+  pub error : resize_loop script loop.document loop.world
+      ≡ (resize_rounds script loop.document loop.world
+      followed_by (λ now. only_if (fire_error script loop.document) now (is_active (now.tree) loop.document && has_undelivered loop.document now)))
 
 -- what a resize loop alone writes of its own: the line of a round and that of the error
 abbrev pub is_loop_line : TraceLine → Bool

@@ -14,6 +14,6 @@ pub use examples::{
     a_second_round_is_deeper, depths_fall_where_commands_uproot,
     to_remove_what_stands_nowhere_uproots_nothing,
 };
-pub use listing::all_loops_are_listed;
+pub use listing::{all_loops_are_listed, listed_loops_are_exact};
 pub use rounds::{loop_errors_are_exact, resize_loops_come_to_rest};
 pub use tasks::runs_of_tasks_come_to_rest;
