@@ -15,7 +15,7 @@ use Rattle.page_model.specs.Loop.{emptied}
 use Rattle.page_model.specs.Ranges.{Counts, AreObserved, IsResizeObserverIn, IsWithin}
 use Rattle.page_laws.specs.Successors.{OnDid}
 use Rattle.page_laws.proofs.Steps.{on_did-map}
-use Rattle.page_laws.proofs.Changed.{ResizeChange, Observed, Unobserved, Disconnected, Change, ResizeObserverMade, ResizeChanged}
+use Rattle.page_laws.specs.Changed.{ResizeChange, Observed, Unobserved, Disconnected, Change, ResizeObserverMade, ResizeChanged}
 use Rattle.page_laws.proofs.Commands.{does-any}
 use Rattle.page_laws.proofs.Keeping.{carried-by, called-keeps}
 use Rattle.page_laws.proofs.Later.{all-so}

@@ -10,7 +10,7 @@ use Rattle.page_model.specs.Callbacks.{Script, Entries, handler_names, presents,
 use Rattle.page_laws.specs.Successors.{OnDid}
 use Rattle.page_laws.proofs.Lists.{changed, less-more}
 use Rattle.page_laws.proofs.Steps.{on_did-map}
-use Rattle.page_laws.proofs.Changed.{IntersectionChange, Registered, Unregistered, AllUnregistered, QueueTaken, Change, IntersectionObserverMade, IntersectionsChanged}
+use Rattle.page_laws.specs.Changed.{IntersectionChange, Registered, Unregistered, AllUnregistered, QueueTaken, Change, IntersectionObserverMade, IntersectionsChanged}
 use Rattle.page_laws.proofs.Commands.{does-any}
 use Rattle.page_laws.proofs.Keeping.{carried-by, called-keeps}
 use Rattle.page_laws.proofs.Later.{all-so}
