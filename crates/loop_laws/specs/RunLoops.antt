@@ -57,8 +57,8 @@ unfoldable pub loops_of_run : Version → List Item → List Loop
 unfolding along_each tick_loops run_item handlers_in begun_in
 loops_of_run version items = along_each (item_loops (handlers_in items)) (run_item (handlers_in items)) items (opening_world version)
 
--- each round is deeper than the one before, unless a command of it moves an inclusive ancestor of what was gathered in it; by the
--- number of such commands and the greatest depth that is delivered there are few rounds; and the error is fired exactly where the
+-- each round is deeper than the one before, unless a command of it takes an inclusive ancestor of what was gathered in it out of its parent;
+-- by the number of such commands and the greatest depth that is delivered there are few rounds; and the error is fired exactly where the
 -- rounds end with the document Active and a target of one of its observers has a size that differs from its last reported one
 pub record IsExact (script : Script) (loop : Loop) : Type 0 where
   pub deeper : GoesDeeper script loop.document 0 (round_starts script loop.document loop.world)

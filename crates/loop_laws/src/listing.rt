@@ -13,9 +13,9 @@ ghost use Rattle.page_laws.specs.Bounds.{IsWithinLimits};
 ghost use Rattle.loop_laws.specs.RunLoops.{tick_loops, item_loops, loops_of_run, loop_lines, lines_of_loop, IsExact};
 ghost use Rattle.loop_laws.specs.WholeLoops.{resize_rounds, round_starts, line_of_round};
 
-/// The loops that are listed of a tick, of an item of a script and of its run are all that there are: the lines of rounds and of loop errors that it
-/// writes are those that these loops write, in their order. And the lines that a loop's rounds write are those of the rounds that the laws of
-/// depths speak of, in their order, each with that round's depth; one that is broken off writes none. It is so of every world.
+/// The loops that are listed of a tick, of an item of a script and of its run are all that there are: the lines of rounds and of loop
+/// errors that it writes are those that these loops write, in their order. And the lines that a loop's rounds write are those of the rounds
+/// that the laws of depths speak of, in their order, each with that round's depth; one that is broken off writes none. It is so of every world.
 pub fn all_loops_are_listed()
     ensures ticks { (script : Script) (world : World) →
         loop_lines (tick script world).lines ≡ flat_map (lines_of_loop script) (tick_loops script world) }
