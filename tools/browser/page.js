@@ -519,7 +519,7 @@ function observersRun(script, window, setting) {
         else if (c.op === 'ratio') { ratio = parseFloat(c.args[0]) / 100; api.wants = ['ratio', ratio]; return; }
         else if (c.op === 'viewport' && !setting.resize) { api.wants = ['viewport', parseFloat(c.args[0]), parseFloat(c.args[1])]; return; }
         else begun(c, null, null);
-      } api.wants = ['end']; });
+      } api.wants = ['end', lines]; });
       if (!api.stopped && api.wants[0] === 'tick') await quiet();
       return api.stopped || api.wants;
     },
@@ -527,6 +527,12 @@ function observersRun(script, window, setting) {
       await quiet();
       endRound();
       inUpdate = false;
+    },
+    // What is wanted after an update, as all that it queued is over; null where the page saw none.
+    async after() {
+      if (!api.updated) return null;
+      await api.drained();
+      return api.step();
     },
   };
   const top = { what: 'doc', name: 'top', frame: null };

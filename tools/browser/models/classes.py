@@ -1,4 +1,5 @@
 """The classes that each engine has, and those in which a trace stands."""
+import functools
 import itertools
 import re
 
@@ -30,9 +31,15 @@ NEAR = {'firefox': 0.15, 'webkit': 0.02}     # pixels, by which sums of sixtieth
 PARTS = {'firefox': 'sixtieths-of-a-pixel', 'webkit': 'margin-of-part-pixels'}
 
 
+@functools.lru_cache(1)
+def script_of(text):
+    """The script, which runs leave as it is: each class is left out of a run of its own."""
+    return grammar.parse(text.encode('latin-1'))
+
+
 def run(text, classes, told=(), order=None):
     """The model's run of a script."""
-    model = Model(grammar.parse(text.encode('latin-1')), classes, told, order)
+    model = Model(script_of(text), classes, told, order)
     model.run()
     return model
 
@@ -40,7 +47,7 @@ def run(text, classes, told=(), order=None):
 def by_rules(text):
     """The rules' trace."""
     lines = []
-    Page(grammar.parse(text.encode('latin-1')), lambda line, script_line, about: lines.append(line)).run()
+    Page(script_of(text), lambda line, script_line, about: lines.append(line)).run()
     return lines
 
 
