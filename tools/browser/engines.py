@@ -207,6 +207,7 @@ BEGIN_FRAME_FLAGS = ['--deterministic-mode', '--enable-begin-frame-control', '--
 
 
 HAS_RATIO = 'Math.abs(devicePixelRatio - %r) < 1e-6'
+HAS_SIZE = 'innerWidth === %d && innerHeight === %d'
 
 
 class Stepped:
@@ -216,11 +217,15 @@ class Stepped:
         """What the script wants after an update of the page."""
         # A frame that the browser used to end earlier work is no update of the page: ask again until the page saw one.
         for _ in range(8):
-            self.update()
-            wants = self.value('observersNow.after()', wait=True)
+            wants = self.updated()
             if wants:
                 return wants
         raise NotShown('an update that the browser skips')
+
+    def updated(self):
+        """What is wanted after an update, or null where the page saw none."""
+        self.update()
+        return self.value('observersNow.after()', wait=True)
 
     def await_value(self, expression, called, seconds=LONGEST):
         end = time.time() + seconds
@@ -537,33 +542,40 @@ addEventListener('load', () => { fetch(location.href, { method: 'POST', body: '"
 
 class SteppedFirefox(Stepped, Firefox):
     """Firefox with its refresh driver under control, as its own tests have it."""
+    sized = None
 
     def value(self, expression, wait=False):
         return self.ask('WebDriver:ExecuteScript', script='return ' + expression, args=[])['value']
 
-    def update(self):
-        self.ask('WebDriver:ExecuteScript', script='window.windowUtils.advanceTimeAndRefresh(16)', args=[], sandbox='system')
+    def update(self, then='null'):
+        """Makes an update, and answers what an expression says of the page after it."""
+        script = 'window.windowUtils.advanceTimeAndRefresh(16); return ' + then
+        return self.ask('WebDriver:ExecuteScript', script=script, args=[], sandbox='system')['value']
+
+    def updated(self):
+        return self.update('window.wrappedJSObject.observersNow.after()')
 
     def resize(self, width, height):
-        self.now = [width, height]
+        self.sized = width, height
         self.size(width, height)
-        self.await_size(width, height)
+        self.await_size()
 
     def scale(self, ratio):
         super().scale(ratio)
         self.await_ratio(ratio)
-        self.await_size(*self.now)
+        self.await_size()
 
-    def await_size(self, width, height):
-        self.await_value('innerWidth === %d && innerHeight === %d' % (width, height), 'a window of %d by %d' % (width, height))
+    def await_size(self):
+        self.await_value(HAS_SIZE % self.sized, 'a window of %d by %d' % self.sized)
 
     def blank(self, size, ratio):
         """A page of its own, whose first updates are over."""
         self.open(self.server.offer(STEPPED_PAGE % self.parts['page']))
         self.server.answer()
-        self.update()
-        self.resize(*size)
-        self.scale(ratio)
+        if not self.update('%s && %s' % (HAS_SIZE % tuple(size), HAS_RATIO % ratio)):
+            self.resize(*size)
+            self.scale(ratio)
+        self.sized = tuple(size)
         for _ in range(2):
             self.update()
 

@@ -18,17 +18,19 @@ ALL_THREE = frozenset('''border-widths read-of-dead-frame hidden-frame-keeps-siz
 CHROMIUM = ALL_THREE | {LATE_SCROLLS, LENGTHS_ARE_FLOORED, ONE_PIXEL_AT_LEAST, PERCENTAGES_ARE_CUT, SCROLLING_ROOT_UNTOLD} | set('''scroll-anchoring scroll-of-hidden-frame unobserve-in-delivery queue-after-unobserve
     listener-of-adopted-element frame-callback-late rounds-by-turns depth-at-gathering skipped-then-cured dead-frame-target
     target-of-dead-frame observers-in-any-order margin-of-part-pixels crossed-root cut-in-a-frame told-of-dead-root
-    entries-of-dead-document ratio-resize-event device-pixels-by-place'''.split())
+    entries-of-dead-document ratio-resize-event device-pixels-by-place lengths-at-a-ratio'''.split())
 FIREFOX = ALL_THREE | {HIDDEN_READS_NOTHING, DEAD_READS_THROW, SCROLLS_ARE_CUT, KEPT_WHILE_TELLING, IMPLICIT_ROOT} | set('''scroll-anchoring
     ratio-resize-event device-pixels-by-place queue-after-unobserve listener-of-adopted-element frame-callback-late told-of-dead-root
-    told-by-own-document resize-observers-by-use'''.split())
+    told-by-own-document resize-observers-by-use lengths-at-a-ratio'''.split())
 WEBKIT = ALL_THREE | {SCROLLS_ARE_CUT, FRAMES_IN_TIME, CROSSED_IS_TURNED, LENGTHS_ARE_CUT, EVERY_ROOT} | set('''depth-at-gathering
     crossed-root entries-before-tasks margin-of-part-pixels scroll-margin-below-a-root queries-of-empty-page
     resize-observers-by-use'''.split())
 CLASSES = {'chromium': CHROMIUM, 'firefox': FIREFOX, 'webkit': WEBKIT}
 NUMBER = re.compile(r'-?\d+(?:\.\d+)?(?:/\d+)?')
-NEAR = {'firefox': 0.15, 'webkit': 0.02}     # pixels, by which sums of sixtieths and percentages of margins may differ
-PARTS = {'firefox': 'sixtieths-of-a-pixel', 'webkit': 'margin-of-part-pixels'}
+# Pixels, by which sums of sixtieths, percentages of margins, and lengths of a script that sets a ratio may differ.
+NEAR = {'firefox': 0.15, 'webkit': 0.02, 'chromium': 0.15}
+PARTS = {'firefox': 'sixtieths-of-a-pixel', 'webkit': 'margin-of-part-pixels', 'chromium': 'lengths-at-a-ratio'}
+RATIO = re.compile(r'^[ \t]*ratio[ \t]', re.M)
 
 
 @functools.lru_cache(1)
@@ -51,11 +53,12 @@ def by_rules(text):
     return lines
 
 
-def alike(lines, told, engine):
-    """Whether both traces are the same; in Firefox up to parts of a pixel, in WebKit so in lines of intersections."""
+def alike(lines, told, engine, text):
+    """Whether both traces are the same; in Firefox up to parts of a pixel, in WebKit so in lines of intersections, in Chromium so where
+    the script sets a ratio."""
     if lines == told:
         return True
-    return engine in NEAR and len(lines) == len(told) and all(near(*both, engine) for both in zip(lines, told))
+    return (engine != 'chromium' or RATIO.search(text)) and len(lines) == len(told) and all(near(*both, engine) for both in zip(lines, told))
 
 
 def near(line, other, engine):
@@ -85,14 +88,14 @@ def classes_of(text, engine, told):
     """The classes of a trace: none where it is the rules' one, None where the model doesn't give it."""
     for order in orders(text, engine, told):
         first = run(text, CLASSES[engine], told, order)
-        if alike(first.lines, told, engine):
+        if alike(first.lines, told, engine, text):
             break
     else:
         return None
     needed = set(first.noticed)
     for name in sorted(first.met):
         without = run(text, CLASSES[engine] - {name}, told, order)
-        if not alike(without.lines, told, engine):
+        if not alike(without.lines, told, engine, text):
             needed.add(name)
     if first.lines != told:
         needed.add(PARTS[engine])
@@ -105,7 +108,7 @@ def one_of(text, engine, told, order, names):
     while waiting:
         name = waiting.pop(0)
         without = run(text, left - {name}, told, order)
-        if alike(without.lines, told, engine):
+        if alike(without.lines, told, engine, text):
             left = left - {name}
             waiting += sorted(without.met - names)
             names = names | without.met

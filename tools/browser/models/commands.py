@@ -1,10 +1,11 @@
 """Commands that an engine has otherwise, or that lay out."""
+from reference import trace
 from reference.commands import EFFECTS
 from reference.media import matches
 from reference.refusals import Throw
 from reference.world import ACTIVE, Document, Element, tree_document
 
-from .layout import PIXEL, whole
+from .layout import ONE, PIXEL, whole
 from .rounds import NEVER
 from .traits import DEAD_READS_THROW, FRAMES_IN_TIME, HIDDEN_READS_NOTHING, KEPT_WHILE_TELLING, SCROLLS_ARE_CUT
 
@@ -21,6 +22,8 @@ class Commands:
     def do_ratio(self, command, hundredths):
         changes = hundredths != self.world.pixel_ratio
         EFFECTS['ratio'](self, command, hundredths)
+        if changes:
+            self.world.changed()
         if changes and self.began and self.differs('ratio-resize-event'):
             self.resized.add(self.world.top)
             self.rescaled = True
@@ -33,7 +36,13 @@ class Commands:
         if isinstance(thing, Document) and thing.state is not ACTIVE and self.has(DEAD_READS_THROW) and self.differs('read-of-dead-frame'):
             raise Throw('NS_ERROR_UNEXPECTED', command.operands[0], '')
         self.lay_out(thing if isinstance(thing, Document) else thing.document)
-        EFFECTS['read'](self, command, thing)
+        layout = self.world.layout
+        if isinstance(thing, Document) and self.world.pixel_ratio != ONE:
+            # A window tells its size in whole pixels.
+            units = (0, 0) + tuple(map(whole, layout.viewport(thing))) + layout.document_offset(thing)
+            self.tell(trace.read_line(thing.name, units))
+        else:
+            EFFECTS['read'](self, command, thing)
 
     def holds(self, command):
         if command.condition in ('wider', 'taller'):

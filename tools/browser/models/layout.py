@@ -8,6 +8,7 @@ from reference.world import ACTIVE, Element, World, tree_document
 from .traits import ONE_PIXEL_AT_LEAST
 
 PIXEL = 64
+ONE = 10000          # a ratio of 100%
 
 
 def whole(units):
@@ -15,9 +16,14 @@ def whole(units):
     return (units + PIXEL // 2) // PIXEL * PIXEL
 
 
-def whole_border(units):
-    """Cut to whole pixels, and one at least."""
-    return units and max(PIXEL, units // PIXEL * PIXEL)
+def whole_border(units, ratio=ONE):
+    """Cut to whole device pixels, and one at least."""
+    return units and in_units(max(1, units * ratio // (PIXEL * ONE)), ratio)
+
+
+def in_units(pixels, ratio):
+    """Device pixels in units of a length, rounded."""
+    return (pixels * PIXEL * ONE + ratio // 2) // ratio
 
 
 def _pixels(length):
@@ -46,11 +52,20 @@ class EngineLayout(Layout):
         known = self._edges.get(node)
         if known is None:
             margin, border, padding = super().edges(node)
-            cut = tuple(map(whole_border, border))
-            if cut != border and self.differs('border-widths'):
+            cut = tuple([whole_border(width, self.world.pixel_ratio) for width in border])
+            if cut != border and self.differs(self._by_ratio('border-widths')):
                 border = cut
             known = self._edges[node] = (margin, border, padding)
         return known
+
+    def _by_ratio(self, name):
+        """The class of whole pixels, which are device pixels where a ratio is set."""
+        return name if self.world.pixel_ratio == ONE else 'lengths-at-a-ratio'
+
+    def whole_sizes(self, size):
+        """Both of a viewport, rounded to whole device pixels."""
+        ratio = self.world.pixel_ratio
+        return tuple([in_units((side * ratio + PIXEL * ONE // 2) // (PIXEL * ONE), ratio) for side in size])
 
     def size(self, node, box):
         size = super().size(node, box)
@@ -69,7 +84,8 @@ class EngineLayout(Layout):
     def viewport(self, document):
         frame = document.frame
         if frame is None:
-            return self.world.viewport_size
+            rounded = self.whole_sizes(self.world.viewport_size)
+            return rounded if rounded != self.world.viewport_size and self.differs('lengths-at-a-ratio') else self.world.viewport_size
         if document.state is not ACTIVE:
             size = super().viewport(document)
             return (0, 0) if size != (0, 0) and self.differs('read-of-dead-frame') else size
@@ -81,8 +97,8 @@ class EngineLayout(Layout):
     def frame_size(self, document):
         """Of the viewport of a frame that has a box."""
         size = self.size(document.frame, CONTENT)
-        rounded = (whole(size[0]), whole(size[1]))
-        return rounded if rounded != size and self.differs('frame-of-part-pixels') else size
+        rounded = self.whole_sizes(size)
+        return rounded if rounded != size and self.differs(self._by_ratio('frame-of-part-pixels')) else size
 
     # --- widths out of flow -------------------------------------------------------------------------------------------------
 
