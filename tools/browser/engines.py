@@ -459,6 +459,10 @@ FIREFOX_PREFERENCES = {
     'browser.startup.homepage_override.mstone': 'ignore', 'datareporting.policy.dataSubmissionEnabled': False,
     'app.update.auto': False, 'network.captive-portal-service.enabled': False, 'network.connectivity-service.enabled': False,
     'ui.useOverlayScrollbars': 1, 'browser.sessionhistory.max_total_viewers': 0,
+    # What a browser's own window does as a page is loaded costs more than the page.
+    'ui.prefersReducedMotion': 1, 'browser.chrome.site_icons': False, 'reader.parse-on-load.enabled': False,
+    'browser.translations.enable': False, 'places.history.enabled': False, 'browser.sessionstore.interval': 100000000,
+    'dom.ipc.processPrelaunch.enabled': False,
 }
 # The page's part of the window gets the size, as an engine's own tools do it.
 FIREFOX_SIZE = '''const [width, height] = arguments, style = gBrowser.selectedBrowser.style;
