@@ -111,6 +111,8 @@ function observersRun(script, window, setting) {
     ';scrollbar-width:none';
   function make(name, kind, doc, tag) {
     const element = doc.document.createElement(tag);
+    // WebKit shows no frame of an address that two frames around it have.
+    if (kind === 'frame' && navigator.vendor.startsWith('Apple')) element.src = 'about:blank?' + names.size;
     const spacer = doc.document.createElement('i');
     spacer.style.cssText = 'display:flow-root;height:0;margin:0';
     element.style.cssText = base[kind] + common;

@@ -9,7 +9,7 @@ from reference.page import Page
 from .model import Model
 from .traits import (CROSSED_IS_TURNED, DEAD_READS_THROW, EVERY_ROOT, FRAMES_IN_TIME, HIDDEN_READS_NOTHING, IMPLICIT_ROOT,
                      KEPT_WHILE_TELLING, LATE_SCROLLS, LENGTHS_ARE_CUT, LENGTHS_ARE_FLOORED, ONE_PIXEL_AT_LEAST, PERCENTAGES_ARE_CUT,
-                     SCROLLING_ROOT_UNTOLD, SCROLLS_ARE_CUT)
+                     SCROLLING_ROOT_UNTOLD, SCROLLS_ARE_CUT, SIZES_OF_GATHERING)
 
 ALL_THREE = frozenset('''border-widths read-of-dead-frame hidden-frame-keeps-size frame-of-part-pixels reach-of-empty-boxes
     reach-with-margins reach-with-padding scroll-of-part-pixels observe-again first-size offset-of-moved-box frame-order stored-offset
@@ -22,13 +22,13 @@ CHROMIUM = ALL_THREE | {LATE_SCROLLS, LENGTHS_ARE_FLOORED, ONE_PIXEL_AT_LEAST, P
 FIREFOX = ALL_THREE | {HIDDEN_READS_NOTHING, DEAD_READS_THROW, SCROLLS_ARE_CUT, KEPT_WHILE_TELLING, IMPLICIT_ROOT} | set('''scroll-anchoring
     ratio-resize-event device-pixels-by-place queue-after-unobserve listener-of-adopted-element frame-callback-late told-of-dead-root
     told-by-own-document resize-observers-by-use lengths-at-a-ratio'''.split())
-WEBKIT = ALL_THREE | {SCROLLS_ARE_CUT, FRAMES_IN_TIME, CROSSED_IS_TURNED, LENGTHS_ARE_CUT, EVERY_ROOT} | set('''depth-at-gathering
-    crossed-root entries-before-tasks margin-of-part-pixels scroll-margin-below-a-root queries-of-empty-page
+WEBKIT = ALL_THREE | {SCROLLS_ARE_CUT, FRAMES_IN_TIME, CROSSED_IS_TURNED, LENGTHS_ARE_CUT, EVERY_ROOT, SIZES_OF_GATHERING} | set('''depth-at-gathering
+    crossed-root entries-before-tasks told-in-the-update margin-of-part-pixels scroll-margin-below-a-root queries-of-empty-page
     resize-observers-by-use'''.split())
 CLASSES = {'chromium': CHROMIUM, 'firefox': FIREFOX, 'webkit': WEBKIT}
 NUMBER = re.compile(r'-?\d+(?:\.\d+)?(?:/\d+)?')
 # Pixels, by which sums of sixtieths, percentages of margins, and lengths of a script that sets a ratio may differ.
-NEAR = {'firefox': 0.15, 'webkit': 0.02, 'chromium': 0.15}
+NEAR = {'firefox': 0.15, 'webkit': 0.05, 'chromium': 0.15}
 PARTS = {'firefox': 'sixtieths-of-a-pixel', 'webkit': 'margin-of-part-pixels', 'chromium': 'lengths-at-a-ratio'}
 RATIO = re.compile(r'^[ \t]*ratio[ \t]', re.M)
 

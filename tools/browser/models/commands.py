@@ -69,14 +69,22 @@ class Commands:
             self.anchors.scrolls(thing)
 
     def do_set(self, command, node, property_, declaration):
+        style = dict(node.style)
         EFFECTS['set'](self, command, node, property_, declaration)
         self.anchors.changes(node, property_)
         self.changed_in(node.document)
+        if node.style != style:
+            self.changed_documents.add(tree_document(node))
 
     def do_grow(self, command, node, property_, by):
         EFFECTS['grow'](self, command, node, property_, by)
         self.anchors.changes(node, property_)
         self.changed_in(node.document)
+        self.changed_documents.add(tree_document(node))
+
+    def do_load(self, command, node, width, height):
+        EFFECTS['load'](self, command, node, width, height)
+        self.changed_documents.add(tree_document(node))
 
     def changed_in(self, document):
         if document in self.hidden and self.differs('scroll-of-hidden-frame'):

@@ -93,18 +93,45 @@ class Crossings:
             return self.differs('root-removed')
         return where is document
 
-    def intersections(self, document):
+    def intersections(self, document, known=()):
+        """Looks at a document's observers; `known` has the entries that were found before, by their registrations."""
         for observer in self.observers_of(document):
-            if observer.document.state is not ACTIVE and self.has('entries-of-dead-document'):
-                continue
-            root = EngineRoot(self, observer)
-            for registration in observer.registrations.values():
-                if self.passes_over(observer, registration):
-                    continue
-                entry = self.find(observer, root, registration)
+            for registration, entry in self.found(observer, known):
                 if (registration.index, registration.meets) != (entry.index, entry.meets):
                     observer.queue.append(entry)
                 registration.index, registration.meets = entry.index, entry.meets
+
+    def found(self, observer, known=()):
+        """(registration, entry) of each target that is looked at."""
+        if observer.document.state is not ACTIVE and self.has('entries-of-dead-document'):
+            return
+        root = EngineRoot(self, observer)
+        for registration in observer.registrations.values():
+            if not self.passes_over(observer, registration):
+                yield registration, known[registration] if registration in known else self.find(observer, root, registration)
+
+    def tells_in_update(self):
+        """Whether entries are told within the update; tasks that wait come before them then by the rules."""
+        return self.has('told-in-the-update') and (not self.world.tasks or self.differs('entries-before-tasks')) and self.differs('told-in-the-update')
+
+    def crossings_by_turns(self, documents):
+        """Looks at one document after the other and tells its entries at once. One that a callback has changed, so that it isn't laid
+        out, is left for the next update; one around which something has changed stands as it was laid out."""
+        found = {document: dict(pair for observer in self.observers_of(document) for pair in self.found(observer)) for document in documents}
+        self.changed_documents.clear()
+        for document in documents:
+            if document.state is not ACTIVE or document in self.changed_documents:
+                continue
+            around = self.is_changed_around(document)
+            self.intersections(document, found[document] if around else ())
+            self.tell_all([observer for observer in self.observers_of(document) if observer.queue])
+
+    def is_changed_around(self, document):
+        while document.frame is not None:
+            document = document.frame.document
+            if document in self.changed_documents:
+                return True
+        return False
 
     def passes_over(self, observer, registration):
         """Whether a target is left alone: its observer has no root, and it stands in no shown document and isn't where it stood last."""

@@ -33,6 +33,7 @@ class Model(Commands, Viewports, Rounds, Crossings, Page):
         self.insertions = {}              # document -> number, in the order in which their frames were inserted
         self.sizes = {}                   # resize observers' targets -> what they were at the last layout
         self.round = None
+        self.changed_documents = set()    # that aren't laid out since a change
         self.telling = False              # whether intersection observers are being told
         self.failed = set()               # documents with an error in this update: it comes once
         self.all_resize_observers = []
@@ -123,6 +124,9 @@ class Model(Commands, Viewports, Rounds, Crossings, Page):
             if thing not in document.pending_scrolls:
                 document.pending_scrolls.append(thing)
         self.late_scrolls = []
-        for document in self.documents_in_order():
-            if document.state is ACTIVE:
+        documents = self.documents_in_order()
+        if self.tells_in_update():
+            self.crossings_by_turns(documents)
+        else:
+            for document in documents:
                 self.intersections(document)

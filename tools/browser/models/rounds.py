@@ -2,6 +2,8 @@
 from reference import trace
 from reference.world import ACTIVE, depth
 
+from .traits import SIZES_OF_GATHERING
+
 NEVER = (-1, -1)     # what was reported of a target that wasn't told yet
 
 
@@ -82,6 +84,7 @@ class Rounds:
                 if observation.last_reported == NEVER and size == (0, 0):
                     self.differs('first-size')
                 if depth(node) > least:
+                    observation.gathered = self.sizes[node]
                     observer.active.append(observation)
                     depths.append(depth(node))
                 else:
@@ -119,8 +122,9 @@ class Rounds:
             if node.document.state is not ACTIVE and self.differs('dead-frame-target'):
                 continue
             sizes = self.size_now(node)
-            if sizes != self.sizes[node] and self.differs('sizes-of-last-layout'):
-                sizes = self.sizes[node]
+            known = observation.gathered if self.has(SIZES_OF_GATHERING) else self.sizes[node]
+            if sizes != known and self.differs('sizes-of-last-layout'):
+                sizes = known
             entries.append(ResizeEntry(node, sizes))
             if observation.number in standing:
                 observation.last_reported = sizes.of(observation.box)

@@ -2,6 +2,8 @@
 HIDDEN_READS_NOTHING, DEAD_READS_THROW, SCROLLS_ARE_CUT = 'hidden reads nothing', 'dead reads throw', 'scrolls are cut'
 LATE_SCROLLS, FRAMES_IN_TIME = 'late scrolls', 'frames in time'
 KEPT_WHILE_TELLING, CROSSED_IS_TURNED = 'kept while telling', 'crossed is turned'
+# Of resize entries: nothing since the gathering counts.
+SIZES_OF_GATHERING = 'sizes of the gathering'
 # Of device pixels: a side that would have none.
 ONE_PIXEL_AT_LEAST = 'one pixel at least'
 # Of margins: lengths of whole pixels, floored or cut, and percentages of whole pixels; which roots a scroll margin moves.

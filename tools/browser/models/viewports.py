@@ -2,7 +2,7 @@
 from reference import update
 from reference.layout import BORDER, CONTENT, DEVICE
 from reference.media import matches
-from reference.world import ACTIVE, preorder
+from reference.world import ACTIVE, preorder, tree_document
 
 from .layout import NO_SIZES, Sizes, whole
 from .traits import FRAMES_IN_TIME, LATE_SCROLLS
@@ -12,6 +12,7 @@ class Viewports:
     """A part of Model."""
 
     def inserted(self, node):
+        self.changed_documents.add(tree_document(node))
         for inner in preorder(node):
             document = inner.framed
             if document is not None and document.state is ACTIVE and document not in self.insertions:
@@ -20,6 +21,7 @@ class Viewports:
 
     def removed(self, node, where):
         """Boxes go from a document; they come back with nothing scrolled."""
+        self.changed_documents.add(where)
         for inner in preorder(node):
             if where is not None:
                 self.left[inner] = where
@@ -93,6 +95,7 @@ class Viewports:
 
     def _laid_out(self, document):
         layout = self.world.layout
+        self.changed_documents.discard(document)
         for inner in list(self.insertions):
             if inner.state is ACTIVE and inner.frame.document is document and layout.has_box(inner.frame):
                 self.learns(inner, layout.frame_size(inner))
