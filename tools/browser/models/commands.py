@@ -7,7 +7,7 @@ from reference.world import ACTIVE, Document, Element, tree_document
 
 from .layout import ONE, PIXEL, whole
 from .rounds import NEVER
-from .traits import DEAD_READS_THROW, FRAMES_IN_TIME, HIDDEN_READS_NOTHING, KEPT_WHILE_TELLING, SCROLLS_ARE_CUT
+from .traits import DEAD_READS_THROW, FIRST_USE_COUNTS, FRAMES_IN_TIME, HIDDEN_READS_NOTHING, KEPT_WHILE_TELLING, SCROLLS_ARE_CUT
 
 
 class Commands:
@@ -105,8 +105,9 @@ class Commands:
             return
         if old is not None and old in observer.active and self.differs('unobserve-in-delivery'):
             observer.active.remove(old)
-        used = observer.document.resize_observers
-        if not observer.observations and used[-1] is not observer and self.differs('resize-observers-by-use'):
+        used, is_first = observer.document.resize_observers, observer not in self.tool_saw
+        if (not observer.observations and used[-1] is not observer and (is_first or not self.has(FIRST_USE_COUNTS))
+                and self.differs('resize-observers-by-use')):
             used.remove(observer)
             used.append(observer)
         EFFECTS['ro-observe'](self, command, observer, node, box)
@@ -131,7 +132,20 @@ class Commands:
     def do_ro_disconnect(self, command, observer):
         EFFECTS['ro-disconnect'](self, command, observer)
         observer.skipped = False
-        self.tool_saw.pop(observer, None)
+        if observer in self.tool_saw:
+            self.tool_saw[observer] = {}
+
+    def do_io_observe(self, command, observer, node):
+        if not observer.registrations:
+            self.comes_last(observer)
+        EFFECTS['io-observe'](self, command, observer, node)
+
+    def comes_last(self, observer):
+        """An intersection observer comes into a document's list, with a first target or as its root is adopted."""
+        known = self.world.intersection_observers
+        if known[-1] is not observer and self.differs('intersection-observers-by-use'):
+            known.remove(observer)
+            known.append(observer)
 
     def do_io_unobserve(self, command, observer, node):
         kept = [entry for entry in observer.queue if entry.target is not node]

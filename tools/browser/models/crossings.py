@@ -143,7 +143,11 @@ class Crossings:
         return moved and self.differs('target-of-dead-frame')
 
     def find(self, observer, root, registration):
-        entry = intersection.find(self.world, observer, root, registration.target)
+        target = registration.target
+        if self.hidden_frame_around(observer, target):
+            entry = self.cut_off(root, target)
+        else:
+            entry = intersection.find(self.world, observer, root, target)
         if entry.clips:
             self.move_clips(observer, entry)
         entry.root = intersection.seen_from(root.origin, root.told)
@@ -158,6 +162,22 @@ class Crossings:
             entry.meets = index > 0
         if self.has('is-intersecting'):
             entry.index = index
+        return entry
+
+    def hidden_frame_around(self, observer, target):
+        """Whether a target has a box, and a frame on the way to the implicit root has none."""
+        document = target.document
+        while observer.root is None and document.frame is not None:
+            if not self.world.layout.has_box(document.frame):
+                return self.world.layout.has_box(target)
+            document = document.frame.document
+        return False
+
+    def cut_off(self, root, target):
+        """The entry of such a target: its box, with nothing of it seen."""
+        layout, entry = self.world.layout, intersection.Entry(target, root.rectangle)
+        entry.box = intersection.seen_from(layout.origin(target.document), layout.border_rectangle(target))
+        entry.whole = intersection.area(entry.box) or 1
         return entry
 
     def move_clips(self, observer, entry):

@@ -48,6 +48,12 @@ class EngineLayout(Layout):
         self.differs = world.page.differs
         super().__init__(world)
 
+    def _find_box(self, node):
+        document, found = node.root_of, super()._find_box(node)
+        if found or document is None or document.state is not ACTIVE or node.style['display'] == 'none':
+            return found
+        return self.differs('boxes-in-a-hidden-frame')
+
     def edges(self, node):
         known = self._edges.get(node)
         if known is None:
@@ -241,8 +247,13 @@ class EngineWorld(World):
         return self._layout
 
     def insert(self, parent, node, sibling=None):
+        rooted = [(observer, observer.root.document) for observer in self.intersection_observers
+                  if isinstance(observer.root, Element) and observer.registrations]
         super().insert(parent, node, sibling)
         self.page.inserted(node)
+        for observer, document in rooted:
+            if observer.root.document is not document:
+                self.page.comes_last(observer)
 
     def remove(self, node):
         stood, where = node.parent is not None or node.root_of is not None, tree_document(node)

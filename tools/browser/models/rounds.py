@@ -1,6 +1,6 @@
 """The resize loop as an engine has it, and its rounds as the tool tells them apart."""
 from reference import trace
-from reference.world import ACTIVE, depth
+from reference.world import ACTIVE, depth, tree_document
 
 from .traits import SIZES_OF_GATHERING
 
@@ -69,6 +69,15 @@ class Rounds:
             self.dispatch((document, True), 'error')
         return None
 
+    def deep(self, node):
+        """The depth as the engine counts it: with the document, where there is one."""
+        if not self.has('depth-with-document'):
+            return depth(node)
+        if tree_document(node) is not None:
+            return depth(node) + 1
+        self.differs('depth-with-document')
+        return depth(node)
+
     def gather(self, document, least):
         depths = []
         for observer in document.resize_observers:
@@ -83,10 +92,10 @@ class Rounds:
                     continue
                 if observation.last_reported == NEVER and size == (0, 0):
                     self.differs('first-size')
-                if depth(node) > least:
+                if self.deep(node) > least:
                     observation.gathered = self.sizes[node]
                     observer.active.append(observation)
-                    depths.append(depth(node))
+                    depths.append(self.deep(node))
                 else:
                     observer.skipped = observer.skips_now = True
         return depths
@@ -104,7 +113,7 @@ class Rounds:
             if not entries:
                 observer.skipped = False
                 continue
-            depths = [depth(entry.target) for entry in entries]
+            depths = [self.deep(entry.target) for entry in entries]
             least = min(depths + ([] if least is None else [least]))
             self.resize_told(observer, entries)
             observer.active = []

@@ -2,6 +2,8 @@
 HIDDEN_READS_NOTHING, DEAD_READS_THROW, SCROLLS_ARE_CUT = 'hidden reads nothing', 'dead reads throw', 'scrolls are cut'
 LATE_SCROLLS, FRAMES_IN_TIME = 'late scrolls', 'frames in time'
 KEPT_WHILE_TELLING, CROSSED_IS_TURNED = 'kept while telling', 'crossed is turned'
+# Of resize observers: their place is that of their first target.
+FIRST_USE_COUNTS = 'first use counts'
 # Of resize entries: nothing since the gathering counts.
 SIZES_OF_GATHERING = 'sizes of the gathering'
 # Of device pixels: a side that would have none.
