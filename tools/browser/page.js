@@ -269,9 +269,10 @@ function observersRun(script, window, setting) {
     if (told.kind !== 'intersect') throw new Thrown('TypeError');
     return entry.isIntersecting;
   }
-  // All go through one port, as messages of several ports have no order among one another.
+  // All go through one port, as messages of several ports have no order among one another; and all that wait run with the first, as
+  // an engine may have other tasks come between two messages.
   const channel = new MessageChannel(), posted = [];
-  channel.port1.onmessage = () => { waiting--; runTask(posted.shift()); };
+  channel.port1.onmessage = () => { waiting--; for (const task of posted.splice(0)) runTask(task); };
   function post(task) {
     waiting++;
     posted.push(task);

@@ -7,7 +7,7 @@ from reference import grammar
 from reference.page import Page
 
 from .model import Model
-from .traits import (CROSSED_IS_TURNED, DEAD_READS_THROW, EVERY_ROOT, FIRST_USE_COUNTS, FRAMES_IN_TIME, HIDDEN_READS_NOTHING, IMPLICIT_ROOT,
+from .traits import (CROSSED_IS_TURNED, DEAD_READS_THROW, EMPTY_ROOTS_COUNT_NOTHING, EVERY_ROOT, FIRST_USE_COUNTS, FRAMES_IN_TIME, HIDDEN_READS_NOTHING, IMPLICIT_ROOT,
                      KEPT_WHILE_TELLING, LATE_SCROLLS, LENGTHS_ARE_CUT, LENGTHS_ARE_FLOORED, ONE_PIXEL_AT_LEAST, PERCENTAGES_ARE_CUT,
                      SCROLLING_ROOT_UNTOLD, SCROLLS_ARE_CUT, SIZES_OF_GATHERING)
 
@@ -22,10 +22,10 @@ CHROMIUM = ALL_THREE | {LATE_SCROLLS, LENGTHS_ARE_FLOORED, ONE_PIXEL_AT_LEAST, P
 FIREFOX = ALL_THREE | {HIDDEN_READS_NOTHING, DEAD_READS_THROW, SCROLLS_ARE_CUT, KEPT_WHILE_TELLING, IMPLICIT_ROOT} | set('''scroll-anchoring
     ratio-resize-event device-pixels-by-place queue-after-unobserve listener-of-adopted-element frame-callback-late told-of-dead-root
     told-by-own-document resize-observers-by-use lengths-at-a-ratio depth-with-document'''.split())
-WEBKIT = ALL_THREE | {FIRST_USE_COUNTS, SCROLLS_ARE_CUT, FRAMES_IN_TIME, CROSSED_IS_TURNED, LENGTHS_ARE_CUT, EVERY_ROOT, SIZES_OF_GATHERING} | set('''depth-at-gathering
+WEBKIT = ALL_THREE | {EMPTY_ROOTS_COUNT_NOTHING, FIRST_USE_COUNTS, SCROLLS_ARE_CUT, FRAMES_IN_TIME, CROSSED_IS_TURNED, LENGTHS_ARE_CUT, EVERY_ROOT, SIZES_OF_GATHERING} | set('''depth-at-gathering
     crossed-root entries-before-tasks told-in-the-update margin-of-part-pixels scroll-margin-below-a-root queries-of-empty-page
     resize-observers-by-use intersection-observers-by-use boxes-in-a-hidden-frame
-    disconnected-as-root-ends'''.split())
+    disconnected-as-root-ends clips-of-border-boxes'''.split())
 CLASSES = {'chromium': CHROMIUM, 'firefox': FIREFOX, 'webkit': WEBKIT}
 NUMBER = re.compile(r'-?\d+(?:\.\d+)?(?:/\d+)?')
 # Pixels, by which sums of sixtieths, percentages of margins, and lengths of a script that sets a ratio may differ.

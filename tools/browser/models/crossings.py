@@ -1,7 +1,7 @@
 """What an engine's intersection observers find, and when it tells them."""
 from reference import intersection, trace
 from reference.lengths import percentage
-from reference.world import ACTIVE, Document, tree_document
+from reference.world import ACTIVE, Document, Element, tree_document
 
 from .layout import PIXEL, whole
 from .traits import (CROSSED_IS_TURNED, EVERY_ROOT, IMPLICIT_ROOT, LENGTHS_ARE_CUT, LENGTHS_ARE_FLOORED, PERCENTAGES_ARE_CUT,
@@ -184,7 +184,7 @@ class Crossings:
         """By the engine's scroll margins."""
         layout, margins = self.world.layout, Margins(self, observer.scroll_margins, 'scroll-margin-percentages')
         for clip in entry.clips[1:-1]:
-            own = clip.rectangle if clip.box == 'viewport' else clip.own
+            own = clip.rectangle if clip.box == 'viewport' else self.own_clip(clip)
             by = margins.of(own) if clip.box == 'viewport' or layout.scrolls(clip.thing) else [0] * 4
             if clip.box == 'viewport':
                 moves = any(by) and self.differs('scroll-margin-of-viewports')
@@ -194,6 +194,19 @@ class Crossings:
         entry.cut = intersection.NOTHING
         intersection.measure(layout, entry)
         entry.index = intersection.index_of(observer, entry)
+
+    def own_clip(self, clip):
+        """The rectangle of an element that clips, which may be its border box: from its corner on, as many whole pixels as its place in
+        what it stands in gives it."""
+        layout, node = self.world.layout, clip.thing
+        place, holder = layout.flat_place(node), layout.holder(node)
+        if isinstance(holder, Element):
+            outer = layout.flat_place(holder)
+            place = (place[0] - outer[0], place[1] - outer[1])
+        width, height = [whole(place[axis] + side) - whole(place[axis]) for axis, side in enumerate(layout.border_size(node))]
+        left, top = layout.border_rectangle(node)[:2]
+        mine = (left, top, left + width, top + height)
+        return mine if mine != clip.own and self.differs('clips-of-border-boxes') else clip.own
 
     def move_cut(self, observer, entry):
         """A frame stands at whole pixels; of a root outside it the cut rectangle is moved by what was rounded away."""
@@ -252,8 +265,9 @@ class Crossings:
             waiting.remove(chosen)
             if self.is_told(chosen):
                 entries, chosen.queue = chosen.queue, []
+                stands = chosen.document.state is ACTIVE
                 self.tell_entries(chosen, entries, begun)
-                begun.add(chosen.document)
+                begun |= {chosen.document} if stands else set()
         self.telling = False
 
     def next_of(self, waiting):

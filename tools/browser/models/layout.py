@@ -5,7 +5,7 @@ from reference.layout import BORDER, CONTENT, DEVICE, FRAME_WIDTH, Layout
 from reference.lengths import AUTO
 from reference.world import ACTIVE, Element, World, tree_document
 
-from .traits import ONE_PIXEL_AT_LEAST
+from .traits import EMPTY_ROOTS_COUNT_NOTHING, ONE_PIXEL_AT_LEAST
 
 PIXEL = 64
 ONE = 10000          # a ratio of 100%
@@ -216,8 +216,12 @@ class EngineLayout(Layout):
         left, top = self.flat_place(node)
         width, height = self.border_size(node)
         right, bottom = left + width, top + height
-        if node.root_of is None and node.parent is not holder:
-            return None if not (width and height) and node not in self._filled and self.differs('reach-of-empty-boxes') else (right, bottom)
+        is_deep, is_empty = node.root_of is None and node.parent is not holder, not (width and height) and node not in self._filled
+        counts = not is_deep and (node.root_of is None or not self.world.page.has(EMPTY_ROOTS_COUNT_NOTHING))
+        if is_empty and not counts and self.differs('reach-of-empty-boxes'):
+            return None
+        if is_deep:
+            return right, bottom
         margin = self.edges(node)[0]
         if (margin[1] or margin[2]) and self.differs('reach-with-margins'):
             right, bottom = right + margin[1], bottom + margin[2]

@@ -33,6 +33,7 @@ class Model(Commands, Viewports, Rounds, Crossings, Page):
         self.insertions = {}              # document -> number, in the order in which their frames were inserted
         self.sizes = {}                   # resize observers' targets -> what they were at the last layout
         self.round = None
+        self.ended = set()                # documents that stand no longer
         self.changed_documents = set()    # that aren't laid out since a change
         self.telling = False              # whether intersection observers are being told
         self.failed = set()               # documents with an error in this update: it comes once

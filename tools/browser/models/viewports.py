@@ -2,7 +2,7 @@
 from reference import update
 from reference.layout import BORDER, CONTENT, DEVICE
 from reference.media import matches
-from reference.world import ACTIVE, FRESH, preorder, tree_document
+from reference.world import ACTIVE, DEAD, preorder, tree_document
 
 from .layout import NO_SIZES, Sizes, whole
 from .traits import FRAMES_IN_TIME, LATE_SCROLLS
@@ -32,9 +32,15 @@ class Viewports:
         for other in self.sizes:
             if other.document.state is not ACTIVE:
                 self.sizes[other] = NO_SIZES
+        self.documents_end()
+
+    def documents_end(self):
+        """Documents that stand no longer; observers with a root in one may lose their targets."""
+        ended = {document for document in self.world.documents if document.state is DEAD} - self.ended
+        self.ended |= ended
         for observer in self.world.intersection_observers:
             home = getattr(observer.root, 'document', observer.root)
-            if home is not None and home.state not in (ACTIVE, FRESH) and observer.registrations and self.differs('disconnected-as-root-ends'):
+            if home in ended and observer.registrations and self.differs('disconnected-as-root-ends'):
                 observer.registrations.clear()
 
     def documents_in_order(self):
