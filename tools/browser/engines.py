@@ -308,8 +308,10 @@ class SteppedChromium(Stepped):
     def begin(self, script):
         """What the script wants first. The tool's own part is a text that stays the same, which the browser reads once."""
         run = 'window.observersNow = observersRun(%s, window, {}); observersNow.step()' % json.dumps(script)
-        _, *told = self.pipe.ask_all(('Input.setIgnoreInputEvents', {'ignore': False}), self.asked(self.page + '\n0'), self.asked(run, wait=True))
-        return [self.valued(answer) for answer in told][1]
+        _, page, wants = self.pipe.ask_all(('Input.setIgnoreInputEvents', {'ignore': False}), self.asked(self.page + '\n0'),
+                                           self.asked(run, wait=True))
+        self.valued(page)
+        return self.valued(wants)
 
 
 class Loopback(http.server.ThreadingHTTPServer):

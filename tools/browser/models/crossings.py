@@ -110,14 +110,20 @@ class Crossings:
             if not self.passes_over(observer, registration):
                 yield registration, known[registration] if registration in known else self.find(observer, root, registration)
 
+    def found_in(self, document):
+        """What there is to be found with a document now, by registrations."""
+        return {registration: entry for observer in self.observers_of(document) for registration, entry in self.found(observer)}
+
     def tells_in_update(self):
         """Whether entries are told within the update; tasks that wait come before them then by the rules."""
-        return self.has('told-in-the-update') and (not self.world.tasks or self.differs('entries-before-tasks')) and self.differs('told-in-the-update')
+        if not self.has('told-in-the-update') or self.world.tasks and not self.differs('entries-before-tasks'):
+            return False
+        return self.differs('told-in-the-update')
 
     def crossings_by_turns(self, documents):
         """Looks at one document after the other and tells its entries at once. One that a callback has changed, so that it isn't laid
         out, is left for the next update; one around which something has changed stands as it was laid out."""
-        found = {document: dict(pair for observer in self.observers_of(document) for pair in self.found(observer)) for document in documents}
+        found = {document: self.found_in(document) for document in documents}
         self.changed_documents.clear()
         for document in documents:
             if document.state is not ACTIVE or document in self.changed_documents:
