@@ -22,7 +22,8 @@ CHROMIUM = ALL_THREE | {LATE_SCROLLS, LENGTHS_ARE_FLOORED, ONE_PIXEL_AT_LEAST, P
     entries-of-dead-document ratio-resize-event device-pixels-by-place lengths-at-a-ratio'''.split())
 FIREFOX = ALL_THREE | {HIDDEN_READS_NOTHING, DEAD_READS_THROW, SCROLLS_ARE_CUT, KEPT_WHILE_TELLING, IMPLICIT_ROOT} | set('''scroll-anchoring
     ratio-resize-event device-pixels-by-place queue-after-unobserve listener-of-adopted-element frame-callback-late told-of-dead-root
-    told-by-own-document resize-observers-by-use lengths-at-a-ratio depth-with-document'''.split())
+    told-by-own-document resize-observers-by-use intersection-observers-by-use lengths-at-a-ratio
+    depth-with-document'''.split())
 WEBKIT = ALL_THREE | {EMPTY_ROOTS_COUNT_NOTHING, FIRST_USE_COUNTS, SCROLLS_ARE_CUT, FRAMES_IN_TIME, CROSSED_IS_TURNED, LENGTHS_ARE_CUT,
                       EVERY_ROOT, SIZES_OF_GATHERING} | set('''depth-at-gathering
     crossed-root entries-before-tasks told-in-the-update margin-of-part-pixels scroll-margin-below-a-root queries-of-empty-page
@@ -67,6 +68,8 @@ def alike(lines, told, engine, text):
 
 
 def near(line, other, engine):
+    """The tool marks a ratio that isn't the one of its rectangles."""
+    other = other.replace('~', '')
     if line == other:
         return True
     if NUMBER.sub('#', line) != NUMBER.sub('#', other) or engine == 'webkit' and not line.startswith('intersect '):

@@ -256,11 +256,13 @@ class EngineWorld(World):
         super().insert(parent, node, sibling)
         self.page.inserted(node)
         for observer, document in rooted:
-            if observer.root.document is not document:
+            if observer.root.document is not document and not self.page.has('told-by-own-document'):
                 self.page.comes_last(observer)
 
     def remove(self, node):
         stood, where = node.parent is not None or node.root_of is not None, tree_document(node)
+        if where is not None and self.page.has('told-in-the-update') and self.layout.has_box(node):
+            self.page.changed_documents.add(where)
         super().remove(node)
         if stood:
             self.page.removed(node, where)

@@ -21,7 +21,6 @@ class Viewports:
 
     def removed(self, node, where):
         """Boxes go from a document; they come back with nothing scrolled."""
-        self.changed_documents.add(where)
         for inner in preorder(node):
             if where is not None:
                 self.left[inner] = where
@@ -73,7 +72,8 @@ class Viewports:
         self.known[document] = size
         if old is not None or not self.has(FRAMES_IN_TIME):
             self.resized.add(document)
-        self.evaluate(document, size)
+        if document.frame is not None or not self.has(FRAMES_IN_TIME):
+            self.evaluate(document, size)
 
     def evaluate(self, document, size):
         if document.root is None and self.has('queries-of-empty-page'):
@@ -227,6 +227,8 @@ class Viewports:
         update._scroll_steps(self, document)
 
     def media_steps(self, document):
+        if document.frame is None and self.has(FRAMES_IN_TIME):
+            self.evaluate(document, self.world.viewport_size)
         changed = self.changed_queries.pop(document, [])
         self.note_changes(document, changed)
         for queries in changed:
