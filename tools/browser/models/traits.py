@@ -2,6 +2,8 @@
 HIDDEN_READS_NOTHING, DEAD_READS_THROW, SCROLLS_ARE_CUT = 'hidden reads nothing', 'dead reads throw', 'scrolls are cut'
 LATE_SCROLLS, FRAMES_IN_TIME = 'late scrolls', 'frames in time'
 KEPT_WHILE_TELLING, CROSSED_IS_TURNED = 'kept while telling', 'crossed is turned'
+# Of query lists of the page's own document: evaluated in an update, as by the rules.
+QUERIES_IN_UPDATE = 'queries in the update'
 # Of ranges: an element at the root that has no area.
 EMPTY_ROOTS_COUNT_NOTHING = 'empty roots count nothing'
 # Of resize observers: their place is that of their first target.

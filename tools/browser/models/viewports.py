@@ -5,7 +5,7 @@ from reference.media import matches
 from reference.world import ACTIVE, DEAD, preorder, tree_document
 
 from .layout import NO_SIZES, Sizes, whole
-from .traits import FRAMES_IN_TIME, LATE_SCROLLS
+from .traits import FRAMES_IN_TIME, LATE_SCROLLS, QUERIES_IN_UPDATE
 
 
 class Viewports:
@@ -72,7 +72,7 @@ class Viewports:
         self.known[document] = size
         if old is not None or not self.has(FRAMES_IN_TIME):
             self.resized.add(document)
-        if document.frame is not None or not self.has(FRAMES_IN_TIME):
+        if document.frame is not None or not self.has(QUERIES_IN_UPDATE):
             self.evaluate(document, size)
 
     def evaluate(self, document, size):
@@ -227,7 +227,7 @@ class Viewports:
         update._scroll_steps(self, document)
 
     def media_steps(self, document):
-        if document.frame is None and self.has(FRAMES_IN_TIME):
+        if document.frame is None and self.has(QUERIES_IN_UPDATE):
             self.evaluate(document, self.world.viewport_size)
         changed = self.changed_queries.pop(document, [])
         self.note_changes(document, changed)
