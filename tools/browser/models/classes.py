@@ -24,7 +24,8 @@ CHROMIUM = ALL_THREE | {LATE_SCROLLS, LENGTHS_ARE_FLOORED, ONE_PIXEL_AT_LEAST, P
 FIREFOX = ALL_THREE | {HIDDEN_READS_NOTHING, DEAD_READS_THROW, SCROLLS_ARE_CUT, KEPT_WHILE_TELLING, IMPLICIT_ROOT,
                        QUERIES_IN_UPDATE} | set('''scroll-anchoring
     ratio-resize-event device-pixels-by-place queue-after-unobserve listener-of-adopted-element frame-callback-late told-of-dead-root
-    told-by-own-document resize-observers-by-use intersection-observers-by-use lengths-at-a-ratio depth-with-document'''.split())
+    told-by-own-document resize-observers-by-use intersection-observers-by-use lengths-at-a-ratio depth-with-document
+    frame-made-anew'''.split())
 WEBKIT = ALL_THREE | {EMPTY_ROOTS_COUNT_NOTHING, FIRST_USE_COUNTS, SCROLLS_ARE_CUT, FRAMES_IN_TIME, CROSSED_IS_TURNED, LENGTHS_ARE_CUT,
                       EVERY_ROOT, QUERIES_IN_UPDATE, SIZES_OF_GATHERING} | set('''depth-at-gathering
     crossed-root entries-before-tasks told-in-the-update margin-of-part-pixels scroll-margin-below-a-root queries-of-empty-page

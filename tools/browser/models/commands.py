@@ -3,11 +3,13 @@ from reference import trace
 from reference.commands import EFFECTS
 from reference.media import matches
 from reference.refusals import Throw
-from reference.world import ACTIVE, Document, Element, tree_document
+from reference.world import ACTIVE, Document, Element, preorder, tree_document
 
 from .layout import ONE, PIXEL, whole
 from .rounds import NEVER
 from .traits import DEAD_READS_THROW, FIRST_USE_COUNTS, FRAMES_IN_TIME, HIDDEN_READS_NOTHING, KEPT_WHILE_TELLING, SCROLLS_ARE_CUT
+
+SCROLLING = ('hidden', 'scroll', 'auto')
 
 
 class Commands:
@@ -75,6 +77,14 @@ class Commands:
         self.changed_in(node.document)
         if node.style != style:
             self.changed_documents.add(tree_document(node))
+        if property_ == 'overflow' and (style['overflow'] in SCROLLING) != (node.style['overflow'] in SCROLLING):
+            self.made_anew(node)
+
+    def made_anew(self, node):
+        """An element becomes a scroll container or ceases to be one: its box and those in it are made anew."""
+        inner = [other.framed for other in preorder(node) if other.framed is not None]
+        if inner and node.root_of is None and self.has('frame-made-anew'):
+            self.to_be_made.setdefault(node.document, set()).update(inner)
 
     def do_grow(self, command, node, property_, by):
         EFFECTS['grow'](self, command, node, property_, by)

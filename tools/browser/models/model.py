@@ -33,6 +33,8 @@ class Model(Commands, Viewports, Rounds, Crossings, Page):
         self.insertions = {}              # document -> number, in the order in which their frames were inserted
         self.sizes = {}                   # resize observers' targets -> what they were at the last layout
         self.round = None
+        self.to_be_made = {}              # document -> those in its frames whose boxes are made anew as it is laid out
+        self.anew = set()                 # documents with a `resize` to be fired for that
         self.ended = set()                # documents that stand no longer
         self.changed_documents = set()    # that aren't laid out since a change
         self.telling = False              # whether intersection observers are being told

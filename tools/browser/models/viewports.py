@@ -106,6 +106,10 @@ class Viewports:
     def _laid_out(self, document):
         layout = self.world.layout
         self.changed_documents.discard(document)
+        for inner in self.to_be_made.pop(document, ()):
+            if inner.state is ACTIVE and inner in self.known and layout.has_box(inner.frame) and self.differs('frame-made-anew'):
+                self.resized.add(inner)
+                self.anew.add(inner)
         for inner in list(self.insertions):
             if inner.state is ACTIVE and inner.frame.document is document and layout.has_box(inner.frame):
                 self.learns(inner, layout.frame_size(inner))
@@ -200,7 +204,9 @@ class Viewports:
         size = self.rules_viewport(document)
         first, changed = document not in self.noted, self.noted.get(document, size) != size
         self.noted[document] = size
-        if fires == changed:
+        is_anew = document in self.anew and fires
+        self.anew.discard(document)
+        if fires == changed or is_anew and not first:
             return
         if first:
             self.noticed.add('frame-first-resize' if document.frame else 'first-resize-event')
