@@ -16,7 +16,7 @@ ALL_THREE = frozenset('''border-widths read-of-dead-frame hidden-frame-keeps-siz
     reach-with-margins reach-with-padding scroll-of-part-pixels observe-again first-size offset-of-moved-box frame-order stored-offset
     sizes-of-last-layout shrink-to-fit root-removed root-rectangle-of-none is-intersecting margin-percentages
     scroll-margin-percentages scroll-margin-of-viewports scroll-margin-of-root'''.split())
-CHROMIUM = ALL_THREE | {LATE_SCROLLS, LENGTHS_ARE_FLOORED, ONE_PIXEL_AT_LEAST, PERCENTAGES_ARE_CUT, QUERIES_IN_UPDATE, SCROLLING_ROOT_UNTOLD} | set('''
+CHROMIUM = ALL_THREE | {LATE_SCROLLS, LENGTHS_ARE_FLOORED, ONE_PIXEL_AT_LEAST, PERCENTAGES_ARE_CUT, SCROLLING_ROOT_UNTOLD} | set('''
     scroll-anchoring scroll-of-hidden-frame unobserve-in-delivery queue-after-unobserve
     listener-of-adopted-element frame-callback-late rounds-by-turns depth-at-gathering skipped-then-cured dead-frame-target
     target-of-dead-frame observers-in-any-order margin-of-part-pixels crossed-root cut-in-a-frame told-of-dead-root
