@@ -267,7 +267,9 @@ class Crossings:
     def tell_all(self, waiting):
         begun, self.telling = set(), True
         while waiting:
-            chosen = self.next_of(waiting)
+            # A document's observers are told together, also as it ends meanwhile.
+            chosen = next((observer for observer in waiting if observer.document in begun and observer.document.state is not ACTIVE), None)
+            chosen = chosen or self.next_of(waiting)
             waiting.remove(chosen)
             if self.is_told(chosen):
                 entries, chosen.queue = chosen.queue, []
