@@ -7,7 +7,8 @@ from reference.world import ACTIVE, Document, Element, preorder, tree_document
 
 from .layout import ONE, PIXEL, whole
 from .rounds import NEVER
-from .traits import DEAD_READS_THROW, FIRST_USE_COUNTS, FRAMES_IN_TIME, HIDDEN_READS_NOTHING, KEPT_WHILE_TELLING, SCROLLS_ARE_CUT
+from .traits import (DEAD_READS_THROW, FIRST_USE_COUNTS, FRAMES_IN_TIME, HIDDEN_READS_NOTHING, KEPT_WHILE_TELLING, NOTHING_FOR_DETACHED,
+                     SCROLLS_ARE_CUT, WINDOWS_READ_AT_ONCE)
 
 SCROLLING = ('hidden', 'scroll', 'auto')
 
@@ -37,7 +38,7 @@ class Commands:
     def do_read(self, command, thing):
         if isinstance(thing, Document) and thing.state is not ACTIVE and self.has(DEAD_READS_THROW) and self.differs('read-of-dead-frame'):
             raise Throw('NS_ERROR_UNEXPECTED', command.operands[0], '')
-        self.lay_out(thing if isinstance(thing, Document) else thing.document)
+        self.lay_out_for_reading(thing)
         layout = self.world.layout
         if isinstance(thing, Document) and self.world.pixel_ratio != ONE:
             # A window tells its size in whole pixels.
@@ -46,9 +47,23 @@ class Commands:
         else:
             EFFECTS['read'](self, command, thing)
 
+    def lay_out_for_reading(self, thing):
+        """A window that isn't scrolled may tell what it has; only what is around its frame is laid out then."""
+        if not isinstance(thing, Document):
+            self.lay_out_around(thing)
+        elif thing.scroll != (0, 0) or not self.has(WINDOWS_READ_AT_ONCE):
+            self.lay_out(thing)
+        elif thing.frame is not None:
+            self.lay_out(thing.frame.document)
+
+    def lay_out_around(self, node):
+        """For an element that stands nowhere an engine may lay nothing out."""
+        if tree_document(node) is not None or not self.has(NOTHING_FOR_DETACHED):
+            self.lay_out(node.document)
+
     def holds(self, command):
         if command.condition in ('wider', 'taller'):
-            self.lay_out(self.look_up_all(command)[0].document)
+            self.lay_out_around(self.look_up_all(command)[0])
         return super().holds(command)
 
     def do_scroll(self, command, thing, left, top):

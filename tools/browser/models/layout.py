@@ -77,7 +77,7 @@ class EngineLayout(Layout):
         size = super().size(node, box)
         if box != DEVICE or not self.has_box(node):
             return size
-        content, corner = super().size(node, CONTENT), self.flat_place(node)
+        content, corner = super().size(node, CONTENT), self.world.page.placed.get(node) or self.flat_place(node)
         snapped = tuple([self._device(corner[axis], content[axis]) for axis in (0, 1)])
         return snapped if snapped != size and self.differs('device-pixels-by-place') else size
 

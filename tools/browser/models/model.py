@@ -33,6 +33,7 @@ class Model(Commands, Viewports, Rounds, Crossings, Page):
         self.insertions = {}              # document -> number, in the order in which their frames were inserted
         self.sizes = {}                   # resize observers' targets -> what they were at the last layout
         self.round = None
+        self.placed = {}                  # resize observers' targets -> where they were as the round began
         self.to_be_made = {}              # document -> those in its frames whose boxes are made anew as it is laid out
         self.anew = set()                 # documents with a `resize` to be fired for that
         self.ended = set()                # documents that stand no longer

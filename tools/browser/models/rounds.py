@@ -39,7 +39,9 @@ class Rounds:
         least, delivered = {}, True
         self.failed.clear()
         while delivered:
+            self.placed = {}
             self.lay_out_all()
+            self.place_all()
             delivered = False
             for document in self.documents_in_order():
                 if document.state is ACTIVE:

@@ -5,7 +5,7 @@ from reference.media import matches
 from reference.world import ACTIVE, DEAD, preorder, tree_document
 
 from .layout import NO_SIZES, Sizes, whole
-from .traits import FRAMES_IN_TIME, LATE_SCROLLS, QUERIES_IN_UPDATE
+from .traits import FRAMES_IN_TIME, LATE_SCROLLS, PLACED_AS_ROUNDS_BEGIN, QUERIES_IN_UPDATE
 
 
 class Viewports:
@@ -98,6 +98,13 @@ class Viewports:
             chain.append(chain[-1].frame.document)
         for outer in reversed(chain):
             self._laid_out(outer)
+
+    def place_all(self):
+        """Remembers where the targets' boxes are, as a round begins."""
+        if self.has(PLACED_AS_ROUNDS_BEGIN):
+            layout = self.world.layout
+            targets = {node for observer in self.all_resize_observers for node in observer.observations}
+            self.placed = {node: layout.flat_place(node) for node in targets if layout.has_box(node)}
 
     def lay_out_all(self):
         for document in self.documents_in_order():
