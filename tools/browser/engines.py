@@ -130,6 +130,7 @@ class Pipe:
         os.close(to_read)
         os.close(from_write)
         self.number, self.rest, self.session = 0, b'', None
+        self.sized = self.scaled = None     # as the browser was told
 
     def close(self):
         for end in (self.to_write, self.from_read):
@@ -161,13 +162,22 @@ class Pipe:
         return self.number
 
     def ask(self, method, **params):
-        number = self.send(method, **params)
-        while True:
+        return self.ask_all((method, params))[0]
+
+    def ask_all(self, *requests, until=None):
+        """The answers to requests that are sent at once, as all are there and the event `until` was told."""
+        methods = {self.send(method, **params): method for method, params in requests}
+        answers = {}
+        while until or len(answers) < len(methods):
             answer = self.message()
-            if answer.get('id') == number:
-                if 'error' in answer:
-                    raise NoBrowser('%s: %s' % (method, answer['error'].get('message')))
-                return answer['result']
+            number = answer.get('id')
+            if number in methods and 'error' in answer:
+                raise NoBrowser('%s: %s' % (methods[number], answer['error'].get('message')))
+            if number in methods:
+                answers[number] = answer['result']
+            elif answer.get('method') == until:
+                until = None
+        return [answers[number] for number in methods]
 
     def attach(self, **more):
         target = self.ask('Target.createTarget', url='about:blank', width=FIRST_SIZE[0], height=FIRST_SIZE[1], **more)['targetId']
@@ -175,13 +185,18 @@ class Pipe:
         self.ask('Page.enable')
 
     def size(self, width, height):
-        self.ask('Emulation.setDeviceMetricsOverride', width=width, height=height, deviceScaleFactor=0, mobile=False)
+        if self.sized != (width, height):
+            self.ask('Emulation.setDeviceMetricsOverride', width=width, height=height, deviceScaleFactor=0, mobile=False)
+            self.sized = width, height
 
     def scale(self, ratio):
         """Of the screen: a `deviceScaleFactor` of the page's metrics would be told to the page, and boxes would be laid out without it."""
-        screen = self.ask('Emulation.getScreenInfos')['screenInfos'][0]
-        if screen['devicePixelRatio'] != ratio:
-            self.ask('Emulation.updateScreen', screenId=screen['id'], devicePixelRatio=ratio)
+        if self.scaled is None:
+            self.screen = self.ask('Emulation.getScreenInfos')['screenInfos'][0]
+            self.scaled = self.screen['devicePixelRatio']
+        if self.scaled != ratio:
+            self.ask('Emulation.updateScreen', screenId=self.screen['id'], devicePixelRatio=ratio)
+            self.scaled = ratio
 
 
 CHROMIUM_FLAGS = ['--headless', '--no-sandbox', '--disable-gpu', '--hide-scrollbars', '--disable-dev-shm-usage',
@@ -191,17 +206,26 @@ BEGIN_FRAME_FLAGS = ['--deterministic-mode', '--enable-begin-frame-control', '--
                      '--disable-checker-imaging', '--disable-image-animation-resync']
 
 
+HAS_RATIO = 'Math.abs(devicePixelRatio - %r) < 1e-6'
+HAS_SIZE = 'innerWidth === %d && innerHeight === %d'
+
+
 class Stepped:
     """A browser that makes an update of the rendering exactly where it is asked for one."""
 
     def tick(self):
+        """What the script wants after an update of the page."""
         # A frame that the browser used to end earlier work is no update of the page: ask again until the page saw one.
         for _ in range(8):
-            self.update()
-            if self.value('observersNow.updated'):
-                self.value('observersNow.drained()', wait=True)
-                return
+            wants = self.updated()
+            if wants:
+                return wants
         raise NotShown('an update that the browser skips')
+
+    def updated(self):
+        """What is wanted after an update, or null where the page saw none."""
+        self.update()
+        return self.value('observersNow.after()', wait=True)
 
     def await_value(self, expression, called, seconds=LONGEST):
         end = time.time() + seconds
@@ -210,26 +234,23 @@ class Stepped:
                 raise NotShown(called)
 
     def await_ratio(self, ratio):
-        self.await_value('Math.abs(devicePixelRatio - %r) < 1e-6' % ratio, 'a ratio of %g%%, which this browser rounds' % (100 * ratio),
+        self.await_value(HAS_RATIO % ratio, 'a ratio of %g%%, which this browser rounds' % (100 * ratio),
                          RATIO_SECONDS)
 
     def trace(self, text):
         """The lines; NotShown where the page can't show all of the script."""
         plan = planned(read_script(text))
         self.blank(plan['size'], plan['ratio'])
-        self.begin(plan['script'])
-        while True:
-            wants = self.value('observersNow.step()', wait=True)
+        wants = self.begin(plan['script'])
+        while wants[0] != 'end':
             if wants[0] == 'viewport':
                 self.resize(int(wants[1]), int(wants[2]))
             elif wants[0] == 'ratio':
                 self.scale(wants[1])
-            elif wants[0] == 'tick':
-                self.tick()
-            elif wants[0] == 'end':
-                return self.value('observersNow.lines')
-            else:
+            elif wants[0] != 'tick':
                 raise NotShown(wants[1])
+            wants = self.tick() if wants[0] == 'tick' else self.value('observersNow.step()', wait=True)
+        return wants[1]
 
 
 class SteppedChromium(Stepped):
@@ -248,15 +269,22 @@ class SteppedChromium(Stepped):
     def close(self):
         self.pipe.close()
 
-    def value(self, expression, wait=False):
-        answer = self.pipe.ask('Runtime.evaluate', expression=expression, returnByValue=True, awaitPromise=wait)
+    @staticmethod
+    def asked(expression, wait=False):
+        return 'Runtime.evaluate', dict(expression=expression, returnByValue=True, awaitPromise=wait)
+
+    @staticmethod
+    def valued(answer):
         if 'exceptionDetails' in answer:
             raise RuntimeError(json.dumps(answer['exceptionDetails'])[:600])
         return answer['result'].get('value')
 
+    def value(self, expression, wait=False):
+        return self.valued(self.pipe.ask_all(self.asked(expression, wait))[0])
+
     def update(self):
         self.time += 16.0
-        self.pipe.ask('HeadlessExperimental.beginFrame', frameTimeTicks=self.time, interval=16.0, noDisplayUpdates=False)
+        self.pipe.ask('HeadlessExperimental.beginFrame', frameTimeTicks=self.time, interval=16.0, noDisplayUpdates=True)
 
     def resize(self, width, height):
         self.pipe.size(width, height)
@@ -268,22 +296,22 @@ class SteppedChromium(Stepped):
     def blank(self, size, ratio):
         """A page of its own, in no-quirks mode, whose first update is over."""
         # No mouse comes into the page: under one the browser lays the page out anew, at a time of its own, after a frame was moved.
-        self.pipe.ask('Input.setIgnoreInputEvents', ignore=True)
-        number = self.pipe.send('Page.navigate', url='data:text/html,<!doctype html>')
-        loaded = answered = False
-        while not (loaded and answered):
-            answer = self.pipe.message()
-            answered = answered or answer.get('id') == number
-            loaded = loaded or answer.get('method') == 'Page.loadEventFired'
+        self.pipe.ask_all(('Input.setIgnoreInputEvents', {'ignore': True}), ('Page.navigate', {'url': 'data:text/html,<!doctype html>'}),
+                          until='Page.loadEventFired')
         self.pipe.size(*size)
-        self.scale(ratio)
-        self.value('requestAnimationFrame(() => { window.updated = true; })')
+        self.pipe.scale(ratio)
+        if not self.value('requestAnimationFrame(() => { window.updated = true; }); ' + HAS_RATIO % ratio):
+            self.await_ratio(ratio)
         while not self.value('Boolean(window.updated)'):
             self.update()
-        self.pipe.ask('Input.setIgnoreInputEvents', ignore=False)
 
     def begin(self, script):
-        self.value('%s\nwindow.observersNow = observersRun(%s, window, {}); 0' % (self.page, json.dumps(script)))
+        """What the script wants first. The tool's own part is a text that stays the same, which the browser reads once."""
+        run = 'window.observersNow = observersRun(%s, window, {}); observersNow.step()' % json.dumps(script)
+        _, page, wants = self.pipe.ask_all(('Input.setIgnoreInputEvents', {'ignore': False}), self.asked(self.page + '\n0'),
+                                           self.asked(run, wait=True))
+        self.valued(page)
+        return self.valued(wants)
 
 
 class Loopback(http.server.ThreadingHTTPServer):
@@ -433,6 +461,10 @@ FIREFOX_PREFERENCES = {
     'browser.startup.homepage_override.mstone': 'ignore', 'datareporting.policy.dataSubmissionEnabled': False,
     'app.update.auto': False, 'network.captive-portal-service.enabled': False, 'network.connectivity-service.enabled': False,
     'ui.useOverlayScrollbars': 1, 'browser.sessionhistory.max_total_viewers': 0,
+    # What a browser's own window does as a page is loaded costs more than the page.
+    'ui.prefersReducedMotion': 1, 'browser.chrome.site_icons': False, 'reader.parse-on-load.enabled': False,
+    'browser.translations.enable': False, 'places.history.enabled': False, 'browser.sessionstore.interval': 100000000,
+    'dom.ipc.processPrelaunch.enabled': False,
 }
 # The page's part of the window gets the size, as an engine's own tools do it.
 FIREFOX_SIZE = '''const [width, height] = arguments, style = gBrowser.selectedBrowser.style;
@@ -509,45 +541,52 @@ class Firefox(Live):
 
 STEPPED_PAGE = '''<!doctype html><meta charset="utf-8"><link rel="icon" href="data:,"><script>
 %s
-function observersBegin(script) { window.observersNow = observersRun(JSON.parse(script), window, {}); }
+function observersBegin(script) { return (window.observersNow = observersRun(JSON.parse(script), window, {})).step(); }
 addEventListener('load', () => { fetch(location.href, { method: 'POST', body: '"loaded"' }); });
 </script>'''
 
 
 class SteppedFirefox(Stepped, Firefox):
     """Firefox with its refresh driver under control, as its own tests have it."""
+    sized = None
 
     def value(self, expression, wait=False):
         return self.ask('WebDriver:ExecuteScript', script='return ' + expression, args=[])['value']
 
-    def update(self):
-        self.ask('WebDriver:ExecuteScript', script='window.windowUtils.advanceTimeAndRefresh(16)', args=[], sandbox='system')
+    def update(self, then='null'):
+        """Makes an update, and answers what an expression says of the page after it."""
+        script = 'window.windowUtils.advanceTimeAndRefresh(16); return ' + then
+        return self.ask('WebDriver:ExecuteScript', script=script, args=[], sandbox='system')['value']
+
+    def updated(self):
+        return self.update('window.wrappedJSObject.observersNow.after()')
 
     def resize(self, width, height):
-        self.now = [width, height]
+        self.sized = width, height
         self.size(width, height)
-        self.await_size(width, height)
+        self.await_size()
 
     def scale(self, ratio):
         super().scale(ratio)
         self.await_ratio(ratio)
-        self.await_size(*self.now)
+        self.await_size()
 
-    def await_size(self, width, height):
-        self.await_value('innerWidth === %d && innerHeight === %d' % (width, height), 'a window of %d by %d' % (width, height))
+    def await_size(self):
+        self.await_value(HAS_SIZE % self.sized, 'a window of %d by %d' % self.sized)
 
     def blank(self, size, ratio):
         """A page of its own, whose first updates are over."""
         self.open(self.server.offer(STEPPED_PAGE % self.parts['page']))
         self.server.answer()
-        self.update()
-        self.resize(*size)
-        self.scale(ratio)
+        if not self.update('%s && %s' % (HAS_SIZE % tuple(size), HAS_RATIO % ratio)):
+            self.resize(*size)
+            self.scale(ratio)
+        self.sized = tuple(size)
         for _ in range(2):
             self.update()
 
     def begin(self, script):
-        self.value('observersBegin(%s)' % json.dumps(json.dumps(script)))
+        return self.value('observersBegin(%s)' % json.dumps(json.dumps(script)), wait=True)
 
 
 MINI_BROWSER = '/usr/lib/x86_64-linux-gnu/webkit2gtk-4.1/MiniBrowser'

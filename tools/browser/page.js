@@ -111,6 +111,8 @@ function observersRun(script, window, setting) {
     ';scrollbar-width:none';
   function make(name, kind, doc, tag) {
     const element = doc.document.createElement(tag);
+    // WebKit shows no frame of an address that two frames around it have.
+    if (kind === 'frame' && navigator.vendor.startsWith('Apple')) element.src = 'about:blank?' + names.size;
     const spacer = doc.document.createElement('i');
     spacer.style.cssText = 'display:flow-root;height:0;margin:0';
     element.style.cssText = base[kind] + common;
@@ -267,9 +269,10 @@ function observersRun(script, window, setting) {
     if (told.kind !== 'intersect') throw new Thrown('TypeError');
     return entry.isIntersecting;
   }
-  // All go through one port, as messages of several ports have no order among one another.
+  // All go through one port, as messages of several ports have no order among one another; and all that wait run with the first, as
+  // an engine may have other tasks come between two messages.
   const channel = new MessageChannel(), posted = [];
-  channel.port1.onmessage = () => { waiting--; runTask(posted.shift()); };
+  channel.port1.onmessage = () => { waiting--; for (const task of posted.splice(0)) runTask(task); };
   function post(task) {
     waiting++;
     posted.push(task);
@@ -519,7 +522,7 @@ function observersRun(script, window, setting) {
         else if (c.op === 'ratio') { ratio = parseFloat(c.args[0]) / 100; api.wants = ['ratio', ratio]; return; }
         else if (c.op === 'viewport' && !setting.resize) { api.wants = ['viewport', parseFloat(c.args[0]), parseFloat(c.args[1])]; return; }
         else begun(c, null, null);
-      } api.wants = ['end']; });
+      } api.wants = ['end', lines]; });
       if (!api.stopped && api.wants[0] === 'tick') await quiet();
       return api.stopped || api.wants;
     },
@@ -527,6 +530,12 @@ function observersRun(script, window, setting) {
       await quiet();
       endRound();
       inUpdate = false;
+    },
+    // What is wanted after an update, as all that it queued is over; null where the page saw none.
+    async after() {
+      if (!api.updated) return null;
+      await api.drained();
+      return api.step();
     },
   };
   const top = { what: 'doc', name: 'top', frame: null };

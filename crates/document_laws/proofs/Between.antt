@@ -10,7 +10,8 @@ use Rattle.page_documents.proofs.Entries.{kept_each}
 use Rattle.page_documents.proofs.Shape.{trees_same}
 use Rattle.document_laws.specs.Levels.{MakeLowTrees, IsWithinLevels}
 use Rattle.document_laws.specs.Insertions.{placed_in, owned_in, IsLowThroughout}
-use Rattle.document_laws.proofs.Depths.{cut_low, of_did, permitted}
+use Rattle.page_laws.proofs.Depths.{permitted}
+use Rattle.document_laws.proofs.Depths.{cut_low}
 use Rattle.document_laws.proofs.Steps.{removed_levels, placing_levels}
 use Rattle.document_laws.proofs.Cutting.{low_trees}
 
@@ -46,7 +47,7 @@ low_throughout tree after container n sibling levels there known is =
     let ends : after ≡ shown (owned_in tree container n sibling) n =
     sym ((permitted tree after container n sibling is).is) ∙ ends_shown tree container n sibling in
     let last : IsWithinLevels after =
-    of_did (placing container n sibling tree) after IsWithinLevels is (placing_levels tree levels container n sibling there known) in
+    placing_levels tree levels container n sibling there known after is in
     let owned : MakeLowTrees (owned_in tree container n sibling) =
     unshown (owned_in tree container n sibling) n (subst MakeLowTrees ends (low_trees after last)) in
     record {

@@ -1,5 +1,5 @@
 -- Chains of containers end: each step outwards goes some levels up, or from a document to the frame around it.
-use Rattle.std.proofs.Common.{◌≡◌, ◌<◌, ◌≤◌, ◌+◌, ◌*◌, ℕ, zero, suc, Bool, true, false, cond, List, ◌∷◌, Option, Some, None, option_map, refl, ap, sym, subst, ◌∙◌, eqb-true, arith}
+use Rattle.std.proofs.Common.{◌≡◌, ◌≤◌, ◌+◌, ◌*◌, ℕ, zero, suc, Bool, true, false, cond, List, ◌∷◌, Option, Some, None, option_map, refl, ap, sym, subst, ◌∙◌, eqb-true, arith}
 use Rattle.std.specs.Prelude.{◌==◌, ◌&&◌, not, is_some, option_and_then}
 use Rattle.std.proofs.lemmas.Bool.{false≢true}
 use Rattle.layout_model.specs.Clips.{is_block}
@@ -90,38 +90,6 @@ module _ (tree : Tree) (levels : IsWithinLevels tree) where
     pub boxed_stands : stands_in_active tree n ≡ true
     boxed_stands = stands tree n own below_root active
 
--- numbers of steps that are left ----------------------------------------------------------------------------------------------------------
-
-none_left : (high deep : ℕ) → 257 * suc high + deep ≤ zero + 256 → ⊥
-none_left high deep room = omega arith
-
-none_left_up : (high : ℕ) → 257 * suc high ≤ zero + 256 → ⊥
-none_left_up high room = omega arith
-
-to_document : (high deep less : ℕ) → 1 ≤ deep → 257 * high + deep ≤ suc less + 256 → 257 * high ≤ less + 256
-to_document high deep less least room = omega arith
-
-to_holder : (high deep above less : ℕ) → above < deep → 257 * high + deep ≤ suc less + 256 → 257 * high + above ≤ less + 256
-to_holder high deep above less is room = omega arith
-
-to_frame : (high deep less : ℕ) → deep ≤ 256 → 257 * suc high ≤ suc less + 256 → 257 * high + deep ≤ less + 256
-to_frame high deep less low room = omega arith
-
-at_first : (deep : ℕ) → deep ≤ 256 → 257 * 64 + deep ≤ 16448 + 256
-at_first deep low = omega arith
-
-no_room : (less : ℕ) → suc less ≤ zero → ⊥
-no_room less room = omega arith
-
-less_room : (less most : ℕ) → suc less ≤ suc most → less ≤ most
-less_room less most room = omega arith
-
-first_room : (most : ℕ) → 16448 ≤ most → 16447 ≤ most
-first_room most enough = omega arith
-
-whole_room : 16447 ≤ 65536
-whole_room = omega arith
-
 -- chains ------------------------------------------------------------------------------------------------------------------------------------
 
 by_same : (outwards other : Container → List Container) (found : Option Container) → ((next : Container) → found ≡ Some next → outwards next ≡ other next) →
@@ -156,11 +124,11 @@ module _ (tree : Tree) (levels : IsWithinLevels tree) where
 
   none_on : (high n document : ℕ) → Reaches tree high document → 257 * high + depth tree n ≤ zero + 256 → ⊥
   none_on zero n document reach room = no_way tree document reach
-  none_on (suc high) n document reach room = none_left high (depth tree n) room
+  none_on (suc high) n document reach room = omega (arith, room)
 
   none_within : (high document : ℕ) → Reaches tree high document → 257 * high ≤ zero + 256 → ⊥
   none_within zero document reach room = no_way tree document reach
-  none_within (suc high) document reach room = none_left_up high room
+  none_within (suc high) document reach room = omega (arith, room)
 
   ended : (container : Container) → IsWithin zero container → ⊥
   ended (InElement n) it = none_on (it.high) n (it.there.document) (it.reach) (it.room)
@@ -181,12 +149,12 @@ module _ (tree : Tree) (levels : IsWithinLevels tree) where
     };
     high = it.high;
     reach = it.reach;
-    room = to_holder (it.high) (depth tree n) (depth tree h) less (holder_less (nodes_of tree) levels.framed.trees.shallow n h is) (it.room);
+    room = omega (arith, holder_less (nodes_of tree) levels.framed.trees.shallow n h is, it.room);
   }
 
   into_document : (less n : ℕ) (it : ElementWithin (suc less) n) → DocumentWithin less it.there.document
   into_document less n it =
-      record { active = it.there.active; high = it.high; reach = it.reach; room = to_document (it.high) (depth tree n) less (least_at n) (it.room) }
+      record { active = it.there.active; high = it.high; reach = it.reach; room = omega (arith, least_at n, it.room) }
 
   same_container : (a b : Container) → Some a ≡ Some b → a ≡ b
   same_container a b is = cc
@@ -214,7 +182,7 @@ module _ (tree : Tree) (levels : IsWithinLevels tree) where
         there = it;
         high = high;
         reach = subst (λ d. Reaches tree high d) own (holder_leads tree levels high document ((element_at tree frame).document) held reach);
-        room = to_frame high (depth tree frame) less (low_at frame) room;
+        room = omega (arith, low_at frame, room);
       }
 
   from_document : (less document : ℕ) (next : Container) → DocumentWithin (suc less) document → (frame : Option ℕ) →
@@ -231,11 +199,11 @@ module _ (tree : Tree) (levels : IsWithinLevels tree) where
       containers_from few tree container ≡ containers_from more tree container
   unfolding containers_from
   same_containers zero few more container it enough enough' = absurd (ended container it)
-  same_containers (suc less) zero more container it enough enough' = absurd (no_room less enough)
-  same_containers (suc less) (suc few) zero container it enough enough' = absurd (no_room less enough')
+  same_containers (suc less) zero more container it enough enough' = absurd (omega (arith, enough))
+  same_containers (suc less) (suc few) zero container it enough enough' = absurd (omega (arith, enough'))
   same_containers (suc less) (suc few) (suc more) container it enough enough' =
       ap (λ others. container ∷ others) (by_same (containers_from few tree) (containers_from more tree) (container_beyond tree container)
-      (λ next is. same_containers less few more next (beyond less container next it is) (less_room less few enough) (less_room less more enough')))
+      (λ next is. same_containers less few more next (beyond less container next it is) (omega (arith, enough)) (omega (arith, enough'))))
 
   pub containers_whole : (most n : ℕ) → stands_in_active tree n ≡ true → 16448 ≤ most →
       containers_by (containers_from most tree) (holding tree n) ≡ containers_of tree n
@@ -245,7 +213,7 @@ module _ (tree : Tree) (levels : IsWithinLevels tree) where
         there = it;
         high = 64;
         reach = leads_up tree levels 64 (it.document) (omega arith) (it.active);
-        room = at_first (depth tree n) (low_at n);
+        room = omega (arith, low_at n);
       } in
       by_same (containers_from most tree) (containers_from 65536 tree) (holding tree n)
-      (λ next found. same_containers 16447 most 65536 next (beyond 16447 (InElement n) next first found) (first_room most enough) whole_room)
+      (λ next found. same_containers 16447 most 65536 next (beyond 16447 (InElement n) next first found) (omega (arith, enough)) (omega arith))

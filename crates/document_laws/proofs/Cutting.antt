@@ -22,38 +22,6 @@ use Rattle.document_laws.proofs.Lists.{flat_same, map_same, sum_same}
 pub low_trees : (tree : Tree) → IsWithinLevels tree → MakeLowTrees tree
 low_trees tree levels = record { trees = levels.framed.trees; low = levels.low }
 
--- numbers of levels: what is left below an element, and above it
-
-no_levels : (deep : ℕ) → deep ≤ 256 → 256 < deep + zero → ⊥
-no_levels deep low enough = omega arith
-
-next_level : (deep child few : ℕ) → child ≡ deep + 1 → 256 < deep + suc few → 256 < child + few
-next_level deep child few is enough = omega arith
-
-first_level : (deep most : ℕ) → 1 ≤ deep → 256 ≤ most → 256 < deep + most
-first_level deep most least enough = omega arith
-
-whole_levels : (deep : ℕ) → 1 ≤ deep → 256 < deep + 65536
-whole_levels deep least = omega arith
-
-top_only : (deep above : ℕ) → deep ≡ above + 1 → 1 ≤ above → deep ≤ suc zero → ⊥
-top_only deep above is least few = omega arith
-
-level_above : (deep above few : ℕ) → deep ≡ above + 1 → deep ≤ suc (suc few) → above ≤ suc few
-level_above deep above few is enough = omega arith
-
-far_above : (deep most : ℕ) → deep ≤ 256 → 256 ≤ most → deep ≤ suc most
-far_above deep most low enough = omega arith
-
-whole_above : (deep : ℕ) → deep ≤ 256 → deep ≤ suc 65536
-whole_above deep low = omega arith
-
-low_enough : (deep most : ℕ) → deep ≤ 256 → 256 ≤ most → deep ≤ most
-low_enough deep most low enough = omega arith
-
-lower : (deep over : ℕ) → deep ≤ over → over ≤ 256 → deep ≤ 256
-lower deep over less low = omega arith
-
 -- paths ---------------------------------------------------------------------------------------------------------------------------------
 
 module _ (at : ℕ → Node) (shallow : IsShallow at) where
@@ -72,7 +40,7 @@ module _ (at : ℕ → Node) (shallow : IsShallow at) where
   -- a node on the first level has no parent
   alone : (n : ℕ) → depth_of at n ≤ suc zero → (found : Option ℕ) → (at n).parent ≡ found → (at n).parent ≡ None
   alone n few None up = up
-  alone n few (Some p) up = absurd (top_only (depth_of at n) (depth_of at p) (one_less n p up) (depth_least at p) few)
+  alone n few (Some p) up = absurd (omega (arith, one_less n p up, depth_least at p, few))
 
   path_step : (few more n : ℕ) →
       ((p : ℕ) → depth_of at p ≤ suc few → depth_of at p ≤ suc more → path_up few at p ≡ path_up more at p) → (found : Option ℕ) → (at n).parent ≡ found →
@@ -80,8 +48,8 @@ module _ (at : ℕ → Node) (shallow : IsShallow at) where
   path_step few more n each None up enough enough' = path_alone (suc few) n up ∙ sym (path_alone (suc more) n up)
   path_step few more n each (Some p) up enough enough' =
       path_more few n p up
-      ∙ ap (λ path. n ∷ path) (each p (level_above (depth_of at n) (depth_of at p) few (one_less n p up) enough)
-      (level_above (depth_of at n) (depth_of at p) more (one_less n p up) enough'))
+      ∙ ap (λ path. n ∷ path) (each p (omega (arith, one_less n p up, enough))
+      (omega (arith, one_less n p up, enough')))
       ∙ sym (path_more more n p up)
 
   same_paths : (few more n : ℕ) → depth_of at n ≤ suc few → depth_of at n ≤ suc more → path_up few at n ≡ path_up more at n
@@ -94,7 +62,7 @@ module _ (at : ℕ → Node) (shallow : IsShallow at) where
 
   whole_path : (most n : ℕ) → depth_of at n ≤ 256 → 256 ≤ most → path_up most at n ≡ path_of at n
   unfolding path_of
-  whole_path most n low enough = same_paths most 65536 n (far_above (depth_of at n) most low enough) (whole_above (depth_of at n) low)
+  whole_path most n low enough = same_paths most 65536 n (omega (arith, low, enough)) (omega (arith, low))
 
 module _ (tree : Tree) (is : MakeLowTrees tree) where
   abbrev at : ℕ → Node
@@ -119,28 +87,28 @@ module _ (tree : Tree) (is : MakeLowTrees tree) where
   pub holders_whole : (most n : ℕ) → 256 ≤ most → path_up most (held at) n ≡ path_of (held at) n
   holders_whole most n enough =
       whole_path (held at) (held_shallow at is.trees.shallow) most n
-      (lower (depth_of (held at) n) (depth tree n) (held_depth at is.trees.shallow n) (low n)) enough
+      (omega (arith, held_depth at is.trees.shallow n, low n)) enough
 
   pub inputs_whole : (most : ℕ) (viewport : Inputs) (n : ℕ) → 256 ≤ most → inputs_up most at viewport n ≡ inputs_at at viewport n
-  inputs_whole most viewport n enough = inputs_enough at is.trees.shallow viewport most n (low_enough (depth tree n) most (low n) enough)
+  inputs_whole most viewport n enough = inputs_enough at is.trees.shallow viewport most n (omega (arith, low n, enough))
 
   pub places_whole : (most : ℕ) (view : View) (n : ℕ) → 256 ≤ most → flat_up most at view n ≡ flat_place at view n
-  places_whole most view n enough = flat_enough at is.trees.shallow view most n (low_enough (depth tree n) most (low n) enough)
+  places_whole most view n enough = flat_enough at is.trees.shallow view most n (omega (arith, low n, enough))
 
   -- descendants -----------------------------------------------------------------------------------------------------------------------------
 
   same_orders : (few more n : ℕ) → 256 < depth tree n + few → 256 < depth tree n + more → order_down few tree n ≡ order_down more tree n
   unfolding order_down
-  same_orders zero more n enough enough' = absurd (no_levels (depth tree n) (low n) enough)
-  same_orders (suc few) zero n enough enough' = absurd (no_levels (depth tree n) (low n) enough')
+  same_orders zero more n enough enough' = absurd (omega (arith, low n, enough))
+  same_orders (suc few) zero n enough enough' = absurd (omega (arith, low n, enough'))
   same_orders (suc few) (suc more) n enough enough' =
       ap (λ order. n ∷ order) (flat_same (order_down few tree) (order_down more tree) ((element_at tree n).children) (λ c among.
-      same_orders few more c (next_level (depth tree n) (depth tree c) few (child_deep n c among) enough)
-      (next_level (depth tree n) (depth tree c) more (child_deep n c among) enough')))
+      same_orders few more c (omega (arith, child_deep n c among, enough))
+      (omega (arith, child_deep n c among, enough'))))
 
   pub orders_whole : (most n : ℕ) → 256 ≤ most → order_down most tree n ≡ inclusive_descendants tree n
   unfolding inclusive_descendants
-  orders_whole most n enough = same_orders most 65536 n (first_level (depth tree n) most (least n) enough) (whole_levels (depth tree n) (least n))
+  orders_whole most n enough = same_orders most 65536 n (omega (arith, least n, enough)) (omega (arith, least n))
 
   -- the same for the elements as layout sees them
   orders_alike : (deep n : ℕ) → nodes_down deep at n ≡ order_down deep tree n
@@ -155,16 +123,16 @@ module _ (tree : Tree) (is : MakeLowTrees tree) where
 
   same_heights : (few more n : ℕ) → 256 < depth tree n + few → 256 < depth tree n + more → levels_down few tree n ≡ levels_down more tree n
   unfolding levels_down
-  same_heights zero more n enough enough' = absurd (no_levels (depth tree n) (low n) enough)
-  same_heights (suc few) zero n enough enough' = absurd (no_levels (depth tree n) (low n) enough')
+  same_heights zero more n enough enough' = absurd (omega (arith, low n, enough))
+  same_heights (suc few) zero n enough enough' = absurd (omega (arith, low n, enough'))
   same_heights (suc few) (suc more) n enough enough' =
       ap (λ (heights : List ℕ). suc (fold max 0 heights)) (map_same (levels_down few tree) (levels_down more tree) ((element_at tree n).children) (λ c among.
-      same_heights few more c (next_level (depth tree n) (depth tree c) few (child_deep n c among) enough)
-      (next_level (depth tree n) (depth tree c) more (child_deep n c among) enough')))
+      same_heights few more c (omega (arith, child_deep n c among, enough))
+      (omega (arith, child_deep n c among, enough'))))
 
   pub heights_whole : (most n : ℕ) → 256 ≤ most → levels_down most tree n ≡ levels_of tree n
   unfolding levels_of
-  heights_whole most n enough = same_heights most 65536 n (first_level (depth tree n) most (least n) enough) (whole_levels (depth tree n) (least n))
+  heights_whole most n enough = same_heights most 65536 n (omega (arith, least n, enough)) (omega (arith, least n))
 
   -- boxes -----------------------------------------------------------------------------------------------------------------------------------
 
@@ -188,14 +156,14 @@ module _ (tree : Tree) (is : MakeLowTrees tree) where
   same_boxes : (few more : ℕ) (inputs : Inputs) (n : ℕ) → 256 < depth tree n + few → 256 < depth tree n + more →
       box_down few at inputs n ≡ box_down more at inputs n
   unfolding box_down box_at
-  same_boxes zero more inputs n enough enough' = absurd (no_levels (depth tree n) (low n) enough)
-  same_boxes (suc few) zero inputs n enough enough' = absurd (no_levels (depth tree n) (low n) enough')
+  same_boxes zero more inputs n enough enough' = absurd (omega (arith, low n, enough))
+  same_boxes (suc few) zero inputs n enough enough' = absurd (omega (arith, low n, enough'))
   same_boxes (suc few) (suc more) inputs n enough enough' =
       let within : Inputs = child_inputs ((at n).item) inputs in
       ap (λ height. computed ((at n).item) inputs height) (total_same (box_down few at within) (box_down more at within) (kids_of (at n)) (λ c among.
-      let deep = child_deep n c (among_kids ((at n).item.kind) c ((at n).children) among) in
-      same_boxes few more within c (next_level (depth tree n) (depth tree c) few deep enough) (next_level (depth tree n) (depth tree c) more deep enough')))
+      let deep : depth tree c ≡ depth tree n + 1 = child_deep n c (among_kids ((at n).item.kind) c ((at n).children) among) in
+      same_boxes few more within c (omega (arith, deep, enough)) (omega (arith, deep, enough'))))
 
   pub boxes_whole : (most : ℕ) (inputs : Inputs) (n : ℕ) → 256 ≤ most → box_down most at inputs n ≡ box_in at inputs n
   unfolding box_in
-  boxes_whole most inputs n enough = same_boxes most 65536 inputs n (first_level (depth tree n) most (least n) enough) (whole_levels (depth tree n) (least n))
+  boxes_whole most inputs n enough = same_boxes most 65536 inputs n (omega (arith, least n, enough)) (omega (arith, least n))

@@ -1,18 +1,13 @@
 -- No command makes a tree deeper than the limit.
-use Rattle.std.proofs.Common.{◌≡◌, ◌≢◌, ◌<◌, ◌≤◌, ◌+◌, ℕ, Bool, true, false, length, Option, Some, None, ◌⊎◌, inl, inr, refl, ap, sym, subst, ◌∙◌, arith}
-use Rattle.std.specs.Prelude.{nat_le}
-use Rattle.std.proofs.lemmas.Bool.{cases_eq, true≢false, leb-true}
-use Rattle.text_io.specs.declared.kinds.ThrowKind.{ThrowKind}
-use Rattle.text_io.specs.declared.kinds.ThrowKind.TheVariants.{HierarchyRequestError, NotFoundError}
-use Rattle.text_io.specs.declared.kinds.LimitKind.{LimitKind}
-use Rattle.text_io.specs.declared.kinds.LimitKind.TheVariants as limits
+use Rattle.std.proofs.Common.{◌≡◌, ◌≢◌, ◌<◌, ◌≤◌, ◌+◌, ℕ, length, Option, Some, None, ◌⊎◌, inl, inr, refl, ap, sym, subst, ◌∙◌, arith}
+use Rattle.std.proofs.lemmas.Bool.{cases_eq, true≢false}
 use Rattle.page_model.specs.World.{Element, Tree}
 use Rattle.page_model.specs.Lookups.{element_at, no_element}
 use Rattle.page_model.specs.Documents.{Container, InElement, InDocument, nodes_of, inclusive_descendants, element_depth, levels_of, removed, linked, sibling_meant, adopted, shown, inserted}
-use Rattle.page_model.specs.Steps.{Step, Did, ◌>>◌, throw_if, met_unless}
-use Rattle.page_model.specs.Commands.{placing, would_hold_itself, is_no_child, is_full, container_depth}
-use Rattle.page_laws.specs.Successors.{OnDid}
-use Rattle.page_laws.proofs.Depths.{parent-elsewhere, placing-depth}
+use Rattle.page_model.specs.Steps.{Did}
+use Rattle.page_model.specs.Commands.{placing}
+use Rattle.page_laws.proofs.Steps.{of_did}
+use Rattle.page_laws.proofs.Depths.{parent-elsewhere, placing-depth, Permitted, permitted}
 use Rattle.page_documents.specs.Frames.{MakeTrees, AreFramed}
 use Rattle.page_documents.specs.Places.{IsThere}
 use Rattle.page_documents.proofs.Entries.{kept_each}
@@ -110,44 +105,7 @@ root_low tree own n sibling framed low =
     (λ m. inl (adopted_parent (linked (removed tree n) (InDocument own) n (sibling_meant tree (InDocument own) n sibling)) own n m))
     (removed_low tree n framed low)
 
--- what a command that isn't refused tells ---------------------------------------------------------------------------------------------------
-
-unless_thrown : (test : Bool) (exception : ThrowKind) (next : Step Tree) (after : Tree) → (throw_if test exception >> next) ≡ Did after →
-    (test ≡ false) × (next ≡ Did after)
-unfolding ◌>>◌
-unless_thrown true exception next after is = cc
-unless_thrown false exception next after is = (refl, is)
-
-unless_met : (test : Bool) (limit : LimitKind) (next : Step Tree) (after : Tree) → (met_unless test limit >> next) ≡ Did after →
-    (test ≡ true) × (next ≡ Did after)
-unfolding ◌>>◌
-unless_met true limit next after is = (refl, is)
-unless_met false limit next after is = cc
-
-pub record Permitted (tree after : Tree) (container : Container) (n : ℕ) (sibling : Option ℕ) : Type 0 where
-  pub outside : would_hold_itself tree container n ≡ false
-  pub levels : container_depth tree container + levels_of tree n ≤ 256
-  pub is : inserted tree container n sibling ≡ after
-
-pub permitted : (tree after : Tree) (container : Container) (n : ℕ) (sibling : Option ℕ) → placing container n sibling tree ≡ Did after →
-    Permitted tree after container n sibling
-unfolding placing
-permitted tree after container n sibling is =
-    let one = unless_thrown (would_hold_itself tree container n) HierarchyRequestError _ after is in
-    let two = unless_thrown (is_no_child tree container sibling) NotFoundError _ after (one.1) in
-    let three = unless_thrown (is_full tree container) HierarchyRequestError _ after (two.1) in
-    let four = unless_met (nat_le (container_depth tree container + levels_of tree n) 256) limits.Depth (Did (inserted tree container n sibling)) after (three.1) in
-    record {
-      outside = one.0;
-      levels = leb-true (container_depth tree container + levels_of tree n) 256 (four.0);
-      is = let both : Did (inserted tree container n sibling) ≡ Did after = four.1 in cc;
-    }
-
--- what is known of a step that came to this
-pub of_did : {A : Type 0} (step : Step A) (value : A) (Holds : A → Type 0) → step ≡ Did value → OnDid step Holds → Holds value
-unfolding OnDid
-of_did (Did other) value Holds is here = let both : Did other ≡ Did value = is in let same : other ≡ value = cc in subst Holds same here
-of_did step value Holds is here = cc
+-- insertions ---------------------------------------------------------------------------------------------------------------------------
 
 module _ (tree after : Tree) (n : ℕ) (sibling : Option ℕ) (framed : AreFramed tree) (low : AreLow tree) (known : n < length tree.elements) (now : AreFramed after) where
   low_in : (container : Container) → placing container n sibling tree ≡ Did after → Permitted tree after container n sibling → AreLow after

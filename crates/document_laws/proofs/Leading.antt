@@ -15,16 +15,6 @@ use Rattle.page_documents.proofs.Ways.{Reaches, some_first, reach_down, in_time}
 use Rattle.page_documents.proofs.Framed.{inside_is, active_known, framed_known, framed_held, held_frame, unheld, reaches, way_short, rises_by, inner_held}
 use Rattle.document_laws.specs.Levels.{IsWithinLevels}
 use Rattle.document_laws.proofs.Lists.{passed_same, none_passed}
-use Rattle.document_laws.proofs.Showing.{whole_frames}
-
-no_rank : (rank : ℕ) → rank ≤ 64 → 64 < rank + zero → ⊥
-no_rank rank few enough = omega arith
-
-next_rank : (rank next deep : ℕ) → next ≡ rank + 1 → 64 < rank + suc deep → 64 < next + deep
-next_rank rank next deep is enough = omega arith
-
-first_rank : (rank most : ℕ) → 1 ≤ rank → 64 ≤ most → 64 < rank + most
-first_rank rank most least enough = omega arith
 
 -- where ranks rise from frame to frame up to 64, so many frames in a row suffice
 module _ (test : DocumentState → Bool) (tree : Tree) (Good : ℕ → Type 0) (rank : ℕ → ℕ) (bounded : (x : ℕ) → Good x → rank x ≤ 64)
@@ -34,10 +24,10 @@ module _ (test : DocumentState → Bool) (tree : Tree) (Good : ℕ → Type 0) (
   Enough deep x = Good x × (64 < rank x + deep)
 
   never : (x : ℕ) → Enough zero x → ⊥
-  never x it = no_rank (rank x) (bounded x (it.0)) (it.1)
+  never x it = omega (arith, bounded x (it.0), it.1)
 
   inside : (deep x y : ℕ) → Enough (suc deep) x → Among y (inner test tree x) → Passes test tree y → Enough deep y
-  inside deep x y it among passes = let on = next x y (it.0) among passes in (on.0, next_rank (rank x) (rank y) deep (on.1) (it.1))
+  inside deep x y it among passes = let on = next x y (it.0) among passes in (on.0, omega (arith, on.1, it.1))
 
   none_led : (more : ℕ) (documents : List ℕ) → ((x : ℕ) → Among x documents → Passes test tree x → ⊥) → led_to more test tree documents ≡ []
   unfolding led_to
@@ -62,9 +52,6 @@ module _ (test : DocumentState → Bool) (tree : Tree) (Good : ℕ → Type 0) (
 
 -- Active documents ------------------------------------------------------------------------------------------------------------------------
 
-way_most : (rank count : ℕ) → rank ≤ count → count ≤ 64 → rank ≤ 64
-way_most rank count short few = omega arith
-
 module _ (tree : Tree) (levels : IsWithinLevels tree) where
   abbrev IsGood : ℕ → Type 0
   IsGood document = is_active tree document ≡ true
@@ -74,7 +61,7 @@ module _ (tree : Tree) (levels : IsWithinLevels tree) where
 
   rank_most : (document : ℕ) → IsGood document → rank_of document ≤ 64
   rank_most document active =
-      way_most (rank_of document) (length tree.documents) (way_short tree (length tree.documents) document) levels.few
+      omega (arith, way_short tree (length tree.documents) document, levels.few)
 
   rank_least : (document : ℕ) → IsGood document → 1 ≤ rank_of document
   rank_least document active = some_first (way_down (length tree.documents) tree document) 0 (reaches tree levels.framed document active)
@@ -89,8 +76,8 @@ module _ (tree : Tree) (levels : IsWithinLevels tree) where
       led_to most is_active_state tree documents ≡ led_to 65536 is_active_state tree documents
   active_whole most documents enough =
       same_led is_active_state tree IsGood rank_of rank_most on_active most 65536 documents
-      (λ x among passes. (passes, first_rank (rank_of x) most (rank_least x passes) enough))
-      (λ x among passes. (passes, first_rank (rank_of x) 65536 (rank_least x passes) whole_frames))
+      (λ x among passes. (passes, omega (arith, rank_least x passes, enough)))
+      (λ x among passes. (passes, omega (arith, rank_least x passes)))
 
 -- Fresh documents that are shown ---------------------------------------------------------------------------------------------------------
 
@@ -150,7 +137,7 @@ module _ (tree : Tree) (opening : List ℕ) (levels : IsWithinLevels (with_state
       (reach_down after count d holder held led)
 
   led_most : (document : ℕ) → Led document → led_rank document ≤ 64
-  led_most document led = way_most (led_rank document) count (way_short after count document) levels.few
+  led_most document led = omega (arith, way_short after count document, levels.few)
 
   led_least : (document : ℕ) → Led document → 1 ≤ led_rank document
   led_least document led = some_first (way_down count after document) 0 led
@@ -175,8 +162,8 @@ module _ (tree : Tree) (opening : List ℕ) (levels : IsWithinLevels (with_state
       led_to most is_fresh_state tree (frames_in tree n) ≡ led_to 65536 is_fresh_state tree (frames_in tree n)
   opened_whole n stands most enough =
       same_led is_fresh_state tree Led led_rank led_most on_fresh most 65536 (frames_in tree n)
-      (λ x among passes. let led = first_led n stands x among in (led, first_rank (led_rank x) most (led_least x led) enough))
-      (λ x among passes. let led = first_led n stands x among in (led, first_rank (led_rank x) 65536 (led_least x led) whole_frames))
+      (λ x among passes. let led = first_led n stands x among in (led, omega (arith, led_least x led, enough)))
+      (λ x among passes. let led = first_led n stands x among in (led, omega (arith, led_least x led)))
 
 pub fresh_whole : (tree : Tree) (n : ℕ) → IsWithinLevels (shown tree n) → stands_in_active tree n ≡ true → (most : ℕ) → 64 ≤ most →
     led_to most is_fresh_state tree (frames_in tree n) ≡ documents_inside is_fresh_state tree n

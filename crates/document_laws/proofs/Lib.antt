@@ -1,7 +1,6 @@
 pub mod Lists
 pub mod Depths
 pub mod Steps
-pub mod Keeping
 pub mod WholeRuns
 pub mod Cutting
 pub mod Between

@@ -16,26 +16,11 @@ use Rattle.page_documents.proofs.Ways.{Reaches, no_way, reach_up, reach_more}
 use Rattle.page_documents.proofs.Framed.{framed_held, unheld, reaches}
 use Rattle.document_laws.specs.Levels.{IsWithinLevels}
 
-few_first : (count most : ℕ) → count ≤ 64 → 64 ≤ most → count ≤ most
-few_first count most few enough = omega arith
-
-pub whole_frames : 64 ≤ 65536
-whole_frames = omega arith
-
-one_fewer : (most : ℕ) → 65 ≤ suc most → 64 ≤ most
-one_fewer most enough = omega arith
-
-no_frames : 65 ≤ zero → ⊥
-no_frames enough = omega arith
-
-whole_rest : 64 ≤ 65535
-whole_rest = omega arith
-
 -- documents lead up within as many frames as there are documents
 module _ (tree : Tree) (levels : IsWithinLevels tree) where
   pub leads_up : (most document : ℕ) → 64 ≤ most → is_active tree document ≡ true → Reaches tree most document
   leads_up most document enough active =
-      reach_more tree (unheld tree levels.framed) (length tree.documents) most document (few_first (length tree.documents) most levels.few enough)
+      reach_more tree (unheld tree levels.framed) (length tree.documents) most document (omega (arith, levels.few, enough))
       (reaches tree levels.framed document active)
 
   pub holder_leads : (high document holder : ℕ) → holder_of tree document ≡ Some holder → Reaches tree (suc high) document → Reaches tree high holder
@@ -112,7 +97,7 @@ module _ (tree : Tree) (screen : Screen) where
 
     pub views_whole : (most document : ℕ) → 64 ≤ most → view_up most tree screen document ≡ view_of tree screen document
     views_whole most document enough =
-        same_views most 65536 document (leads_up tree levels most document enough) (leads_up tree levels 65536 document whole_frames)
+        same_views most 65536 document (leads_up tree levels most document enough) (leads_up tree levels 65536 document (omega arith))
         ∙ sym (view_whole document)
 
 -- boxes ---------------------------------------------------------------------------------------------------------------------------------------
@@ -178,8 +163,8 @@ module _ (world : World) (levels : IsWithinLevels world.tree) where
 
   pub origins_whole : (most document : ℕ) → 65 ≤ most → origin_up most (shown_of world) document ≡ origin (shown_of world) document
   unfolding origin
-  origins_whole zero document enough = absurd (no_frames enough)
+  origins_whole zero document enough = absurd (omega (arith, enough))
   origins_whole (suc most) document enough =
       origin_step most 65535 document (λ frame is active.
-      same_origins most 65535 (around frame) (leads_up (world.tree) levels most (around frame) (one_fewer most enough) active)
-      (leads_up (world.tree) levels 65535 (around frame) whole_rest active))
+      same_origins most 65535 (around frame) (leads_up (world.tree) levels most (around frame) (omega (arith, enough)) active)
+      (leads_up (world.tree) levels 65535 (around frame) (omega arith) active))

@@ -21,4 +21,3 @@ mod Turns
 mod Broadcasts
 mod RoundEnds
 mod RoundLoops
-mod LoopStarts

@@ -1,23 +1,22 @@
 -- The resize observers of a page stay in their order and in their documents while commands are run.
 use Rattle.std.proofs.Common.{◌≡◌, refl, ap, sym, subst, ◌∙◌, arith, ◌≤◌}
 use Rattle.std.proofs.lemmas.Option.{none-some, same_Some}
-use Rattle.std.specs.Prelude.{ℕ, zero, suc, ◌<◌, ◌==◌, Bool, true, false, cond, List, [], ◌∷◌, ◌++◌, length, filter, take, drop, Option, Some, None, ℤ, ⊤}
+use Rattle.std.specs.Prelude.{ℕ, zero, suc, ◌<◌, ◌==◌, Bool, true, false, cond, List, [], ◌∷◌, ◌++◌, length, filter, take, drop, Option, Some, None, ⊤}
 use Rattle.std.specs.List.{AllByRecursion}
-use Rattle.layout_model.specs.Items.{Kind}
-use Rattle.script_model.specs.Syntax.{Action, Viewport, SetRatio, MakeBlock, MakeImage, MakeFrame, Append, Before, Remove, SetStyle, Grow, Load, MakeResizeObserver, ObserveResize, UnobserveResize, DisconnectResize, MakeIntersectionObserver, ObserveIntersection, UnobserveIntersection, DisconnectIntersection, TakeIntersections, Listen, Unlisten, MakeQueryList, ScrollTo, ScrollBy, RequestFrame, CancelFrame, SetTimer, ClearTimer, Post, Say, Read}
-use Rattle.page_model.specs.World.{Observation, ResizeObserver, ResizeObservers, IntersectionObservers, Listener, Table, ScrollTarget, Tree, World}
+use Rattle.script_model.specs.Syntax.{Action}
+use Rattle.page_model.specs.World.{Thing, Observation, ResizeObserver, ResizeObservers, World}
 use Rattle.page_model.specs.Lookups.{change_at, entry_or, no_resize_observer, resize_observer_at}
 use Rattle.page_model.specs.Documents.{is_active}
-use Rattle.page_model.specs.Scrolling.{scrolled_to, scrolled_by}
-use Rattle.page_model.specs.Steps.{Step, Effect}
 use Rattle.page_model.specs.Operands.{Present, Handlers}
-use Rattle.page_model.specs.Commands.{does, with_tree, with_intersections, with_listeners, making}
+use Rattle.page_model.specs.Commands.{does}
 use Rattle.page_model.specs.Callbacks.{Script, Entries, handler_names, presents, call}
 use Rattle.page_model.specs.Gathering.{Sight, is_filled, is_of, with_reported, without_active}
 use Rattle.page_model.specs.Loop.{emptied}
 use Rattle.page_model.specs.Ranges.{Counts, AreObserved, IsResizeObserverIn, IsWithin}
 use Rattle.page_laws.specs.Successors.{OnDid}
-use Rattle.page_laws.proofs.Steps.{bind, both, did}
+use Rattle.page_laws.proofs.Steps.{on_did-map}
+use Rattle.page_laws.specs.Changed.{ResizeChange, Observed, Unobserved, Disconnected, Change, ResizeObserverMade, ResizeChanged}
+use Rattle.page_laws.proofs.Commands.{does-any}
 use Rattle.page_laws.proofs.Keeping.{carried-by, called-keeps}
 use Rattle.page_laws.proofs.Later.{all-so}
 use Rattle.resize_observer.specs.Observers.{observers_of}
@@ -87,9 +86,6 @@ module _ (first : List ResizeObserver) where
   abbrev Stands : World → Type 0
   Stands world = Begin first (world.resize_observers.made)
 
-  abbrev Stand : Effect → Type 0
-  Stand effect = Stands (effect.world)
-
   module _ (world : World) (begin : Stands world) where
     more-stand : (y : ResizeObserver) → Begin first (world.resize_observers.made ++ y ∷ [])
     more-stand y = begin-more first (world.resize_observers.made) y begin
@@ -98,64 +94,18 @@ module _ (first : List ResizeObserver) where
         → Begin first (change_at change place (world.resize_observers.made))
     changed-stand change same place = begin-changed change same place first (world.resize_observers.made) begin
 
-    tree-step : (step : Step Tree) → OnDid (with_tree world step) Stand
-    unfolding with_tree
-    tree-step step = bind step _ Stand (λ it. did _ Stand begin)
+    resize-stand : {Known : Thing → Type 0} {after : ResizeObservers} → ResizeChange Known (world.resize_observers) after → Begin first (after.made)
+    resize-stand (Observed observer n observed known) = changed-stand _ (λ it. refl) observer
+    resize-stand (Unobserved observer n) = changed-stand _ (λ it. refl) observer
+    resize-stand (Disconnected observer) = changed-stand _ (λ it. refl) observer
 
-    intersections-step : (step : Step IntersectionObservers) → OnDid (with_intersections world step) Stand
-    unfolding with_intersections
-    intersections-step step = bind step _ Stand (λ it. did _ Stand begin)
+    change-stands : {Known : Thing → Type 0} {handlers : ℕ} {after : World} → Change Known handlers world after → Stands after
+    change-stands (ResizeObserverMade name document handler known is less) = more-stand _
+    change-stands (ResizeChanged it change) = resize-stand change
+    change-stands change = begin
 
-    listeners-step : (step : Step (Table Listener)) → OnDid (with_listeners world step) Stand
-    unfolding with_listeners
-    listeners-step step = bind step _ Stand (λ it. did _ Stand begin)
-
-    making-stands : (name document : List ℕ) (kind : Kind) → OnDid (making world name document kind) Stand
-    unfolding making
-    making-stands name document kind = search (both, bind, did, begin) depth 9
-
-    scrolled-stands : (left top : ℤ) (target : Option ScrollTarget) → Stands (scrolled_to left top target world)
-    scrolled-stands left top None = begin
-    scrolled-stands left top (Some target) = begin
-
-    scrolled-by-stands : (left top : ℤ) (target : Option ScrollTarget) → Stands (scrolled_by left top target world)
-    scrolled-by-stands left top None = begin
-    scrolled-by-stands left top (Some target) = begin
-
-    does-stands : (handlers : Handlers) (present : Present) (action : Action) → OnDid (does handlers world present action) Stand
-    unfolding does
-    does-stands handlers present (Viewport width height) = did _ Stand begin
-    does-stands handlers present (SetRatio hundredths) = did _ Stand begin
-    does-stands handlers present (MakeBlock name made_in) = making-stands name made_in _
-    does-stands handlers present (MakeImage name made_in width height) = making-stands name made_in _
-    does-stands handlers present (MakeFrame name made_in inside) = search (both, bind, did, begin) depth 12
-    does-stands handlers present (Append parent node) = search (bind, tree-step) depth 9
-    does-stands handlers present (Before parent node sibling) = search (bind, tree-step) depth 9
-    does-stands handlers present (Remove node) = search (bind, did, begin) depth 9
-    does-stands handlers present (SetStyle node declaration) = search (bind, did, begin) depth 9
-    does-stands handlers present (Grow node dimension by) = search (bind, tree-step) depth 9
-    does-stands handlers present (Load node width height) = search (bind, tree-step) depth 9
-    does-stands handlers present (MakeResizeObserver name owner handler) = search (both, bind, did, more-stand) depth 12
-    does-stands handlers present (ObserveResize observer node observed) = search (both, bind, did, changed-stand) depth 9
-    does-stands handlers present (UnobserveResize observer node) = search (bind, did, changed-stand) depth 9
-    does-stands handlers present (DisconnectResize observer) = search (bind, did, changed-stand) depth 9
-    does-stands handlers present (MakeIntersectionObserver made) = search (both, bind, did, begin) depth 14
-    does-stands handlers present (ObserveIntersection observer node) = search (bind, intersections-step) depth 9
-    does-stands handlers present (UnobserveIntersection observer node) = search (bind, did, begin) depth 9
-    does-stands handlers present (DisconnectIntersection observer) = search (bind, did, begin) depth 9
-    does-stands handlers present (TakeIntersections observer) = search (bind, did, begin) depth 9
-    does-stands handlers present (Listen aim event handler) = search (bind, listeners-step) depth 9
-    does-stands handlers present (Unlisten aim event handler) = search (bind, did, begin) depth 9
-    does-stands handlers present (MakeQueryList name owner query) = search (both, bind, did, begin) depth 9
-    does-stands handlers present (ScrollTo scrolled left top) = search (bind, did, scrolled-stands) depth 9
-    does-stands handlers present (ScrollBy scrolled left top) = search (bind, did, scrolled-by-stands) depth 9
-    does-stands handlers present (RequestFrame owner key handler) = search (both, bind, did, begin) depth 9
-    does-stands handlers present (CancelFrame owner key) = search (bind, did, begin) depth 9
-    does-stands handlers present (SetTimer owner key delay handler) = search (both, bind, did, begin) depth 9
-    does-stands handlers present (ClearTimer owner key) = search (bind, did, begin) depth 9
-    does-stands handlers present (Post owner handler) = search (both, bind, did, begin) depth 9
-    does-stands handlers present (Say word) = did _ Stand begin
-    does-stands handlers present (Read shown) = search (bind, did, begin) depth 9
+    does-stands : (handlers : Handlers) (present : Present) (action : Action) → OnDid (does handlers world present action) (λ effect. Stands (effect.world))
+    does-stands handlers present action = on_did-map _ _ _ (λ effect change. change-stands change) (does-any handlers world present action)
 
 -- behind a callback
 pub called_stand : (first : List ResizeObserver) (script : Script) (document : ℕ) (handler : Option ℕ) (handed : Entries) (world : World) → Begin first (world.resize_observers.made)

@@ -14,7 +14,7 @@ use Rattle.page_laws.proofs.RunsInRange.{call-in}
 use Rattle.page_laws.proofs.Turns.{call-within}
 use Rattle.frame_update.specs.Ready.{IsReady}
 
-pub within_next : (before after : World) → IsNext before after → IsWithinLimits before → IsWithinLimits after
+within_next : (before after : World) → IsNext before after → IsWithinLimits before → IsWithinLimits after
 within_next before after next within = as-many before within after next.observers next.queries next.successor.begun next.successor.version next.tasks
 
 -- behind a change of a tick

@@ -3,4 +3,3 @@ pub mod Turns
 pub mod Parts
 pub mod Waiting
 pub mod Answers
-pub mod Loops

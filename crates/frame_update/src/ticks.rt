@@ -2,21 +2,22 @@
 
 ghost use Rattle.std.specs.Prelude.{◌≡◌, IfOk};
 ghost use Rattle.std.specs.List.{AllByRecursion};
+ghost use Rattle.script_model.specs.Syntax.{Tick};
 ghost use Rattle.script_model.specs.Scripts.{handlers_in};
 ghost use Rattle.script_syntax.specs.Allowed.{IsTime};
 ghost use Rattle.page_model.specs.Outcome.{run_tick};
 ghost use Rattle.page_model.specs.Runs.{caught};
 ghost use Rattle.page_model.specs.Ticks.{tick};
+ghost use Rattle.loop_laws.specs.RunLoops.{item_loops, IsExact};
 ghost use Rattle.trace_runs.specs.Flows.{goes_on};
 ghost use Rattle.trace_runs.specs.Runs.{Runs};
 ghost use Rattle.frame_update.specs.Answers.{Refused};
-ghost use Rattle.frame_update.specs.Loops.{loops_of_tick, IsExact};
 ghost use Rattle.frame_update.specs.Ready.{IsReady};
 
 use crate::tasks::run_tasks;
 use crate::timers::run_timers;
 use crate::update::update_rendering;
-use loop_laws::{loop_errors_are_exact, loops_go_deeper, loops_have_few_rounds};
+use loop_laws::listed_loops_are_exact;
 use page_state::{Page, PageFault};
 use script_syntax::Script;
 use std::alloc::Global;
@@ -71,10 +72,11 @@ fn refuse<K: Sink>(
 /// which is written and answers Ok. Then come the timers that are due, one update of the rendering, and the tasks that wait
 /// (HTML, event loops).
 ///
-/// In each of its resize loops a round is deeper than the one before, unless a command of that round moves an inclusive ancestor
-/// of what was gathered in it; with m such commands, and H the greatest depth of a target that it delivers, a loop has at most
-/// (m + 1) * H rounds; and the error event is fired exactly where the rounds ended with the document Active and a target whose
-/// size differs from its last reported one (Resize Observer, 3.4).
+/// In each of its resize loops a round is deeper than the one before, unless a command of that round takes an inclusive ancestor
+/// of what was gathered in it out of its parent; with m such commands, and H the greatest depth of a target that it delivers, a loop
+/// has at most (m + 1) * H rounds; and the error event is fired exactly where the rounds ended with the document Active and a target
+/// whose size differs from its last reported one (Resize Observer, 3.4). These loops are those that write its lines of rounds and of
+/// loop errors (law `all_loops_are_listed` of `loop_laws`, clause `items`).
 ///
 /// # Errors
 /// - `Limit` only where a limit is met, where it never answers Ok; every line before the limit's own was written.
@@ -93,12 +95,10 @@ pub fn tick<K: Sink, L: Ledger>(
     requires time { IsTime time }
     ensures says { Runs goes_on (λ _. page.new.world) result (K.taken sink.old) (K.taken sink.new) (K.faults sink.old) (K.faults sink.new)
         (caught (run_tick (handlers_in script.now.items) line time page.old.world)) }
-    ensures loops { AllByRecursion (IsExact (handlers_in script.now.items)) (loops_of_tick (handlers_in script.now.items) time page.old.world) }
+    ensures loops { AllByRecursion (IsExact (handlers_in script.now.items)) (item_loops (handlers_in script.now.items) (Tick line time) page.old.world) }
     ensures ready { IfOk result (λ _. IsReady script.now.items page.new.world) }
 {
-    loops_go_deeper();
-    loops_have_few_rounds();
-    loop_errors_are_exact();
+    listed_loops_are_exact();
     if let Err(fault) = page.begin_command() {
         return refuse(alloc, line, fault, page.version(), sink);
     }

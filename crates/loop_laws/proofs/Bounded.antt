@@ -3,6 +3,7 @@ use Rattle.std.proofs.Common.{◌≡◌, refl, ap, sym, ◌∙◌, arith, ◌≤
 use Rattle.std.specs.Prelude.{ℕ, zero, suc, ◌<◌, Bool, true, false}
 use Rattle.page_model.specs.Runs.{Flow, Next, Thrown, Limited, Said, behind, follow, ◌followed_by◌, only_if, repeat}
 use Rattle.page_laws.proofs.Places.{repeat-not}
+use Rattle.loop_laws.proofs.Folds.{by-flow}
 
 -- where the rest comes to the same after a step without a throw or a limit
 
@@ -63,26 +64,20 @@ module _ {S : Type 0} (goes_on : S → Bool) (step : S → Said S) (IsLeft : ℕ
 
     -- a loop that ends without a throw or a limit ends by its test
 
-    follow-rests : (most left : ℕ) (flow : Flow) (said : Said S) → said.flow ≡ flow → left ≤ most →
-        ((less : ℕ) (s : S) → IsLeft less s → less < most → (repeat goes_on step most s).flow ≡ Next → goes_on (repeat goes_on step most s).state ≡ false) →
-        (said.flow ≡ Next → goes_on said.state ≡ true → IsLess left said.state) → (goes : Bool) → goes_on said.state ≡ goes →
-        (follow flow (repeat goes_on step most) said).flow ≡ Next → goes_on (follow flow (repeat goes_on step most) said).state ≡ false
-    unfolding follow
-    follow-rests most left Next said is fits each less true goes next =
-        let rest : IsLess left (said.state) = less is goes in each (rest.now) (said.state) (rest.is) (omega (arith, rest.less, fits)) next
-    follow-rests most left Next said is fits each less false goes next =
-        ap (λ (it : Said S). goes_on it.state) (repeat-not goes_on step most (said.state) goes) ∙ goes
-    follow-rests most left Thrown said is fits each less goes now next = absurd (let no : Thrown ≡ Next = sym is ∙ next in cc)
-    follow-rests most left Limited said is fits each less goes now next = absurd (let no : Limited ≡ Next = sym is ∙ next in cc)
-
     if-rests : (most left : ℕ) (s : S) → IsLeft left s → left ≤ most →
         ((less : ℕ) (s : S) → IsLeft less s → less < most → (repeat goes_on step most s).flow ≡ Next → goes_on (repeat goes_on step most s).state ≡ false) →
         (goes : Bool) → goes_on s ≡ goes → (only_if (λ now. step now followed_by repeat goes_on step most) s goes).flow ≡ Next →
         goes_on (only_if (λ now. step now followed_by repeat goes_on step most) s goes).state ≡ false
-    unfolding ◌followed_by◌
-    if-rests most left s is fits each true goes next =
-        follow-rests most left (step s).flow (step s) refl fits each (falls left s is goes) (goes_on (step s).state) refl next
-    if-rests most left s is fits each false goes next = goes
+    if-rests most left s is fits each false goes = λ next. goes
+    if-rests most left s is fits each true goes =
+        by-flow (λ (it : Said S). it.flow ≡ Next → goes_on it.state ≡ false) (repeat goes_on step most) (step s)
+        (λ next. by (goes_on (step s).state) refl (falls left s is goes next)) (λ never next. absurd (never next))
+      where
+        by : (goes : Bool) → goes_on (step s).state ≡ goes → (goes_on (step s).state ≡ true → IsLess left (step s).state) →
+            (repeat goes_on step most (step s).state).flow ≡ Next → goes_on (repeat goes_on step most (step s).state).state ≡ false
+        by true goes less next =
+            let rest : IsLess left (step s).state = less goes in each (rest.now) (step s).state (rest.is) (omega (arith, rest.less, fits)) next
+        by false goes less next = ap (λ (it : Said S). goes_on it.state) (repeat-not goes_on step most (step s).state goes) ∙ goes
 
     pub rests : (most left : ℕ) (s : S) → IsLeft left s → left < most → (repeat goes_on step most s).flow ≡ Next →
         goes_on (repeat goes_on step most s).state ≡ false

@@ -3,8 +3,8 @@
 use Rattle.std.proofs.Common.{◌≡◌, ◌≢◌, refl, sym, subst, ◌∙◌, arith, ◌≤◌}
 use Rattle.std.specs.Prelude.{ℕ, zero, suc, List, [], ◌∷◌, ◌++◌, length, Option, Some, None, ℤ, ⊤}
 use Rattle.layout_model.specs.Items.{Kind, Item}
-use Rattle.script_model.specs.Syntax.{Dimension, Operand, Action, Viewport, SetRatio, MakeBlock, MakeImage, MakeFrame, Append, Before, Remove, SetStyle, Grow, Load, MakeResizeObserver, ObserveResize, UnobserveResize, DisconnectResize, MakeIntersectionObserver, ObserveIntersection, UnobserveIntersection, DisconnectIntersection, TakeIntersections, Listen, Unlisten, MakeQueryList, ScrollTo, ScrollBy, RequestFrame, CancelFrame, SetTimer, ClearTimer, Post, Say, Read}
-use Rattle.page_model.specs.World.{Element, Observation, ResizeObservers, IntersectionObservers, Listener, Table, ScrollTarget, Task, Tree, Name, World}
+use Rattle.script_model.specs.Syntax.{Dimension, Operand, Action, Append, Before, Remove, Grow, Load, MakeResizeObserver, ObserveResize, UnobserveResize, DisconnectResize}
+use Rattle.page_model.specs.World.{Element, Observation, ResizeObservers, ScrollTarget, Task, Tree, Name, World}
 use Rattle.page_model.specs.Documents.{Container, InElement, InDocument, container_of, removed, linked, inserted, adopted, shown, inclusive_descendants}
 use Rattle.page_model.specs.Edits.{with_element, with_frame, change_item}
 use Rattle.page_model.specs.Scrolling.{scrolled_to, scrolled_by}
@@ -136,18 +136,6 @@ module _ (P : Observation → Type 0) (document : ℕ) (Spared : ℕ → Type 0)
   unfolding with_tree
   tree-step step kept = bind-in step _ _ Done kept (λ tree is. did _ Done (tree-done (world.names) tree is))
 
-  intersections-step : (step : Step IntersectionObservers) → OnDid (with_intersections world step) Done
-  unfolding with_intersections
-  intersections-step step = bind step _ Done (λ it. did _ Done (alike _ refl refl refl))
-
-  listeners-step : (step : Step (Table Listener)) → OnDid (with_listeners world step) Done
-  unfolding with_listeners
-  listeners-step step = bind step _ Done (λ it. did _ Done (alike _ refl refl refl))
-
-  making-done : (name made_in : List ℕ) (kind : Kind) → OnDid (making world name made_in kind) Done
-  unfolding making
-  making-done name made_in kind = search (both, bind, did, tree-done, element-kept) depth 9
-
   scrolled-done : (left top : ℤ) (target : Option ScrollTarget) → IsDone P document Spared world (scrolled_to left top target world)
   scrolled-done left top None = alike _ refl refl refl
   scrolled-done left top (Some target) = alike _ refl refl refl
@@ -159,36 +147,14 @@ module _ (P : Observation → Type 0) (document : ℕ) (Spared : ℕ → Type 0)
 module _ (P : Observation → Type 0) (document : ℕ) (handlers : Handlers) (world : World) (present : Present) where
   pub does-done : (action : Action) →
       OnDid (does handlers world present action) (λ effect. IsDone P document (IsSpared (world.names) present (moved_operand action)) world (effect.world))
-  unfolding does
-  does-done (Viewport width height) = search (did, alike) depth 9
-  does-done (SetRatio hundredths) = search (did, alike) depth 9
-  does-done (MakeBlock name made_in) = search (making-done) depth 9
-  does-done (MakeImage name made_in width height) = search (making-done) depth 9
-  does-done (MakeFrame name made_in inside) = search (both, bind, did, tree-done, frame-kept) depth 12
+  unfolding does with_intersections with_listeners making
   does-done (Append parent node) = search (bind, known, tree-step, meant-placed) depth 9
   does-done (Before parent node sibling) = search (bind, known, tree-step, meant-placed) depth 9
   does-done (Remove node) = search (known, did, tree-done, meant-removed) depth 9
-  does-done (SetStyle node declaration) = search (bind, did, tree-done, item-kept) depth 9
-  does-done (Grow node dimension by) = search (bind, tree-step, growing-kept) depth 9
-  does-done (Load node width height) = search (bind, tree-step, loading-kept) depth 9
   does-done (MakeResizeObserver name owner handler) = search (both, bind, did, observers-done, more-due) depth 12
   does-done (ObserveResize observer node observed) = search (both, bind, did, observers-done, target-due) depth 9
   does-done (UnobserveResize observer node) = search (bind, did, observers-done, no-target-due) depth 9
   does-done (DisconnectResize observer) = search (bind, did, observers-done, no-targets-due) depth 9
-  does-done (MakeIntersectionObserver made) = search (both, bind, did, alike) depth 14
-  does-done (ObserveIntersection observer node) = search (bind, intersections-step) depth 9
-  does-done (UnobserveIntersection observer node) = search (bind, did, alike) depth 9
-  does-done (DisconnectIntersection observer) = search (bind, did, alike) depth 9
-  does-done (TakeIntersections observer) = search (bind, did, alike) depth 9
-  does-done (Listen aim event handler) = search (bind, listeners-step) depth 9
-  does-done (Unlisten aim event handler) = search (bind, did, alike) depth 9
-  does-done (MakeQueryList name owner query) = search (both, bind, did, alike) depth 9
-  does-done (ScrollTo scrolled left top) = search (bind, did, scrolled-done) depth 9
-  does-done (ScrollBy scrolled left top) = search (bind, did, scrolled-by-done) depth 9
-  does-done (RequestFrame owner key handler) = search (both, bind, did, alike) depth 9
-  does-done (CancelFrame owner key) = search (bind, did, alike) depth 9
-  does-done (SetTimer owner key delay handler) = search (both, bind, did, alike) depth 9
-  does-done (ClearTimer owner key) = search (bind, did, alike) depth 9
-  does-done (Post owner handler) = search (both, bind, did, posted-done) depth 9
-  does-done (Say word) = search (did, alike) depth 9
-  does-done (Read shown) = search (bind, did, alike) depth 9
+  does-done (Grow node dimension by) = search (bind, tree-step, growing-kept) depth 9
+  does-done (Load node width height) = search (bind, tree-step, loading-kept) depth 9
+  does-done action = search (both, bind, did, alike, tree-done, element-kept, frame-kept, item-kept, scrolled-done, scrolled-by-done, posted-done) depth 14

@@ -1,6 +1,7 @@
 -- A round delivers something: the turn of the first observer that has something to deliver comes.
 use Rattle.std.proofs.Common.{◌≡◌, refl, ap, sym, subst, ◌∙◌, arith, tests, ◌≤◌, true≢false}
-use Rattle.std.specs.Prelude.{ℕ, zero, suc, ◌+◌, ◌<◌, nat_lt, ◌&&◌, ◌||◌, Bool, true, false, cond, is_some, IsTrue, List, [], ◌∷◌, fold, map, length, Option, Some, None}
+use Rattle.std.proofs.lemmas.Bool.Decides.{nat_tests}
+use Rattle.std.specs.Prelude.{ℕ, zero, suc, ◌+◌, ◌<◌, nat_lt, nat_eq, ◌&&◌, ◌||◌, Bool, true, false, cond, is_some, List, [], ◌∷◌, fold, map, length, Option, Some, None}
 use Rattle.std.specs.List.{list_any}
 use Rattle.page_model.specs.World.{Observation, ResizeObserver, World}
 use Rattle.page_model.specs.Documents.{is_active}
@@ -10,7 +11,7 @@ use Rattle.page_model.specs.Callbacks.{Script}
 use Rattle.page_model.specs.Loop.{Broadcast, shallower, deliver_some, broadcast}
 use Rattle.page_laws.proofs.Keeping.{then-keeps, repeat-keeps}
 use Rattle.loop_laws.specs.Rounds.{goes_on}
-use Rattle.loop_laws.proofs.Waiting.{due_of, due_in}
+use Rattle.loop_laws.proofs.Waiting.{due_in}
 
 shallower-some : (so_far : Option ℕ) (entry : SizeEntry) → is_some (shallower so_far entry) ≡ true
 shallower-some None entry = refl
@@ -20,8 +21,18 @@ fold-some : (entries : List SizeEntry) (so_far : Option ℕ) → is_some so_far 
 fold-some [] so_far some = some
 fold-some (entry ∷ entries) so_far some = fold-some entries (shallower so_far entry) (shallower-some so_far entry)
 
-two-true : {a b : Bool} → a ≡ true → b ≡ true → (a && b) ≡ true
-two-true {a = a} {b = b} one other = ap (λ (x : Bool). x && b) one ∙ other
+-- an observer has nothing to deliver where none has
+none-due : (document : ℕ) (made : List ResizeObserver) → ((o : ℕ) → o < length made → is_filled (due_in document made o) ≡ false) →
+    list_any (λ (it : ResizeObserver). is_of document it && is_filled (it.active)) made ≡ false
+none-due document [] idle = refl
+none-due document (x ∷ xs) idle =
+    ap (λ (some : Bool). some || list_any (λ (it : ResizeObserver). is_of document it && is_filled (it.active)) xs)
+    (sym (filled-if (is_of document x) (x.active)) ∙ idle 0 (omega arith))
+    ∙ none-due document xs (λ o less. idle (suc o) (omega (arith, less)))
+  where
+    filled-if : (own : Bool) (these : List Observation) → is_filled (cond own these []) ≡ (own && is_filled these)
+    filled-if true these = refl
+    filled-if false these = refl
 
 module _ (script : Script) (document : ℕ) (world : World) where
   abbrev IsFound : Broadcast → Type 0
@@ -67,74 +78,51 @@ module _ (script : Script) (document : ℕ) (world : World) where
       followed_by repeat goes turns most) none
   passed most place (first ∷ others) none filled = absurd (true≢false filled)
 
-  abbrev Filled : ℕ → Bool → Type 0
-  Filled place filled = is_filled (due_at document place (world.resize_observers)) ≡ filled
+  -- nothing is due before a place
+  abbrev IsIdle : ℕ → Type 0
+  IsIdle place = (o : ℕ) → o < place → is_filled (due_at document o (world.resize_observers)) ≡ false
 
-  reached : (most place more : ℕ) → more < most → IsTrue (is_active (world.tree) document) → place + more < length world.resize_observers.made →
-      Filled (place + more) true → ((o : ℕ) → o < place + more → Filled o false) → IsFound (repeat goes turns most (begins place)).state.state
-  unfolding repeat
-  reached zero place more fuel active within filled before = absurd (let no : ⊥ = omega (arith, fuel) in no)
-  reached (suc most) place zero fuel active within filled before =
-      subst (λ (test : Bool). IsFound (only_if (λ now. turns now followed_by repeat goes turns most) (begins place) test).state.state)
-      (sym (two-true active (let there : nat_lt place (length world.resize_observers.made) ≡ true = grind (arith, tests, within) in there)))
-      (then-keeps (λ (turn : Turn Broadcast). IsFound (turn.state)) (turns (begins place)) (repeat goes turns most)
-      (first-found place (record { world = world; shallowest = None }) (due_at document place (world.resize_observers))
-      (subst (λ (n : ℕ). Filled n true) (let same : place + 0 ≡ place = omega arith in same) filled))
-      (turns-found most))
-  reached (suc most) place (suc more) fuel active within filled before =
-      subst (λ (test : Bool). IsFound (only_if (λ now. turns now followed_by repeat goes turns most) (begins place) test).state.state)
-      (sym (two-true active (let there : nat_lt place (length world.resize_observers.made) ≡ true = grind (arith, tests, within) in there)))
-      (subst (λ (said : Said (Turn Broadcast)). IsFound said.state.state)
-      (sym (passed most place (due_at document place (world.resize_observers)) refl (before place (omega arith))))
-      (reached most (suc place) more (omega (arith, fuel)) active (omega (arith, within))
-      (subst (λ (n : ℕ). Filled n true) (let same : place + suc more ≡ suc place + more = omega arith in same) filled)
-      (λ o less. before o (omega (arith, less)))))
+  module _ (active : is_active (world.tree) document ≡ true) (some : has_active document (world.resize_observers) ≡ true) where
+    abbrev count : ℕ
+    count = length (world.resize_observers.made)
 
-  broadcast-found : (place : ℕ) → IsTrue (is_active (world.tree) document) → place < length world.resize_observers.made →
-      length world.resize_observers.made ≤ 4096 → Filled place true → ((o : ℕ) → o < place → Filled o false) →
-      IsFound (broadcast script document world).state
-  unfolding broadcast by_place
-  broadcast-found place active within few filled before =
-      reached most_steps 0 place (omega (arith, within, few)) active (omega (arith, within))
-      (subst (λ (n : ℕ). Filled n true) (let same : place ≡ 0 + place = omega arith in same) filled) (λ o less. before o (omega (arith, less)))
+    not-idle : (place : ℕ) → count ≤ place → IsIdle place → ⊥
+    not-idle place past idle =
+        true≢false (sym some ∙ none-due document (world.resize_observers.made) (λ o less. idle o (omega (arith, less, past))))
 
--- where something is active, there is a first observer with something due
-
-record IsFirst (document : ℕ) (made : List ResizeObserver) : Type 0 where
-  place : ℕ
-  within : place < length made
-  filled : is_filled (due_in document made place) ≡ true
-  before : (o : ℕ) → o < place → is_filled (due_in document made o) ≡ false
-
-filled-if : (own : Bool) (xs : List Observation) → is_filled (cond own xs []) ≡ (own && is_filled xs)
-filled-if true xs = refl
-filled-if false xs = refl
-
-abbrev has_due : ℕ → ResizeObserver → Bool
-has_due document observer = is_of document observer && is_filled (observer.active)
-
-first-due : (document : ℕ) (made : List ResizeObserver) → list_any (has_due document) made ≡ true → IsFirst document made
-first-due document [] some = absurd (true≢false (sym some))
-first-due document (x ∷ xs) some = by_first (has_due document x) (filled-if (is_of document x) (x.active)) some (first-due document xs)
-  where
-    by_first : (filled : Bool) → is_filled (due_of document x) ≡ filled → (filled || list_any (has_due document) xs) ≡ true →
-        (list_any (has_due document) xs ≡ true → IsFirst document xs) → IsFirst document (x ∷ xs)
-    by_first true is some others = record {
-      place = 0;
-      within = omega arith;
-      filled = is;
-      before = λ o less. absurd (let no : ⊥ = omega (arith, less) in no);
-    }
-    by_first false is some others = record {
-      place = suc (others some).place;
-      within = omega (arith, (others some).within);
-      filled = (others some).filled;
-      before = later;
-    }
+    later-idle : (place : ℕ) → is_filled (due_at document place (world.resize_observers)) ≡ false → IsIdle place → IsIdle (suc place)
+    later-idle place empty idle o less = by (nat_eq o place) refl
       where
-        later : (o : ℕ) → o < suc (others some).place → is_filled (due_in document (x ∷ xs) o) ≡ false
-        later zero less = is
-        later (suc o) less = (others some).before o (omega (arith, less))
+        by : (is : Bool) → nat_eq o place ≡ is → is_filled (due_at document o (world.resize_observers)) ≡ false
+        by true is =
+            subst (λ (n : ℕ). is_filled (due_at document n (world.resize_observers)) ≡ false) (let same : place ≡ o = grind (arith, nat_tests, is) in same) empty
+        by false is = idle o (grind (arith, nat_tests, is, less))
+
+    -- from a place before which nothing is due, as long as nothing was delivered
+    reached : (most place : ℕ) → count < most + place → IsIdle place → IsFound (repeat goes turns most (begins place)).state.state
+    unfolding repeat
+    reached zero place fuel idle = absurd (not-idle place (omega (arith, fuel)) idle)
+    reached (suc most) place fuel idle = by (λ next. reached most (suc place) (omega (arith, fuel)) next) (nat_lt place count) refl
+      where
+        by_due : (IsIdle (suc place) → IsFound (repeat goes turns most (begins (suc place))).state.state) → (filled : Bool) →
+            is_filled (due_at document place (world.resize_observers)) ≡ filled → IsFound (turns (begins place) followed_by repeat goes turns most).state.state
+        by_due rest true is =
+            then-keeps (λ (turn : Turn Broadcast). IsFound (turn.state)) (turns (begins place)) (repeat goes turns most)
+            (first-found place (record { world = world; shallowest = None }) (due_at document place (world.resize_observers)) is) (turns-found most)
+        by_due rest false is =
+            subst (λ (said : Said (Turn Broadcast)). IsFound said.state.state)
+            (sym (passed most place (due_at document place (world.resize_observers)) refl is)) (rest (later-idle place is idle))
+
+        by : (IsIdle (suc place) → IsFound (repeat goes turns most (begins (suc place))).state.state) → (within : Bool) → nat_lt place count ≡ within →
+            IsFound (only_if (λ now. turns now followed_by repeat goes turns most) (begins place) (goes (begins place))).state.state
+        by rest true is =
+            subst (λ (test : Bool). IsFound (only_if (λ now. turns now followed_by repeat goes turns most) (begins place) test).state.state)
+            (sym (ap (λ (here : Bool). here && nat_lt place count) active ∙ is)) (by_due rest (is_filled (due_at document place (world.resize_observers))) refl)
+        by rest false is = absurd (not-idle place (let past : count ≤ place = grind (arith, tests, is) in past) idle)
+
+    broadcast-found : count ≤ 4096 → IsFound (broadcast script document world).state
+    unfolding broadcast by_place
+    broadcast-found few = reached most_steps 0 (omega (arith, few)) (λ o less. absurd (let no : ⊥ = omega (arith, less) in no))
 
 both-true : (a b : Bool) → (a && b) ≡ true → (a ≡ true) × (b ≡ true)
 both-true true b both = (refl, both)
@@ -144,5 +132,4 @@ pub round-finds : (script : Script) (document : ℕ) (world : World) → length 
     is_some (broadcast script document world).state.shallowest ≡ true
 round-finds script document world few goes =
     let both = both-true (is_active (world.tree) document) (has_active document (world.resize_observers)) goes in
-    let first = first-due document (world.resize_observers.made) (both.1) in
-    broadcast-found script document world (first.place) (both.0) (first.within) few (first.filled) (first.before)
+    broadcast-found script document world (both.0) (both.1) few

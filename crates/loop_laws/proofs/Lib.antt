@@ -1,15 +1,13 @@
-mod Along
+pub mod Folds
+pub mod Lines
+pub mod Walk
+mod ListedLoops
 mod Standing
-mod Counting
-mod Waiting
+pub mod Waiting
 mod Effects
-mod Paths
 mod Depths
 mod Found
-mod Deeper
-mod Falling
-mod Bounded
-mod LoopsAtRest
+pub mod Bounded
 mod TasksAtRest
-mod Loops
-mod Errors
+pub mod Loops
+mod ExactLoops

@@ -5,46 +5,40 @@ use Rattle.page_model.specs.World.{Observation, Task, Notify, Posted, Entry, Wor
 use Rattle.page_model.specs.Lookups.{intersection_observer_at}
 use Rattle.page_model.specs.Documents.{is_active}
 use Rattle.page_model.specs.Tasks.{has_tasks, without_notifying}
-use Rattle.page_model.specs.IntersectionObserving.{without_queue}
 use Rattle.page_model.specs.Operands.{Present}
 use Rattle.page_model.specs.Commands.{does}
-use Rattle.page_model.specs.Runs.{Said, Next, say, silent, ◌followed_by◌, most_steps}
+use Rattle.page_model.specs.Runs.{Said, Next, say, most_steps}
 use Rattle.page_model.specs.Callbacks.{Script, Entries, CutEntries, handler_names, presents, call}
 use Rattle.page_model.specs.Intersections.{watchers, take_queue, notify_watcher, notify_watchers, notify}
-use Rattle.page_model.specs.Ticks.{run_task, run_first, run_tasks}
+use Rattle.page_model.specs.Ticks.{run_task, run_first}
 use Rattle.page_laws.specs.Bounds.{IsWithinLimits}
 use Rattle.page_laws.proofs.Steps.{on_did-with}
 use Rattle.page_laws.proofs.Commands.{does-next}
-use Rattle.page_laws.proofs.Places.{repeat-not}
 use Rattle.page_laws.proofs.Keeping.{counted, IsCarried, called-keeps, then-keeps, only_if-keeps, for_each-keeps}
-use Rattle.page_laws.proofs.Limits.{most-commands}
-use Rattle.page_laws.proofs.Turns.{tasks-few}
+use Rattle.page_laws.proofs.Turns.{tasks-few, first-within}
 use Rattle.page_laws.proofs.Later.{all-so}
-use Rattle.loop_laws.specs.TaskRuns.{tasks_up_to, tasks_left}
-use Rattle.loop_laws.proofs.Bounded.{IsLess, same-bounds, unrolled, rests}
+use Rattle.loop_laws.specs.TaskRuns.{tasks_left}
+use Rattle.loop_laws.proofs.Bounded.{IsLess}
 use Rattle.loop_laws.proofs.Effects.{does-done}
-use Rattle.loop_laws.proofs.LoopsAtRest.{few-begun}
+use Rattle.loop_laws.proofs.Loops.{few-begun}
 
 -- callbacks ----------------------------------------------------------------------------------------------------------------
 
 -- no more tasks were added than commands were begun
 record HasFitted (before now : World) : Type 0 where
   begun : before.begun ≤ now.begun
-  commands : now.begun ≤ 2000000
   tasks : length now.tasks + before.begun ≤ length before.tasks + now.begun
 
 fits-carried : (script : Script) (before : World) → IsCarried script (HasFitted before) (λ (present : Present). ⊤)
 fits-carried script before = record {
   begun = λ world room here. record {
     begun = omega (arith, here.begun);
-    commands = omega (arith, room, most-commands (world.version));
     tasks = let so_far : length world.tasks + before.begun ≤ length before.tasks + world.begun = here.tasks in omega (arith, so_far);
   };
   does = λ world present action is room here.
       on_did-with (does (handler_names script) (counted world) present action) _ _ (λ effect. HasFitted before (effect.world))
       (λ effect next more. record {
         begun = omega (arith, here.begun, next.begun);
-        commands = omega (arith, room, next.begun, most-commands (world.version));
         tasks =
             let so_far : length world.tasks + before.begun ≤ length before.tasks + world.begun = here.tasks in
             let added : length effect.world.tasks ≤ suc (length world.tasks) = more.tasks in
@@ -61,22 +55,13 @@ module _ (script : Script) (before : World) where
   call-fits document handler handed world here =
       called-keeps script _ _ (fits-carried script before) document handler handed world (all-so (presents handed)) here
 
-  alike-fits : (world after : World) → after.tasks ≡ world.tasks → after.begun ≡ world.begun → HasFitted before world → HasFitted before after
-  alike-fits world after tasks begun here = record {
-    begun = omega (arith, here.begun, begun);
-    commands = omega (arith, here.commands, begun);
-    tasks =
-        subst (λ (these : List Task). length these + before.begun ≤ length before.tasks + after.begun) (sym tasks)
-        (let so_far : length world.tasks + before.begun ≤ length before.tasks + world.begun = here.tasks in omega (arith, so_far, begun));
-  }
-
   queue-fits : (entries : List Entry) (observer : ℕ) (world : World) → HasFitted before world →
       HasFitted before (take_queue script entries observer world).state
   queue-fits [] observer world here = here
   queue-fits (entry ∷ entries) observer world here =
       let it = intersection_observer_at (world.intersection_observers) observer in
       call-fits (it.document) (it.handler) (CutEntries observer (entry ∷ entries)) _
-      (alike-fits world (record world { intersection_observers = without_queue observer (world.intersection_observers) }) refl refl here)
+      (record { begun = here.begun; tasks = here.tasks })
 
   notify-fits : (document : ℕ) (world : World) → HasFitted before world → HasFitted before (notify script document world).state
   unfolding notify
@@ -85,7 +70,7 @@ module _ (script : Script) (before : World) where
       (λ now held. for_each-keeps (HasFitted before) (notify_watcher script) (watchers (now.tree) document (now.intersection_observers))
       (λ observer each there. queue-fits (intersection_observer_at (each.intersection_observers) observer).queue observer each there)
       (record now { notifying = without_notifying document (now.notifying) })
-      (alike-fits now (record now { notifying = without_notifying document (now.notifying) }) refl refl held))
+      (record { begun = held.begun; tasks = held.tasks }))
       here
 
   task-fits : (task : Task) (world : World) → HasFitted before world → HasFitted before (run_task script task world).state
@@ -103,69 +88,39 @@ pub tasks-begin : (world : World) → IsWithinLimits world → tasks_left world 
 tasks-begin world within = omega (arith, tasks-few world within)
 
 module _ (script : Script) where
-  record IsTaskRun (world after : World) : Type 0 where
-    commands : after.begun ≤ 2000000
-    less : tasks_left after < tasks_left world
-
-  first-run : (tasks : List Task) (world : World) → world.tasks ≡ tasks → has_tasks tasks ≡ true → world.begun ≤ 2000000 →
-      IsTaskRun world (run_first script tasks world).state
-  first-run [] world are some most = absurd (let no : false ≡ true = some in cc)
-  first-run (task ∷ others) world are some most =
-      let taken = record world { tasks = others } in
-      let after = (run_task script task taken).state in
-      let fitted : HasFitted taken after = task-fits script taken task taken (record { begun = omega arith; commands = most; tasks = omega arith }) in
-      record {
-        commands = fitted.commands;
-        less = subst (λ (tasks : List Task). tasks_left after < (2000000 - world.begun) + length tasks) (sym are)
-            (less-tasks (world.begun) (after.begun) (length others) (length after.tasks) (fitted.begun) (fitted.commands) (fitted.tasks));
-      }
-
-  abbrev goes : World → Bool
-  goes now = has_tasks (now.tasks)
-
-  abbrev step : World → Said World
-  step now = run_first script (now.tasks) now
-
-  record AreTasksLeft (left : ℕ) (world : World) : Type 0 where
-    commands : world.begun ≤ 2000000
-    most : tasks_left world ≤ left
-
-  falls : (left : ℕ) (world : World) → AreTasksLeft left world → goes world ≡ true → (step world).flow ≡ Next → goes (step world).state ≡ true →
-      IsLess goes step AreTasksLeft left (step world).state
-  falls left world is some next still =
-      let ran = first-run (world.tasks) world refl some (is.commands) in
-      record {
-        now = tasks_left ((step world).state);
-        less = omega (arith, ran.less, is.most);
-        is = record { commands = ran.commands; most = omega arith };
-      }
-
   pub task-falls : (world : World) → IsWithinLimits world → has_tasks (world.tasks) ≡ true →
       tasks_left ((run_first script (world.tasks) world).state) < tasks_left world
-  task-falls world within some = (first-run (world.tasks) world refl some (few-begun world within)).less
+  task-falls world within some = by (world.tasks) refl some
+    where
+      by : (tasks : List Task) → world.tasks ≡ tasks → has_tasks tasks ≡ true → tasks_left ((run_first script tasks world).state) < tasks_left world
+      by [] are some = absurd (let no : false ≡ true = some in cc)
+      by (task ∷ others) are some =
+          let taken = record world { tasks = others } in
+          let after = (run_task script task taken).state in
+          let fitted : HasFitted taken after = task-fits script taken task taken (record { begun = omega arith; tasks = omega arith }) in
+          let most : after.begun ≤ 2000000 = subst (λ (tasks : List Task). (run_first script tasks world).state.begun ≤ 2000000) are
+          (few-begun (run_first script (world.tasks) world).state (first-within script world within)) in
+          subst (λ (tasks : List Task). tasks_left after < (2000000 - world.begun) + length tasks) (sym are)
+          (less-tasks (world.begun) (after.begun) (length others) (length after.tasks) (fitted.begun) most (fitted.tasks))
 
-  pub tasks-ended : (world : World) (most : ℕ) → has_tasks (world.tasks) ≡ false → tasks_up_to most script world ≡ silent world
-  unfolding tasks_up_to
-  tasks-ended world most ends = repeat-not goes step most world ends
+  abbrev pub goes : World → Bool
+  goes now = has_tasks (now.tasks)
+
+  abbrev pub step : World → Said World
+  step now = run_first script (now.tasks) now
+
+  pub record AreTasksLeft (left : ℕ) (world : World) : Type 0 where
+    within : IsWithinLimits world
+    most : tasks_left world ≤ left
+
+  pub falls : (left : ℕ) (world : World) → AreTasksLeft left world → goes world ≡ true → (step world).flow ≡ Next → goes (step world).state ≡ true →
+      IsLess goes step AreTasksLeft left (step world).state
+  falls left world is some next still = record {
+    now = tasks_left ((step world).state);
+    less = omega (arith, task-falls world (is.within) some, is.most);
+    is = record { within = first-within script world (is.within); most = omega arith };
+  }
 
   module _ (world : World) (within : IsWithinLimits world) where
-    left-first : AreTasksLeft (tasks_left world) world
-    left-first = record { commands = few-begun world within; most = omega arith }
-
-    pub tasks-same : (most more : ℕ) → tasks_left world < most → tasks_left world < more → tasks_up_to most script world ≡ tasks_up_to more script world
-    unfolding tasks_up_to
-    tasks-same most more fits fits' = same-bounds goes step AreTasksLeft falls most more (tasks_left world) world left-first fits fits'
-
-    pub tasks-unrolled : (most : ℕ) → tasks_left world < most → has_tasks (world.tasks) ≡ true →
-        tasks_up_to most script world ≡ (run_first script (world.tasks) world followed_by tasks_up_to most script)
-    unfolding tasks_up_to
-    tasks-unrolled most fits some = unrolled goes step AreTasksLeft falls most (tasks_left world) world left-first fits some
-
-    pub tasks-rest : (most : ℕ) → tasks_left world < most → (tasks_up_to most script world).flow ≡ Next →
-        has_tasks ((tasks_up_to most script world).state.tasks) ≡ false
-    unfolding tasks_up_to
-    tasks-rest most fits next = rests goes step AreTasksLeft falls most (tasks_left world) world left-first fits next
-
-    pub run-same : (most : ℕ) → tasks_left world < most → run_tasks script world ≡ tasks_up_to most script world
-    unfolding run_tasks tasks_up_to
-    run-same most fits = same-bounds goes step AreTasksLeft falls most_steps most (tasks_left world) world left-first (tasks-begin world within) fits
+    pub left-first : AreTasksLeft (tasks_left world) world
+    left-first = record { within = within; most = omega arith }

@@ -22,26 +22,26 @@ pub all-if : {A : Type 0} (P : A → Type 0) (test : Bool) (xs : List A) → All
 all-if P true xs all = all
 all-if P false xs all = tt
 
--- an observer changed
+-- the observer at a number, after one was changed or made
+module _ (T : ResizeObserver → Type 0) where
+  pub changed-at : (change : ResizeObserver → ResizeObserver) → ((it : ResizeObserver) → T it → T (change it)) → (place o : ℕ) (made : List ResizeObserver) →
+      T (entry_or no_resize_observer made o) → T (entry_or no_resize_observer (change_at change place made) o)
+  changed-at change each place o [] here = here
+  changed-at change each zero zero (x ∷ xs) here = each x here
+  changed-at change each zero (suc o) (x ∷ xs) here = here
+  changed-at change each (suc place) zero (x ∷ xs) here = here
+  changed-at change each (suc place) (suc o) (x ∷ xs) here = changed-at change each place o xs here
+
+  pub made-at : (new : ResizeObserver) → T new → (o : ℕ) (made : List ResizeObserver) → T (entry_or no_resize_observer made o) →
+      T (entry_or no_resize_observer (made ++ new ∷ []) o)
+  made-at new is zero [] here = is
+  made-at new is (suc o) [] here = here
+  made-at new is zero (x ∷ xs) here = here
+  made-at new is (suc o) (x ∷ xs) here = made-at new is o xs here
 
 module _ (P : Observation → Type 0) (document : ℕ) where
-  pub changed-due : (change : ResizeObserver → ResizeObserver) →
-      ((it : ResizeObserver) → AllByRecursion P (due_of document it) → AllByRecursion P (due_of document (change it))) →
-      (place observer : ℕ) (made : List ResizeObserver) → AllByRecursion P (due_in document made observer) →
-      AllByRecursion P (due_in document (change_at change place made) observer)
-  changed-due change same place observer [] all = all
-  changed-due change same zero zero (x ∷ xs) all = same x all
-  changed-due change same zero (suc observer) (x ∷ xs) all = all
-  changed-due change same (suc place) zero (x ∷ xs) all = all
-  changed-due change same (suc place) (suc observer) (x ∷ xs) all = changed-due change same place observer xs all
-
-  more-in : (made : List ResizeObserver) (owner : ℕ) (handler : Option ℕ) (observer : ℕ) → AllByRecursion P (due_in document made observer) →
-      AllByRecursion P (due_in document
-      (made ++ record { document = owner; handler = handler; targets = []; active = []; skipped = [] } ∷ []) observer)
-  more-in [] owner handler zero all = all-if P (owner == document) [] tt
-  more-in [] owner handler (suc observer) all = all
-  more-in (x ∷ xs) owner handler zero all = all
-  more-in (x ∷ xs) owner handler (suc observer) all = more-in xs owner handler observer all
+  abbrev AllDue : ResizeObserver → Type 0
+  AllDue it = AllByRecursion P (due_of document it)
 
   -- `P` of all that waits
   pub record AreDue (it : ResizeObservers) : Type 0 where
@@ -52,14 +52,14 @@ module _ (P : Observation → Type 0) (document : ℕ) where
     pub changed-same : (change : ResizeObserver → ResizeObserver) → ((each : ResizeObserver) → due_of document (change each) ≡ due_of document each) →
         (given observer : ℕ) → AreDue it → AreDue (record { given = given; made = change_at change observer (it.made) })
     changed-same change same given observer due = record {
-      each = λ o. changed-due change (λ each all. subst (λ (these : List Observation). AllByRecursion P these) (sym (same each)) all) observer o
+      each = λ o. changed-at AllDue change (λ each all. subst (λ (these : List Observation). AllByRecursion P these) (sym (same each)) all) observer o
           (it.made) (due.each o);
     }
 
     pub changed-none : (change : ResizeObserver → ResizeObserver) → ((each : ResizeObserver) → (change each).active ≡ []) → (observer : ℕ) → AreDue it →
         AreDue (change_resize_observer change observer it)
     changed-none change none observer due = record {
-      each = λ o. changed-due change (λ each all. subst (λ (these : List Observation). AllByRecursion P (cond (is_of document (change each)) these []))
+      each = λ o. changed-at AllDue change (λ each all. subst (λ (these : List Observation). AllByRecursion P (cond (is_of document (change each)) these []))
           (sym (none each)) (all-if P (is_of document (change each)) [] tt)) observer o (it.made) (due.each o);
     }
 
@@ -79,7 +79,7 @@ module _ (P : Observation → Type 0) (document : ℕ) where
     no-targets-due observer due = changed-none _ (λ each. refl) observer due
 
     pub more-due : (owner : ℕ) (handler : Option ℕ) → AreDue it → AreDue (with_resize_observer owner handler it)
-    more-due owner handler due = record { each = λ o. more-in (it.made) owner handler o (due.each o) }
+    more-due owner handler due = record { each = λ o. made-at AllDue _ (all-if P (owner == document) [] tt) o (it.made) (due.each o) }
 
 -- gathering
 

@@ -4,4 +4,5 @@ pub mod TaskRuns
 pub mod Moments
 pub mod Uprooting
 pub mod WholeLoops
+pub mod RunLoops
 pub mod Examples

@@ -1,8 +1,9 @@
--- Which commands of a round uproot what was gathered in it: those that move an inclusive ancestor of it.
-use Rattle.std.specs.Prelude.{ℕ, Bool, false, ◌&&◌, cond, List, [], map, flat_map, count_by, Option, Some, None}
+-- Which commands of a round uproot what was gathered in it: those that take an inclusive ancestor of it out of its parent.
+use Rattle.std.specs.Prelude.{ℕ, Bool, false, ◌&&◌, cond, List, [], map, flat_map, count_by, Option, Some, None, is_some}
 use Rattle.std.specs.List.{list_any}
 use Rattle.script_model.specs.Syntax.{Action, Append, Before, Remove, Operand, Command, Simple, Each, When}
 use Rattle.page_model.specs.World.{World, Tree, Observation, ResizeObserver}
+use Rattle.page_model.specs.Lookups.{element_at}
 use Rattle.page_model.specs.Documents.{is_inclusive_ancestor}
 use Rattle.page_model.specs.Gathering.{is_of}
 use Rattle.page_model.specs.Steps.{Step, Did, Threw, Met, is_did}
@@ -23,16 +24,17 @@ comes_to (Did n) test = test n
 comes_to (Threw exception) test = false
 comes_to (Met limit) test = false
 
--- whether an element is an inclusive ancestor of one of these targets
-abbrev pub is_above : Tree → List ℕ → ℕ → Bool
-is_above tree targets n = list_any (λ target. is_inclusive_ancestor tree n target) targets
+-- whether an element has a parent, and is an inclusive ancestor of one of these targets
+abbrev pub stands_above : Tree → List ℕ → ℕ → Bool
+stands_above tree targets n = is_some (element_at tree n).parent && list_any (is_inclusive_ancestor tree n) targets
 
--- whether an action takes effect and moves an inclusive ancestor of one of these targets, as the tree is before
+-- whether an action takes effect and takes an inclusive ancestor of one of these targets out of its parent, as the tree is before. To
+-- move an element that has none, one that stands nowhere or is a root element, makes no depth less, and so doesn't count
 abbrev pub lifts : Script → List ℕ → Moment → Action → Option Operand → Bool
 lifts script targets now action None = false
 lifts script targets now action (Some node) =
     is_did (does (handler_names script) (now.world) (now.present) action)
-    && comes_to (element_meant (now.world.names) (now.present) node) (is_above (now.world.tree) targets)
+    && comes_to (element_meant (now.world.names) (now.present) node) (stands_above (now.world.tree) targets)
 
 abbrev pub uproots_by : Script → List ℕ → Moment → Command → Bool
 uproots_by script targets now (Simple line action) = lifts script targets now action (moved_operand action)
@@ -44,11 +46,12 @@ unfolding does is_inclusive_ancestor
 uproots script targets now = uproots_by script targets now (now.command)
 
 -- the targets that wait to be delivered to a document's observers
+abbrev pub targets_of : ℕ → List ResizeObserver → List ℕ
+targets_of document made =
+    flat_map (λ (observer : ResizeObserver). cond (is_of document observer) (map (λ (it : Observation). it.target) (observer.active)) []) made
+
 abbrev pub gathered_targets : ℕ → World → List ℕ
-gathered_targets document world =
-    flat_map
-    (λ (observer : ResizeObserver). cond (is_of document observer) (map (λ (it : Observation). it.target) (observer.active)) [])
-    (world.resize_observers.made)
+gathered_targets document world = targets_of document (world.resize_observers.made)
 
 -- how many commands of a round uproot what was gathered in it; the round begins in this world
 unfoldable pub uprootings : Script → ℕ → World → ℕ

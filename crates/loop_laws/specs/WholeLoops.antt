@@ -1,8 +1,8 @@
 -- All rounds of a resize loop, with what they deliver, and the error behind them (Resize Observer, 3.4).
-use Rattle.std.specs.Prelude.{◌≡◌, ◌<◌, ◌≤◌, ◌*◌, ℕ, suc, Bool, ◌&&◌, List, [], ◌∷◌, map, fold, max, length, sum_by, flat_map, None, ⊤}
+use Rattle.std.specs.Prelude.{◌≡◌, ◌<◌, ◌≤◌, ◌*◌, ℕ, suc, Bool, cond, ◌&&◌, List, [], ◌∷◌, map, fold, max, length, sum_by, flat_map, None, ⊤}
 use Rattle.std.specs.List.{list_any}
 use Rattle.text_io.specs.declared.kinds.EventKind.TheVariants as events
-use Rattle.script_model.specs.TraceLines.{FiredError}
+use Rattle.script_model.specs.TraceLines.{TraceLine, RoundLine, FiredError}
 use Rattle.page_model.specs.World.{World, Observation, ResizeObserver, WindowTarget}
 use Rattle.page_model.specs.Documents.{is_active, element_depth}
 use Rattle.page_model.specs.Names.{document_text}
@@ -10,7 +10,7 @@ use Rattle.page_model.specs.Gathering.{sight_of, is_of, has_changed, due_at}
 use Rattle.page_model.specs.Runs.{Said, most_steps}
 use Rattle.page_model.specs.Callbacks.{Script, call, fire}
 use Rattle.page_model.specs.Loop.{Broadcast, gather, broadcast, round, deliver_some}
-use Rattle.loop_laws.specs.Moments.{along_repeat, along_places}
+use Rattle.loop_laws.specs.Moments.{onward, following, along_repeat, along_places}
 use Rattle.loop_laws.specs.Rounds.{goes_on, rounds_up_to, round_depth}
 use Rattle.loop_laws.specs.Uprooting.{uprootings}
 
@@ -24,6 +24,13 @@ unfoldable pub round_starts : Script → ℕ → World → List World
 unfolding along_repeat broadcast gather
 round_starts script document world =
     along_repeat (goes_on document) (λ now. now ∷ []) (round script document) most_steps (gather document 0 world)
+
+-- the line of a round, with its depth: none where it was broken off, by a limit or as its document wasn't Active any more
+unfoldable pub line_of_round : Script → ℕ → World → List TraceLine
+unfolding onward broadcast round_depth
+line_of_round script document start =
+    following (broadcast script document start) (λ (so_far : Broadcast).
+    cond (is_active (so_far.world.tree) document) (RoundLine (document_text (so_far.world.names) document) (round_depth script document start) ∷ []) [])
 
 -- the depths of the targets that a round delivers, each as it is then
 unfoldable pub delivered_depths : Script → ℕ → World → List ℕ

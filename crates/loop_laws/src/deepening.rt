@@ -9,7 +9,8 @@ ghost use Rattle.loop_laws.specs.Uprooting.{uprootings};
 ghost use Rattle.loop_laws.specs.WholeLoops.{round_starts, GoesDeeper, HasFewRounds};
 
 /// A round that was gathered at a depth delivers only deeper targets, unless a command of that round uproots what was gathered: an
-/// `append`, `before` or `remove` that takes effect and moves an inclusive ancestor of a target that was gathered, as the tree is then.
+/// `append`, `before` or `remove` that takes effect and takes an inclusive ancestor of a target that was gathered, as the tree is then, out of
+/// its parent.
 pub fn rounds_go_deeper()
     ensures { (script : Script) (document depth : ℕ) (world : World) → IsWithinLimits world → IsDeeper document depth world →
         IsTrue (goes_on document world) → uprootings script document world ≡ 0 → depth < round_depth script document world }

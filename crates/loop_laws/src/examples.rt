@@ -10,13 +10,22 @@ pub fn a_second_round_is_deeper()
 {}
 
 /// The first handler takes the second one's target out of the tree, so that it is delivered at the depth 1, and the second handler puts it
-/// back: four rounds of the depth 1, each with two commands that uproot, and a last one, in which the second handler alone is called.
+/// back, where it has no parent to be taken out of: four rounds of the depth 1, each with one command that uproots, and a last one, in which
+/// the second handler alone is called and moves it to where it stands.
 pub fn depths_fall_where_commands_uproot()
     ensures { loop_seen (codes "script 1\nhandler ha\nwhen not taller x 12px\ngrow x height 1px\nend\nremove y\nend\nhandler hb\nappend z y\nend\nblock r top\nappend top r\nblock x top\nset x height 10px\nappend r x\nblock z top\nappend r z\nblock y top\nset y height 10px\nappend z y\nro a top ha\nro-observe a x content\nro b top hb\nro-observe b y content\n")
         ≡ record {
           depths = 1 ∷ 1 ∷ 1 ∷ 1 ∷ 3 ∷ [];
           commands = 4 ∷ 4 ∷ 4 ∷ 3 ∷ 1 ∷ [];
-          uprootings = 2 ∷ 2 ∷ 2 ∷ 2 ∷ 1 ∷ [];
+          uprootings = 1 ∷ 1 ∷ 1 ∷ 1 ∷ 1 ∷ [];
           delivered = 2 ∷ 1 ∷ 2 ∷ 1 ∷ 2 ∷ 1 ∷ 2 ∷ 1 ∷ 3 ∷ [];
         } }
+{}
+
+/// After a tick in which its handler removed it, `y` stands nowhere and has no box any more, so it is delivered at the depth 1; and the
+/// handler removes it again. This `remove` takes effect, and uproots nothing: by `loops_go_deeper` a round with no other move is deeper than
+/// the one before, whatever is removed that stands nowhere.
+pub fn to_remove_what_stands_nowhere_uproots_nothing()
+    ensures { loop_seen (codes "script 1\nhandler h\nremove y\nend\nblock r top\nappend top r\nblock y top\nset y height 10px\nappend r y\nro o top h\nro-observe o y content\ntick 0\n")
+        ≡ record { depths = 1 ∷ []; commands = 1 ∷ []; uprootings = 0 ∷ []; delivered = 1 ∷ [] } }
 {}

@@ -1,167 +1,160 @@
 -- What a command that a quiet handler may hold leaves: the sizes of all elements that there are, and each observation or none of it.
-use Rattle.std.proofs.Common.{◌≡◌, refl, sym, subst, ◌∙◌, arith, ◌≤◌, true≢false}
-use Rattle.std.specs.Prelude.{ℕ, ℤ, zero, suc, ◌<◌, ◌==◌, not, Bool, true, false, List, [], ◌∷◌, ◌++◌, length, Option, Some, None, IfSome}
+use Rattle.std.proofs.Common.{◌≡◌, refl, sym, subst, ◌∙◌, arith, ◌≤◌, true≢false, ap}
+use Rattle.std.specs.Prelude.{ℕ, ℤ, zero, suc, ◌<◌, ◌==◌, not, true, false, List, [], ◌∷◌, ◌++◌, length, Option, Some, None, unwrap_or, option_map}
 use Rattle.std.specs.List.{AllByRecursion}
 use Rattle.px_units.specs.declared.BoxKind.{BoxKind}
 use Rattle.layout_model.specs.Items.{Kind}
-use Rattle.script_model.specs.Syntax.{Action, Viewport, SetRatio, MakeBlock, MakeImage, MakeFrame, Append, Before, Remove, SetStyle, Grow, Load, MakeResizeObserver, ObserveResize, UnobserveResize, DisconnectResize, MakeIntersectionObserver, ObserveIntersection, UnobserveIntersection, DisconnectIntersection, TakeIntersections, Listen, Unlisten, MakeQueryList, ScrollTo, ScrollBy, RequestFrame, CancelFrame, SetTimer, ClearTimer, Post, Say, Read}
-use Rattle.page_model.specs.World.{Screen, Observation, ResizeObserver, ResizeObservers, IntersectionObservers, Listener, Table, ScrollTarget, Tree, World}
-use Rattle.page_model.specs.Lookups.{change_at, entry_or, no_resize_observer, resize_observer_at}
-use Rattle.page_model.specs.Documents.{is_active}
-use Rattle.page_model.specs.Edits.{with_element, with_frame}
+use Rattle.layout_model.specs.Boxes.{Box}
+use Rattle.script_model.specs.Syntax.{Action, Viewport, SetRatio, Append, Before, Remove, SetStyle, Grow, Load, MakeResizeObserver, ObserveResize, UnobserveResize, DisconnectResize}
+use Rattle.script_model.specs.TraceLines.{TraceLine}
+use Rattle.page_model.specs.World.{Screen, Observation, ResizeObserver, ResizeObservers, ScrollTarget, Tree, World, Document}
+use Rattle.page_model.specs.Lookups.{resize_observer_at, entry_or, no_document}
+use Rattle.page_model.specs.Documents.{is_active, is_active_state}
+use Rattle.page_model.specs.Edits.{with_element, with_frame, new_document}
 use Rattle.page_model.specs.ResizeObserving.{without_observed, with_resize_observer, without_resize_target, without_resize_targets}
 use Rattle.page_model.specs.Gathering.{is_of}
-use Rattle.page_model.specs.PageBoxes.{size_of}
-use Rattle.page_model.specs.Steps.{Step, Effect}
-use Rattle.page_model.specs.Operands.{Present, NoEntry, ResizeEntry, IntersectionEntry, Handlers}
+use Rattle.page_model.specs.PageBoxes.{size_of, size_by, extent_of}
+use Rattle.page_model.specs.Steps.{Effect}
+use Rattle.page_model.specs.Operands.{Present, Handlers}
 use Rattle.page_model.specs.Scrolling.{scrolled_to, scrolled_by}
 use Rattle.page_model.specs.Commands.{does, with_intersections, with_listeners, making}
-use Rattle.page_model.specs.Callbacks.{Script, Entries, handler_names, handler_block, presents, call}
-use Rattle.page_model.specs.Ranges.{IsInRange, IsPresentIn}
+use Rattle.page_model.specs.Callbacks.{Script, Entries, handler_names, presents, call}
+use Rattle.page_model.specs.Ranges.{IsInRange}
 use Rattle.page_laws.specs.Successors.{OnDid}
 use Rattle.page_laws.proofs.Steps.{bind, both, did, on_did-with}
-use Rattle.page_laws.proofs.Lists.{all-filter, all-map}
-use Rattle.page_laws.proofs.Unboxed.{in-range-made}
+use Rattle.page_laws.proofs.Lists.{all-filter, less-more}
+use Rattle.page_laws.proofs.Unboxed.{in-range-made, element-boxes, frame-boxes}
 use Rattle.page_laws.proofs.InRange.{does-in}
 use Rattle.page_laws.proofs.Keeping.{counted}
-use Rattle.page_laws.proofs.RunsInRange.{IsEntryIn, entry-in, same-count}
+use Rattle.page_laws.proofs.RunsInRange.{IsEntryIn, same-count}
+use Rattle.page_laws.specs.Making.{NamesMade, KeepsBoxes}
+use Rattle.loop_laws.specs.Moments.{Moment}
+use Rattle.loop_laws.proofs.Waiting.{changed-at, made-at}
+use Rattle.loop_laws.proofs.Walk.{HandlerHolds, IsAlong, call-along, on_did-given}
 use Rattle.loop_lint.specs.Verdicts.{disturbs}
-use Rattle.loop_lint.proofs.Holding.{BlockHolds, Fails}
-use Rattle.loop_lint.proofs.Carried.{IsCarried, call-carries}
-use Rattle.loop_lint.proofs.More.{IsMore, element-more, frame-more}
+use Rattle.loop_lint.proofs.Holding.{Fails}
+use Rattle.loop_lint.proofs.Held.{present-in}
+
+-- where elements and documents are made ---------------------------------------------------------------------------------------
+
+record IsMore (tree after : Tree) : Type 0 where
+  pub elements : length tree.elements ≤ length after.elements
+  pub sizes : (screen : Screen) (n : ℕ) (kind : BoxKind) → size_of after screen n kind ≡ size_of tree screen n kind
+  pub active : (d : ℕ) → is_active after d ≡ is_active tree d
+
+size-same : (tree after : Tree) → KeepsBoxes tree after → (screen : Screen) (n : ℕ) (kind : BoxKind) → size_of after screen n kind ≡ size_of tree screen n kind
+unfolding size_of
+size-same tree after keeps screen n kind =
+    ap (λ (box : Option Box). extent_of (unwrap_or (option_map (size_by (screen.ratio) kind) box) (0, 0))) (keeps.boxes screen n)
+
+fresh-idle : (documents : List Document) (frame d : ℕ) →
+    is_active_state (entry_or no_document (documents ++ new_document frame ∷ []) d).state ≡ is_active_state (entry_or no_document documents d).state
+fresh-idle [] frame zero = refl
+fresh-idle [] frame (suc d) = refl
+fresh-idle (x ∷ xs) frame zero = refl
+fresh-idle (x ∷ xs) frame (suc d) = fresh-idle xs frame d
+
+element-more : (kind : Kind) (made_in : ℕ) (framed : Option ℕ) (tree : Tree) → NamesMade tree → IsMore tree (with_element kind made_in framed tree)
+element-more kind made_in framed tree made = record {
+  elements = less-more (tree.elements) _;
+  sizes = size-same tree _ (element-boxes tree made kind made_in framed);
+  active = λ d. refl;
+}
+
+frame-more : (made_in : ℕ) (tree : Tree) → NamesMade tree → IsMore tree (with_frame made_in tree)
+frame-more made_in tree made = record {
+  elements = less-more (tree.elements) _;
+  sizes = size-same tree _ (frame-boxes tree made made_in);
+  active = fresh-idle (tree.documents) (length tree.elements);
+}
 
 -- observers -----------------------------------------------------------------------------------------------------------------------
 
--- a test of each of an observer's observations, under its active list, if it is one of the document
-abbrev pub Passes : (List Observation → Observation → Bool) → ℕ → ResizeObserver → Type 0
-Passes test document it = is_of document it ≡ true → AllByRecursion (λ x. test (it.active) x ≡ true) it.targets
-
--- what passed goes on to pass
-pub record KeepsTargets (document : ℕ) (before now : ResizeObservers) : Type 0 where
-  pub each : (o : ℕ) (test : List Observation → Observation → Bool) → Passes test document (resize_observer_at before o) →
-      Passes test document (resize_observer_at now o)
-
-still-targets : (document : ℕ) (it : ResizeObservers) → KeepsTargets document it it
-still-targets document it = record { each = λ o test pass. pass }
-
-changed-passes : (document : ℕ) (change : ResizeObserver → ResizeObserver) (test : List Observation → Observation → Bool) →
-    ((it : ResizeObserver) → Passes test document it → Passes test document (change it)) → (place o : ℕ) (made : List ResizeObserver) →
-    Passes test document (entry_or no_resize_observer made o) → Passes test document (entry_or no_resize_observer (change_at change place made) o)
-changed-passes document change test each place o [] pass = pass
-changed-passes document change test each zero zero (x ∷ xs) pass = each x pass
-changed-passes document change test each zero (suc o) (x ∷ xs) pass = pass
-changed-passes document change test each (suc place) zero (x ∷ xs) pass = pass
-changed-passes document change test each (suc place) (suc o) (x ∷ xs) pass = changed-passes document change test each place o xs pass
-
-made-passes : (document : ℕ) (y : ResizeObserver) → y.targets ≡ [] → (test : List Observation → Observation → Bool) (o : ℕ) (made : List ResizeObserver) →
-    Passes test document (entry_or no_resize_observer made o) → Passes test document (entry_or no_resize_observer (made ++ y ∷ []) o)
-made-passes document y none test zero [] pass = λ own. subst (λ (targets : List Observation). AllByRecursion (λ x. test (y.active) x ≡ true) targets) (sym none) tt
-made-passes document y none test (suc o) [] pass = pass
-made-passes document y none test zero (x ∷ xs) pass = pass
-made-passes document y none test (suc o) (x ∷ xs) pass = made-passes document y none test o xs pass
+-- `P` of each of an observer's observations, under its active list, if it is one of the document
+abbrev pub Passes : (List Observation → Observation → Type 0) → ℕ → ResizeObserver → Type 0
+Passes P document it = is_of document it ≡ true → AllByRecursion (P (it.active)) (it.targets)
 
 -- pages ----------------------------------------------------------------------------------------------------------------------------
 
--- the elements that there were have the sizes that they had, the document is Active where it was, and what passed passes
-pub record IsCalm (document : ℕ) (tree : Tree) (screen : Screen) (it : ResizeObservers) (tree' : Tree) (screen' : Screen) (it' : ResizeObservers) : Type 0 where
-  pub elements : length tree.elements ≤ length tree'.elements
-  pub sizes : (n : ℕ) → n < length tree.elements → (kind : BoxKind) → size_of tree' screen' n kind ≡ size_of tree screen n kind
-  pub active : is_active tree' document ≡ is_active tree document
-  pub targets : KeepsTargets document it it'
+module _ (P : ℕ → List Observation → Observation → Type 0) (document : ℕ) where
+  -- the elements that there were have the sizes that they had, the document is Active where it was, and what `P` was so of it is so of
+  pub record IsCalm (tree : Tree) (screen : Screen) (it : ResizeObservers) (tree' : Tree) (screen' : Screen) (it' : ResizeObservers) : Type 0 where
+    pub elements : length tree.elements ≤ length tree'.elements
+    pub sizes : (n : ℕ) → n < length tree.elements → (kind : BoxKind) → size_of tree' screen' n kind ≡ size_of tree screen n kind
+    pub active : is_active tree' document ≡ is_active tree document
+    pub targets : (o : ℕ) → Passes (P o) document (resize_observer_at it o) → Passes (P o) document (resize_observer_at it' o)
 
-abbrev pub Calm : ℕ → World → World → Type 0
-Calm document before now =
-    IsCalm document (before.tree) (before.viewports.screen) (before.resize_observers) (now.tree) (now.viewports.screen) (now.resize_observers)
+  abbrev pub Calm : World → World → Type 0
+  Calm before now = IsCalm (before.tree) (before.viewports.screen) (before.resize_observers) (now.tree) (now.viewports.screen) (now.resize_observers)
 
-pub still-calm : (document : ℕ) (tree : Tree) (screen : Screen) (it : ResizeObservers) → IsCalm document tree screen it tree screen it
-still-calm document tree screen it =
-    record { elements = omega arith; sizes = λ n is kind. refl; active = refl; targets = still-targets document it }
+  still-calm : (tree : Tree) (screen : Screen) (it : ResizeObservers) → IsCalm tree screen it tree screen it
+  still-calm tree screen it = record { elements = omega arith; sizes = λ n is kind. refl; active = refl; targets = λ o pass. pass }
 
-pub then-calm : (document : ℕ) (a b c : World) → Calm document a b → Calm document b c → Calm document a c
-then-calm document a b c one other = record {
-  elements = omega (arith, one.elements, other.elements);
-  sizes = λ n is kind. other.sizes n (let less : n < length b.tree.elements = omega (arith, is, one.elements) in less) kind ∙ one.sizes n is kind;
-  active = other.active ∙ one.active;
-  targets = record { each = λ o test pass. other.targets.each o test (one.targets.each o test pass) };
-}
+  then-calm : (a b c : World) → Calm a b → Calm b c → Calm a c
+  then-calm a b c one other = record {
+    elements = omega (arith, one.elements, other.elements);
+    sizes = λ n is kind. other.sizes n (let less : n < length b.tree.elements = omega (arith, is, one.elements) in less) kind ∙ one.sizes n is kind;
+    active = other.active ∙ one.active;
+    targets = λ o pass. other.targets o (one.targets o pass);
+  }
 
-more-calm : (document : ℕ) (tree after : Tree) (screen : Screen) (it : ResizeObservers) → IsMore tree after → IsCalm document tree screen it after screen it
-more-calm document tree after screen it more = record {
-  elements = more.elements;
-  sizes = λ n is kind. more.sizes screen n kind;
-  active = more.active document;
-  targets = still-targets document it;
-}
+  more-calm : (tree after : Tree) (screen : Screen) (it : ResizeObservers) → IsMore tree after → IsCalm tree screen it after screen it
+  more-calm tree after screen it more = record {
+    elements = more.elements;
+    sizes = λ n is kind. more.sizes screen n kind;
+    active = more.active document;
+    targets = λ o pass. pass;
+  }
 
 -- commands --------------------------------------------------------------------------------------------------------------------------
 
-module _ (document : ℕ) (handlers : Handlers) (world : World) (within : IsInRange (length handlers) world) where
+module _ (P : ℕ → List Observation → Observation → Type 0) (document : ℕ) (handlers : Handlers) (world : World) (within : IsInRange (length handlers) world) where
+  abbrev Becomes : Tree → ResizeObservers → Type 0
+  Becomes tree it = IsCalm P document (world.tree) (world.viewports.screen) (world.resize_observers) tree (world.viewports.screen) it
+
   abbrev Done : Effect → Type 0
-  Done effect = Calm document world (effect.world)
+  Done effect = Calm P document world (effect.world)
 
-  here : IsCalm document (world.tree) (world.viewports.screen) (world.resize_observers) (world.tree) (world.viewports.screen) (world.resize_observers)
-  here = still-calm document (world.tree) (world.viewports.screen) (world.resize_observers)
+  here : Becomes (world.tree) (world.resize_observers)
+  here = still-calm P document (world.tree) (world.viewports.screen) (world.resize_observers)
 
-  made-element : (kind : Kind) (made_in : ℕ) (framed : Option ℕ) →
-      IsCalm document (world.tree) (world.viewports.screen) (world.resize_observers) (with_element kind made_in framed (world.tree)) (world.viewports.screen) (world.resize_observers)
+  made-element : (kind : Kind) (made_in : ℕ) (framed : Option ℕ) → Becomes (with_element kind made_in framed (world.tree)) (world.resize_observers)
   made-element kind made_in framed =
-      more-calm document (world.tree) _ (world.viewports.screen) (world.resize_observers)
+      more-calm P document (world.tree) _ (world.viewports.screen) (world.resize_observers)
       (element-more kind made_in framed (world.tree) (in-range-made (length handlers) world within))
 
-  made-frame : (made_in : ℕ) →
-      IsCalm document (world.tree) (world.viewports.screen) (world.resize_observers) (with_frame made_in (world.tree)) (world.viewports.screen) (world.resize_observers)
+  made-frame : (made_in : ℕ) → Becomes (with_frame made_in (world.tree)) (world.resize_observers)
   made-frame made_in =
-      more-calm document (world.tree) _ (world.viewports.screen) (world.resize_observers)
+      more-calm P document (world.tree) _ (world.viewports.screen) (world.resize_observers)
       (frame-more made_in (world.tree) (in-range-made (length handlers) world within))
 
-  observers-calm : (it : ResizeObservers) → KeepsTargets document (world.resize_observers) it →
-      IsCalm document (world.tree) (world.viewports.screen) (world.resize_observers) (world.tree) (world.viewports.screen) it
+  observers-calm : (it : ResizeObservers) →
+      ((o : ℕ) → Passes (P o) document (resize_observer_at (world.resize_observers) o) → Passes (P o) document (resize_observer_at it o)) → Becomes (world.tree) it
   observers-calm it targets = record { elements = here.elements; sizes = here.sizes; active = here.active; targets = targets }
 
-  made-observer : (owner : ℕ) (handler : Option ℕ) →
-      IsCalm document (world.tree) (world.viewports.screen) (world.resize_observers) (world.tree) (world.viewports.screen)
-      (with_resize_observer owner handler (world.resize_observers))
-  made-observer owner handler =
-      observers-calm _ (record { each = λ o test pass. made-passes document _ refl test o (world.resize_observers.made) pass })
+  made-observer : (owner : ℕ) (handler : Option ℕ) → Becomes (world.tree) (with_resize_observer owner handler (world.resize_observers))
+  made-observer owner handler = observers-calm _ (λ o pass. made-at (Passes (P o) document) _ (λ own. tt) o (world.resize_observers.made) pass)
 
-  no-target : (observer n : ℕ) →
-      IsCalm document (world.tree) (world.viewports.screen) (world.resize_observers) (world.tree) (world.viewports.screen)
-      (without_resize_target observer n (world.resize_observers))
-  no-target observer n = observers-calm _ (record {
-    each = λ o test pass. changed-passes document (λ each. record each { targets = without_observed n (each.targets) }) test
-        (λ it passes own. all-filter (λ x. test (it.active) x ≡ true) (λ each. not (each.target == n)) (it.targets) (passes own)) observer o (world.resize_observers.made) pass;
-  })
+  no-target : (observer n : ℕ) → Becomes (world.tree) (without_resize_target observer n (world.resize_observers))
+  no-target observer n =
+      observers-calm _ (λ o pass. changed-at (Passes (P o) document) (λ each. record each { targets = without_observed n (each.targets) })
+      (λ it passes own. all-filter (P o (it.active)) (λ each. not (each.target == n)) (it.targets) (passes own)) observer o (world.resize_observers.made) pass)
 
-  no-targets : (observer : ℕ) →
-      IsCalm document (world.tree) (world.viewports.screen) (world.resize_observers) (world.tree) (world.viewports.screen)
-      (without_resize_targets observer (world.resize_observers))
-  no-targets observer = observers-calm _ (record {
-    each = λ o test pass. changed-passes document (λ each. record each { targets = []; active = [] }) test (λ it passes own. tt) observer o
-        (world.resize_observers.made) pass;
-  })
+  no-targets : (observer : ℕ) → Becomes (world.tree) (without_resize_targets observer (world.resize_observers))
+  no-targets observer =
+      observers-calm _ (λ o pass. changed-at (Passes (P o) document) (λ each. record each { targets = []; active = [] }) (λ it passes own. tt) observer o
+      (world.resize_observers.made) pass)
 
-  intersections-calm : (step : Step IntersectionObservers) → OnDid (with_intersections world step) Done
-  unfolding with_intersections
-  intersections-calm step = bind step _ Done (λ it. did _ Done here)
-
-  listeners-calm : (step : Step (Table Listener)) → OnDid (with_listeners world step) Done
-  unfolding with_listeners
-  listeners-calm step = bind step _ Done (λ it. did _ Done here)
-
-  making-calm : (name made_in : List ℕ) (kind : Kind) → OnDid (making world name made_in kind) Done
-  unfolding making
-  making-calm name made_in kind = search (both, bind, did, made-element) depth 9
-
-  scrolled-calm : (left top : ℤ) (target : Option ScrollTarget) → Calm document world (scrolled_to left top target world)
+  scrolled-calm : (left top : ℤ) (target : Option ScrollTarget) → Calm P document world (scrolled_to left top target world)
   scrolled-calm left top None = here
   scrolled-calm left top (Some target) = here
 
-  scrolled-by-calm : (left top : ℤ) (target : Option ScrollTarget) → Calm document world (scrolled_by left top target world)
+  scrolled-by-calm : (left top : ℤ) (target : Option ScrollTarget) → Calm P document world (scrolled_by left top target world)
   scrolled-by-calm left top None = here
   scrolled-by-calm left top (Some target) = here
 
   pub does-calm : (present : Present) (action : Action) → disturbs action ≡ false → OnDid (does handlers world present action) Done
-  unfolding does
+  unfolding does with_intersections with_listeners making
   does-calm present (Viewport width height) quiet = absurd (true≢false quiet)
   does-calm present (SetRatio hundredths) quiet = absurd (true≢false quiet)
   does-calm present (Append parent node) quiet = absurd (true≢false quiet)
@@ -171,63 +164,45 @@ module _ (document : ℕ) (handlers : Handlers) (world : World) (within : IsInRa
   does-calm present (Grow node dimension by) quiet = absurd (true≢false quiet)
   does-calm present (Load node width height) quiet = absurd (true≢false quiet)
   does-calm present (ObserveResize observer node observed) quiet = absurd (true≢false quiet)
-  does-calm present (MakeBlock name made_in) quiet = making-calm name made_in _
-  does-calm present (MakeImage name made_in width height) quiet = making-calm name made_in _
-  does-calm present (MakeFrame name made_in inside) quiet = search (both, bind, did, made-frame) depth 12
   does-calm present (MakeResizeObserver name owner handler) quiet = search (both, bind, did, made-observer) depth 12
   does-calm present (UnobserveResize observer node) quiet = search (bind, did, no-target) depth 9
   does-calm present (DisconnectResize observer) quiet = search (bind, did, no-targets) depth 9
-  does-calm present (MakeIntersectionObserver made) quiet = search (both, bind, did, here) depth 14
-  does-calm present (ObserveIntersection observer node) quiet = search (bind, intersections-calm) depth 9
-  does-calm present (UnobserveIntersection observer node) quiet = search (bind, did, here) depth 9
-  does-calm present (DisconnectIntersection observer) quiet = search (bind, did, here) depth 9
-  does-calm present (TakeIntersections observer) quiet = search (bind, did, here) depth 9
-  does-calm present (Listen aim event handler) quiet = search (bind, listeners-calm) depth 9
-  does-calm present (Unlisten aim event handler) quiet = search (bind, did, here) depth 9
-  does-calm present (MakeQueryList name owner query) quiet = search (both, bind, did, here) depth 9
-  does-calm present (ScrollTo scrolled left top) quiet = search (bind, did, scrolled-calm) depth 9
-  does-calm present (ScrollBy scrolled left top) quiet = search (bind, did, scrolled-by-calm) depth 9
-  does-calm present (RequestFrame owner key handler) quiet = search (both, bind, did, here) depth 9
-  does-calm present (CancelFrame owner key) quiet = search (bind, did, here) depth 9
-  does-calm present (SetTimer owner key delay handler) quiet = search (both, bind, did, here) depth 9
-  does-calm present (ClearTimer owner key) quiet = search (bind, did, here) depth 9
-  does-calm present (Post owner handler) quiet = search (both, bind, did, here) depth 9
-  does-calm present (Say word) quiet = did _ Done here
-  does-calm present (Read shown) quiet = search (bind, did, here) depth 9
+  does-calm present action quiet = search (both, bind, did, here, made-element, made-frame, scrolled-calm, scrolled-by-calm) depth 14
 
 -- callbacks -------------------------------------------------------------------------------------------------------------------------
 
-present-in : (k : ℕ) (world : World) (present : Present) → k ≤ length world.tree.elements → IsEntryIn k present → IsPresentIn world present
-present-in k world NoEntry most is = tt
-present-in k world (ResizeEntry target) most is = omega (arith, most, is)
-present-in k world (IntersectionEntry target meets) most is = omega (arith, most, is)
-
-module _ (document : ℕ) (script : Script) (start : World) where
+module _ (P : ℕ → List Observation → Observation → Type 0) (document : ℕ) (script : Script) (start : World) where
   -- a world in range that is calm since the start of a callback
   record IsSince (world : World) : Type 0 where
-    calm : Calm document start world
+    calm : Calm P document start world
     within : IsInRange (length (handler_names script)) world
+
+  abbrev Since : World → List TraceLine → List Moment → World → Type 0
+  Since before lines moments now = IsSince before → IsSince now
 
   counted-in : (world : World) → IsInRange (length (handler_names script)) world → IsInRange (length (handler_names script)) (counted world)
   counted-in world within = search
 
-  since-carried : IsCarried script (Fails disturbs) (IsEntryIn (length start.tree.elements)) IsSince
-  since-carried = record {
-    begun = λ world room since. record { calm = since.calm; within = counted-in world (since.within) };
-    does = λ world present action quiet is since.
-        on_did-with (does (handler_names script) world present action) _ _ (λ effect. IsSince (effect.world))
-        (λ effect calm within. record { calm = then-calm document start world (effect.world) (since.calm) calm; within = within })
-        (does-calm document (handler_names script) world (since.within) present action quiet)
-        (does-in (handler_names script) world (since.within) present action (present-in (length start.tree.elements) world present (since.calm.elements) is));
+  since-along : IsAlong script (Fails disturbs) (IsEntryIn (length start.tree.elements)) Since
+  since-along = record {
+    joined = record { none = λ world since. since; both = λ a b c lines more xs ys one other since. other (one since) };
+    plain = λ world lines plain since. since;
+    begun = λ world present command fits is room since. record { calm = since.calm; within = counted-in world (since.within) };
+    does = λ line action present world quiet is room. on_did-given (does (handler_names script) (counted world) present action) (IsSince world) _ λ since.
+        let within = counted-in world (since.within) in
+        on_did-with (does (handler_names script) (counted world) present action) _ _ (λ effect. IsSince (effect.world))
+        (λ effect calm within. record { calm = then-calm P document start world (effect.world) (since.calm) calm; within = within })
+        (does-calm P document (handler_names script) (counted world) within present action quiet)
+        (does-in (handler_names script) (counted world) within present action (present-in (length start.tree.elements) (counted world) present (since.calm.elements) is));
     none = tt;
   }
 
-  pub call-calm : IsInRange (length script) start → (owner : ℕ) (handler : Option ℕ) (handed : Entries) → AllByRecursion (IsPresentIn start) (presents handed) →
-      IfSome handler (λ h. BlockHolds (Fails disturbs) (handler_block script h)) → Calm document start (call script owner handler handed start).state
+  pub call-calm : IsInRange (length script) start → (owner : ℕ) (handler : Option ℕ) (handed : Entries) →
+      AllByRecursion (IsEntryIn (length start.tree.elements)) (presents handed) → HandlerHolds (Fails disturbs) script handler →
+      Calm P document start (call script owner handler handed start).state
   call-calm within owner handler handed are holds =
-      (call-carries script _ _ _ since-carried owner handler handed start
-      (all-map (IsPresentIn start) (IsEntryIn (length start.tree.elements)) (entry-in start) (presents handed) are) holds
+      (call-along script _ _ Since since-along owner handler handed start are holds
       (record {
-        calm = still-calm document (start.tree) (start.viewports.screen) (start.resize_observers);
+        calm = still-calm P document (start.tree) (start.viewports.screen) (start.resize_observers);
         within = subst (λ (count : ℕ). IsInRange count start) (sym (same-count script)) within;
       })).calm

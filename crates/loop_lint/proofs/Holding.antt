@@ -1,26 +1,12 @@
 -- What holds of each command in the blocks of a script, at any nesting.
 use Rattle.std.proofs.Common.{◌≡◌, refl, sym, ap, ◌∙◌, true≢false}
 use Rattle.std.proofs.lemmas.Slice.Eq.{bytes_eq-Decides}
-use Rattle.std.specs.Prelude.{ℕ, zero, suc, unwrap_or, option_map, slice_get, Bool, true, false, cond, List, [], ◌∷◌, ◌++◌, flat_map, Option, Some, None, ⊤}
+use Rattle.std.specs.Prelude.{bytes_eq, ℕ, zero, suc, unwrap_or, option_map, slice_get, Bool, true, false, cond, List, [], ◌∷◌, ◌++◌, flat_map, Option, Some, None, ⊤}
 use Rattle.std.specs.List.{AllByRecursion}
-use Rattle.script_model.specs.Syntax.{Action, Viewport, SetRatio, MakeBlock, MakeImage, MakeFrame, Append, Before, Remove, SetStyle, Grow, Load, MakeResizeObserver, ObserveResize, UnobserveResize, DisconnectResize, MakeIntersectionObserver, ObserveIntersection, UnobserveIntersection, DisconnectIntersection, TakeIntersections, Listen, Unlisten, MakeQueryList, ScrollTo, ScrollBy, RequestFrame, CancelFrame, SetTimer, ClearTimer, Post, Say, Read, Command, Simple, Each, When, Block, NoMore, Then, Item, Outside, Tick, Handler}
+use Rattle.script_model.specs.Syntax.{Action, MakeResizeObserver, Command, Simple, Each, When, Block, NoMore, Then, Item, Outside, Tick, Handler}
 use Rattle.script_model.specs.Scripts.{NamedBlock, handlers_in}
-use Rattle.loop_lint.specs.LoopHandlers.{lines_in, block_lines, item_lines, is_empty, names_handler, naming_lines, is_unnamed, loop_handler_lines}
-
--- `P` of each command without a block, at any nesting
-unfoldable mutual
-  pub CommandHolds : (Action → Type 0) → Command → Type 0
-  CommandHolds P (Simple line action) = P action
-  CommandHolds P (Each line block end_line) = BlockHolds P block
-  CommandHolds P (When line condition block end_line) = BlockHolds P block
-
-  pub BlockHolds : (Action → Type 0) → Block → Type 0
-  BlockHolds P NoMore = ⊤
-  BlockHolds P (Then command others) = CommandHolds P command × BlockHolds P others
-
-pub simple-holds : (P : Action → Type 0) (line : ℕ) (action : Action) → CommandHolds P (Simple line action) → P action
-unfolding CommandHolds
-simple-holds P line action holds = holds
+use Rattle.loop_laws.proofs.Walk.{CommandHolds, BlockHolds}
+use Rattle.loop_lint.specs.LoopHandlers.{lines_in, block_lines, item_lines, is_empty, names_handler, naming_lines, is_unnamed, HasHandlersOf, loop_handler_lines}
 
 abbrev pub ItemHolds : (Action → Type 0) → Item → Type 0
 ItemHolds P (Outside command) = CommandHolds P command
@@ -28,10 +14,6 @@ ItemHolds P (Tick line time) = ⊤
 ItemHolds P (Handler line name block end_line) = BlockHolds P block
 
 -- a block without lines of a test has no command that passes it
-
-empty-is : {A : Type 0} (xs : List A) → is_empty xs ≡ true → xs ≡ []
-empty-is [] e = refl
-empty-is (x ∷ xs) e = absurd (true≢false (sym e))
 
 empty-parts : {A : Type 0} (xs ys : List A) → is_empty (xs ++ ys) ≡ true → (is_empty xs ≡ true) × (is_empty ys ≡ true)
 empty-parts [] ys e = (refl, e)
@@ -41,34 +23,40 @@ empty-cond : (test : Bool) (line : ℕ) → is_empty (cond test (line ∷ []) []
 empty-cond true line e = absurd (true≢false (sym e))
 empty-cond false line e = refl
 
-module _ (test : Action → Bool) where
-  abbrev pub Fails : Action → Type 0
-  Fails action = test action ≡ false
-
+-- where some tests pass none of a command's actions, `Q` of each action that none of them passes holds of the command
+module _ {K : Type 0} (test : K → Action → Bool) (Q : Action → Type 0) (each : (action : Action) → ((k : K) → test k action ≡ false) → Q action) where
   mutual
     unfolding lines_in CommandHolds
 
-    pub command-fails : (command : Command) → is_empty (lines_in test command) ≡ true → CommandHolds Fails command
-    command-fails (Simple line action) e = empty-cond (test action) line e
-    command-fails (Each line block end_line) e = block-fails block e
-    command-fails (When line condition block end_line) e = block-fails block e
+    command-empty : (command : Command) → ((k : K) → is_empty (lines_in (test k) command) ≡ true) → CommandHolds Q command
+    command-empty (Simple line action) e = each action (λ k. empty-cond (test k action) line (e k))
+    command-empty (Each line block end_line) e = block-empty block e
+    command-empty (When line condition block end_line) e = block-empty block e
 
-    pub block-fails : (block : Block) → is_empty (block_lines test block) ≡ true → BlockHolds Fails block
-    block-fails NoMore e = tt
-    block-fails (Then command others) e =
-        let parts = empty-parts (lines_in test command) (block_lines test others) e in
-        (command-fails command (parts.0), block-fails others (parts.1))
+    block-empty : (block : Block) → ((k : K) → is_empty (block_lines (test k) block) ≡ true) → BlockHolds Q block
+    block-empty NoMore e = tt
+    block-empty (Then command others) e = (
+      command-empty command (λ k. (empty-parts (lines_in (test k) command) (block_lines (test k) others) (e k)).0),
+      block-empty others (λ k. (empty-parts (lines_in (test k) command) (block_lines (test k) others) (e k)).1),
+    )
 
-  item-fails : (item : Item) → is_empty (item_lines test item) ≡ true → ItemHolds Fails item
-  item-fails (Outside command) e = command-fails command e
-  item-fails (Tick line time) e = tt
-  item-fails (Handler line name block end_line) e = block-fails block e
+  item-empty : (item : Item) → ((k : K) → is_empty (item_lines (test k) item) ≡ true) → ItemHolds Q item
+  item-empty (Outside command) e = command-empty command e
+  item-empty (Tick line time) e = tt
+  item-empty (Handler line name block end_line) e = block-empty block e
 
-  items-fail : (items : List Item) → is_empty (flat_map (item_lines test) items) ≡ true → AllByRecursion (ItemHolds Fails) items
-  items-fail [] e = tt
-  items-fail (item ∷ items) e =
-      let parts = empty-parts (item_lines test item) (flat_map (item_lines test) items) e in
-      (item-fails item (parts.0), items-fail items (parts.1))
+  items-empty : (items : List Item) → ((k : K) → is_empty (flat_map (item_lines (test k)) items) ≡ true) → AllByRecursion (ItemHolds Q) items
+  items-empty [] e = tt
+  items-empty (item ∷ items) e = (
+    item-empty item (λ k. (empty-parts (item_lines (test k) item) (flat_map (item_lines (test k)) items) (e k)).0),
+    items-empty items (λ k. (empty-parts (item_lines (test k) item) (flat_map (item_lines (test k)) items) (e k)).1),
+  )
+
+abbrev pub Fails : (Action → Bool) → Action → Type 0
+Fails test action = test action ≡ false
+
+block-fails : (test : Action → Bool) (block : Block) → is_empty (block_lines test block) ≡ true → BlockHolds (Fails test) block
+block-fails test block e = block-empty {K = ℕ} (λ k. test) (Fails test) (λ action none. none 0) block (λ k. e)
 
 -- each `ro` of a script names a loop handler of it
 
@@ -82,79 +70,26 @@ module _ (unnamed : List ℕ → Bool) where
   Names (MakeResizeObserver observer document handler) = IsNamedBy handler
   Names action = ⊤
 
-  abbrev Unnamed : Action → Type 0
-  Unnamed action = (name : List ℕ) → unnamed name ≡ true → names_handler name action ≡ false
+  record IsUnnamed : Type 0 where
+    name : List ℕ
+    is : unnamed name ≡ true
 
-  named-so : (name : List ℕ) → Unnamed (MakeResizeObserver [] [] (Some name)) → unnamed name ≡ false
+  named-so : (name : List ℕ) → ((k : IsUnnamed) → bytes_eq name (k.name) ≡ false) → unnamed name ≡ false
   named-so name none = by (unnamed name) refl
     where
       by : (is : Bool) → unnamed name ≡ is → is ≡ false
-      by true is = absurd (true≢false (sym ((bytes_eq-Decides name name).1 refl) ∙ none name is))
+      by true is = absurd (true≢false (sym ((bytes_eq-Decides name name).1 refl) ∙ none (record { name = name; is = is })))
       by false is = refl
 
-  action-names : (action : Action) → Unnamed action → Names action
+  action-names : (action : Action) → ((k : IsUnnamed) → names_handler (k.name) action ≡ false) → Names action
   action-names (MakeResizeObserver observer document None) none = tt
   action-names (MakeResizeObserver observer document (Some name)) none = named-so name none
-  action-names (Viewport width height) none = tt
-  action-names (SetRatio hundredths) none = tt
-  action-names (MakeBlock name document) none = tt
-  action-names (MakeImage name document width height) none = tt
-  action-names (MakeFrame name document inside) none = tt
-  action-names (Append parent node) none = tt
-  action-names (Before parent node sibling) none = tt
-  action-names (Remove node) none = tt
-  action-names (SetStyle node declaration) none = tt
-  action-names (Grow node dimension by) none = tt
-  action-names (Load node width height) none = tt
-  action-names (ObserveResize observer node observed) none = tt
-  action-names (UnobserveResize observer node) none = tt
-  action-names (DisconnectResize observer) none = tt
-  action-names (MakeIntersectionObserver made) none = tt
-  action-names (ObserveIntersection observer node) none = tt
-  action-names (UnobserveIntersection observer node) none = tt
-  action-names (DisconnectIntersection observer) none = tt
-  action-names (TakeIntersections observer) none = tt
-  action-names (Listen aim event handler) none = tt
-  action-names (Unlisten aim event handler) none = tt
-  action-names (MakeQueryList name document query) none = tt
-  action-names (ScrollTo scrolled left top) none = tt
-  action-names (ScrollBy scrolled left top) none = tt
-  action-names (RequestFrame document key handler) none = tt
-  action-names (CancelFrame document key) none = tt
-  action-names (SetTimer document key delay handler) none = tt
-  action-names (ClearTimer document key) none = tt
-  action-names (Post document handler) none = tt
-  action-names (Say word) none = tt
-  action-names (Read shown) none = tt
-
-  mutual
-    unfolding CommandHolds
-
-    command-names : (command : Command) → ((name : List ℕ) → unnamed name ≡ true → CommandHolds (Fails (names_handler name)) command) →
-        CommandHolds Names command
-    command-names (Simple line action) none = action-names action none
-    command-names (Each line block end_line) none = block-names block none
-    command-names (When line condition block end_line) none = block-names block none
-
-    block-names : (block : Block) → ((name : List ℕ) → unnamed name ≡ true → BlockHolds (Fails (names_handler name)) block) → BlockHolds Names block
-    block-names NoMore none = tt
-    block-names (Then command others) none =
-        (command-names command (λ name is. (none name is).0), block-names others (λ name is. (none name is).1))
-
-  item-names : (item : Item) → ((name : List ℕ) → unnamed name ≡ true → ItemHolds (Fails (names_handler name)) item) → ItemHolds Names item
-  item-names (Outside command) none = command-names command none
-  item-names (Tick line time) none = tt
-  item-names (Handler line name block end_line) none = block-names block none
-
-  items-name : (items : List Item) → ((name : List ℕ) → unnamed name ≡ true → AllByRecursion (ItemHolds (Fails (names_handler name))) items) →
-      AllByRecursion (ItemHolds Names) items
-  items-name [] none = tt
-  items-name (item ∷ items) none =
-      (item-names item (λ name is. (none name is).0), items-name items (λ name is. (none name is).1))
+  action-names action none = tt
 
 pub all-named : (items : List Item) → AllByRecursion (ItemHolds (Names (is_unnamed items))) items
 unfolding naming_lines
-all-named items = items-name (is_unnamed items) items (λ name is. items-fail (names_handler name) items is)
+all-named items =
+    items-empty (λ (k : IsUnnamed (is_unnamed items)). names_handler (k.name)) (Names (is_unnamed items)) (action-names (is_unnamed items)) items (λ k. k.is)
 
 -- the handlers of a script
 
@@ -207,9 +142,8 @@ handler-lines-same test one other same (handler ∷ handlers) =
     ++ flat_map (λ (it : NamedBlock). cond (other (it.name)) [] (block_lines test (it.block))) handlers) (same (handler.name))
     ∙ ap (λ (rest : List ℕ). cond (one (handler.name)) [] (block_lines test (handler.block)) ++ rest) (handler-lines-same test one other same handlers)
 
-pub lines-same : (test : Action → Bool) (items other : List Item) → handlers_in other ≡ handlers_in items →
-    ((name : List ℕ) → is_unnamed other name ≡ is_unnamed items name) → loop_handler_lines test other ≡ loop_handler_lines test items
+pub lines-same : (test : Action → Bool) (items other : List Item) → HasHandlersOf items other → loop_handler_lines test other ≡ loop_handler_lines test items
 unfolding loop_handler_lines
-lines-same test items other same names =
-    ap (λ (handlers : List NamedBlock). flat_map (λ (handler : NamedBlock). cond (is_unnamed other (handler.name)) [] (block_lines test (handler.block))) handlers) same
-    ∙ handler-lines-same test (is_unnamed items) (is_unnamed other) names (handlers_in items)
+lines-same test items other has =
+    ap (λ (handlers : List NamedBlock). flat_map (λ (handler : NamedBlock). cond (is_unnamed other (handler.name)) [] (block_lines test (handler.block))) handlers) (has.same)
+    ∙ handler-lines-same test (is_unnamed items) (is_unnamed other) (has.named) (handlers_in items)

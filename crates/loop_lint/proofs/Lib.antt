@@ -1,14 +1,8 @@
 mod Holding
-mod Listed
-mod Carried
 mod Tame
-mod Walk
 mod Held
-mod Steady
-mod More
 mod Calm
 mod Waiting
-mod Lines
+mod Steady
 mod Quiet
 mod Searching
-mod Listing

@@ -1,6 +1,7 @@
 -- A search through a list for the first line of all that its entries give, and through the commands of a block.
 use Rattle.std.proofs.Common.{◌≡◌, refl, sym, ap, ◌∙◌, ◌≤◌, ◌<◌, get_or, drop, true≢false}
 use Rattle.std.proofs.lemmas.List.{drop_more, drop_all}
+use Rattle.std.proofs.lemmas.List.Folds.{flat_map-map}
 use Rattle.std.specs.Prelude.{ℕ, ◌+◌, Bool, true, false, not, cond, List, [], ◌∷◌, ◌++◌, map, flat_map, length, slice_get, Option, Some, None, is_some, is_none, IsNone, IsTrue, ◌↔◌}
 use Rattle.std.specs.Bool.{then_some}
 use Rattle.script_model.specs.Syntax as model
@@ -95,10 +96,6 @@ unfolding lines_in
 outside-lines it line (what.Tick time) = ap (λ (passes : Bool). cond passes (line ∷ []) []) (tick-unsought it)
 outside-lines it line other = refl
 
-pub mapped-lines : {A B : Type 0} (lines : B → List ℕ) (seen : A → B) (xs : List A) → flat_map (λ x. lines (seen x)) xs ≡ flat_map lines (map seen xs)
-mapped-lines lines seen [] = refl
-mapped-lines lines seen (x ∷ xs) = ap (λ (others : List ℕ). lines (seen x) ++ others) (mapped-lines lines seen xs)
-
 handler-lines : (test : model.Action → Bool) (all items : List model.Item) → flat_map (lines_at test all) items
     ≡ flat_map (λ (handler : NamedBlock). cond (is_unnamed all (handler.name)) [] (block_lines test (handler.block))) (handlers_in items)
 unfolding handlers_in
@@ -111,14 +108,14 @@ handler-lines test all (model.Handler line name block end_line ∷ items) =
 pub whole-lines : (test : model.Action → Bool) (items : List Item) →
     flat_map (λ item. lines_at test (map item_of items) (item_of item)) items ≡ loop_handler_lines test (map item_of items)
 unfolding loop_handler_lines
-whole-lines test items = mapped-lines (lines_at test (map item_of items)) item_of items ∙ handler-lines test (map item_of items) (map item_of items)
+whole-lines test items = sym (flat_map-map (lines_at test (map item_of items)) item_of items) ∙ handler-lines test (map item_of items) (map item_of items)
 
 pub unnamed-lines : (name : List ℕ) (items : List Item) → is_none (slice_get (flat_map (λ item. item_lines (names_handler name) (item_of item)) items) 0)
     ≡ is_unnamed (map item_of items) name
 unfolding naming_lines
 unnamed-lines name items =
     sym (empty-first (flat_map (λ item. item_lines (names_handler name) (item_of item)) items))
-    ∙ ap is_empty (mapped-lines (item_lines (names_handler name)) item_of items)
+    ∙ ap is_empty (sym (flat_map-map (item_lines (names_handler name)) item_of items))
 
 -- answers -------------------------------------------------------------------------------------------------------------------------------------
 

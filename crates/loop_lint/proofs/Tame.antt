@@ -1,16 +1,15 @@
 -- Each handler of a resize observer is a loop handler, and so holds no command that a script's loop handlers don't hold.
-use Rattle.std.proofs.Common.{◌≡◌, refl, sym, subst, ap, ◌∙◌, arith, tests}
+use Rattle.std.proofs.Common.{◌≡◌, refl, sym, subst, get_or}
+use Rattle.std.proofs.lemmas.List.Quantifiers.{position-Some}
 use Rattle.std.proofs.lemmas.Slice.Eq.{bytes_eq-Decides}
-use Rattle.std.specs.Prelude.{ℕ, ℤ, zero, suc, ◌+◌, Bool, true, false, not, cond, nat_lt, List, [], ◌∷◌, ◌++◌, length, slice_get, position, Option, Some, None, IfSome, option_map, unwrap_or, bytes_eq}
-use Rattle.std.specs.List.{AllByRecursion, position_or_len}
+use Rattle.std.specs.Prelude.{ℕ, ℤ, zero, suc, Bool, true, false, List, [], ◌∷◌, ◌++◌, slice_get, position, Option, Some, None, IfSome, unwrap_or, bytes_eq}
+use Rattle.std.specs.List.{AllByRecursion}
 use Rattle.text_io.specs.declared.kinds.ThrowKind.TheVariants.{ReferenceError}
-use Rattle.layout_model.specs.Items.{Kind}
-use Rattle.script_model.specs.Syntax.{Action, Viewport, SetRatio, MakeBlock, MakeImage, MakeFrame, Append, Before, Remove, SetStyle, Grow, Load, MakeResizeObserver, ObserveResize, UnobserveResize, DisconnectResize, MakeIntersectionObserver, ObserveIntersection, UnobserveIntersection, DisconnectIntersection, TakeIntersections, Listen, Unlisten, MakeQueryList, ScrollTo, ScrollBy, RequestFrame, CancelFrame, SetTimer, ClearTimer, Post, Say, Read, Block}
-use Rattle.script_model.specs.Scripts.{NamedBlock, number_in}
-use Rattle.page_model.specs.World.{ResizeObserver, ResizeObservers, IntersectionObservers, Listener, Table, ScrollTarget, Tree, World}
+use Rattle.script_model.specs.Syntax.{Action, MakeResizeObserver, ObserveResize, UnobserveResize, DisconnectResize}
+use Rattle.page_model.specs.World.{ResizeObserver, ResizeObservers, ScrollTarget, World}
 use Rattle.page_model.specs.Lookups.{change_at, resize_observer_at, no_resize_observer}
 use Rattle.page_model.specs.Gathering.{Sight, gathered_if, is_of, gathering}
-use Rattle.page_model.specs.Steps.{Step, Effect}
+use Rattle.page_model.specs.Steps.{Effect}
 use Rattle.page_model.specs.Operands.{Present, handler_named, handler_given}
 use Rattle.page_model.specs.Scrolling.{scrolled_to, scrolled_by}
 use Rattle.page_model.specs.Commands.{does, with_tree, with_intersections, with_listeners, making}
@@ -18,58 +17,30 @@ use Rattle.page_model.specs.Callbacks.{Script, handler_names, handler_block}
 use Rattle.page_laws.specs.Successors.{OnDid}
 use Rattle.page_laws.proofs.Steps.{bind, bind-in, both, did, required-in}
 use Rattle.page_laws.proofs.Lists.{all-add, changed, mapped}
-use Rattle.loop_lint.proofs.Holding.{BlockHolds, Fails, Names, IsNamedBy, IsClean}
+use Rattle.loop_laws.proofs.Walk.{BlockHolds}
+use Rattle.loop_lint.proofs.Holding.{Fails, Names, IsNamedBy, IsClean}
 
 -- the handler of a name --------------------------------------------------------------------------------------------------------
-
-later-place : (k most : ℕ) → option_map (λ number. number + 1) (cond (nat_lt k most) (Some k) None) ≡ cond (nat_lt (1 + k) (suc most)) (Some (1 + k)) None
-later-place k most = by (nat_lt k most) refl (nat_lt (1 + k) (suc most)) refl
-  where
-    by : (one : Bool) → nat_lt k most ≡ one → (other : Bool) → nat_lt (1 + k) (suc most) ≡ other →
-        option_map (λ number. number + 1) (cond one (Some k) None) ≡ cond other (Some (1 + k)) None
-    by true is true is' = ap Some (omega arith)
-    by false is false is' = refl
-    by true is false is' = absurd (grind (arith, tests))
-    by false is true is' = absurd (grind (arith, tests))
-
-first-place : (is : Bool) (k most : ℕ) → cond is (Some 0) (option_map (λ number. number + 1) (cond (nat_lt k most) (Some k) None))
-    ≡ cond (nat_lt (cond (not is) (1 + k) 0) (suc most)) (Some (cond (not is) (1 + k) 0)) None
-first-place true k most =
-    let below : nat_lt 0 (suc most) ≡ true = grind (arith, tests) in
-    ap (λ (is : Bool). cond is (Some 0) None) (sym below)
-first-place false k most = later-place k most
-
-number-is : (script : Script) (name : List ℕ) → number_in script name ≡ position (bytes_eq name) (handler_names script)
-unfolding number_in
-number-is [] name = refl
-number-is (first ∷ others) name =
-    ap (λ (rest : Option ℕ). cond (bytes_eq name first.name) (Some 0) (option_map (λ number. number + 1) rest)) (number-is others name)
-    ∙ first-place (bytes_eq name first.name) (position_or_len (bytes_eq name) (handler_names others)) (length (handler_names others))
-
-block-in : Script → ℕ → Block
-block-in script n = handler_block script n
 
 module _ (test : Action → Bool) (unnamed : List ℕ → Bool) where
   abbrev Tame : Script → ℕ → Type 0
   Tame script n = BlockHolds (Fails test) (handler_block script n)
 
-  next-tame : (first : NamedBlock) (others : Script) (n : ℕ) → Tame others n → Tame (first ∷ others) (n + 1)
-  next-tame first others n tame =
-      subst (λ (m : ℕ). Tame (first ∷ others) m) (let is : suc n ≡ n + 1 = omega arith in is) tame
+  clean-at : (script : Script) → AllByRecursion (IsClean test unnamed) script → (n : ℕ) → unnamed (get_or (handler_names script) n []) ≡ false → Tame script n
+  unfolding BlockHolds
+  clean-at [] clean n is = tt
+  clean-at (first ∷ others) clean zero is = (clean.0) is
+  clean-at (first ∷ others) clean (suc n) is = clean-at others (clean.1) n is
 
-  number-tame : (script : Script) → AllByRecursion (IsClean test unnamed) script → (name : List ℕ) → unnamed name ≡ false →
-      IfSome (number_in script name) (Tame script)
-  unfolding number_in
-  number-tame [] clean name is = tt
-  number-tame (first ∷ others) clean name is =
-      by (bytes_eq name first.name) refl (number_in others name) (number-tame others (clean.1) name is)
+  named-tame : (script : Script) → AllByRecursion (IsClean test unnamed) script → (name : List ℕ) → unnamed name ≡ false →
+      IfSome (position (bytes_eq name) (handler_names script)) (Tame script)
+  named-tame script clean name is = by (position (bytes_eq name) (handler_names script)) refl
     where
-      by : (here : Bool) → bytes_eq name first.name ≡ here → (found : Option ℕ) → IfSome found (Tame others) →
-          IfSome (cond here (Some 0) (option_map (λ number. number + 1) found)) (Tame (first ∷ others))
-      by true same found tame =
-          (clean.0) (subst (λ (text : List ℕ). unnamed text ≡ false) ((bytes_eq-Decides name (first.name)).0 same) is)
-      by false same None tame = tt
-      by false same (Some n) tame = next-tame first others n tame
+      by : (found : Option ℕ) → position (bytes_eq name) (handler_names script) ≡ found → IfSome found (Tame script)
+      by None at = tt
+      by (Some n) at =
+          let first = position-Some (bytes_eq name) (handler_names script) n [] at in
+          clean-at script clean n (subst (λ (text : List ℕ). unnamed text ≡ false) ((bytes_eq-Decides name (get_or (handler_names script) n [])).0 (first.1)) is)
 
   -- observers --------------------------------------------------------------------------------------------------------------------
 
@@ -113,29 +84,12 @@ module _ (test : Action → Bool) (unnamed : List ℕ → Bool) where
       given-tame None named = did _ _ tt
       given-tame (Some name) named =
           bind-in (handler_named (handler_names script) name) _ (Tame script) _
-          (required-in ReferenceError (position (bytes_eq name) (handler_names script)) (Tame script)
-          (subst (λ (found : Option ℕ). IfSome found (Tame script)) (number-is script name) (number-tame script clean name named)))
+          (required-in ReferenceError (position (bytes_eq name) (handler_names script)) (Tame script) (named-tame script clean name named))
           (λ called tame. did _ _ tame)
 
       module _ (world : World) (here : AreTame world.resize_observers) where
         abbrev Done : Effect → Type 0
         Done effect = AreTame (effect.world.resize_observers)
-
-        tree-tame : (step : Step Tree) → OnDid (with_tree world step) Done
-        unfolding with_tree
-        tree-tame step = bind step _ Done (λ it. did _ Done here)
-
-        intersections-tame : (step : Step IntersectionObservers) → OnDid (with_intersections world step) Done
-        unfolding with_intersections
-        intersections-tame step = bind step _ Done (λ it. did _ Done here)
-
-        listeners-tame : (step : Step (Table Listener)) → OnDid (with_listeners world step) Done
-        unfolding with_listeners
-        listeners-tame step = bind step _ Done (λ it. did _ Done here)
-
-        making-tame : (name made_in : List ℕ) (kind : Kind) → OnDid (making world name made_in kind) Done
-        unfolding making
-        making-tame name made_in kind = search (both, bind, did, here) depth 9
 
         scrolled-tame : (left top : ℤ) (target : Option ScrollTarget) → AreTame (scrolled_to left top target world).resize_observers
         scrolled-tame left top None = here
@@ -157,38 +111,11 @@ module _ (test : Action → Bool) (unnamed : List ℕ → Bool) where
         target-tame change same given observer = changed-tame change same given observer (world.resize_observers) here
 
         pub does-tame : (present : Present) (action : Action) → Names unnamed action → OnDid (does (handler_names script) world present action) Done
-        unfolding does
-        does-tame present (Viewport width height) named = did _ Done here
-        does-tame present (SetRatio hundredths) named = did _ Done here
-        does-tame present (MakeBlock name made_in) named = making-tame name made_in _
-        does-tame present (MakeImage name made_in width height) named = making-tame name made_in _
-        does-tame present (MakeFrame name made_in inside) named = search (both, bind, did, here) depth 12
-        does-tame present (Append parent node) named = search (bind, tree-tame) depth 9
-        does-tame present (Before parent node sibling) named = search (bind, tree-tame) depth 9
-        does-tame present (Remove node) named = search (bind, did, here) depth 9
-        does-tame present (SetStyle node declaration) named = search (bind, did, here) depth 9
-        does-tame present (Grow node dimension by) named = search (bind, tree-tame) depth 9
-        does-tame present (Load node width height) named = search (bind, tree-tame) depth 9
+        unfolding does with_tree with_intersections with_listeners making
         does-tame present (MakeResizeObserver name owner handler) named =
             both _ _ Done (bind _ _ Done (λ made_in. bind-in _ _ _ Done (given-tame handler named) (λ called tame.
             both _ _ Done (did _ Done (made-tame made_in called tame)))))
         does-tame present (ObserveResize observer node observed) named = search (both, bind, did, target-tame) depth 9
         does-tame present (UnobserveResize observer node) named = search (bind, did, target-tame) depth 9
         does-tame present (DisconnectResize observer) named = search (bind, did, target-tame) depth 9
-        does-tame present (MakeIntersectionObserver made) named = search (both, bind, did, here) depth 14
-        does-tame present (ObserveIntersection observer node) named = search (bind, intersections-tame) depth 9
-        does-tame present (UnobserveIntersection observer node) named = search (bind, did, here) depth 9
-        does-tame present (DisconnectIntersection observer) named = search (bind, did, here) depth 9
-        does-tame present (TakeIntersections observer) named = search (bind, did, here) depth 9
-        does-tame present (Listen aim event handler) named = search (bind, listeners-tame) depth 9
-        does-tame present (Unlisten aim event handler) named = search (bind, did, here) depth 9
-        does-tame present (MakeQueryList name owner query) named = search (both, bind, did, here) depth 9
-        does-tame present (ScrollTo scrolled left top) named = search (bind, did, scrolled-tame) depth 9
-        does-tame present (ScrollBy scrolled left top) named = search (bind, did, scrolled-by-tame) depth 9
-        does-tame present (RequestFrame owner key handler) named = search (both, bind, did, here) depth 9
-        does-tame present (CancelFrame owner key) named = search (bind, did, here) depth 9
-        does-tame present (SetTimer owner key delay handler) named = search (both, bind, did, here) depth 9
-        does-tame present (ClearTimer owner key) named = search (bind, did, here) depth 9
-        does-tame present (Post owner handler) named = search (both, bind, did, here) depth 9
-        does-tame present (Say word) named = did _ Done here
-        does-tame present (Read shown) named = search (bind, did, here) depth 9
+        does-tame present action named = search (both, bind, did, here, scrolled-tame, scrolled-by-tame) depth 14

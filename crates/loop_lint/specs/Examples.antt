@@ -6,9 +6,10 @@ use Rattle.script_model.specs.Reading.{Reading, reading}
 use Rattle.page_model.specs.Outcome.{opening_world, run_items}
 use Rattle.loop_laws.specs.WholeLoops.{round_starts}
 use Rattle.loop_laws.specs.Rounds.{round_depth}
+use Rattle.loop_laws.specs.RunLoops.{loops_of_run}
 use Rattle.loop_lint.specs.LoopHandlers.{loop_handler_lines}
 use Rattle.loop_lint.specs.Verdicts.{moves, disturbs}
-use Rattle.loop_lint.specs.RunLoops.{loops_of_run, depths_of, is_error_line}
+use Rattle.loop_lint.specs.RunLoops.{depths_of, is_error_line}
 
 pub record Seen : Type 0 where
   pub moving : List ℕ

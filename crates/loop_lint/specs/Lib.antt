@@ -3,4 +3,5 @@ pub mod Verdicts
 pub mod Seen
 pub mod Searches
 pub mod RunLoops
+pub mod Promises
 pub mod Examples

@@ -1,5 +1,5 @@
 -- The handlers of resize observers, and the commands that they hold at any nesting (this project's own).
-use Rattle.std.specs.Prelude.{ℕ, Bool, true, false, cond, List, [], ◌∷◌, ◌++◌, flat_map, Some, bytes_eq}
+use Rattle.std.specs.Prelude.{◌≡◌, ℕ, Bool, true, false, cond, List, [], ◌∷◌, ◌++◌, flat_map, Some, bytes_eq}
 use Rattle.script_model.specs.Syntax.{Action, MakeResizeObserver, Command, Simple, Each, When, Block, NoMore, Then, Item, Outside, Tick, Handler}
 use Rattle.script_model.specs.Scripts.{NamedBlock, handlers_in}
 
@@ -36,6 +36,11 @@ naming_lines items name = flat_map (item_lines (names_handler name)) items
 -- a loop handler is one that an `ro` command names, wherever in the script it stands
 abbrev pub is_unnamed : List Item → List ℕ → Bool
 is_unnamed items name = is_empty (naming_lines items name)
+
+-- another script with the same handlers, of which the same ones are loop handlers
+pub record HasHandlersOf (items other : List Item) : Type 0 where
+  pub same : handlers_in other ≡ handlers_in items
+  pub named : (name : List ℕ) → is_unnamed other name ≡ is_unnamed items name
 
 -- the lines of the commands that stand in loop handlers, at any nesting, and pass a test, in the order of the text
 unfoldable pub loop_handler_lines : (Action → Bool) → List Item → List ℕ

@@ -1,60 +1,10 @@
--- The resize loops of a script's run, read off the run as page_model has it: each with its document and the page in which it begins.
-use Rattle.std.specs.Prelude.{◌≤◌, ◌<◌, ℕ, Bool, true, false, List, [], ◌∷◌, map, flat_map, filter, length, ⊤}
-use Rattle.text_io.specs.declared.kinds.Version.{Version}
-use Rattle.script_model.specs.Syntax.{Item, Outside, Tick, Handler}
-use Rattle.script_model.specs.Scripts.{handlers_in}
-use Rattle.script_model.specs.TraceLines.{TraceLine, TickLine, RoundLine, EventLine, FiredError}
-use Rattle.page_model.specs.World.{World}
-use Rattle.page_model.specs.Documents.{is_active, active_documents}
-use Rattle.page_model.specs.Commands.{begun_in}
-use Rattle.page_model.specs.Runs.{Said, say, ◌followed_by◌, for_each}
-use Rattle.page_model.specs.Callbacks.{Script, while_active}
-use Rattle.page_model.specs.Loop.{resize_loop}
-use Rattle.page_model.specs.Ticks.{run_timers, resize_steps, scroll_steps, media_steps, frame_steps, time_set}
-use Rattle.page_model.specs.Outcome.{opening_world, run_item}
-use Rattle.loop_laws.specs.Moments.{following, where_did, along_each, listed_if}
+-- What is promised of the resize loops of a script's run (this project's own).
+use Rattle.std.specs.Prelude.{◌≤◌, ◌<◌, ℕ, Bool, true, false, List, [], ◌∷◌, map, flat_map, length, ⊤}
+use Rattle.script_model.specs.TraceLines.{TraceLine, EventLine, FiredError}
+use Rattle.page_model.specs.Callbacks.{Script}
 use Rattle.loop_laws.specs.Rounds.{round_depth}
+use Rattle.loop_laws.specs.RunLoops.{Loop}
 use Rattle.loop_laws.specs.WholeLoops.{round_starts, delivered_depths, greatest}
-
--- a resize loop that is run for a document, and the page as it begins
-pub record Loop : Type 0 where
-  pub document : ℕ
-  pub world : World
-
-abbrev pub over : List ℕ → (ℕ → World → Said World) → World → Said World
-over documents part = for_each (λ document. while_active document (part document)) documents
-
--- the parts of an update of the rendering before its resize loops
-abbrev pub earlier_parts : Script → List (ℕ → World → Said World)
-earlier_parts script = resize_steps script ∷ scroll_steps script ∷ media_steps script ∷ frame_steps script ∷ []
-
--- the loops of the documents that are listed as Active when the resize loops begin, of each one that still is
-unfoldable pub document_loops : Script → List ℕ → World → List Loop
-unfolding along_each resize_loop
-document_loops script documents =
-    along_each
-    (λ document now. listed_if (λ at. record { document = document; world = at } ∷ []) now (is_active (now.tree) document))
-    (λ document. while_active document (resize_loop script document))
-    documents
-
-unfoldable pub update_loops : Script → World → List Loop
-unfolding document_loops for_each active_documents resize_steps scroll_steps media_steps frame_steps
-update_loops script world =
-    following (for_each (over (active_documents (world.tree))) (earlier_parts script) world) (document_loops script (active_documents (world.tree)))
-
-unfoldable pub tick_loops : Script → World → List Loop
-unfolding update_loops run_timers ◌followed_by◌
-tick_loops script world = following (say (TickLine (world.clock) ∷ []) world followed_by run_timers script) (update_loops script)
-
--- loops are run in ticks alone
-abbrev pub item_loops : Script → Item → World → List Loop
-item_loops script (Outside command) world = []
-item_loops script (Tick line time) world = where_did (begun_in world) λ begun. where_did (time_set time begun) (tick_loops script)
-item_loops script (Handler line name block end_line) world = []
-
-unfoldable pub loops_of_run : Version → List Item → List Loop
-unfolding along_each tick_loops run_item handlers_in begun_in
-loops_of_run version items = along_each (item_loops (handlers_in items)) (run_item (handlers_in items)) items (opening_world version)
 
 -- the depths of the rounds of a loop, as they stand on its round lines, and the depths of all that it delivers
 abbrev pub depths_of : Script → Loop → List ℕ
@@ -73,18 +23,6 @@ AreGrowing before (depth ∷ depths) = (before < depth) × AreGrowing depth dept
 pub record IsSteadyLoop (script : Script) (loop : Loop) : Type 0 where
   pub growing : AreGrowing 0 (depths_of script loop)
   pub short : length (depths_of script loop) ≤ greatest (delivered_by script loop)
-
--- what a resize loop alone writes of its own: the line of a round and that of the error
-abbrev pub is_loop_line : TraceLine → Bool
-is_loop_line (RoundLine document depth) = true
-is_loop_line (EventLine (FiredError document)) = true
-is_loop_line line = false
-
-abbrev pub loop_lines : List TraceLine → List TraceLine
-loop_lines lines = filter is_loop_line lines
-
-abbrev pub lines_of_loop : Script → Loop → List TraceLine
-lines_of_loop script loop = loop_lines (resize_loop script (loop.document) (loop.world)).lines
 
 -- the line of an error event that a resize loop fires
 abbrev pub is_error_line : TraceLine → Bool

@@ -5,6 +5,7 @@ ghost use Rattle.script_syntax.specs.Seen.{item_of};
 ghost use Rattle.loop_lint.specs.LoopHandlers.{is_empty, is_unnamed, block_lines, loop_handler_lines};
 ghost use Rattle.loop_lint.specs.Searches.{lines_at};
 ghost use Rattle.loop_lint.specs.Verdicts.{is_steady, is_quiet};
+ghost use Rattle.loop_lint.specs.Promises.{RunsSteadily, RunsQuietly};
 ghost use Rattle.loop_lint.specs.Seen.{forbidden_by};
 
 use crate::kinds::{Law, Verdict};
@@ -61,9 +62,13 @@ pub fn blame(script: &Script, law: Law) -> Option<u32>
     None
 }
 
-/// Which laws a script keeps, by what its loop handlers hold. No memory is taken.
+/// Which laws a script keeps, by what its loop handlers hold; and so what is promised of every run of every script with these handlers and
+/// these loop handlers, whatever else it holds: if it is steady, that every resize loop's rounds go deeper and are few, and if it is quiet,
+/// that no line of a loop error is written. No memory is taken.
 pub fn lint(script: &Script) -> Verdict
-    ensures { result ≡ record { steady = is_steady script.now.items; quiet = is_quiet script.now.items } }
+    ensures verdict { result ≡ record { steady = is_steady script.now.items; quiet = is_quiet script.now.items } }
+    ensures steady { IsTrue result.steady → RunsSteadily script.now.items }
+    ensures quiet { IsTrue result.quiet → RunsQuietly script.now.items }
 {
     Verdict {
         steady: blame(script, Law::Steady).is_none(),

@@ -5,15 +5,15 @@
 pub enum Law {
     /// No loop handler holds an `append`, `before` or `remove`.
     Steady,
-    /// No loop handler holds one of these three, nor `viewport`, `set`, `grow`, `load` or `ro-observe`.
+    /// No loop handler holds one of these three, nor `viewport`, `ratio`, `set`, `grow`, `load` or `ro-observe`.
     Quiet,
 }
 
-/// Which laws a script keeps.
+/// Which laws a script keeps. What that promises of its runs are clauses of `lint`.
 #[derive(Clone, Copy, Debug, PartialEq, Eq)]
 pub struct Verdict {
-    /// In every resize loop the depths of rounds grow.
+    /// Whether it keeps `Law::Steady`.
     pub steady: bool,
-    /// No resize loop ever ends with an error event.
+    /// Whether it keeps `Law::Quiet`.
     pub quiet: bool,
 }

@@ -1,7 +1,17 @@
--- One document of a page, and what is shown of it.
-use Rattle.std.specs.Prelude.{ℕ}
-use Rattle.page_model.specs.Shown.{Shown}
+-- One document of a page, what is shown of it, and how far its viewport is scrolled.
+use Rattle.std.specs.Prelude.{◌≡◌, ℕ}
+use Rattle.px_units.specs.declared.Point.{Point}
+use Rattle.page_model.specs.World.{ScrolledDocument}
+use Rattle.page_model.specs.PageBoxes.{pair_of}
+use Rattle.page_model.specs.Shown.{Shown, scroll_offset}
+use Rattle.block_layout.specs.Seen.{as_point}
+use Rattle.page_boxes.specs.Ranges.{IsOffset}
 
 pub record ShownIn : Type 0 where
   pub shown : Shown
   pub document : ℕ
+
+-- the scroll offset in force of a document's viewport
+pub record IsViewOffset (shown : Shown) (document : ℕ) (offset : Point) : Type 0 where
+  pub value : offset ≡ as_point (pair_of (scroll_offset shown (ScrolledDocument document)))
+  pub range : IsOffset offset

@@ -10,11 +10,11 @@ use std::marker::Model;
 // As many documents as a page may have.
 const MOST_DOCUMENTS: usize = 64;
 
-// What a document shows, and where its viewport begins in that of `top`.
+// What a document shows, and where its viewport begins in that of `top`, none where that wasn't found.
 #[derive(Clone, Copy, Debug, PartialEq, Eq)]
 pub(crate) struct FoundDocument {
     pub(crate) view: DocumentView,
-    pub(crate) origin: Point,
+    pub(crate) origin: Option<Point>,
 }
 
 // None for a document that wasn't looked at. It takes no memory.

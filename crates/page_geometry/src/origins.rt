@@ -45,13 +45,13 @@ fn origin_up(shown: &Shown<'_>, document: u32, high: u32) -> Point
 
 // Where the viewport of a document begins: at the zero point for `top`, and for a document whose frame has no box.
 //
-// It calls itself once for each frame around a document that wasn't looked at.
+// It calls itself once for each frame around a document of which it wasn't found.
 pub(crate) fn origin(shown: &Shown<'_>, document: u32) -> Point
     ensures value { result ≡ origin shown.now document }
     ensures range { IsOrigin 64 result }
 {
-    match shown.found(document) {
-        Some(found) => found.origin,
+    match shown.found_origin(document) {
+        Some(origin) => origin,
         None => origin_up(shown, document, shown.document_count()),
     }
 }

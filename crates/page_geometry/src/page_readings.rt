@@ -6,11 +6,9 @@ ghost use Rattle.px_units.specs.declared.BoxKind.TheVariants.{Border};
 ghost use Rattle.script_model.specs.TraceLines.{ReadLine};
 ghost use Rattle.page_model.specs.World.{Name};
 ghost use Rattle.page_model.specs.Lookups.{element_at};
-ghost use Rattle.page_model.specs.Documents.{document_of_container};
 ghost use Rattle.page_model.specs.Chains.{padding_box_at, content_corner_at};
 ghost use Rattle.page_model.specs.PageBoxes.{pair_of};
 ghost use Rattle.page_model.specs.Readings.{point_at, rect_of, reading_of};
-ghost use Rattle.page_model.specs.Scrolling.{scroll_document};
 ghost use Rattle.page_model.specs.Shown.{has_box, box_of, size_of, corner_of, viewport_of, place_of, scroll_range, scroll_offset};
 ghost use Rattle.scrolling.specs.Seen.{seen_target};
 ghost use Rattle.scrolling.specs.Ranges.{IsRange};
@@ -21,6 +19,7 @@ ghost use Rattle.page_boxes.specs.Pages.{text_in};
 ghost use Rattle.page_boxes.specs.Ranges.{IsOffset, IsSpan, IsPlace, AreEdges};
 ghost use Rattle.page_geometry.specs.Ranges.{IsCorner};
 
+use crate::meant::{document_read, document_scrolled};
 use crate::readings::Reading;
 use crate::shown::Shown;
 use element_tree::NodeId;
@@ -105,26 +104,6 @@ impl Shown<'_> {
         self.in_document_of(node).content_origin(node)
     }
 
-    // The document that an element or a viewport that scrolls belongs to.
-    fn document_scrolled(&self, target: ScrollTarget) -> u32
-        ensures { result ≡ scroll_document self.now.tree (seen_target target) }
-    {
-        match target {
-            ScrollTarget::Node(node) => self.document_of(node),
-            ScrollTarget::Document(document) => document,
-        }
-    }
-
-    // The document of an element, or the document itself.
-    fn document_read(&self, container: Container) -> u32
-        ensures { result ≡ document_of_container self.now.tree (seen_container container) }
-    {
-        match container {
-            Container::Element(node) => self.document_of(node),
-            Container::Document(document) => document,
-        }
-    }
-
     /// How far an element or the viewport of a document can be scrolled (CSS Overflow 3, 2.2; CSSOM View: scrolling area): how
     /// far its content reaches beyond its padding box, or beyond the viewport. It is 0 by 0 for an element that isn't a scroll
     /// container with a box, and for what isn't there.
@@ -134,7 +113,7 @@ impl Shown<'_> {
         ensures value { result ≡ as_size (pair_of (scroll_range self.now (seen_target target))) }
         ensures range { IsRange result }
     {
-        self.in_document(self.document_scrolled(target))
+        self.in_document(document_scrolled(self.page(), target))
             .range_of(target)
     }
 
@@ -144,7 +123,7 @@ impl Shown<'_> {
         ensures value { result ≡ as_point (pair_of (scroll_offset self.now (seen_target target))) }
         ensures range { IsOffset result }
     {
-        self.in_document(self.document_scrolled(target))
+        self.in_document(document_scrolled(self.page(), target))
             .offset_of(target)
     }
 
@@ -158,7 +137,7 @@ impl Shown<'_> {
         ensures height { InReach (result.rect.bottom -ℤ result.rect.top) }
         ensures scroll { IsOffset result.scroll }
     {
-        self.in_document(self.document_read(container))
+        self.in_document(document_read(self.page(), container))
             .read(container)
     }
 }

@@ -73,8 +73,8 @@ impl ShownDocument<'_> {
         }
     }
 
-    // The scroll offset in force of the document's viewport.
-    pub(crate) fn view_offset(&self) -> Point
+    // The scroll offset in force of the document's viewport, found anew.
+    fn measured_offset(&self) -> Point
         ensures value { result ≡ as_point (pair_of (scroll_offset self.now.shown (ScrolledDocument self.now.document))) }
         ensures range { IsOffset result }
     {
@@ -87,6 +87,17 @@ impl ShownDocument<'_> {
                 shown_offset(self.elements(), self.boxes(), self.scrolls(), target, shown)
             }
             None => NOWHERE,
+        }
+    }
+
+    // The scroll offset in force of the document's viewport.
+    pub(crate) fn view_offset(&self) -> Point
+        ensures value { result ≡ as_point (pair_of (scroll_offset self.now.shown (ScrolledDocument self.now.document))) }
+        ensures range { IsOffset result }
+    {
+        match self.found_offset() {
+            Some(offset) => offset,
+            None => self.measured_offset(),
         }
     }
 

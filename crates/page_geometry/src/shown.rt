@@ -13,7 +13,8 @@ ghost use Rattle.page_tree.specs.Items.{IsNatural, style_in, kind_in};
 ghost use Rattle.page_tree.specs.Steps.{seen_container};
 ghost use Rattle.page_boxes.specs.Fresh.{IsFresh};
 ghost use Rattle.page_boxes.specs.Pages.{seen_screen, IsScreen};
-ghost use Rattle.page_geometry.specs.Found.{IsFound};
+ghost use Rattle.page_geometry.specs.Documents.{IsViewOffset};
+ghost use Rattle.page_geometry.specs.Found.{IsFound, IsBeginning};
 ghost use Rattle.page_geometry.specs.Scenes.{IsPageTree};
 
 use crate::documents::{FoundDocument, FoundDocuments};
@@ -25,6 +26,7 @@ use kept_layout::Kept;
 use page_boxes::Screen;
 use page_tree::{Container, Element, PageTree};
 use positioned_layout::{Holder, holder_of};
+use px_units::Point;
 use scrolling::Scrolls;
 use std::marker::Model;
 
@@ -75,29 +77,80 @@ impl<'a> Shown<'a> {
         }
     }
 
-    /// The same, for a reading of many elements: what each document shows, and where its viewport begins, is found here once, and not
-    /// by a climb from frame to frame for each element. No memory.
-    pub fn with_documents(self) -> Shown<'a>
+    /// The same, for the sizes of many elements: what each document shows, and how large its viewport is, is found here once, and not by a
+    /// climb from frame to frame for each element. No memory.
+    pub fn with_views(self) -> Shown<'a>
         ensures { result ≡ self.entry }
     {
         let mut shown = self;
         let count = shown.document_count();
         for document in 0..count {
-            shown.look(document);
+            shown.look_at(document);
         }
         shown
     }
 
-    // Finds what a document shows and where its viewport begins, and keeps it.
-    fn look(&mut self, document: u32)
+    /// The same, for a reading of many elements: what each document shows, how large its viewport is, how far that is scrolled, and where
+    /// it begins, is found here once, and not for each element. So each viewport whose stored position isn't the start, and lies
+    /// farther than its root element reaches, is measured, whatever is read then. No memory.
+    pub fn with_documents(self) -> Shown<'a>
+        ensures { result ≡ self.entry }
+    {
+        let mut shown = self.with_offsets();
+        let count = shown.document_count();
+        for document in 0..count {
+            shown.place(document);
+        }
+        shown
+    }
+
+    // With what each document shows, how large its viewport is, and how far that is scrolled.
+    fn with_offsets(self) -> Shown<'a>
+        ensures { result ≡ self.entry }
+    {
+        let mut shown = self;
+        let count = shown.document_count();
+        for document in 0..count {
+            shown.measure(document);
+        }
+        shown
+    }
+
+    // Keeps what was found of a document.
+    fn keep(&mut self, document: u32, found: FoundDocument)
+        requires small { document < 64 }
+        requires found { IsFound self.old document found }
+        ensures { self.new ≡ self.old }
+    {
+        self.found.put(document, found);
+    }
+
+    // Finds what a document shows and how large its viewport is.
+    fn look_at(&mut self, document: u32)
         requires { document < 64 }
         ensures { self.new ≡ self.old }
     {
-        let found = FoundDocument {
-            view: self.view_of(document),
-            origin: origin(self, document),
-        };
-        self.found.put(document, found);
+        let view = self.view_of(document);
+        self.keep(document, FoundDocument { view, origin: None });
+    }
+
+    // Finds besides how far its viewport is scrolled.
+    fn measure(&mut self, document: u32)
+        requires { document < 64 }
+        ensures { self.new ≡ self.old }
+    {
+        let view = self.in_document(document).with_offset().view();
+        self.keep(document, FoundDocument { view, origin: None });
+    }
+
+    // Finds where the viewport of a document begins.
+    fn place(&mut self, document: u32)
+        requires { document < 64 }
+        ensures { self.new ≡ self.old }
+    {
+        let view = self.view_of(document);
+        let origin = Some(origin(self, document));
+        self.keep(document, FoundDocument { view, origin });
     }
 
     // What was found of a document, none where it wasn't looked at.
@@ -108,6 +161,16 @@ impl<'a> Shown<'a> {
             self.found.of(document)
         } else {
             None
+        }
+    }
+
+    // Where the viewport of a document begins, none where it wasn't found.
+    pub(crate) fn found_origin(&self, document: u32) -> Option<Point>
+        ensures { IfSome result (IsBeginning self.now document) }
+    {
+        match self.found(document) {
+            Some(found) => found.origin,
+            None => None,
         }
     }
 
@@ -155,6 +218,7 @@ impl<'a> Shown<'a> {
         ensures root { option_map number result.root ≡ (view_of self.now.tree self.now.screen document).root }
         ensures size { result.size ≡ as_size (pair_of (viewport_of self.now document)) }
         ensures range { IsNatural result.size }
+        ensures offset { IfSome result.offset (IsViewOffset self.now document) }
     {
         match self.found(document) {
             Some(found) => found.view,

@@ -13,6 +13,7 @@ ghost use Rattle.kept_layout.specs.Measures.{IsSized};
 ghost use Rattle.page_tree.specs.Items.{IsNatural, style_in, kind_in};
 ghost use Rattle.page_boxes.specs.Fresh.{IsFreshIn, IsFreshAbove};
 ghost use Rattle.page_boxes.specs.Pages.{seen_pair, seen_screen, IsScreen};
+ghost use Rattle.page_geometry.specs.Documents.{IsViewOffset};
 
 use crate::view::{DocumentView, view_in};
 use block_layout::BoxOf;
@@ -20,7 +21,7 @@ use element_tree::{NodeId, Tree};
 use kept_layout::Kept;
 use page_boxes::{Screen, ShownRoot, box_below, has_box_below};
 use page_tree::{Element, PageTree};
-use px_units::Size;
+use px_units::{Point, Size};
 use scrolling::Scrolls;
 use std::marker::Model;
 
@@ -38,9 +39,9 @@ pub struct ShownDocument<'a> {
 }
 
 impl<'a> Model for ShownDocument<'a> {
-    ghost use Rattle.std.specs.Prelude.{◌≡◌, option_map};
+    ghost use Rattle.std.specs.Prelude.{◌≡◌, option_map, IfSome};
     ghost use Rattle.element_tree.specs.Links.{number};
-    ghost use Rattle.page_geometry.specs.Documents.{ShownIn};
+    ghost use Rattle.page_geometry.specs.Documents.{ShownIn, IsViewOffset};
 
     ghost Value = { ShownIn };
 
@@ -57,14 +58,16 @@ impl<'a> Model for ShownDocument<'a> {
         × IsFreshIn s.page.now.tree (seen_screen s.screen) s.boxes.now s.document
         × option_map number s.view.root ≡ (view_of s.page.now.tree (seen_screen s.screen) s.document).root
         × s.view.size ≡ as_size (pair_of (viewport_of s.page.now.tree (seen_screen s.screen) s.document))
-        × IsNatural s.view.size };
+        × IsNatural s.view.size
+        × IfSome s.view.offset (IsViewOffset (shown_with s.page.now.tree (seen_screen s.screen) s.scrolls.now) s.document) };
 }
 
 impl<'a> ShownDocument<'a> {
     /// What is shown of a document, of which the boxes, and those of the document that its frame is in, are held as they are with
     /// this screen of `top`. Nothing is asked of the boxes of other documents.
     ///
-    /// It climbs once from frame to frame, and no reading does it again.
+    /// It climbs once from frame to frame, and no reading does it again. How far the viewport is scrolled is found by each reading that
+    /// goes by it, unless `with_offset` found it.
     pub fn new(
         page: &'a PageTree,
         boxes: &'a Kept,
@@ -95,6 +98,7 @@ impl<'a> ShownDocument<'a> {
         requires root { option_map number view.root ≡ (view_of page.now.tree (seen_screen screen) document).root }
         requires size { view.size ≡ as_size (pair_of (viewport_of (shown_with page.now.tree (seen_screen screen) scrolls.now) document)) }
         requires range { IsNatural view.size }
+        requires offset { IfSome view.offset (IsViewOffset (shown_with page.now.tree (seen_screen screen) scrolls.now) document) }
         ensures { result ≡ record { shown = shown_with page.now.tree (seen_screen screen) scrolls.now; document = document } }
     {
         ShownDocument {
@@ -105,6 +109,35 @@ impl<'a> ShownDocument<'a> {
             document,
             view,
         }
+    }
+
+    /// The same, for a reading of many elements: how far the viewport is scrolled is found here once, and not for each element. It is
+    /// measured where the stored position isn't the start and lies farther than the root element reaches. No memory.
+    pub fn with_offset(self) -> ShownDocument<'a>
+        ensures { result ≡ self.entry }
+    {
+        let view = DocumentView {
+            offset: Some(self.view_offset()),
+            ..self.view
+        };
+        ShownDocument::with_view(
+            self.page,
+            self.boxes,
+            self.scrolls,
+            self.screen,
+            self.document,
+            view,
+        )
+    }
+
+    // What was found of the document.
+    pub(crate) fn view(&self) -> DocumentView
+        ensures root { option_map number result.root ≡ (view_of self.now.shown.tree self.now.shown.screen self.now.document).root }
+        ensures size { result.size ≡ as_size (pair_of (viewport_of self.now.shown self.now.document)) }
+        ensures range { IsNatural result.size }
+        ensures offset { IfSome result.offset (IsViewOffset self.now.shown self.now.document) }
+    {
+        self.view
     }
 
     // What is so of the elements and documents of every page is told here.
@@ -161,6 +194,13 @@ impl<'a> ShownDocument<'a> {
         ensures range { IsNatural result }
     {
         self.view.size
+    }
+
+    // The scroll offset in force of the viewport, none where it wasn't found.
+    pub(crate) fn found_offset(&self) -> Option<Point>
+        ensures { IfSome result (IsViewOffset self.now.shown self.now.document) }
+    {
+        self.view.offset
     }
 
     // The root element that the document shows, none where it isn't shown.

@@ -1,6 +1,6 @@
-//! What a document shows, and the size of the viewport that shows it.
+//! What a document shows, the size of the viewport that shows it, and how far that is scrolled.
 
-ghost use Rattle.std.specs.Prelude.{◌≡◌, option_map};
+ghost use Rattle.std.specs.Prelude.{◌≡◌, None, option_map};
 ghost use Rattle.page_model.specs.PageBoxes.{pair_of, view_of, viewport_of};
 ghost use Rattle.element_tree.specs.Links.{number};
 ghost use Rattle.block_layout.specs.Seen.{as_size};
@@ -12,25 +12,29 @@ use element_tree::NodeId;
 use kept_layout::Kept;
 use page_boxes::{Screen, shown_root, viewport_of};
 use page_tree::PageTree;
-use px_units::Size;
+use px_units::{Point, Size};
 
-// The root element that a document shows, none where it isn't shown, and the size of its viewport.
+// The root element that a document shows, none where it isn't shown, the size of its viewport, and the viewport's scroll offset in
+// force, none where that wasn't found: the page's boxes may have to be measured for it.
 #[derive(Clone, Copy, Debug, PartialEq, Eq)]
 pub(crate) struct DocumentView {
     pub(crate) root: Option<NodeId>,
     pub(crate) size: Size,
+    pub(crate) offset: Option<Point>,
 }
 
-// Finds both by a climb from frame to frame.
+// Finds root element and size by a climb from frame to frame.
 pub(crate) fn view_in(page: &PageTree, boxes: &Kept, screen: Screen, document: u32) -> DocumentView
     requires screen { IsScreen screen }
     requires above { IsFreshAbove page.now.tree (seen_screen screen) boxes.now document }
     ensures root { option_map number result.root ≡ (view_of page.now.tree (seen_screen screen) document).root }
     ensures size { result.size ≡ as_size (pair_of (viewport_of page.now.tree (seen_screen screen) document)) }
     ensures range { IsNatural result.size }
+    ensures offset { result.offset ≡ None }
 {
     DocumentView {
         root: shown_root(page, document),
         size: viewport_of(page, boxes, screen, document),
+        offset: None,
     }
 }

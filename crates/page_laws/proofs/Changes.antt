@@ -1,6 +1,6 @@
--- What a tick does to single parts of a world, besides calling handlers: the world after it is a successor, and its numbers stay
--- in range.
-use Rattle.std.proofs.Common.{◌≡◌, refl, sym, ◌∙◌, subst, arith, ◌≤◌, true≢false}
+-- What a tick does to single parts of a world, besides calling handlers: the world after it is a successor with the same tree, and its
+-- numbers stay in range.
+use Rattle.std.proofs.Common.{◌≡◌, refl, ap, sym, ◌∙◌, subst, arith, ◌≤◌, true≢false}
 use Rattle.std.specs.Prelude.{ℕ, zero, suc, ◌<◌, ◌==◌, Bool, true, false, cond, not, map, filter, filter_map, List, [], ◌∷◌, ◌++◌, length, Option, Some, None, slice_get, unwrap_or, IfSome, ⊤}
 use Rattle.std.specs.List.{AllByRecursion, list_any, cons_option}
 use Rattle.page_model.specs.World.{Extent, Document, ScrollTarget, Observation, ResizeObserver, ResizeObservers, Finding, Entry, Registration, IntersectionObserver, IntersectionObservers, QueryList, Task, Notify, Tree, World}
@@ -21,24 +21,27 @@ use Rattle.page_laws.specs.Successors.{IsSuccessor}
 use Rattle.page_laws.specs.Bounds.{AreTasksWithin}
 use Rattle.page_laws.proofs.Lists.{IsKept, all-add, all-append, all-filter, all-mapped, still-kept, then-kept, put-within, changed, mapped}
 use Rattle.page_laws.proofs.Ranges.{with-scrolls, resize-in, intersection-in, queries-in}
-use Rattle.page_laws.proofs.Parts.{resize-changed, no-queue-kept}
+use Rattle.page_laws.specs.Changed.{QueueTaken}
+use Rattle.page_laws.proofs.Parts.{lists-in, registered-in, resize-changed, intersections-kept}
 use Rattle.page_laws.proofs.InRange.{frame-callbacks-in, timers-in, tasks-in, viewports-in}
-use Rattle.page_laws.proofs.Successors.{still, alike}
+use Rattle.page_laws.proofs.Successors.{IsAlike, still, alike, same-tree}
 use Rattle.page_laws.proofs.Waiting.{tasks-alike, taken-within, unmarked-within, marked-within}
 
 pub record IsNext (before after : World) : Type 0 where
   pub successor : IsSuccessor before after
+  pub tree : after.tree ≡ before.tree
   pub within : (handlers : ℕ) → IsInRange handlers before → IsInRange handlers after
   pub observers : length after.resize_observers.made ≡ length before.resize_observers.made
   pub queries : length after.queries ≡ length before.queries
   pub tasks : AreTasksWithin before → AreTasksWithin after
 
 pub same-next : (world : World) → IsNext world world
-same-next world = record { successor = still world; within = λ handlers within. within; observers = refl; queries = refl; tasks = λ within. within }
+same-next world = record { successor = still world; tree = refl; within = λ handlers within. within; observers = refl; queries = refl; tasks = λ within. within }
 
 pub then-next : {first second third : World} → IsNext first second → IsNext second third → IsNext first third
 then-next {first = first} {third = third} one two = record {
   successor = chained (one.successor) (two.successor);
+  tree = two.tree ∙ one.tree;
   observers = two.observers ∙ one.observers;
   queries = two.queries ∙ one.queries;
   tasks = λ within. two.tasks (one.tasks within);
@@ -66,68 +69,58 @@ pub active-in : (tree : Tree) (document : ℕ) → is_active tree document ≡ t
 active-in tree document is = active-place (tree.documents) document is
 
 module _ (world : World) where
-  pub timer-next : (serial : ℕ) → IsNext world (record world { timers = timer_taken serial (world.timers) })
-  timer-next serial = record {
-    tasks = tasks-alike world _ refl refl refl;
-    successor = alike world _ refl refl refl refl refl;
-    observers = refl;
-    queries = refl;
-    within = λ handlers within. timers-in handlers world within _ (all-filter _ _ (world.timers.held) within.timers);
+  -- where besides the tree and the names also tasks and marks are as they were
+  apart : (after : World) → IsAlike world after → after.notifying ≡ world.notifying → after.tasks ≡ world.tasks →
+      length after.resize_observers.made ≡ length world.resize_observers.made → length after.queries ≡ length world.queries →
+      ((handlers : ℕ) → IsInRange handlers world → IsInRange handlers after) → IsNext world after
+  apart after same notifying tasks observers queries within = record {
+    successor = alike world after same;
+    tree = same-tree world after same;
+    within = within;
+    observers = observers;
+    queries = queries;
+    tasks = tasks-alike world after (ap (λ (tree : Tree). length tree.documents) (same-tree world after same)) notifying tasks;
   }
 
+  pub timer-next : (serial : ℕ) → IsNext world (record world { timers = timer_taken serial (world.timers) })
+  timer-next serial =
+      apart _ refl refl refl refl refl (λ handlers within. timers-in handlers world within _ (all-filter _ _ (world.timers.held) within.timers))
+
   pub frame-next : (serial : ℕ) → IsNext world (record world { frame_callbacks = frame_callback_taken serial (world.frame_callbacks) })
-  frame-next serial = record {
-    tasks = tasks-alike world _ refl refl refl;
-    successor = alike world _ refl refl refl refl refl;
-    observers = refl;
-    queries = refl;
-    within = λ handlers within. frame-callbacks-in handlers world within _ (all-filter _ _ (world.frame_callbacks.held) within.frame_callbacks);
-  }
+  frame-next serial =
+      apart _ refl refl refl refl refl
+      (λ handlers within. frame-callbacks-in handlers world within _ (all-filter _ _ (world.frame_callbacks.held) within.frame_callbacks))
 
   pub noted-next : (document : ℕ) (size : Extent) → document < length world.tree.documents →
       IsNext world (record world { viewports = with_noted document size (world.viewports) })
-  noted-next document size is = record {
-    tasks = tasks-alike world _ refl refl refl;
-    successor = alike world _ refl refl refl refl refl;
-    observers = refl;
-    queries = refl;
-    within = λ handlers within. viewports-in handlers world within _
-        (put-within (length world.tree.documents) None document (Some size) (world.viewports.noted) is within.noted);
-  }
+  noted-next document size is =
+      apart _ refl refl refl refl refl (λ handlers within. viewports-in handlers world within _
+      (put-within (length world.tree.documents) None document (Some size) (world.viewports.noted) is within.noted))
 
   pub pending-next : (document : ℕ) → IsNext world (record world { scrolls = without_pending document (world.scrolls) })
-  pending-next document = record {
-    tasks = tasks-alike world _ refl refl refl;
-    successor = alike world _ refl refl refl refl refl;
-    observers = refl;
-    queries = refl;
-    within = λ handlers within.
-        let counts : Counts = counts_of handlers world in
-        let kept = changed (AllByRecursion (IsScrollIn counts)) (λ (pending : List ScrollTarget). []) (λ pending all. tt) document (world.scrolls.pending) in
-        let same : length (without_pending document (world.scrolls)).pending ≡ length world.scrolls.pending = kept.same in
-        with-scrolls counts world _ within (record {
-          elements = within.scrolls.elements;
-          documents = within.scrolls.documents;
-          listed = omega (arith, within.scrolls.listed);
-          pending = kept.within within.scrolls.pending;
-        });
-  }
+  pending-next document =
+      apart _ refl refl refl refl refl (λ handlers within.
+      let counts : Counts = counts_of handlers world in
+      let kept = changed (AllByRecursion (IsScrollIn counts)) (λ (pending : List ScrollTarget). []) (λ pending all. tt) document (world.scrolls.pending) in
+      let same : length (without_pending document (world.scrolls)).pending ≡ length world.scrolls.pending = kept.same in
+      with-scrolls counts world _ within (record {
+        elements = within.scrolls.elements;
+        documents = within.scrolls.documents;
+        listed = omega (arith, within.scrolls.listed);
+        pending = kept.within within.scrolls.pending;
+      }))
 
   pub matched-next : (matched : Bool) (query : ℕ) → IsNext world (record world { queries = with_state matched query (world.queries) })
-  matched-next matched query = record {
-    tasks = tasks-alike world _ refl refl refl;
-    successor = alike world _ refl refl refl refl refl;
-    observers = refl;
-    queries = (changed (λ (list : QueryList). ⊤) (λ it. record it { matched = matched }) (λ it is. is) query (world.queries)).same;
-    within = λ handlers within.
-        queries-in handlers world _ (changed (λ (list : QueryList). list.document < length world.tree.documents) (λ it. record it { matched = matched })
-        (λ it is. is) query (world.queries)) within;
-  }
+  matched-next matched query =
+      apart _ refl refl refl refl (changed (λ (list : QueryList). ⊤) (λ it. record it { matched = matched }) (λ it is. is) query (world.queries)).same
+      (λ handlers within. queries-in handlers world _ (changed (λ (list : QueryList). list.document < length world.tree.documents)
+      (λ it. record it { matched = matched }) (λ it is. is) query (world.queries)) within)
 
   pub tasks-next : (task : Task) (others : List Task) → world.tasks ≡ task ∷ others → IsNext world (record world { tasks = others })
   tasks-next task others are = record {
     tasks = taken-within world task others are;
-    successor = alike world _ refl refl refl refl refl;
+    successor = alike world _ refl;
+    tree = refl;
     observers = refl;
     queries = refl;
     within = λ handlers within.
@@ -139,7 +132,8 @@ module _ (world : World) where
       IsNext world (record world { tasks = others; notifying = without_notifying document (world.notifying) })
   unnotified-next document others are = record {
     tasks = unmarked-within world document others are;
-    successor = alike world _ refl refl refl refl refl;
+    successor = alike world _ refl;
+    tree = refl;
     observers = refl;
     queries = refl;
     within = λ handlers within.
@@ -159,7 +153,8 @@ module _ (world : World) where
   notified-next document true marked is = same-next world
   notified-next document false free is = record {
     tasks = marked-within world document is free;
-    successor = alike world _ refl refl refl refl refl;
+    successor = alike world _ refl;
+    tree = refl;
     observers = refl;
     queries = refl;
     within = λ handlers within. both-in handlers within
@@ -176,32 +171,22 @@ module _ (world : World) where
 
   pub resize-next : (after : ResizeObservers) → ((counts : Counts) → IsKept (IsResizeObserverIn counts) world.resize_observers.made after.made) →
       IsNext world (record world { resize_observers = after })
-  resize-next after kept = record {
-    tasks = tasks-alike world _ refl refl refl;
-    successor = alike world _ refl refl refl refl refl;
-    observers = (kept (counts_of 0 world)).same;
-    queries = refl;
-    within = λ handlers within. resize-in handlers world after (kept (counts_of handlers world)) within;
-  }
+  resize-next after kept =
+      apart _ refl refl refl (kept (counts_of 0 world)).same refl (λ handlers within. resize-in handlers world after (kept (counts_of handlers world)) within)
 
   pub intersection-next : (after : IntersectionObservers) →
       ((counts : Counts) → IsKept (IsIntersectionObserverIn counts) world.intersection_observers.made after.made) →
       IsNext world (record world { intersection_observers = after })
-  intersection-next after kept = record {
-    tasks = tasks-alike world _ refl refl refl;
-    successor = alike world _ refl refl refl refl refl;
-    observers = refl;
-    queries = refl;
-    within = λ handlers within. intersection-in handlers world after (kept (counts_of handlers world)) within;
-  }
+  intersection-next after kept =
+      apart _ refl refl refl refl refl (λ handlers within. intersection-in handlers world after (kept (counts_of handlers world)) within)
 
   pub queue-next : (observer : ℕ) → IsNext world (record world { intersection_observers = without_queue observer (world.intersection_observers) })
-  queue-next observer = intersection-next _ (λ counts. no-queue-kept counts (world.intersection_observers) observer)
+  queue-next observer = intersection-next _ (λ counts. intersections-kept counts (world.intersection_observers) (QueueTaken observer))
 
   pub inactive-next : (observer : ℕ) → IsNext world (record world { resize_observers = without_active observer (world.resize_observers) })
   inactive-next observer =
       resize-next _ (λ counts. resize-changed counts (world.resize_observers) observer _
-      (λ each is. record { document = is.document; handler = is.handler; targets = is.targets; active = tt; skipped = is.skipped }))
+      (λ each is. lists-in counts each is _ [] _ is.targets tt is.skipped))
 
   emptied-if : (test : Bool) (observer : ℕ) → IsNext world
       (cond test (record world { resize_observers = without_active observer (world.resize_observers) }) world)
@@ -224,28 +209,18 @@ reported-at counts sight delivered it is = by_test (list_any (λ (each : Observa
 pub reported-next : (world : World) (sight : Sight) (observer : ℕ) (delivered : List Observation) →
     IsNext world (record world { resize_observers = with_reported sight observer delivered (world.resize_observers) })
 reported-next world sight observer delivered =
-    resize-next world _ (λ counts. resize-changed counts (world.resize_observers) observer _ (λ each is. record {
-      document = is.document;
-      handler = is.handler;
-      targets =
-          all-mapped (λ (it : Observation). it.target < counts.elements) (λ it. it.target < counts.elements) (reported sight delivered)
-          (reported-at counts sight delivered) (each.targets) is.targets;
-      active = is.active;
-      skipped = is.skipped;
-    }))
+    resize-next world _ (λ counts. resize-changed counts (world.resize_observers) observer _ (λ each is. lists-in counts each is _ _ _
+    (all-mapped (λ (it : Observation). it.target < counts.elements) (λ it. it.target < counts.elements) (reported sight delivered)
+    (reported-at counts sight delivered) (each.targets) is.targets) is.active is.skipped))
 
 gathered-if-in : (counts : Counts) (test : Bool) (sight : Sight) (depth : ℕ) (it : ResizeObserver) → IsResizeObserverIn counts it →
     IsResizeObserverIn counts (gathered_if test sight depth it)
 gathered-if-in counts false sight depth it is = is
 gathered-if-in counts true sight depth it is =
     let changed_ones : AreObserved counts (filter (has_changed sight) (it.targets)) = all-filter _ (has_changed sight) (it.targets) is.targets in
-    record {
-      document = is.document;
-      handler = is.handler;
-      targets = is.targets;
-      active = all-filter _ (is_deeper sight depth) (filter (has_changed sight) (it.targets)) changed_ones;
-      skipped = all-filter _ (λ observation. not (is_deeper sight depth observation)) (filter (has_changed sight) (it.targets)) changed_ones;
-    }
+    lists-in counts it is _ _ _ is.targets
+    (all-filter _ (is_deeper sight depth) (filter (has_changed sight) (it.targets)) changed_ones)
+    (all-filter _ (λ observation. not (is_deeper sight depth observation)) (filter (has_changed sight) (it.targets)) changed_ones)
 
 pub gather-next : (document depth : ℕ) (world : World) → IsNext world (gather document depth world)
 unfolding gather
@@ -281,15 +256,11 @@ entries-settled counts time find registrations all =
 
 settled-in : (counts : Counts) (time : ℕ) (find : IntersectionObserver → ℕ → Finding) (it : IntersectionObserver) → IsIntersectionObserverIn counts it →
     IsIntersectionObserverIn counts (settled_observer time find it)
-settled-in counts time find it is = record {
-  document = is.document;
-  handler = is.handler;
-  root = is.root;
-  registrations =
-      all-mapped _ _ _ (λ settled_one held. held) _ (all-mapped _ (λ (each : Settled). each.registration.target < counts.elements) _
-      (λ registration held. held) (it.registrations) is.registrations);
-  queue = all-append _ (it.queue) _ is.queue (entries-settled counts time (find it) (it.registrations) is.registrations);
-}
+settled-in counts time find it is =
+    registered-in counts it is _ _
+    (all-mapped _ _ _ (λ settled_one held. held) _ (all-mapped _ (λ (each : Settled). each.registration.target < counts.elements) _
+    (λ registration held. held) (it.registrations) is.registrations))
+    (all-append _ (it.queue) _ is.queue (entries-settled counts time (find it) (it.registrations) is.registrations))
 
 -- observers settled one after the other
 settling-kept : (counts : Counts) (time : ℕ) (find : ℕ → IntersectionObserver → ℕ → Finding) (observers : List ℕ) (it : IntersectionObservers) →

@@ -1,5 +1,6 @@
 -- An element that is put into another one stands one level deeper.
 use Rattle.std.proofs.Common.{◌≡◌, refl, ap, sym, subst, ◌∙◌, true≢false, arith, tests, ◌≢◌}
+use Rattle.std.proofs.lemmas.Bool.{leb-true}
 use Rattle.std.specs.Prelude.{ℕ, zero, suc, ◌+◌, ◌<◌, ◌≤◌, nat_le, Bool, true, false, ◌||◌, ◌==◌, List, [], ◌∷◌, length, Option, Some, None, slice_get, unwrap_or, ⊤}
 use Rattle.layout_model.specs.Nodes.{Node, path_above, path_up, is_among}
 use Rattle.text_io.specs.declared.kinds.ThrowKind.{ThrowKind}
@@ -12,7 +13,7 @@ use Rattle.page_model.specs.Documents.{Container, InElement, InDocument, nodes_o
 use Rattle.page_model.specs.Steps.{Step, Did, ◌>>◌, throw_if, met_unless}
 use Rattle.page_model.specs.Commands.{placing, would_hold_itself, is_no_child, is_full, container_depth}
 use Rattle.page_laws.specs.Successors.{OnDid}
-use Rattle.page_laws.proofs.Steps.{both, did}
+use Rattle.page_laws.proofs.Steps.{known-did}
 use Rattle.page_laws.proofs.Lists.{changed}
 
 -- parents after changes
@@ -148,22 +149,38 @@ path-below at at' n parent elsewhere here high none within =
     ∙ ap (λ (path : List ℕ). length path + 1) (path-same at at' n elsewhere high parent
     (subst (λ (path : List ℕ). is_among n path ≡ false) (path-more at' high parent within) none) ∙ sym (path-more at' high parent within))
 
--- the step that put it there
+-- what a command that isn't refused tells
 
-unless-thrown : (test : Bool) (exception : ThrowKind) (next : Step Tree) (Holds : Tree → Type 0) → (test ≡ false → OnDid next Holds) →
-    OnDid (throw_if test exception >> next) Holds
-unfolding OnDid ◌>>◌
-unless-thrown true exception next Holds there = tt
-unless-thrown false exception next Holds there = there refl
+unless-thrown : (test : Bool) (exception : ThrowKind) (next : Step Tree) (after : Tree) → (throw_if test exception >> next) ≡ Did after →
+    (test ≡ false) × (next ≡ Did after)
+unfolding ◌>>◌
+unless-thrown true exception next after is = cc
+unless-thrown false exception next after is = (refl, is)
 
-unless-met : (test : Bool) (limit : LimitKind) (next : Step Tree) (Holds : Tree → Type 0) → (test ≡ true → OnDid next Holds) →
-    OnDid (met_unless test limit >> next) Holds
-unfolding OnDid ◌>>◌
-unless-met true limit next Holds there = there refl
-unless-met false limit next Holds there = tt
+unless-met : (test : Bool) (limit : LimitKind) (next : Step Tree) (after : Tree) → (met_unless test limit >> next) ≡ Did after →
+    (test ≡ true) × (next ≡ Did after)
+unfolding ◌>>◌
+unless-met true limit next after is = (refl, is)
+unless-met false limit next after is = cc
 
-few-levels : (depth more : ℕ) → nat_le (depth + more) 256 ≡ true → depth ≤ suc 65535
-few-levels depth more few = grind (arith, tests)
+pub record Permitted (tree after : Tree) (container : Container) (n : ℕ) (sibling : Option ℕ) : Type 0 where
+  pub outside : would_hold_itself tree container n ≡ false
+  pub levels : container_depth tree container + levels_of tree n ≤ 256
+  pub is : inserted tree container n sibling ≡ after
+
+pub permitted : (tree after : Tree) (container : Container) (n : ℕ) (sibling : Option ℕ) → placing container n sibling tree ≡ Did after →
+    Permitted tree after container n sibling
+unfolding placing
+permitted tree after container n sibling is =
+    let one = unless-thrown (would_hold_itself tree container n) HierarchyRequestError _ after is in
+    let two = unless-thrown (is_no_child tree container sibling) NotFoundError _ after (one.1) in
+    let three = unless-thrown (is_full tree container) HierarchyRequestError _ after (two.1) in
+    let four = unless-met (nat_le (container_depth tree container + levels_of tree n) 256) limits.Depth (Did (inserted tree container n sibling)) after (three.1) in
+    record {
+      outside = one.0;
+      levels = leb-true (container_depth tree container + levels_of tree n) 256 (four.0);
+      is = let both : Did (inserted tree container n sibling) ≡ Did after = four.1 in cc;
+    }
 
 depth-inserted : (tree : Tree) (parent n : ℕ) (sibling : Option ℕ) → n < length tree.elements → is_inclusive_ancestor tree n parent ≡ false →
     element_depth tree parent ≤ suc 65535 → element_depth (inserted tree (InElement parent) n sibling) n ≡ element_depth tree parent + 1
@@ -172,32 +189,11 @@ depth-inserted tree parent n sibling within none few =
     path-below (nodes_of (inserted tree (InElement parent) n sibling)) (nodes_of tree) n parent (parent-elsewhere tree parent n sibling)
     (parent-here tree parent n sibling within) 65535 none few
 
-abbrev last_step : Tree → Container → ℕ → Option ℕ → Step Tree
-last_step tree container n sibling =
-    met_unless (nat_le (container_depth tree container + levels_of tree n) 256) limits.Depth >> Did (inserted tree container n sibling)
-
-abbrev steps_of : Tree → Container → ℕ → Option ℕ → Step Tree
-steps_of tree container n sibling =
-    throw_if (would_hold_itself tree container n) HierarchyRequestError
-    >> (throw_if (is_no_child tree container sibling) NotFoundError
-    >> (throw_if (is_full tree container) HierarchyRequestError
-    >> last_step tree container n sibling))
-
-placing-steps : (tree : Tree) (container : Container) (n : ℕ) (sibling : Option ℕ) → placing container n sibling tree ≡ steps_of tree container n sibling
-unfolding placing
-placing-steps tree container n sibling = refl
-
-abbrev IsBelow : Tree → ℕ → ℕ → Tree → Type 0
-IsBelow tree parent n after = element_depth after n ≡ element_depth tree parent + 1
-
-steps-depth : (tree : Tree) (parent n : ℕ) (sibling : Option ℕ) → n < length tree.elements →
-    OnDid (steps_of tree (InElement parent) n sibling) (IsBelow tree parent n)
-steps-depth tree parent n sibling within =
-    unless-thrown _ _ _ _ (λ none. both _ _ _ (both _ _ _ (unless-met _ _ _ _ (λ few.
-    did _ (IsBelow tree parent n) (depth-inserted tree parent n sibling within none (few-levels (element_depth tree parent) (levels_of tree n) few))))))
-
 pub placing-depth : (tree : Tree) (parent n : ℕ) (sibling : Option ℕ) → n < length tree.elements →
     OnDid (placing (InElement parent) n sibling tree) (λ after. element_depth after n ≡ element_depth tree parent + 1)
 placing-depth tree parent n sibling within =
-    subst (λ (step : Step Tree). OnDid step (IsBelow tree parent n)) (sym (placing-steps tree (InElement parent) n sibling))
-    (steps-depth tree parent n sibling within)
+    known-did (placing (InElement parent) n sibling tree) (λ after. element_depth after n ≡ element_depth tree parent + 1) (λ after is.
+    let it = permitted tree after (InElement parent) n sibling is in
+    let levels : element_depth tree parent + levels_of tree n ≤ 256 = it.levels in
+    subst (λ (now : Tree). element_depth now n ≡ element_depth tree parent + 1) (it.is)
+    (depth-inserted tree parent n sibling within it.outside (omega arith)))

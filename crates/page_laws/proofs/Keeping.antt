@@ -1,35 +1,27 @@
 -- What every command and every change of a tick keeps is kept by callbacks, ticks and whole runs.
 use Rattle.std.proofs.Common.{◌≡◌, refl}
-use Rattle.std.specs.Prelude.{ℕ, zero, suc, ◌<◌, ◌&&◌, ◌==◌, not, map, Bool, true, false, nat_lt, List, [], ◌∷◌, length, Option, Some, None}
+use Rattle.std.specs.Prelude.{ℕ, zero, suc, ◌<◌, ◌&&◌, map, Bool, true, false, nat_lt, List, [], ◌∷◌, length, Option, Some, None}
 use Rattle.std.specs.List.{AllByRecursion}
 use Rattle.text_io.specs.declared.kinds.EventKind.{EventKind}
 use Rattle.text_io.specs.declared.kinds.EventKind.TheVariants as events
 use Rattle.text_io.specs.declared.kinds.LimitKind.TheVariants as limits
 use Rattle.script_model.specs.Syntax.{Action, Command, Simple, Each, When, Block, NoMore, Then}
-use Rattle.script_model.specs.TraceLines.{FiredEvent, FiredResize, FiredScroll, FiredChange, FiredError, EventLine, TimerLine, FrameLine, TaskLine, TickLine}
+use Rattle.script_model.specs.TraceLines.{FiredEvent}
 use Rattle.text_io.specs.Limits.{limit_number}
-use Rattle.page_model.specs.World.{World, Entry, EventTarget, ElementTarget, DocumentTarget, WindowTarget, QueryTarget, Observation, Task, Notify, Posted, Timer, FrameCallback}
-use Rattle.page_model.specs.Lookups.{resize_observer_at, intersection_observer_at, query_list_at}
+use Rattle.page_model.specs.World.{World, Entry, EventTarget, DocumentTarget, WindowTarget, Observation, Task, Notify, Posted, Timer, FrameCallback}
+use Rattle.page_model.specs.Lookups.{intersection_observer_at}
 use Rattle.page_model.specs.Documents.{is_active, active_documents}
-use Rattle.page_model.specs.Names.{document_text, query_list_text}
 use Rattle.page_model.specs.PageBoxes.{viewport_of}
-use Rattle.page_model.specs.Viewports.{differs_from, noted_size, with_noted}
-use Rattle.page_model.specs.Scrolls.{pending_of, without_pending}
-use Rattle.page_model.specs.QueryLists.{with_state}
-use Rattle.page_model.specs.Listeners.{listeners_of, listener_stands}
-use Rattle.page_model.specs.FrameCallbacks.{frame_callbacks_of, frame_callback_stands, frame_callback_taken}
-use Rattle.page_model.specs.Timers.{due_timers, timer_stands, timer_taken}
-use Rattle.page_model.specs.Tasks.{has_tasks, without_notifying}
-use Rattle.page_model.specs.IntersectionObserving.{without_queue}
-use Rattle.page_model.specs.Gathering.{sight_of, size_entry, has_active, has_skipped, with_reported, due_at}
+use Rattle.page_model.specs.Tasks.{has_tasks}
+use Rattle.page_model.specs.Gathering.{sight_of, size_entry, has_active, due_at}
 use Rattle.page_model.specs.Steps.{Step, Did, Threw, Met}
 use Rattle.page_model.specs.Operands.{Present, NoEntry, ResizeEntry, IntersectionEntry}
-use Rattle.page_model.specs.Commands.{does, holds, begun_in, matches_now}
-use Rattle.page_model.specs.Runs.{Flow, Next, Thrown, Limited, Said, Turn, silent, say, follow, ◌followed_by◌, caught, only_if, lifted, for_each, repeat, by_place, at_place, most_steps}
-use Rattle.page_model.specs.Callbacks.{Script, handler_names, handler_text, Entries, SizeEntries, CutEntries, NoEntries, answered, once_begun, said_by, run_command, run_block, run_handler, while_active, call, notify_listener, invoke, bubble, fire, presents, handler_block, entry_lines, document_of_target}
-use Rattle.page_model.specs.Intersections.{is_same_bool, watchers, take_queue, notify_watcher, notify_watchers, notify}
+use Rattle.page_model.specs.Commands.{does, holds, begun_in}
+use Rattle.page_model.specs.Runs.{Flow, Next, Thrown, Limited, Said, Turn, say, follow, ◌followed_by◌, caught, only_if, lifted, for_each, repeat, by_place, at_place, most_steps}
+use Rattle.page_model.specs.Callbacks.{Script, handler_names, Entries, SizeEntries, CutEntries, NoEntries, answered, once_begun, said_by, run_command, run_block, run_handler, while_active, call, invoke, bubble, fire, presents, handler_block, entry_lines}
+use Rattle.page_model.specs.Intersections.{take_queue, notify_watcher, notify}
 use Rattle.page_model.specs.Loop.{Broadcast, gather, deliver_some, broadcast, round, round_ended, report_skipped, resize_loop}
-use Rattle.page_model.specs.Ticks.{line_while_active, scrolled_text, event_target_of, intersection_steps, run_timers, run_timer, resize_steps, scroll_steps, evaluated, evaluate, media_steps, frame_steps, run_frame_callback, update_rendering, run_task, run_first, run_tasks, tick}
+use Rattle.page_model.specs.Ticks.{intersection_steps, run_timers, run_timer, resize_steps, scroll_steps, evaluated, evaluate, media_steps, frame_steps, run_frame_callback, parts_of_update, update_rendering, run_task, run_first, run_tasks, tick}
 use Rattle.page_laws.specs.Successors.{OnDid}
 use Rattle.page_laws.proofs.Steps.{did, on_did-all, room-then}
 use Rattle.page_laws.proofs.Changes.{IsNext, active-in, timer-next, frame-next, noted-next, pending-next, matched-next, tasks-next, unnotified-next, queue-next, emptied-next, reported-next, gather-next, update-next}
@@ -204,31 +196,15 @@ module _ (script : Script) (P : ℕ → World → Type 0) (In : ℕ → Present 
 
     invoke-keeps : (target : EventTarget) (event : EventKind) (world : World) → P k world → P k (invoke script target event world).state
     unfolding invoke
-    invoke-keeps target event world here =
-        for_each-keeps (P k) (notify_listener script) (listeners_of target event (world.listeners))
-        (λ listener now held.
-        only_if-keeps (P k) (call script (document_of_target now (listener.target)) (Some (listener.handler)) NoEntries) now
-        (listener_stands listener (now.listeners))
-        (call-keeps (document_of_target now (listener.target)) (Some (listener.handler)))
-        held)
-        world
-        here
+    invoke-keeps target event world here = search (for_each-keeps (P k), only_if-keeps (P k), call-keeps)
 
     bubble-keeps : (target : EventTarget) (event : EventKind) (world : World) → P k world → P k (bubble script target event world).state
     bubble-keeps (DocumentTarget document) events.Scroll world here = invoke-keeps (WindowTarget document) events.Scroll world here
-    bubble-keeps (DocumentTarget document) events.Resize world here = here
-    bubble-keeps (DocumentTarget document) events.Error world here = here
-    bubble-keeps (DocumentTarget document) events.Change world here = here
-    bubble-keeps (ElementTarget element) event world here = here
-    bubble-keeps (WindowTarget document) event world here = here
-    bubble-keeps (QueryTarget query) event world here = here
+    bubble-keeps target event world here = here
 
     fire-keeps : (event : FiredEvent) (target : EventTarget) (name : EventKind) (world : World) → P k world → P k (fire script event target name world).state
     unfolding fire
-    fire-keeps event target name world here =
-        then-keeps (P k) (say (EventLine event ∷ []) world followed_by invoke script target name) (bubble script target name)
-        (then-keeps (P k) (say (EventLine event ∷ []) world) (invoke script target name) here (invoke-keeps target name))
-        (bubble-keeps target name)
+    fire-keeps event target name world here = search (then-keeps (P k), invoke-keeps, bubble-keeps)
 
     -- a step where a document is Active, which is then one that there is
     active-keeps : (document : ℕ) (run : World → Said World) → ((now : World) → is_active (now.tree) document ≡ true → P k now → P k (run now).state) →
@@ -242,10 +218,7 @@ module _ (script : Script) (P : ℕ → World → Type 0) (In : ℕ → Present 
         P k (take_queue script entries observer world).state
     queue-keeps [] observer world are here = here
     queue-keeps (entry ∷ entries) observer world are here =
-        let it = intersection_observer_at (world.intersection_observers) observer in
-        entries-keep (it.document) (it.handler) (CutEntries observer (entry ∷ entries))
-        (record world { intersection_observers = without_queue observer (world.intersection_observers) })
-        (all-cut (length world.tree.elements) (entry ∷ entries) are)
+        entries-keep _ _ (CutEntries observer (entry ∷ entries)) _ (all-cut (length world.tree.elements) (entry ∷ entries) are)
         (kept.next k world _ (queue-next world observer) here)
       where
         all-cut : (count : ℕ) (these : List Entry) → AllByRecursion
@@ -254,18 +227,17 @@ module _ (script : Script) (P : ℕ → World → Type 0) (In : ℕ → Present 
         all-cut count [] all = tt
         all-cut count (x ∷ xs) all = (all.0, all-cut count xs (all.1))
 
+    watcher-keeps : (observer : ℕ) (world : World) → P k world → P k (notify_watcher script observer world).state
+    watcher-keeps observer world here = queue-keeps _ observer world (kept.queued k world observer here) here
+
     -- the first task, once it was taken off
     notify-keeps : (document : ℕ) (others : List Task) (world : World) → world.tasks ≡ Notify document ∷ others → P k world →
         P k (notify script document (record world { tasks = others })).state
     unfolding notify
     notify-keeps document others world are here =
-        where-keeps (P k) (notify_watchers script document) (record world { tasks = others }) (is_active (world.tree) document)
-        (λ is. for_each-keeps (P k) (notify_watcher script) (watchers (world.tree) document (world.intersection_observers))
-        (λ observer each there. queue-keeps (intersection_observer_at (each.intersection_observers) observer).queue observer each
-        (kept.queued k each observer there) there)
-        (record world { tasks = others; notifying = without_notifying document (world.notifying) })
-        (kept.next k world _ (unnotified-next world document others are) here))
-        (kept.next k world _ (tasks-next world (Notify document) others are) here)
+        let off = kept.next k world _ (tasks-next world (Notify document) others are) here in
+        let unmarked = kept.next k world _ (unnotified-next world document others are) here in
+        search (where-keeps (P k), for_each-keeps (P k), watcher-keeps)
 
     -- the resize loop
 
@@ -275,13 +247,10 @@ module _ (script : Script) (P : ℕ → World → Type 0) (In : ℕ → Present 
     some-keeps document observer so_far [] are held = held
     some-keeps document observer so_far (first ∷ others) are held =
         let world = so_far.world in
-        let delivered : List Observation = first ∷ others in
-        let now = record world { resize_observers = with_reported (sight_of world) observer delivered (world.resize_observers) } in
-        let handler = (resize_observer_at (world.resize_observers) observer).handler in
-        let handed = SizeEntries observer (map (size_entry (sight_of world)) delivered) in
-        kept.next k _ _ (emptied-next (call script document handler handed now).state document observer)
-        (entries-keep document handler handed now (all-sized (length world.tree.elements) delivered are)
-        (kept.next k world now (reported-next world (sight_of world) observer delivered) held))
+        kept.next k _ _ (emptied-next _ document observer)
+        (entries-keep document _ (SizeEntries observer (map (size_entry (sight_of world)) (first ∷ others))) _
+        (all-sized (length world.tree.elements) (first ∷ others) are)
+        (kept.next k world _ (reported-next world (sight_of world) observer (first ∷ others)) held))
       where
         all-sized : (count : ℕ) (these : List Observation) → AllByRecursion (λ (each : Observation). In count (ResizeEntry (each.target))) these →
             AllByRecursion (In count) (presents (SizeEntries observer (map (size_entry (sight_of (so_far.world))) these)))
@@ -290,8 +259,7 @@ module _ (script : Script) (P : ℕ → World → Type 0) (In : ℕ → Present 
 
     pub due-keeps : (document observer : ℕ) (so_far : Broadcast) → P k (so_far.world) →
         P k (deliver_some script document observer so_far (due_at document observer (so_far.world.resize_observers))).state.world
-    due-keeps document observer so_far held =
-        some-keeps document observer so_far (due_at document observer (so_far.world.resize_observers)) (kept.due k (so_far.world) document observer held) held
+    due-keeps document observer so_far held = some-keeps document observer so_far _ (kept.due k (so_far.world) document observer held) held
 
     pub broadcast-keeps : (document : ℕ) (world : World) → P k world → P k (broadcast script document world).state.world
     unfolding broadcast
@@ -313,11 +281,7 @@ module _ (script : Script) (P : ℕ → World → Type 0) (In : ℕ → Present 
         held)
 
     error-keeps : (document : ℕ) (world : World) → P k world → P k (report_skipped script document world).state
-    error-keeps document world here =
-        only_if-keeps (P k) (fire script (FiredError (document_text (world.names) document)) (WindowTarget document) events.Error) world
-        (is_active (world.tree) document && has_skipped document (world.resize_observers))
-        (fire-keeps (FiredError (document_text (world.names) document)) (WindowTarget document) events.Error)
-        here
+    error-keeps document world here = search (only_if-keeps (P k), fire-keeps)
 
     loop-keeps : (document : ℕ) (world : World) → P k world → P k (resize_loop script document world).state
     unfolding resize_loop
@@ -333,58 +297,32 @@ module _ (script : Script) (P : ℕ → World → Type 0) (In : ℕ → Present 
 
     timer-keeps : (timer : Timer) (world : World) → P k world → P k (run_timer script timer world).state
     timer-keeps timer world here =
-        let without = record world { timers = timer_taken (timer.serial) (world.timers) } in
-        then-keeps (P k)
-        (say (line_while_active (world.tree) (timer.document) (TimerLine (document_text (world.names) (timer.document)) (timer.key))) without)
-        (call script (timer.document) (Some (timer.handler)) NoEntries)
-        (kept.next k world without (timer-next world (timer.serial)) here)
-        (call-keeps (timer.document) (Some (timer.handler)))
+        then-keeps (P k) _ _ (kept.next k world _ (timer-next world (timer.serial)) here) (call-keeps (timer.document) (Some (timer.handler)))
 
     timers-keep : (world : World) → P k world → P k (run_timers script world).state
     unfolding run_timers
-    timers-keep world here =
-        for_each-keeps (P k) (λ timer now. only_if (run_timer script timer) now (timer_stands timer (now.timers))) (due_timers (world.clock) (world.timers))
-        (λ timer now held. only_if-keeps (P k) (run_timer script timer) now (timer_stands timer (now.timers)) (timer-keeps timer) held)
-        world
-        here
+    timers-keep world here = search (for_each-keeps (P k), only_if-keeps (P k), timer-keeps)
 
     size-keeps : (document : ℕ) (world : World) → is_active (world.tree) document ≡ true → P k world → P k (resize_steps script document world).state
     unfolding resize_steps
     size-keeps document world is here =
         let size = viewport_of (world.tree) (world.viewports.screen) document in
-        let now = record world { viewports = with_noted document size (world.viewports) } in
-        only_if-keeps (P k) (fire script (FiredResize (document_text (world.names) document)) (WindowTarget document) events.Resize) now
-        (differs_from size (noted_size document (world.viewports)))
-        (fire-keeps (FiredResize (document_text (world.names) document)) (WindowTarget document) events.Resize)
-        (kept.next k world now (noted-next world document size (active-in (world.tree) document is)) here)
+        let noted = kept.next k world _ (noted-next world document size (active-in (world.tree) document is)) here in
+        search (only_if-keeps (P k), fire-keeps)
 
     scroll-keeps : (document : ℕ) (world : World) → P k world → P k (scroll_steps script document world).state
     unfolding scroll_steps
     scroll-keeps document world here =
-        for_each-keeps (P k)
-        (λ target. while_active document (λ now. fire script (FiredScroll (scrolled_text (now.names) target)) (event_target_of target) events.Scroll now))
-        (pending_of document (world.scrolls))
-        (λ target now held. active-keeps document (λ each. fire script (FiredScroll (scrolled_text (each.names) target))
-        (event_target_of target) events.Scroll each)
-        (λ each is there. fire-keeps (FiredScroll (scrolled_text (each.names) target)) (event_target_of target) events.Scroll each there) now held)
-        (record world { scrolls = without_pending document (world.scrolls) })
-        (kept.next k world _ (pending-next world document) here)
+        let taken = kept.next k world _ (pending-next world document) here in
+        search (for_each-keeps (P k), active-keeps, fire-keeps)
 
     evaluated-keeps : (query : ℕ) (matched : Bool) (world : World) → P k world → P k (evaluated script query matched world).state
     evaluated-keeps query matched world here =
-        let now = record world { queries = with_state matched query (world.queries) } in
-        only_if-keeps (P k) (fire script (FiredChange (query_list_text (world.names) query) matched) (QueryTarget query) events.Change) now
-        (not (is_same_bool matched (query_list_at (world.queries) query).matched))
-        (fire-keeps (FiredChange (query_list_text (world.names) query) matched) (QueryTarget query) events.Change)
-        (kept.next k world now (matched-next world matched query) here)
+        let now = kept.next k world _ (matched-next world matched query) here in
+        search (only_if-keeps (P k), fire-keeps)
 
     pub evaluate-keeps : (document query : ℕ) (world : World) → P k world → P k (evaluate script document query world).state
-    evaluate-keeps document query world here =
-        let it = query_list_at (world.queries) query in
-        only_if-keeps (P k) (λ each. evaluated script query (matches_now each document (it.query)) each) world
-        (it.document == document)
-        (λ each there. evaluated-keeps query (matches_now each document (it.query)) each there)
-        here
+    evaluate-keeps document query world here = search (only_if-keeps (P k), evaluated-keeps)
 
     media-keeps : (document : ℕ) (world : World) → P k world → P k (media_steps script document world).state
     unfolding media_steps
@@ -394,58 +332,45 @@ module _ (script : Script) (P : ℕ → World → Type 0) (In : ℕ → Present 
 
     callback-keeps : (callback : FrameCallback) (world : World) → P k world → P k (run_frame_callback script callback world).state
     callback-keeps callback world here =
-        let without = record world { frame_callbacks = frame_callback_taken (callback.serial) (world.frame_callbacks) } in
-        then-keeps (P k)
-        (say (FrameLine (document_text (world.names) (callback.document)) (callback.key) ∷ []) without)
-        (call script (callback.document) (Some (callback.handler)) NoEntries)
-        (kept.next k world without (frame-next world (callback.serial)) here)
-        (call-keeps (callback.document) (Some (callback.handler)))
+        then-keeps (P k) _ _ (kept.next k world _ (frame-next world (callback.serial)) here) (call-keeps (callback.document) (Some (callback.handler)))
 
     frames-keep : (document : ℕ) (world : World) → P k world → P k (frame_steps script document world).state
     unfolding frame_steps
-    frames-keep document world here =
-        for_each-keeps (P k) (λ callback now. only_if (run_frame_callback script callback) now
-        (is_active (now.tree) document && frame_callback_stands callback (now.frame_callbacks)))
-        (frame_callbacks_of document (world.frame_callbacks))
-        (λ callback now held. only_if-keeps (P k) (run_frame_callback script callback) now
-        (is_active (now.tree) document && frame_callback_stands callback (now.frame_callbacks)) (callback-keeps callback) held)
-        world
-        here
+    frames-keep document world here = search (for_each-keeps (P k), only_if-keeps (P k), callback-keeps)
 
-    documents-keep : (part : ℕ → World → Said World) (documents : List ℕ) →
-        ((document : ℕ) (world : World) → is_active (world.tree) document ≡ true → P k world → P k (part document world).state) → (world : World) →
-        P k world → P k (for_each (λ document. while_active document (part document)) documents world).state
-    documents-keep part documents each world here =
-        for_each-keeps (P k) (λ document. while_active document (part document)) documents
-        (λ document now held. active-keeps document (part document) (each document) now held) world here
+    -- an update of the rendering: what each of its parts keeps for a document that is Active
+    abbrev IsPart : (ℕ → World → Said World) → Type 0
+    IsPart part = (document : ℕ) (world : World) → is_active (world.tree) document ≡ true → P k world → P k (part document world).state
+
+    sights-keep : IsPart intersection_steps
+    sights-keep document world is here = kept.next k world _ (update-next document world (active-in (world.tree) document is)) here
+
+    parts-keep : AllByRecursion IsPart (parts_of_update script)
+    parts-keep = (
+      size-keeps,
+      (
+        λ document world is. scroll-keeps document world,
+        (
+          λ document world is. media-keeps document world,
+          (λ document world is. frames-keep document world, (λ document world is. loop-keeps document world, (sights-keep, tt))),
+        ),
+      ),
+    )
 
     update-keeps : (world : World) → P k world → P k (update_rendering script world).state
-    unfolding update_rendering for_each
+    unfolding update_rendering
     update-keeps world here =
-        let documents = active_documents (world.tree) in
-        let over : (ℕ → World → Said World) → World → Said World = λ part. for_each (λ document. while_active document (part document)) documents in
-        then-keeps (P k) (over (resize_steps script) world) _ (documents-keep (resize_steps script) documents size-keeps world here) (λ a ha.
-        then-keeps (P k) (over (scroll_steps script) a) _ (documents-keep (scroll_steps script) documents (λ document now is. scroll-keeps document now) a ha)
-        (λ b hb.
-        then-keeps (P k) (over (media_steps script) b) _ (documents-keep (media_steps script) documents (λ document now is. media-keeps document now) b hb)
-        (λ c hc.
-        then-keeps (P k) (over (frame_steps script) c) _ (documents-keep (frame_steps script) documents (λ document now is. frames-keep document now) c hc)
-        (λ d hd.
-        then-keeps (P k) (over (resize_loop script) d) _ (documents-keep (resize_loop script) documents (λ document now is. loop-keeps document now) d hd)
-        (λ e he.
-        then-keeps (P k) (over intersection_steps e) (λ f. silent f)
-        (documents-keep intersection_steps documents (λ document now is held. kept.next k now _
-        (update-next document now (active-in (now.tree) document is)) held) e he) (λ f hf. hf))))))
+        all_of-keeps (P k) IsPart (λ part. for_each (λ document. while_active document (part document)) (active_documents (world.tree))) (parts_of_update script)
+        parts-keep
+        (λ part now each. for_each-keeps (P k) (λ document. while_active document (part document)) (active_documents (world.tree))
+        (λ document. active-keeps document (part document) (each document)) now)
+        world
+        here
 
     -- tasks and ticks
 
     posted-keeps : (document handler : ℕ) (world : World) → P k world → P k (run_task script (Posted document handler) world).state
-    posted-keeps document handler world here =
-        then-keeps (P k)
-        (say (line_while_active (world.tree) document (TaskLine (document_text (world.names) document) (handler_text script handler))) world)
-        (call script document (Some handler) NoEntries)
-        here
-        (call-keeps document (Some handler))
+    posted-keeps document handler world here = then-keeps (P k) _ _ here (call-keeps document (Some handler))
 
     pub first-keeps : (tasks : List Task) (world : World) → world.tasks ≡ tasks → P k world → P k (run_first script tasks world).state
     first-keeps [] world are here = here
@@ -461,10 +386,4 @@ module _ (script : Script) (P : ℕ → World → Type 0) (In : ℕ → Present 
 
     pub tick-keeps : (world : World) → P k world → P k (tick script world).state
     unfolding tick
-    tick-keeps world here =
-        let begins = say (TickLine (world.clock) ∷ []) world in
-        then-keeps (P k) (begins followed_by run_timers script followed_by update_rendering script) (run_tasks script)
-        (then-keeps (P k) (begins followed_by run_timers script) (update_rendering script)
-        (then-keeps (P k) begins (run_timers script) here timers-keep)
-        update-keeps)
-        tasks-keep
+    tick-keeps world here = search (then-keeps (P k), timers-keep, update-keeps, tasks-keep)

@@ -20,12 +20,25 @@ use Rattle.page_laws.specs.Successors.{IsSuccessor}
 use Rattle.page_laws.specs.Later.{IsLater}
 use Rattle.page_laws.proofs.Steps.{on_did-map}
 use Rattle.page_laws.proofs.Commands.{does-next}
+use Rattle.page_laws.proofs.Changes.{IsNext}
 use Rattle.page_laws.proofs.Keeping.{counted, IsCarried, carried-by, IsKept, command-keeps, called-keeps, tick-keeps}
 use Rattle.page_laws.proofs.WholeRuns.{run_tick-keeps, items-keep}
 
 pub all-so : {A : Type 0} (xs : List A) → AllByRecursion (λ (x : A). ⊤) xs
 all-so [] = tt
 all-so (x ∷ xs) = (tt, all-so xs)
+
+-- what doesn't hang on the entries that callbacks are handed
+pub kept-alone : (script : Script) (P : World → Type 0) → ((before now : World) → IsNext before now → P before → P now) →
+    IsCarried script P (λ (present : Present). ⊤) → IsKept script (λ (k : ℕ). P) (λ (k : ℕ) (present : Present). ⊤)
+kept-alone script P next carried = record {
+  next = λ k. next;
+  carried = λ k. carried;
+  entered = λ k world here. here;
+  left = λ k before now here there. there;
+  due = λ k world document observer here. all-so _;
+  queued = λ k world observer here. all-so _;
+}
 
 -- what goes over from a world to each successor of it
 successor-carried : (script : Script) (P : World → Type 0) → ((before now : World) → IsSuccessor before now → P before → P now) →
@@ -37,14 +50,8 @@ successor-carried script P goes_over begun =
 
 successor-kept : (script : Script) (P : World → Type 0) → ((before now : World) → IsSuccessor before now → P before → P now) →
     ((world : World) → P world → P (counted world)) → IsKept script (λ (k : ℕ). P) (λ (k : ℕ) (present : Present). ⊤)
-successor-kept script P goes_over begun = record {
-  next = λ k before now next here. goes_over before now (next.successor) here;
-  carried = λ k. successor-carried script P goes_over begun;
-  entered = λ k world here. here;
-  left = λ k before now here there. there;
-  due = λ k world document observer here. all-so _;
-  queued = λ k world observer here. all-so _;
-}
+successor-kept script P goes_over begun =
+    kept-alone script P (λ before now next here. goes_over before now (next.successor) here) (successor-carried script P goes_over begun)
 
 pub self : (world : World) → IsLater world world
 self world = record { elements = omega arith; states = λ wanted document come. come; names = λ text thing is. is; clock = omega arith; begun = omega arith; version = refl }
@@ -61,24 +68,10 @@ later-kept script first =
       begun = subst (λ n. first.begun ≤ n) (sym (next.begun)) (later.begun);
       version = next.version ∙ later.version;
     })
-    (λ world later. record {
-      elements = later.elements;
-      states = later.states;
-      names = later.names;
-      clock = later.clock;
-      begun = let so_far : first.begun ≤ world.begun = later.begun in omega (arith, so_far);
-      version = later.version;
-    })
+    (λ world later. let more : first.begun ≤ suc world.begun = omega (arith, later.begun) in assumption)
 
 later-timed : (first : World) (time : ℕ) (world : World) → IsLater first world → nat_lt time world.clock ≡ false → IsLater first (record world { clock = time })
-later-timed first time world later is = record {
-  elements = later.elements;
-  states = later.states;
-  names = later.names;
-  clock = let so_far : first.clock ≤ world.clock = later.clock in grind (arith, so_far, is);
-  begun = later.begun;
-  version = later.version;
-}
+later-timed first time world later is = let so_far : first.clock ≤ time = grind (arith, later.clock, is) in assumption
 
 pub command-later : (script : Script) (entries : List Present) (command : Command) (present : Present) (world : World) →
     IsLater world (run_command script entries command present world).state

@@ -1,11 +1,11 @@
 pub mod Lists
 pub mod Steps
 pub mod Ranges
+pub mod Successors
 pub mod Trees
 pub mod Made
 pub mod Parts
 pub mod InRange
-pub mod Successors
 pub mod Commands
 pub mod Readings
 pub mod Depths
@@ -15,7 +15,6 @@ pub mod Keeping
 pub mod WholeRuns
 pub mod Later
 pub mod RunsInRange
-pub mod Targets
 pub mod Quiet
 pub mod Places
 pub mod Limits

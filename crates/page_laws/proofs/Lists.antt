@@ -1,6 +1,6 @@
 -- What holds of every entry of a list, after the changes that lists undergo.
 use Rattle.std.proofs.Common.{◌≡◌, refl, ap, ◌∙◌, arith, ◌≤◌}
-use Rattle.std.specs.Prelude.{ℕ, zero, suc, ◌<◌, Bool, true, false, cond, map, List, [], ◌∷◌, ◌++◌, length, filter, Option, Some, None, IfSome}
+use Rattle.std.specs.Prelude.{ℕ, zero, suc, ◌<◌, Bool, true, false, cond, map, List, [], ◌∷◌, ◌++◌, length, filter, Option, Some, None, IfSome, ⊤}
 use Rattle.std.specs.List.{AllByRecursion}
 use Rattle.page_model.specs.Lookups.{change_at, change_each, put_at}
 
@@ -40,6 +40,10 @@ all-put P default (suc place) value (x ∷ xs) plain new all = (all.0, all-put P
 pub some-map : {A : Type 0} (P Q : A → Type 0) → ((x : A) → P x → Q x) → (found : Option A) → IfSome found P → IfSome found Q
 some-map P Q each None all = tt
 some-map P Q each (Some x) all = each x all
+
+pub some-so : {A : Type 0} (found : Option A) → IfSome found (λ (x : A). ⊤)
+some-so None = tt
+some-so (Some x) = tt
 
 -- lengths
 

@@ -1,85 +1,75 @@
 -- What the steps of the other parts make of them leaves their numbers in range.
-use Rattle.std.specs.Prelude.{ℕ, zero, suc, ◌<◌, ℤ, Bool, true, false, cond, List, [], ◌∷◌, ◌++◌, Option, Some, None, IfSome, slice_get, unwrap_or}
+use Rattle.std.proofs.Common.{◌≡◌, subst}
+use Rattle.std.specs.Prelude.{ℕ, zero, suc, ◌<◌, ◌≤◌, length, ℤ, Bool, true, false, cond, List, [], ◌∷◌, ◌++◌, Some, IfSome, slice_get, unwrap_or}
 use Rattle.std.specs.List.{AllByRecursion, list_any}
-use Rattle.px_units.specs.declared.BoxKind.{BoxKind}
-use Rattle.page_model.specs.World.{Extent, Screen, ScrollTarget, ScrolledElement, ScrolledDocument, Scrolls, ResizeObserver, ResizeObservers, IntersectionObserver, IntersectionObservers, Tree, World}
-use Rattle.page_model.specs.Lookups.{change_at, element_at}
+use Rattle.page_model.specs.World.{Extent, Screen, ScrollTarget, ScrolledElement, ScrolledDocument, Scrolls, Observation, ResizeObserver, ResizeObservers, Registration, Entry, IntersectionObserver, IntersectionObservers, Table, Tree, World}
+use Rattle.page_model.specs.Lookups.{no_extent, change_at, put_at, element_at}
 use Rattle.page_model.specs.Documents.{Container, InElement, InDocument, is_root_element}
 use Rattle.page_model.specs.PageBoxes.{is_scroller}
-use Rattle.page_model.specs.ResizeObserving.{without_observed, with_resize_target, without_resize_target, without_resize_targets}
-use Rattle.page_model.specs.IntersectionObserving.{with_registration, without_registration, without_registrations, without_queue}
+use Rattle.page_model.specs.ResizeObserving.{without_observed}
 use Rattle.page_model.specs.Scrolls.{is_same_scroll, pending_of, with_position, with_pending, moved_unless}
-use Rattle.page_model.specs.Scrolling.{scrolled_element, scrolled_thing, scroll_document, scrolled_to, scrolled_by}
-use Rattle.page_model.specs.Ranges.{Counts, counts_of, IsScrollIn, AreScrollsIn, IsResizeObserverIn, IsIntersectionObserverIn, IsTreeIn, IsInRange}
+use Rattle.page_model.specs.Scrolling.{scrolled_element, scrolled_thing, scroll_document, scrolled_to}
+use Rattle.page_model.specs.Ranges.{Counts, counts_of, IsScrollIn, AreScrollsIn, AreObserved, IsResizeObserverIn, IsIntersectionObserverIn, IsTreeIn, IsThingIn, IsInRange}
 use Rattle.page_laws.proofs.Lists.{IsKept, all-add, all-filter, all-put, put-within, changed}
 use Rattle.page_laws.proofs.Ranges.{with-scrolls}
+use Rattle.page_laws.specs.Changed.{ResizeChange, Observed, Unobserved, Disconnected, IntersectionChange, Registered, Unregistered, AllUnregistered, QueueTaken, TableChange, Entered, Kept}
 use Rattle.page_laws.proofs.Trees.{IsContainerIn, found-in}
 
 -- observers
 
-module _ (counts : Counts) (it : ResizeObservers) (observer : ℕ) where
-  pub resize-changed : (change : ResizeObserver → ResizeObserver) →
-      ((each : ResizeObserver) → IsResizeObserverIn counts each → IsResizeObserverIn counts (change each)) →
-      IsKept (IsResizeObserverIn counts) it.made (change_at change observer (it.made))
-  resize-changed change each = changed (IsResizeObserverIn counts) change each observer (it.made)
+-- with other lists
+pub lists-in : (counts : Counts) (it : ResizeObserver) → IsResizeObserverIn counts it → (targets active skipped : List Observation) →
+    AreObserved counts targets → AreObserved counts active → AreObserved counts skipped →
+    IsResizeObserverIn counts (record it { targets = targets; active = active; skipped = skipped })
+lists-in counts it is targets active skipped all due passed =
+    record { document = is.document; handler = is.handler; targets = all; active = due; skipped = passed }
 
-  pub target-kept : (n : ℕ) (observed : BoxKind) → n < counts.elements →
-      IsKept (IsResizeObserverIn counts) it.made (with_resize_target observer n observed it).made
-  target-kept n observed is-n =
-      resize-changed _ (λ each is. record {
-        document = is.document;
-        handler = is.handler;
-        targets = all-add _ (without_observed n (each.targets)) _ (all-filter _ _ (each.targets) is.targets) is-n;
-        active = is.active;
-        skipped = is.skipped;
-      })
+pub registered-in : (counts : Counts) (it : IntersectionObserver) → IsIntersectionObserverIn counts it → (registrations : List Registration) (queue : List Entry) →
+    AllByRecursion (λ (each : Registration). each.target < counts.elements) registrations → AllByRecursion (λ (each : Entry). each.target < counts.elements) queue →
+    IsIntersectionObserverIn counts (record it { registrations = registrations; queue = queue })
+registered-in counts it is registrations queue all queued =
+    record { document = is.document; handler = is.handler; root = is.root; registrations = all; queue = queued }
 
-  pub no-target-kept : (n : ℕ) → IsKept (IsResizeObserverIn counts) it.made (without_resize_target observer n it).made
-  no-target-kept n =
-      resize-changed _ (λ each is. record {
-        document = is.document;
-        handler = is.handler;
-        targets = all-filter _ _ (each.targets) is.targets;
-        active = is.active;
-        skipped = is.skipped;
-      })
+pub resize-changed : (counts : Counts) (it : ResizeObservers) (observer : ℕ) (change : ResizeObserver → ResizeObserver) →
+    ((each : ResizeObserver) → IsResizeObserverIn counts each → IsResizeObserverIn counts (change each)) →
+    IsKept (IsResizeObserverIn counts) it.made (change_at change observer (it.made))
+resize-changed counts it observer change each = changed (IsResizeObserverIn counts) change each observer (it.made)
 
-  pub no-targets-kept : IsKept (IsResizeObserverIn counts) it.made (without_resize_targets observer it).made
-  no-targets-kept = resize-changed _ (λ each is. record { document = is.document; handler = is.handler; targets = tt; active = tt; skipped = is.skipped })
+pub resize-kept : (counts : Counts) (before : ResizeObservers) {after : ResizeObservers} → ResizeChange (IsThingIn counts) before after →
+    IsKept (IsResizeObserverIn counts) before.made after.made
+resize-kept counts before (Observed observer n observed known) =
+    resize-changed counts before observer _ (λ each is. lists-in counts each is _ _ _
+    (all-add _ (without_observed n (each.targets)) _ (all-filter _ _ (each.targets) is.targets) known) is.active is.skipped)
+resize-kept counts before (Unobserved observer n) =
+    resize-changed counts before observer _
+    (λ each is. lists-in counts each is _ _ _ (all-filter _ _ (each.targets) is.targets) is.active is.skipped)
+resize-kept counts before (Disconnected observer) =
+    resize-changed counts before observer _ (λ each is. lists-in counts each is [] [] _ tt tt is.skipped)
 
-module _ (counts : Counts) (it : IntersectionObservers) (observer : ℕ) where
-  pub intersection-changed : (change : IntersectionObserver → IntersectionObserver) →
-      ((each : IntersectionObserver) → IsIntersectionObserverIn counts each → IsIntersectionObserverIn counts (change each)) →
-      IsKept (IsIntersectionObserverIn counts) it.made (change_at change observer (it.made))
-  intersection-changed change each = changed (IsIntersectionObserverIn counts) change each observer (it.made)
+intersection-changed : (counts : Counts) (it : IntersectionObservers) (observer : ℕ) (change : IntersectionObserver → IntersectionObserver) →
+    ((each : IntersectionObserver) → IsIntersectionObserverIn counts each → IsIntersectionObserverIn counts (change each)) →
+    IsKept (IsIntersectionObserverIn counts) it.made (change_at change observer (it.made))
+intersection-changed counts it observer change each = changed (IsIntersectionObserverIn counts) change each observer (it.made)
 
-  pub registration-kept : (n : ℕ) → n < counts.elements → IsKept (IsIntersectionObserverIn counts) it.made (with_registration observer n it).made
-  registration-kept n is-n =
-      intersection-changed _ (λ each is. record {
-        document = is.document;
-        handler = is.handler;
-        root = is.root;
-        registrations = all-add _ (each.registrations) _ is.registrations is-n;
-        queue = is.queue;
-      })
+pub intersections-kept : (counts : Counts) (before : IntersectionObservers) {after : IntersectionObservers} → IntersectionChange (IsThingIn counts) before after →
+    IsKept (IsIntersectionObserverIn counts) before.made after.made
+intersections-kept counts before (Registered observer n known) =
+    intersection-changed counts before observer _
+    (λ each is. registered-in counts each is _ _ (all-add _ (each.registrations) _ is.registrations known) is.queue)
+intersections-kept counts before (Unregistered observer n) =
+    intersection-changed counts before observer _
+    (λ each is. registered-in counts each is _ _ (all-filter _ _ (each.registrations) is.registrations) is.queue)
+intersections-kept counts before (AllUnregistered observer) =
+    intersection-changed counts before observer _ (λ each is. registered-in counts each is [] _ tt is.queue)
+intersections-kept counts before (QueueTaken observer) =
+    intersection-changed counts before observer _ (λ each is. registered-in counts each is _ [] is.registrations tt)
 
-  pub no-registration-kept : (n : ℕ) → IsKept (IsIntersectionObserverIn counts) it.made (without_registration observer n it).made
-  no-registration-kept n =
-      intersection-changed _ (λ each is. record {
-        document = is.document;
-        handler = is.handler;
-        root = is.root;
-        registrations = all-filter _ _ (each.registrations) is.registrations;
-        queue = is.queue;
-      })
+-- tables
 
-  pub no-registrations-kept : IsKept (IsIntersectionObserverIn counts) it.made (without_registrations observer it).made
-  no-registrations-kept =
-      intersection-changed _ (λ each is. record { document = is.document; handler = is.handler; root = is.root; registrations = tt; queue = is.queue })
-
-  pub no-queue-kept : IsKept (IsIntersectionObserverIn counts) it.made (without_queue observer it).made
-  no-queue-kept =
-      intersection-changed _ (λ each is. record { document = is.document; handler = is.handler; root = is.root; registrations = is.registrations; queue = tt })
+pub table-kept : {A : Type 0} {Holds : A → Type 0} (P : A → Type 0) → ((x : A) → Holds x → P x) → {before after : Table A} → TableChange A Holds before after →
+    AllByRecursion P before.held → AllByRecursion P after.held
+table-kept P each {before = before} (Entered make holds) all = all-add P (before.held) _ all (each _ holds)
+table-kept P each {before = before} (Kept test) all = all-filter P test (before.held) all
 
 -- scrolling
 
@@ -101,19 +91,11 @@ module _ (counts : Counts) where
   position-in : (target : ScrollTarget) (position : Extent) (it : Scrolls) → IsScrollIn counts target → AreScrollsIn counts it →
       AreScrollsIn counts (with_position target position it)
   position-in (ScrolledElement n) position it is are =
-      record {
-        elements = put-within (counts.elements) _ n position (it.elements) is are.elements;
-        documents = are.documents;
-        listed = are.listed;
-        pending = are.pending;
-      }
+      let fits : length (put_at no_extent n position (it.elements)) ≤ counts.elements = put-within (counts.elements) _ n position (it.elements) is are.elements in
+      assumption
   position-in (ScrolledDocument document) position it is are =
-      record {
-        elements = are.elements;
-        documents = put-within (counts.documents) _ document position (it.documents) is are.documents;
-        listed = are.listed;
-        pending = are.pending;
-      }
+      let fits : length (put_at no_extent document position (it.documents)) ≤ counts.documents =
+      put-within (counts.documents) _ document position (it.documents) is are.documents in assumption
 
   put-pending-in : (document : ℕ) (target : ScrollTarget) (it : Scrolls) → document < counts.documents → IsScrollIn counts target → AreScrollsIn counts it →
       AreScrollsIn counts (with_pending document target it)
@@ -149,28 +131,13 @@ module _ (counts : Counts) where
   list-document-in tree (ScrolledDocument document) top within is = is
 
 module _ (handlers : ℕ) (world : World) (within : IsInRange handlers world) where
-  scroll-to-in : (left top : ℤ) (target : Option ScrollTarget) → IfSome target (IsScrollIn (counts_of handlers world)) →
-      IsInRange handlers (scrolled_to left top target world)
-  scroll-to-in left top None is = within
-  scroll-to-in left top (Some target) is =
+  pub scroll-in : (left top : ℤ) (container : Container) (target : ScrollTarget) → IsContainerIn (counts_of handlers world) container →
+      scrolled_thing (world.tree) (world.viewports.screen) container ≡ Some target → IsInRange handlers (scrolled_to left top (Some target) world)
+  scroll-in left top container target there is =
       let counts : Counts = counts_of handlers world in
+      let in_range : IsScrollIn counts target =
+      subst (λ found. IfSome found (IsScrollIn counts)) is
+      (thing-scroll-in counts (world.tree) (world.viewports.screen) container within.top within.tree there) in
       with-scrolls counts world _ within
       (scrolled-in counts _ (scroll_document (world.tree) target) target _ (world.scrolls)
-      (list-document-in counts (world.tree) target within.top within.tree is) is within.scrolls)
-
-  pub scroll-in : (left top : ℤ) (container : Container) → IsContainerIn (counts_of handlers world) container →
-      IsInRange handlers (scrolled_to left top (scrolled_thing (world.tree) (world.viewports.screen) container) world)
-  scroll-in left top container is =
-      scroll-to-in left top (scrolled_thing (world.tree) (world.viewports.screen) container)
-      (thing-scroll-in (counts_of handlers world) (world.tree) (world.viewports.screen) container within.top within.tree is)
-
-  scroll-by-to-in : (left top : ℤ) (target : Option ScrollTarget) → IfSome target (IsScrollIn (counts_of handlers world)) →
-      IsInRange handlers (scrolled_by left top target world)
-  scroll-by-to-in left top None is = within
-  scroll-by-to-in left top (Some target) is = scroll-to-in _ _ (Some target) is
-
-  pub scroll-by-in : (left top : ℤ) (container : Container) → IsContainerIn (counts_of handlers world) container →
-      IsInRange handlers (scrolled_by left top (scrolled_thing (world.tree) (world.viewports.screen) container) world)
-  scroll-by-in left top container is =
-      scroll-by-to-in left top (scrolled_thing (world.tree) (world.viewports.screen) container)
-      (thing-scroll-in (counts_of handlers world) (world.tree) (world.viewports.screen) container within.top within.tree is)
+      (list-document-in counts (world.tree) target within.top within.tree in_range) in_range within.scrolls)

@@ -1,7 +1,7 @@
 -- In a quiet page no part of a tick says anything, and the page stays quiet.
 use Rattle.std.proofs.Common.{◌≡◌, refl, sym, ap, ◌∙◌, subst, eq-eqb}
-use Rattle.std.specs.Prelude.{ℕ, zero, suc, ◌&&◌, ◌==◌, Bool, true, false, not, cond, nat_lt, nat_le, List, [], ◌∷◌, ◌++◌, map, filter, length, Option, Some, None, slice_get, unwrap_or}
-use Rattle.std.specs.List.{list_any}
+use Rattle.std.specs.Prelude.{ℕ, zero, suc, ◌&&◌, ◌==◌, Bool, true, false, not, cond, nat_lt, nat_le, List, [], ◌∷◌, map, filter, length, Option, Some, None, slice_get, unwrap_or, ⊤}
+use Rattle.std.specs.List.{AllByRecursion, list_any}
 use Rattle.text_io.specs.declared.kinds.EventKind.TheVariants as events
 use Rattle.script_model.specs.TraceLines.{TraceLine, TickLine, FiredResize, FiredScroll, FiredError}
 use Rattle.page_model.specs.World.{World, Document, Extent, ScrollTarget, Timer, FrameCallback, ResizeObserver, Finding, IntersectionObserver, IntersectionObservers, WindowTarget}
@@ -15,64 +15,46 @@ use Rattle.page_model.specs.FrameCallbacks.{frame_callbacks_of, frame_callback_s
 use Rattle.page_model.specs.Timers.{by_due_time, due_timers, timer_stands}
 use Rattle.page_model.specs.Tasks.{has_tasks, is_notifying}
 use Rattle.page_model.specs.Gathering.{sight_of, is_of, gathered_if, is_filled, has_active, has_skipped}
-use Rattle.page_model.specs.Runs.{Flow, Next, Thrown, Limited, Said, Turn, silent, say, follow, ◌followed_by◌, only_if, lifted, for_each, repeat, by_place, at_place, most_steps}
+use Rattle.page_model.specs.Runs.{Said, Turn, silent, say, behind, ◌followed_by◌, only_if, lifted, for_each, repeat, by_place, at_place, most_steps}
 use Rattle.page_model.specs.Callbacks.{Script, while_active, fire}
 use Rattle.page_model.specs.Intersections.{places_from, is_rooted_in, settled_observer, settling, watchers, has_queued, found_now, update_intersections, with_notify_task}
 use Rattle.page_model.specs.Loop.{gather, round, report_skipped, resize_loop}
-use Rattle.page_model.specs.Ticks.{run_timer, run_timers, resize_steps, event_target_of, scrolled_text, scroll_steps, evaluate, media_steps, run_frame_callback, frame_steps, intersection_steps, update_rendering, run_first, run_tasks, tick}
+use Rattle.page_model.specs.Ticks.{run_timer, run_timers, resize_steps, event_target_of, scrolled_text, scroll_steps, evaluate, media_steps, run_frame_callback, frame_steps, parts_of_update, update_rendering, run_first, run_tasks, tick}
 use Rattle.page_laws.specs.Quiet.{IsQuiet}
+use Rattle.page_laws.proofs.Later.{all-so}
 use Rattle.page_laws.proofs.Places.{repeat-not, and-false}
 
 -- nothing is said, and the page is quiet
 record IsHushed (said : Said World) : Type 0 where
-  lines : said.lines ≡ []
-  flow : said.flow ≡ Next
-  quiet : IsQuiet (said.state)
+  world : World
+  quiet : IsQuiet world
+  is : said ≡ silent world
+
+hushed : (said : Said World) (world : World) → said ≡ silent world → IsQuiet world → IsHushed said
+hushed said world is quiet = record { world = world; quiet = quiet; is = is }
 
 stays : (world : World) → IsQuiet world → IsHushed (silent world)
-stays world quiet = record { lines = refl; flow = refl; quiet = quiet }
-
-thrown-is-no-next : Thrown ≡ Next → ⊥
-thrown-is-no-next is = cc
-
-limited-is-no-next : Limited ≡ Next → ⊥
-limited-is-no-next is = cc
-
-follow-hushed : (flow : Flow) (rest : World → Said World) (said : Said World) → flow ≡ Next → said.lines ≡ [] → IsHushed (rest (said.state)) →
-    IsHushed (follow flow rest said)
-unfolding follow
-follow-hushed Next rest said is lines more = record {
-  lines = subst (λ first. first ++ (rest (said.state)).lines ≡ []) (sym lines) (more.lines);
-  flow = more.flow;
-  quiet = more.quiet;
-}
-follow-hushed Thrown rest said is lines more = absurd (thrown-is-no-next is)
-follow-hushed Limited rest said is lines more = absurd (limited-is-no-next is)
+stays world quiet = hushed (silent world) world refl quiet
 
 after-hushed : (rest : World → Said World) (said : Said World) → ((world : World) → IsQuiet world → IsHushed (rest world)) → IsHushed said →
     IsHushed (said followed_by rest)
 unfolding ◌followed_by◌
-after-hushed rest said each here = follow-hushed (said.flow) rest said (here.flow) (here.lines) (each (said.state) (here.quiet))
+after-hushed rest said each here = subst (λ it. IsHushed (it followed_by rest)) (sym (here.is)) (each (here.world) (here.quiet))
 
-for_each-hushed : {A : Type 0} (step : A → World → Said World) (items : List A) → ((item : A) (world : World) → IsQuiet world → IsHushed (step item world)) →
-    (world : World) → IsQuiet world → IsHushed (for_each step items world)
+all-hushed : {A : Type 0} (In : A → Type 0) (step : A → World → Said World) (items : List A) → AllByRecursion In items →
+    ((item : A) → In item → (world : World) → IsQuiet world → IsHushed (step item world)) → (world : World) → IsQuiet world → IsHushed (for_each step items world)
 unfolding for_each
-for_each-hushed step [] each world quiet = stays world quiet
-for_each-hushed step (item ∷ others) each world quiet =
-    after-hushed (for_each step others) (step item world) (for_each-hushed step others each) (each item world quiet)
+all-hushed In step [] all each world quiet = stays world quiet
+all-hushed In step (item ∷ others) all each world quiet =
+    after-hushed (for_each step others) (step item world) (all-hushed In step others (all.1) each) (each item (all.0) world quiet)
 
 for_each-none : {A : Type 0} (step : A → World → Said World) (items : List A) (world : World) → items ≡ [] → IsQuiet world →
     IsHushed (for_each step items world)
 unfolding for_each
-for_each-none step items world none quiet = subst (λ these. IsHushed (for_each step these world)) (sym none) (stays world quiet)
-
-only_if-hushed : (step : World → Said World) (world : World) (test : Bool) → (test ≡ true → IsHushed (step world)) → IsQuiet world →
-    IsHushed (only_if step world test)
-only_if-hushed step world true each quiet = each refl
-only_if-hushed step world false each quiet = stays world quiet
+for_each-none step items world none quiet = hushed _ world (ap (λ these. for_each step these world) none) quiet
 
 only_if-not : (step : World → Said World) (world : World) (test : Bool) → test ≡ false → IsQuiet world → IsHushed (only_if step world test)
-only_if-not step world test fails quiet = subst (λ b. IsHushed (only_if step world b)) (sym fails) (stays world quiet)
+only_if-not step world test fails quiet = hushed _ world (ap (only_if step world) fails) quiet
 
 -- documents: the only one is the top document
 
@@ -90,7 +72,11 @@ own-viewport world quiet =
 
 active-hushed : (document : ℕ) (part : ℕ → World → Said World) → ((world : World) → IsQuiet world → IsHushed (part 0 world)) → (world : World) →
     IsQuiet world → IsHushed (while_active document (part document) world)
-active-hushed zero part each world quiet = only_if-hushed (part 0) world (is_active (world.tree) 0) (λ is. each world quiet) quiet
+active-hushed zero part each world quiet = by_test (is_active (world.tree) 0)
+  where
+    by_test : (test : Bool) → IsHushed (only_if (part 0) world test)
+    by_test true = each world quiet
+    by_test false = stays world quiet
 active-hushed (suc n) part each world quiet = only_if-not (part (suc n)) world (is_active (world.tree) (suc n)) (others-inactive world quiet n) quiet
 
 same-number : (n : ℕ) → (n == n) ≡ true
@@ -99,7 +85,29 @@ same-number n = eq-eqb n n refl
 same-size : (size : Extent) → same_extent size size ≡ true
 same-size size = subst (λ b. cond b (size.down == size.down) false ≡ true) (sym (same-number (size.across))) (same-number (size.down))
 
--- the size noted and the list of pending events taken
+-- changes of parts of a quiet page
+quiet-after : (world after : World) → IsQuiet world →
+    after ≡ record after {
+      tree = world.tree;
+      queries = world.queries;
+      frame_callbacks = world.frame_callbacks;
+      timers = world.timers;
+      tasks = world.tasks;
+    } → pending_of 0 (after.scrolls) ≡ [] → differs_from (after.viewports.screen.size) (noted_size 0 (after.viewports)) ≡ false →
+    after.resize_observers.made ≡ [] → after.intersection_observers.made ≡ [] → IsQuiet after
+quiet-after world after quiet same pending noted observers watchers = subst IsQuiet (sym same) (record {
+  top = quiet.top;
+  alone = quiet.alone;
+  frame = quiet.frame;
+  pending = pending;
+  noted = noted;
+  resize_observers = observers;
+  intersection_observers = watchers;
+  queries = quiet.queries;
+  frame_callbacks = quiet.frame_callbacks;
+  timers = quiet.timers;
+  tasks = quiet.tasks;
+})
 
 put-first : (value : Option Extent) (noted : List (Option Extent)) → entry_or None (put_at None 0 value noted) 0 ≡ value
 put-first value [] = refl
@@ -107,39 +115,19 @@ put-first value (x ∷ xs) = refl
 
 noted-quiet : (world : World) (size : Extent) → size ≡ world.viewports.screen.size → IsQuiet world →
     IsQuiet (record world { viewports = with_noted 0 size (world.viewports) })
-noted-quiet world size is quiet = record {
-  top = quiet.top;
-  alone = quiet.alone;
-  frame = quiet.frame;
-  pending = quiet.pending;
-  noted = ap (differs_from (world.viewports.screen.size)) (put-first (Some size) (world.viewports.noted)) ∙ subst
-      (λ it. differs_from (world.viewports.screen.size) (Some it) ≡ false) (sym is) (ap not (same-size (world.viewports.screen.size)));
-  resize_observers = quiet.resize_observers;
-  intersection_observers = quiet.intersection_observers;
-  queries = quiet.queries;
-  frame_callbacks = quiet.frame_callbacks;
-  timers = quiet.timers;
-  tasks = quiet.tasks;
-}
+noted-quiet world size is quiet =
+    quiet-after world _ quiet refl (quiet.pending)
+    (ap (differs_from (world.viewports.screen.size)) (put-first (Some size) (world.viewports.noted))
+    ∙ subst (λ it. differs_from (world.viewports.screen.size) (Some it) ≡ false) (sym is) (ap not (same-size (world.viewports.screen.size))))
+    (quiet.resize_observers) (quiet.intersection_observers)
 
 none-pending : (lists : List (List ScrollTarget)) → entry_or [] (change_at (λ (pending : List ScrollTarget). []) 0 lists) 0 ≡ []
 none-pending [] = refl
 none-pending (x ∷ xs) = refl
 
 taken-quiet : (world : World) → IsQuiet world → IsQuiet (record world { scrolls = without_pending 0 (world.scrolls) })
-taken-quiet world quiet = record {
-  top = quiet.top;
-  alone = quiet.alone;
-  frame = quiet.frame;
-  pending = none-pending (world.scrolls.pending);
-  noted = quiet.noted;
-  resize_observers = quiet.resize_observers;
-  intersection_observers = quiet.intersection_observers;
-  queries = quiet.queries;
-  frame_callbacks = quiet.frame_callbacks;
-  timers = quiet.timers;
-  tasks = quiet.tasks;
-}
+taken-quiet world quiet =
+    quiet-after world _ quiet refl (none-pending (world.scrolls.pending)) (quiet.noted) (quiet.resize_observers) (quiet.intersection_observers)
 
 -- the parts of a tick
 
@@ -172,14 +160,15 @@ scroll-hushed script world quiet =
 media-hushed : (script : Script) (world : World) → IsQuiet world → IsHushed (media_steps script 0 world)
 unfolding media_steps by_place
 media-hushed script world quiet =
-    subst (λ said. IsHushed (lifted (λ (turn : Turn World). turn.state) said))
-    (sym (repeat-not
+    hushed _ world
+    (ap (lifted (λ (turn : Turn World). turn.state))
+    (repeat-not
     (λ (turn : Turn World). is_active (turn.state.tree) 0 && nat_lt (turn.place) (length (turn.state.queries)))
     (λ turn. lifted (at_place (suc turn.place)) (evaluate script 0 (turn.place) (turn.state)))
     most_steps
     (at_place 0 world)
     (and-false (is_active (world.tree) 0) (nat_lt 0 (length world.queries)) (ap (λ queries. nat_lt 0 (length queries)) (quiet.queries)))))
-    (stays world quiet)
+    quiet
 
 frames-hushed : (script : Script) (world : World) → IsQuiet world → IsHushed (frame_steps script 0 world)
 unfolding frame_steps
@@ -193,19 +182,10 @@ frames-hushed script world quiet =
 
 gathered-quiet : (world : World) → IsQuiet world → IsQuiet (gather 0 0 world)
 unfolding gather
-gathered-quiet world quiet = record {
-  top = quiet.top;
-  alone = quiet.alone;
-  frame = quiet.frame;
-  pending = quiet.pending;
-  noted = quiet.noted;
-  resize_observers = ap (map (λ (observer : ResizeObserver). gathered_if (is_of 0 observer) (sight_of world) 0 observer)) (quiet.resize_observers);
-  intersection_observers = quiet.intersection_observers;
-  queries = quiet.queries;
-  frame_callbacks = quiet.frame_callbacks;
-  timers = quiet.timers;
-  tasks = quiet.tasks;
-}
+gathered-quiet world quiet =
+    quiet-after world _ quiet refl (quiet.pending) (quiet.noted)
+    (ap (map (λ (observer : ResizeObserver). gathered_if (is_of 0 observer) (sight_of world) 0 observer)) (quiet.resize_observers))
+    (quiet.intersection_observers)
 
 none-active : (world : World) → IsQuiet world → has_active 0 (world.resize_observers) ≡ false
 none-active world quiet = ap (λ these. list_any (λ (observer : ResizeObserver). is_of 0 observer && is_filled (observer.active)) these) (quiet.resize_observers)
@@ -227,11 +207,11 @@ loop-hushed script world quiet =
     after-hushed (report_skipped script 0)
     (repeat (λ now. is_active (now.tree) 0 && has_active 0 (now.resize_observers)) (round script 0) most_steps (gather 0 0 world))
     (error-hushed script)
-    (subst IsHushed
-    (sym (repeat-not (λ now. is_active (now.tree) 0 && has_active 0 (now.resize_observers)) (round script 0) most_steps (gather 0 0 world)
+    (hushed _ (gather 0 0 world)
+    (repeat-not (λ now. is_active (now.tree) 0 && has_active 0 (now.resize_observers)) (round script 0) most_steps (gather 0 0 world)
     (and-false (is_active (gather 0 0 world).tree 0) ((has_active 0 (gather 0 0 world).resize_observers))
-    (none-active (gather 0 0 world) (gathered-quiet world quiet)))))
-    (stays (gather 0 0 world) (gathered-quiet world quiet)))
+    (none-active (gather 0 0 world) (gathered-quiet world quiet))))
+    (gathered-quiet world quiet))
 
 -- where there are no observers none is settled
 settled-none : (time : ℕ) (find : ℕ → IntersectionObserver → ℕ → Finding) (observers : List ℕ) (it : IntersectionObservers) → it.made ≡ [] →
@@ -250,76 +230,59 @@ updated-quiet world quiet =
       intersection_observers = settling (world.clock) (found_now world) (watchers (world.tree) 0 (world.intersection_observers))
           (world.intersection_observers);
     } in
-    let still : IsQuiet now = record {
-      top = quiet.top;
-      alone = quiet.alone;
-      frame = quiet.frame;
-      pending = quiet.pending;
-      noted = quiet.noted;
-      resize_observers = quiet.resize_observers;
-      intersection_observers = settled-none (world.clock) (found_now world) (watchers (world.tree) 0 (world.intersection_observers)) (world.intersection_observers) (quiet.intersection_observers);
-      queries = quiet.queries;
-      frame_callbacks = quiet.frame_callbacks;
-      timers = quiet.timers;
-      tasks = quiet.tasks;
-    } in
+    let still : IsQuiet now =
+    quiet-after world now quiet refl (quiet.pending) (quiet.noted) (quiet.resize_observers)
+    (settled-none (world.clock) (found_now world) (watchers (world.tree) 0 (world.intersection_observers)) (world.intersection_observers)
+    (quiet.intersection_observers)) in
     subst (λ test. IsQuiet (cond test (with_notify_task 0 (is_notifying 0 (world.notifying)) now) now))
     (sym (ap (λ these. list_any (has_queued (world.intersection_observers) (now.intersection_observers)) (watching these)) (quiet.intersection_observers)))
     still
 
+-- a part of an update of the rendering
+abbrev IsHushedPart : (ℕ → World → Said World) → Type 0
+IsHushedPart part = (world : World) → IsQuiet world → IsHushed (part 0 world)
+
+parts-hushed : (script : Script) → AllByRecursion IsHushedPart (parts_of_update script)
+parts-hushed script = (
+  resize-hushed script,
+  (
+    scroll-hushed script,
+    (
+      media-hushed script,
+      (frames-hushed script, (loop-hushed script, (λ world quiet. stays (update_intersections 0 world) (updated-quiet world quiet), tt))),
+    ),
+  ),
+)
+
 update-hushed : (script : Script) (world : World) → IsQuiet world → IsHushed (update_rendering script world)
-unfolding update_rendering for_each
+unfolding update_rendering
 update-hushed script world quiet =
     let documents = active_documents (world.tree) in
-    let over : (ℕ → World → Said World) → World → Said World = λ part. for_each (λ document. while_active document (part document)) documents in
-    after-hushed _ (over (resize_steps script) world) (λ a qa.
-    after-hushed _ (over (scroll_steps script) a) (λ b qb.
-    after-hushed _ (over (media_steps script) b) (λ c qc.
-    after-hushed _ (over (frame_steps script) c) (λ d qd.
-    after-hushed _ (over (resize_loop script) d) (λ e qe.
-    after-hushed (λ f. silent f) (over intersection_steps e) stays
-    (documents-hushed intersection_steps documents (λ now quiet. stays (update_intersections 0 now) (updated-quiet now quiet)) e qe))
-    (documents-hushed (resize_loop script) documents (loop-hushed script) d qd))
-    (documents-hushed (frame_steps script) documents (frames-hushed script) c qc))
-    (documents-hushed (media_steps script) documents (media-hushed script) b qb))
-    (documents-hushed (scroll_steps script) documents (scroll-hushed script) a qa))
-    (documents-hushed (resize_steps script) documents (resize-hushed script) world quiet)
-  where
-    documents-hushed : (part : ℕ → World → Said World) (documents : List ℕ) → ((now : World) → IsQuiet now → IsHushed (part 0 now)) → (now : World) →
-        IsQuiet now → IsHushed (for_each (λ document. while_active document (part document)) documents now)
-    documents-hushed part documents each now here =
-        for_each-hushed (λ document. while_active document (part document)) documents (λ document it quiet. active-hushed document part each it quiet) now here
+    all-hushed IsHushedPart (λ part. for_each (λ document. while_active document (part document)) documents) (parts_of_update script) (parts-hushed script)
+    (λ part each. all-hushed (λ (document : ℕ). ⊤) (λ document. while_active document (part document)) documents (all-so documents)
+    (λ document is. active-hushed document part each))
+    world
+    quiet
 
 tasks-hushed : (script : Script) (world : World) → IsQuiet world → IsHushed (run_tasks script world)
 unfolding run_tasks
 tasks-hushed script world quiet =
-    subst IsHushed
-    (sym (repeat-not (λ now. has_tasks (now.tasks)) (λ now. run_first script (now.tasks) now) most_steps world (ap has_tasks (quiet.tasks))))
-    (stays world quiet)
+    hushed _ world (repeat-not (λ now. has_tasks (now.tasks)) (λ now. run_first script (now.tasks) now) most_steps world (ap has_tasks (quiet.tasks))) quiet
 
 -- a line said first
-pub record IsHushedBut (line : TraceLine) (said : Said World) : Type 0 where
-  pub lines : said.lines ≡ line ∷ []
-  pub flow : said.flow ≡ Next
-  pub quiet : IsQuiet (said.state)
-
-follow-but : (line : TraceLine) (flow : Flow) (rest : World → Said World) (said : Said World) → flow ≡ Next → said.lines ≡ line ∷ [] →
-    IsHushed (rest (said.state)) → IsHushedBut line (follow flow rest said)
-unfolding follow
-follow-but line Next rest said is lines more = record {
-  lines = subst (λ first. first ++ (rest (said.state)).lines ≡ line ∷ []) (sym lines) (ap (λ others. line ∷ others) (more.lines));
-  flow = more.flow;
-  quiet = more.quiet;
-}
-follow-but line Thrown rest said is lines more = absurd (thrown-is-no-next is)
-follow-but line Limited rest said is lines more = absurd (limited-is-no-next is)
+record IsHushedBut (line : TraceLine) (said : Said World) : Type 0 where
+  world : World
+  quiet : IsQuiet world
+  is : said ≡ say (line ∷ []) world
 
 after-but : (line : TraceLine) (rest : World → Said World) (said : Said World) → ((world : World) → IsQuiet world → IsHushed (rest world)) →
     IsHushedBut line said → IsHushedBut line (said followed_by rest)
 unfolding ◌followed_by◌
-after-but line rest said each here = follow-but line (said.flow) rest said (here.flow) (here.lines) (each (said.state) (here.quiet))
+after-but line rest said each here =
+    let next : IsHushed (rest (here.world)) = each (here.world) (here.quiet) in
+    record { world = next.world; quiet = next.quiet; is = ap (λ it. it followed_by rest) (here.is) ∙ ap (behind (line ∷ [])) (next.is) }
 
-pub tick-hushed : (script : Script) (world : World) → IsQuiet world → IsHushedBut (TickLine (world.clock)) (tick script world)
+tick-hushed : (script : Script) (world : World) → IsQuiet world → IsHushedBut (TickLine (world.clock)) (tick script world)
 unfolding tick
 tick-hushed script world quiet =
     let line = TickLine (world.clock) in
@@ -327,4 +290,12 @@ tick-hushed script world quiet =
     after-but line (run_tasks script) (begins followed_by run_timers script followed_by update_rendering script) (tasks-hushed script)
     (after-but line (update_rendering script) (begins followed_by run_timers script) (update-hushed script)
     (after-but line (run_timers script) begins (timers-hushed script)
-    (record { lines = refl; flow = refl; quiet = quiet })))
+    (record { world = world; quiet = quiet; is = refl })))
+
+pub tick-line : (script : Script) (world : World) → IsQuiet world → (tick script world).lines ≡ TickLine (world.clock) ∷ []
+tick-line script world quiet = ap (λ (said : Said World). said.lines) (tick-hushed script world quiet).is
+
+pub tick-quiet : (script : Script) (world : World) → IsQuiet world → IsQuiet (tick script world).state
+tick-quiet script world quiet =
+    let after = tick-hushed script world quiet in
+    subst (λ (said : Said World). IsQuiet (said.state)) (sym (after.is)) (after.quiet)

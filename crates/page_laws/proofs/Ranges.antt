@@ -4,7 +4,7 @@ use Rattle.std.specs.Prelude.{ℕ, ◌<◌, List, length, Option, IfSome}
 use Rattle.std.specs.List.{AllByRecursion}
 use Rattle.script_model.specs.Margins.{Margins}
 use Rattle.page_model.specs.World.{Element, Document, Tree, Scrolls, ScrollTarget, ScrolledElement, ScrolledDocument, Thing, DocumentThing, ElementThing, ResizeObserverThing, IntersectionObserverThing, QueryListThing, Name, Observation, ResizeObserver, ResizeObservers, Root, ImplicitRoot, DocumentRoot, ElementRoot, Registration, Entry, IntersectionObserver, IntersectionObservers, QueryList, EventTarget, ElementTarget, DocumentTarget, WindowTarget, QueryTarget, Task, Notify, Posted, World}
-use Rattle.page_model.specs.Ranges.{Counts, counts_of, IsElementIn, IsScrollIn, IsDocumentIn, IsTreeIn, AreScrollsIn, IsThingIn, AreObserved, IsResizeObserverIn, IsRootIn, IsIntersectionObserverIn, IsEventTargetIn, IsListenerIn, IsFrameCallbackIn, IsTimerIn, IsTaskIn, IsWithin, IsInRange}
+use Rattle.page_model.specs.Ranges.{Counts, counts_of, IsElementIn, IsScrollIn, IsDocumentIn, IsTreeIn, AreScrollsIn, IsThingIn, IsResizeObserverIn, IsRootIn, IsIntersectionObserverIn, IsEventTargetIn, IsListenerIn, IsFrameCallbackIn, IsTimerIn, IsTaskIn, IsWithin, IsInRange}
 use Rattle.page_laws.proofs.Lists.{all-map, some-map, IsKept}
 
 -- more of each thing
@@ -23,13 +23,19 @@ below more less = omega arith
 at-most : {n a b : ℕ} → a ≤ b → n ≤ a → n ≤ b
 at-most more less = omega arith
 
+some-below : {a b : ℕ} → a ≤ b → (found : Option ℕ) → IfSome found (λ n. n < a) → IfSome found (λ n. n < b)
+some-below more found is = some-map _ _ (λ n. below more) found is
+
+all-below : {A : Type 0} {a b : ℕ} (number : A → ℕ) → a ≤ b → (xs : List A) → AllByRecursion (λ x. number x < a) xs → AllByRecursion (λ x. number x < b) xs
+all-below number more xs all = all-map _ _ (λ x. below more) xs all
+
 module _ (counts more : Counts) (grows : IsMore counts more) where
   element-more : (it : Element) → IsElementIn counts it → IsElementIn more it
   element-more it is = record {
-    parent = some-map (λ n. n < counts.elements) (λ n. n < more.elements) (λ n. below grows.elements) (it.parent) is.parent;
-    children = all-map (λ n. n < counts.elements) (λ n. n < more.elements) (λ n. below grows.elements) (it.children) is.children;
+    parent = some-below grows.elements (it.parent) is.parent;
+    children = all-below (λ n. n) grows.elements (it.children) is.children;
     document = below grows.documents is.document;
-    framed = some-map (λ n. n < counts.documents) (λ n. n < more.documents) (λ n. below grows.documents) (it.framed) is.framed;
+    framed = some-below grows.documents (it.framed) is.framed;
   }
 
   scroll-more : (it : ScrollTarget) → IsScrollIn counts it → IsScrollIn more it
@@ -37,10 +43,7 @@ module _ (counts more : Counts) (grows : IsMore counts more) where
   scroll-more (ScrolledDocument document) is = below grows.documents is
 
   document-more : (it : Document) → IsDocumentIn counts it → IsDocumentIn more it
-  document-more it is = record {
-    frame = some-map (λ n. n < counts.elements) (λ n. n < more.elements) (λ n. below grows.elements) (it.frame) is.frame;
-    root = some-map (λ n. n < counts.elements) (λ n. n < more.elements) (λ n. below grows.elements) (it.root) is.root;
-  }
+  document-more it is = record { frame = some-below grows.elements (it.frame) is.frame; root = some-below grows.elements (it.root) is.root }
 
   thing-more : (it : Thing) → IsThingIn counts it → IsThingIn more it
   thing-more (DocumentThing document) is = below grows.documents is
@@ -49,20 +52,13 @@ module _ (counts more : Counts) (grows : IsMore counts more) where
   thing-more (IntersectionObserverThing observer) is = below grows.intersection_observers is
   thing-more (QueryListThing query) is = below grows.queries is
 
-  observed-more : (xs : List Observation) → AreObserved counts xs → AreObserved more xs
-  observed-more xs is =
-      all-map (λ (each : Observation). each.target < counts.elements) (λ each. each.target < more.elements) (λ each. below grows.elements) xs is
-
-  handler-more : (it : Option ℕ) → IfSome it (λ handler. handler < counts.handlers) → IfSome it (λ handler. handler < more.handlers)
-  handler-more it is = some-map (λ n. n < counts.handlers) (λ n. n < more.handlers) (λ n. below grows.handlers) it is
-
   resize-more : (it : ResizeObserver) → IsResizeObserverIn counts it → IsResizeObserverIn more it
   resize-more it is = record {
     document = below grows.documents is.document;
-    handler = handler-more (it.handler) is.handler;
-    targets = observed-more (it.targets) is.targets;
-    active = observed-more (it.active) is.active;
-    skipped = observed-more (it.skipped) is.skipped;
+    handler = some-below grows.handlers (it.handler) is.handler;
+    targets = all-below (λ (each : Observation). each.target) grows.elements (it.targets) is.targets;
+    active = all-below (λ (each : Observation). each.target) grows.elements (it.active) is.active;
+    skipped = all-below (λ (each : Observation). each.target) grows.elements (it.skipped) is.skipped;
   }
 
   pub root-more : (it : Root) → IsRootIn counts it → IsRootIn more it
@@ -73,12 +69,10 @@ module _ (counts more : Counts) (grows : IsMore counts more) where
   intersection-more : (it : IntersectionObserver) → IsIntersectionObserverIn counts it → IsIntersectionObserverIn more it
   intersection-more it is = record {
     document = below grows.documents is.document;
-    handler = handler-more (it.handler) is.handler;
+    handler = some-below grows.handlers (it.handler) is.handler;
     root = root-more (it.root) is.root;
-    registrations =
-        all-map (λ (each : Registration). each.target < counts.elements) (λ each. each.target < more.elements) (λ each. below grows.elements)
-        (it.registrations) is.registrations;
-    queue = all-map (λ (each : Entry). each.target < counts.elements) (λ each. each.target < more.elements) (λ each. below grows.elements) (it.queue) is.queue;
+    registrations = all-below (λ (each : Registration). each.target) grows.elements (it.registrations) is.registrations;
+    queue = all-below (λ (each : Entry). each.target) grows.elements (it.queue) is.queue;
   }
 
   event-target-more : (it : EventTarget) → IsEventTargetIn counts it → IsEventTargetIn more it
@@ -115,9 +109,7 @@ module _ (counts more : Counts) (grows : IsMore counts more) where
     intersection_observers =
         all-map (IsIntersectionObserverIn counts) (IsIntersectionObserverIn more) intersection-more
         (world.intersection_observers.made) is.intersection_observers;
-    queries =
-        all-map (λ (list : QueryList). list.document < counts.documents) (λ list. list.document < more.documents) (λ list. below grows.documents)
-        (world.queries) is.queries;
+    queries = all-below (λ (list : QueryList). list.document) grows.documents (world.queries) is.queries;
     listeners =
         all-map (IsListenerIn counts) (IsListenerIn more) (λ it given. (event-target-more (it.target) (given.0), below grows.handlers (given.1)))
         (world.listeners.held) is.listeners;
@@ -158,24 +150,15 @@ pub with-queries : (counts : Counts) (world : World) (queries : List QueryList) 
     AllByRecursion (λ (list : QueryList). list.document < counts.documents) queries → IsWithin counts (record world { queries = queries })
 with-queries counts world queries within all = search
 
--- a tree after another one of as many elements and documents
-pub record IsTreeKept (counts : Counts) (before after : Tree) : Type 0 where
-  pub elements : IsKept (IsElementIn counts) before.elements after.elements
-  pub documents : IsKept (IsDocumentIn counts) before.documents after.documents
-
-pub tree-in : (handlers : ℕ) (world : World) (after : Tree) → IsTreeKept (counts_of handlers world) (world.tree) after → IsInRange handlers world →
+pub tree-in : (handlers : ℕ) (world : World) (after : Tree) → length after.elements ≡ length world.tree.elements →
+    length after.documents ≡ length world.tree.documents → IsTreeIn (counts_of handlers world) after → IsInRange handlers world →
     IsInRange handlers (record world { tree = after })
-tree-in handlers world after kept within =
+tree-in handlers world after elements documents is within =
     let counts : Counts = counts_of handlers world in
-    let elements : length after.elements ≡ length world.tree.elements = kept.elements.same in
-    let documents : length after.documents ≡ length world.tree.documents = kept.documents.same in
     within-more counts (counts_of handlers (record world { tree = after }))
     (grind arith)
     (record world { tree = after })
-    (with-tree counts world after within (record {
-      elements = kept.elements.within within.tree.elements;
-      documents = kept.documents.within within.tree.documents;
-    }))
+    (with-tree counts world after within is)
 
 pub resize-in : (handlers : ℕ) (world : World) (after : ResizeObservers) →
     IsKept (IsResizeObserverIn (counts_of handlers world)) world.resize_observers.made after.made → IsInRange handlers world →

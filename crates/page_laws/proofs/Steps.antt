@@ -1,5 +1,5 @@
 -- What holds of what a sequence of steps comes to.
-use Rattle.std.proofs.Common.{◌≡◌, refl, arith, tests}
+use Rattle.std.proofs.Common.{◌≡◌, refl, subst, arith, tests}
 use Rattle.std.specs.Prelude.{ℕ, ◌<◌, nat_lt, Bool, true, false, Option, Some, None, IfSome}
 use Rattle.text_io.specs.declared.kinds.ThrowKind.{ThrowKind}
 use Rattle.text_io.specs.declared.kinds.LimitKind.{LimitKind}
@@ -29,6 +29,18 @@ both (Met limit) next Holds there = tt
 pub did : {A : Type 0} (value : A) (Holds : A → Type 0) → Holds value → OnDid (Did value) Holds
 unfolding OnDid
 did value Holds holds = holds
+
+-- what is known of a step that comes to this
+pub of_did : {A : Type 0} (step : Step A) (value : A) (Holds : A → Type 0) → step ≡ Did value → OnDid step Holds → Holds value
+unfolding OnDid
+of_did (Did other) value Holds is here = let both : Did other ≡ Did value = is in let same : other ≡ value = cc in subst Holds same here
+of_did step value Holds is here = cc
+
+pub known-did : {A : Type 0} (step : Step A) (Holds : A → Type 0) → ((value : A) → step ≡ Did value → Holds value) → OnDid step Holds
+unfolding OnDid
+known-did (Did value) Holds each = each value refl
+known-did (Threw exception) Holds each = tt
+known-did (Met limit) Holds each = tt
 
 -- the next step where something is known of the value
 pub bind-in : {A B : Type 0} (step : Step A) (next : A → Step B) (Fact : A → Type 0) (Holds : B → Type 0) → OnDid step Fact →

@@ -1,13 +1,13 @@
--- Each command leaves a successor of the world.
-use Rattle.std.proofs.Common.{◌≡◌, refl, sym, ap, ◌∙◌, subst, arith, ◌≤◌, true≢false}
-use Rattle.std.specs.Prelude.{ℕ, zero, suc, Bool, true, false, cond, IsTrue, length, List, [], ◌∷◌, ◌++◌, Option, Some, None, slice_get, option_map, find, filter, flat_map, unwrap_or, bytes_eq, ⊤}
+-- States of documents don't go back, and names stay: what goes over to a successor of a world.
+use Rattle.std.proofs.Common.{◌≡◌, refl, sym, ap, subst, arith, true≢false}
+use Rattle.std.specs.Prelude.{ℕ, zero, suc, Bool, true, false, cond, IsTrue, List, [], ◌∷◌, ◌++◌, Option, Some, None, slice_get, option_map, find, filter, flat_map, unwrap_or, bytes_eq}
 use Rattle.std.specs.List.{AllByRecursion}
-use Rattle.page_model.specs.World.{Element, DocumentState, Fresh, Active, Dead, Document, Tree, Thing, Name, World}
-use Rattle.page_model.specs.Lookups.{change_at, change_each, change_element, change_document, document_at, no_document}
+use Rattle.page_model.specs.World.{DocumentState, Fresh, Active, Dead, Document, Tree, Thing, Name, World}
+use Rattle.page_model.specs.Lookups.{change_at, change_each, document_at, no_document}
 use Rattle.page_model.specs.Names.{named_thing, with_name}
-use Rattle.page_model.specs.Documents.{is_active_state, is_fresh_state, led_to, documents_inside, inclusive_descendants, frames_in, frames_below, removed, inserted, unlinked, linked, adopted, shown, with_state, Container, InElement, InDocument, container_of, document_of_container, sibling_meant, stands_in_active, frame_levels}
-use Rattle.page_laws.specs.Successors.{has_come_to, is_come_to, came_to, IsSuccessor}
-use Rattle.page_laws.proofs.Lists.{changed, changed-each, all-append}
+use Rattle.page_model.specs.Documents.{is_fresh_state, led_to, frames_below}
+use Rattle.page_laws.specs.Successors.{has_come_to, is_come_to, IsSuccessor}
+use Rattle.page_laws.proofs.Lists.{all-append}
 
 -- states of documents after changes
 
@@ -16,31 +16,28 @@ dead-is-last Fresh = refl
 dead-is-last Active = refl
 dead-is-last Dead = refl
 
-state-kept : (change : Document → Document) → ((it : Document) → (change it).state ≡ it.state) →
-    (wanted : DocumentState) (place document : ℕ) (xs : List Document) →
-    is_come_to wanted (slice_get (change_at change place xs) document) ≡ is_come_to wanted (slice_get xs document)
-state-kept change same wanted place document [] = refl
-state-kept change same wanted zero zero (x ∷ xs) = ap (has_come_to wanted) (same x)
-state-kept change same wanted zero (suc document) (x ∷ xs) = refl
-state-kept change same wanted (suc place) zero (x ∷ xs) = refl
-state-kept change same wanted (suc place) (suc document) (x ∷ xs) = state-kept change same wanted place document xs
-
-abbrev into : DocumentState → Document → Document
+abbrev pub into : DocumentState → Document → Document
 into state it = record it { state = state }
 
-dying-one : (wanted : DocumentState) (place document : ℕ) (xs : List Document) → IsTrue (is_come_to wanted (slice_get xs document)) →
-    IsTrue (is_come_to wanted (slice_get (change_at (into Dead) place xs) document))
-dying-one wanted place document [] come = come
-dying-one wanted zero zero (x ∷ xs) come = dead-is-last wanted
-dying-one wanted zero (suc document) (x ∷ xs) come = come
-dying-one wanted (suc place) zero (x ∷ xs) come = come
-dying-one wanted (suc place) (suc document) (x ∷ xs) come = dying-one wanted place document xs come
+-- what holds of an entry holds of it after changes at places that keep it
+pub changed-entry : (P : Option Document → Type 0) (change : Document → Document) (place document : ℕ) (xs : List Document) →
+    ((it : Document) → slice_get xs place ≡ Some it → P (Some it) → P (Some (change it))) → P (slice_get xs document) →
+    P (slice_get (change_at change place xs) document)
+changed-entry P change place document [] each is = is
+changed-entry P change zero zero (x ∷ xs) each is = each x refl is
+changed-entry P change zero (suc document) (x ∷ xs) each is = is
+changed-entry P change (suc place) zero (x ∷ xs) each is = is
+changed-entry P change (suc place) (suc document) (x ∷ xs) each is = changed-entry P change place document xs each is
 
-dying-each : (wanted : DocumentState) (document : ℕ) (places : List ℕ) (xs : List Document) → IsTrue (is_come_to wanted (slice_get xs document)) →
-    IsTrue (is_come_to wanted (slice_get (change_each (into Dead) places xs) document))
+abbrev pub HasCome : DocumentState → Option Document → Type 0
+HasCome wanted found = IsTrue (is_come_to wanted found)
+
+pub dying-each : (wanted : DocumentState) (document : ℕ) (places : List ℕ) (xs : List Document) → HasCome wanted (slice_get xs document) →
+    HasCome wanted (slice_get (change_each (into Dead) places xs) document)
 dying-each wanted document [] xs come = come
 dying-each wanted document (place ∷ places) xs come =
-    dying-each wanted document places (change_at (into Dead) place xs) (dying-one wanted place document xs come)
+    dying-each wanted document places (change_at (into Dead) place xs)
+    (changed-entry (HasCome wanted) (into Dead) place document xs (λ it at was. dead-is-last wanted) come)
 
 -- a document that isn't Dead
 abbrev is_alive_state : DocumentState → Bool
@@ -59,35 +56,24 @@ active-follows Dead Fresh alive come = come
 active-follows Dead Active alive come = come
 active-follows Dead Dead alive come = alive
 
-waking-one : (wanted : DocumentState) (place document : ℕ) (xs : List Document) → IsTrue (is_alive (slice_get xs place)) →
-    IsTrue (is_come_to wanted (slice_get xs document)) → IsTrue (is_come_to wanted (slice_get (change_at (into Active) place xs) document))
-waking-one wanted place document [] alive come = come
-waking-one wanted zero zero (x ∷ xs) alive come = active-follows wanted (x.state) alive come
-waking-one wanted zero (suc document) (x ∷ xs) alive come = come
-waking-one wanted (suc place) zero (x ∷ xs) alive come = come
-waking-one wanted (suc place) (suc document) (x ∷ xs) alive come = waking-one wanted place document xs alive come
-
 alive-still : (place document : ℕ) (xs : List Document) → IsTrue (is_alive (slice_get xs document)) →
     IsTrue (is_alive (slice_get (change_at (into Active) place xs) document))
-alive-still place document [] alive = alive
-alive-still zero zero (x ∷ xs) alive = refl
-alive-still zero (suc document) (x ∷ xs) alive = alive
-alive-still (suc place) zero (x ∷ xs) alive = alive
-alive-still (suc place) (suc document) (x ∷ xs) alive = alive-still place document xs alive
+alive-still place document xs alive = changed-entry (λ found. IsTrue (is_alive found)) (into Active) place document xs (λ it at was. refl) alive
 
-abbrev AllAlive : List Document → List ℕ → Type 0
+abbrev pub AllAlive : List Document → List ℕ → Type 0
 AllAlive xs places = AllByRecursion (λ place. IsTrue (is_alive (slice_get xs place))) places
 
 all-alive-still : (place : ℕ) (xs : List Document) (places : List ℕ) → AllAlive xs places → AllAlive (change_at (into Active) place xs) places
 all-alive-still place xs [] alive = tt
 all-alive-still place xs (other ∷ places) alive = (alive-still place other xs (alive.0), all-alive-still place xs places (alive.1))
 
-waking-each : (wanted : DocumentState) (document : ℕ) (places : List ℕ) (xs : List Document) → AllAlive xs places →
+pub waking-each : (wanted : DocumentState) (document : ℕ) (places : List ℕ) (xs : List Document) → AllAlive xs places →
     IsTrue (is_come_to wanted (slice_get xs document)) → IsTrue (is_come_to wanted (slice_get (change_each (into Active) places xs) document))
 waking-each wanted document [] xs alive come = come
 waking-each wanted document (place ∷ places) xs alive come =
     waking-each wanted document places (change_at (into Active) place xs) (all-alive-still place xs places (alive.1))
-    (waking-one wanted place document xs (alive.0) come)
+    (changed-entry (HasCome wanted) (into Active) place document xs
+    (λ it at was. active-follows wanted (it.state) (subst (λ found. IsTrue (is_alive found)) at (alive.0)) was) come)
 
 -- the documents that a state is looked for in have it
 
@@ -123,7 +109,7 @@ fresh-alive-at : (found : Option Document) → IsTrue (is_fresh_state (unwrap_or
 fresh-alive-at None fresh = refl
 fresh-alive-at (Some document) fresh = fresh-alive (document.state) fresh
 
-fresh-all-alive : (tree : Tree) (places : List ℕ) → AllByRecursion (λ document. IsTrue (is_fresh_state (document_at tree document).state)) places →
+pub fresh-all-alive : (tree : Tree) (places : List ℕ) → AllByRecursion (λ document. IsTrue (is_fresh_state (document_at tree document).state)) places →
     AllAlive (tree.documents) places
 fresh-all-alive tree [] fresh = tt
 fresh-all-alive tree (place ∷ places) fresh = (fresh-alive-at (slice_get tree.documents place) (fresh.0), fresh-all-alive tree places (fresh.1))
@@ -133,99 +119,6 @@ pub more-documents : (wanted : DocumentState) (xs ys : List Document) (document 
 more-documents wanted [] ys document come = absurd (true≢false (sym come))
 more-documents wanted (x ∷ xs) ys zero come = come
 more-documents wanted (x ∷ xs) ys (suc document) come = more-documents wanted xs ys document come
-
--- trees
-
--- no element is taken out, and documents don't go back
-pub record IsTreeNext (before after : Tree) : Type 0 where
-  pub elements : length before.elements ≤ length after.elements
-  pub documents : length after.documents ≡ length before.documents
-  pub states : (wanted : DocumentState) (document : ℕ) → IsTrue (came_to wanted before document) → IsTrue (came_to wanted after document)
-
-same-tree : (tree : Tree) → IsTreeNext tree tree
-same-tree tree = record { elements = omega arith; documents = refl; states = λ wanted document come. come }
-
-on : {first second third : Tree} → IsTreeNext first second → IsTreeNext second third → IsTreeNext first third
-on one two = record {
-  elements = omega (arith, one.elements, two.elements);
-  documents = two.documents ∙ one.documents;
-  states = λ wanted document come. two.states wanted document (one.states wanted document come);
-}
-
-pub element-changed : (change : Element → Element) (n : ℕ) (tree : Tree) → IsTreeNext tree (change_element change n tree)
-element-changed change n tree = record {
-  elements =
-      let same : length (change_at change n (tree.elements)) ≡ length tree.elements =
-      (changed (λ (it : Element). ⊤) change (λ it is. is) n (tree.elements)).same in omega arith;
-  documents = refl;
-  states = λ wanted document come. come;
-}
-
-document-changed : (change : Document → Document) → ((it : Document) → (change it).state ≡ it.state) → (place : ℕ) (tree : Tree) →
-    IsTreeNext tree (change_document change place tree)
-document-changed change same place tree = record {
-  elements = omega arith;
-  documents = (changed (λ (it : Document). ⊤) change (λ it is. is) place (tree.documents)).same;
-  states = λ wanted document come. state-kept change same wanted place document (tree.documents) ∙ come;
-}
-
-dying : (places : List ℕ) (tree : Tree) → IsTreeNext tree (with_state Dead places tree)
-dying places tree = record {
-  elements = omega arith;
-  documents = (changed-each (λ (it : Document). ⊤) (into Dead) (λ it is. is) places (tree.documents)).same;
-  states = λ wanted document come. dying-each wanted document places (tree.documents) come;
-}
-
-waking : (places : List ℕ) (tree : Tree) → AllAlive (tree.documents) places → IsTreeNext tree (with_state Active places tree)
-waking places tree alive = record {
-  elements = omega arith;
-  documents = (changed-each (λ (it : Document). ⊤) (into Active) (λ it is. is) places (tree.documents)).same;
-  states = λ wanted document come. waking-each wanted document places (tree.documents) alive come;
-}
-
-unlinked-next : (tree : Tree) (n : ℕ) (container : Option Container) → IsTreeNext tree (unlinked tree n container)
-unlinked-next tree n None = same-tree tree
-unlinked-next tree n (Some (InElement parent)) = on (element-changed _ n tree) (element-changed _ parent _)
-unlinked-next tree n (Some (InDocument document)) = document-changed (λ it. record it { root = None }) (λ it. refl) document tree
-
-pub removed-next : (tree : Tree) (n : ℕ) → IsTreeNext tree (removed tree n)
-unfolding removed
-removed-next tree n =
-    on (unlinked-next tree n (container_of tree n)) (dying (cond (stands_in_active tree n) (documents_inside is_active_state tree n) [])
-    (unlinked tree n (container_of tree n)))
-
-linked-next : (tree : Tree) (container : Container) (n : ℕ) (sibling : Option ℕ) → IsTreeNext tree (linked tree container n sibling)
-linked-next tree (InElement parent) n sibling = on (element-changed _ n tree) (element-changed _ parent _)
-linked-next tree (InDocument document) n sibling = document-changed (λ it. record it { root = Some n }) (λ it. refl) document tree
-
-adopted-next : (tree : Tree) (document n : ℕ) → IsTreeNext tree (adopted tree document n)
-unfolding adopted
-adopted-next tree document n = record {
-  elements =
-      let same : length (adopted tree document n).elements ≡ length tree.elements =
-      (changed-each (λ (it : Element). ⊤) (λ it. record it { document = document }) (λ it is. is) (inclusive_descendants tree n) (tree.elements)).same in
-      omega arith;
-  documents = refl;
-  states = λ wanted document come. come;
-}
-
-shown-if : (tree : Tree) (n : ℕ) (stands : Bool) → IsTreeNext tree (with_state Active (cond stands (documents_inside is_fresh_state tree n) []) tree)
-unfolding documents_inside
-shown-if tree n true =
-    waking (documents_inside is_fresh_state tree n) tree
-    (fresh-all-alive tree (documents_inside is_fresh_state tree n) (led-pass frame_levels is_fresh_state tree (frames_in tree n)))
-shown-if tree n false = waking [] tree tt
-
-shown-next : (tree : Tree) (n : ℕ) → IsTreeNext tree (shown tree n)
-unfolding shown
-shown-next tree n = shown-if tree n (stands_in_active tree n)
-
-pub inserted-next : (tree : Tree) (container : Container) (n : ℕ) (sibling : Option ℕ) → IsTreeNext tree (inserted tree container n sibling)
-unfolding inserted
-inserted-next tree container n sibling =
-    on (removed-next tree n)
-    (on (linked-next (removed tree n) container n (sibling_meant tree container n sibling))
-    (on (adopted-next _ (document_of_container tree container) n) (shown-next _ n)))
 
 -- names
 
@@ -255,16 +148,18 @@ pub still : (world : World) → IsSuccessor world world
 still world = record { elements = omega arith; states = λ wanted document come. come; names = λ text thing is. is; clock = refl; begun = refl; version = refl }
 
 -- a world of the same tree, names, clock, count and version
-pub alike : (world after : World) → after.tree ≡ world.tree → after.names ≡ world.names → after.clock ≡ world.clock → after.begun ≡ world.begun →
-    after.version ≡ world.version → IsSuccessor world after
-alike world after tree names clock begun version = record {
-  elements = subst (λ (it : Tree). length world.tree.elements ≤ length it.elements) (sym tree) (still world).elements;
-  states = λ wanted document come. subst (λ (it : Tree). IsTrue (came_to wanted it document)) (sym tree) come;
-  names = λ text thing is. subst (λ (these : List Name). named_thing these text ≡ Some thing) (sym names) is;
-  clock = clock;
-  begun = begun;
-  version = version;
-}
+abbrev pub IsAlike : World → World → Type 0
+IsAlike world after = after ≡ record after { tree = world.tree; names = world.names; clock = world.clock; begun = world.begun; version = world.version }
 
-pub tree-next : (world : World) (tree : Tree) → IsTreeNext (world.tree) tree → IsSuccessor world (record world { tree = tree })
-tree-next world tree next = record { elements = next.elements; states = next.states; names = λ text thing is. is; clock = refl; begun = refl; version = refl }
+pub alike : (world after : World) → IsAlike world after → IsSuccessor world after
+alike world after same = subst (IsSuccessor world) (sym same) (record {
+  elements = omega arith;
+  states = λ wanted document come. come;
+  names = λ text thing is. is;
+  clock = refl;
+  begun = refl;
+  version = refl;
+})
+
+pub same-tree : (world after : World) → IsAlike world after → after.tree ≡ world.tree
+same-tree world after same = ap (λ (it : World). it.tree) same

@@ -18,7 +18,7 @@ use Rattle.page_laws.proofs.Changes.{gather-next}
 use Rattle.page_laws.proofs.Limits.{as-many, counted-within, does-within}
 use Rattle.page_laws.proofs.Keeping.{IsCarried, carried-by, IsKept, evaluate-keeps, due-keeps, command-keeps, called-keeps, broadcast-keeps, round-keeps, first-keeps, tick-keeps}
 use Rattle.page_laws.proofs.WholeRuns.{item-keeps, items-keep}
-use Rattle.page_laws.proofs.Later.{all-so}
+use Rattle.page_laws.proofs.Later.{all-so, kept-alone}
 use Rattle.page_laws.proofs.Places.{same-places}
 
 abbrev Within : ℕ → World → Type 0
@@ -33,14 +33,10 @@ limits-carried script =
     (λ world present action is here. does-within world here (handler_names script) present action) tt
 
 limits-kept : (script : Script) → IsKept script Within Any
-limits-kept script = record {
-  next = λ k before now next here. as-many before here now next.observers next.queries next.successor.begun next.successor.version next.tasks;
-  carried = λ k. limits-carried script;
-  entered = λ k world here. here;
-  left = λ k before now here there. there;
-  due = λ k world document observer here. all-so _;
-  queued = λ k world observer here. all-so _;
-}
+limits-kept script =
+    kept-alone script IsWithinLimits
+    (λ before now next here. as-many before here now next.observers next.queries next.successor.begun next.successor.version next.tasks)
+    (limits-carried script)
 
 timed : (time : ℕ) (world : World) → IsWithinLimits world → nat_lt time world.clock ≡ false → IsWithinLimits (record world { clock = time })
 timed time world here is = as-many world here _ refl refl refl refl (tasks-alike world _ refl refl refl)

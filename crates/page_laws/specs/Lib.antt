@@ -3,3 +3,4 @@ pub mod Later
 pub mod Quiet
 pub mod Bounds
 pub mod Making
+pub mod Changed

@@ -14,9 +14,20 @@ ghost use Rattle.page_model.specs.Edits.{with_element, with_frame};
 ghost use Rattle.page_model.specs.PageBoxes.{inputs_of, has_box, size_of, view_of, viewport_of};
 ghost use Rattle.page_model.specs.Operands.{Handlers, Present, present_target};
 ghost use Rattle.page_model.specs.Commands.{begun_in, does, placing};
-ghost use Rattle.page_model.specs.Ranges.{IsInRange, IsPresentIn};
+ghost use Rattle.page_model.specs.Ranges.{counts_of, IsInRange, IsPresentIn, IsThingIn};
+ghost use Rattle.page_laws.specs.Changed.{AnyThing, Change};
 ghost use Rattle.page_laws.specs.Making.{NamesMade, KeepsBoxes};
 ghost use Rattle.page_laws.specs.Successors.{IsSuccessor, OnDid};
+
+/// Each command that neither throws nor meets a limit makes one of the changes of `Change`, which may be none. Where numbers are in range
+/// it makes it with things that there are.
+pub fn commands_make_one_change()
+    ensures each { (handlers : Handlers) (world : World) (present : Present) (action : Action) →
+        OnDid (does handlers world present action) (λ effect. Change AnyThing (length handlers) world (effect.world)) }
+    ensures range { (handlers : Handlers) (world : World) → IsInRange (length handlers) world →
+        (present : Present) (action : Action) → IsPresentIn world present →
+        OnDid (does handlers world present action) (λ effect. Change (IsThingIn (counts_of (length handlers) world)) (length handlers) world (effect.world)) }
+{}
 
 /// No command takes an element out, or takes back what an earlier one did to the states of documents or to names: a Dead
 /// document stays Dead, and a name goes on to name the same thing. Nor does it move the clock, the count of commands or the version. (A command that throws or

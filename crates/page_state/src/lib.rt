@@ -7,6 +7,7 @@ mod by_document;
 mod callbacks;
 mod commands;
 mod conditions;
+mod first;
 mod intersections;
 mod labels;
 mod lookups;

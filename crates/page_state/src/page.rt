@@ -19,7 +19,6 @@ ghost use Rattle.page_tree.specs.Items.{IsNatural};
 ghost use Rattle.script_syntax.specs.Allowed.{ActionAllowed, IsTime};
 ghost use Rattle.script_syntax.specs.Seen.{action_of};
 ghost use Rattle.page_state.specs.Answers.{Applied, Moved, Kept, IsHanded};
-ghost use Rattle.clip_chain.specs.declared.spot.Spot.TheVariants.{View};
 ghost use Rattle.kept_findings.specs.Held.{no_findings, IsRoomier};
 ghost use Rattle.page_state.specs.Boxes.{Computes, BoxesAfter};
 ghost use Rattle.kept_findings.specs.Registered.{AreRegistered};
@@ -29,9 +28,9 @@ ghost use Rattle.page_state.specs.Things.{present_of, IsSubject};
 
 use crate::answers::{Effect, PageFault};
 use crate::by_document::ByDocument;
+use crate::first;
 use crate::names::{Names, Thing};
 use crate::queries::QueryList;
-use clip_chain::Spot;
 use element_tree::NodeId;
 use event_tables::{FrameCallbacks, Listeners, Tasks, Timers};
 use intersection_observer::{WatcherId, Watchers};
@@ -121,41 +120,24 @@ impl Page {
         ensures opened { IfOk result (λ page. page ≡ record { world = opening_world version; begun = false; kept = []; found = page.found }) }
         ensures findings { IfOk result (λ page. IsRoomier no_findings page.found) }
     {
-        let Some(top) = Name::read(b"top") else {
-            return Err(AllocError);
-        };
         // What may be refused comes first, where little is made that would have to be dropped.
         let laid = LaidTree::new(alloc, version)?;
-        let notifying = ByDocument::new(alloc)?;
-        let noted = ByDocument::new(alloc)?;
-        let mut findings = KeptFindings::new(alloc);
-        findings.add(Spot::View(0))?;
-        let mut names = Names::new(alloc);
-        if let Err(error) = names.insert(top, Thing::Document(0)) {
-            return Err(error);
-        }
+        let (names, findings, notifying, noted) = first::parts(alloc)?;
+        let (listeners, frame_callbacks, timers, tasks) = first::tables(alloc, version);
         Ok(Page {
             names,
             laid,
-            observers: Observers::new(
-                alloc,
-                most(LimitKind::ResizeObservers, version),
-                most(LimitKind::ResizeObservations, version),
-            ),
-            watchers: Watchers::new(
-                alloc,
-                most(LimitKind::IntersectionObservers, version),
-                most(LimitKind::IntersectionObservations, version),
-            ),
+            observers: first::observers(alloc, version),
+            watchers: first::watchers(alloc, version),
             scroll_margins: Vec::new(alloc),
             findings,
             notifying,
             scrolls: Scrolls::new(alloc),
             queries: Vec::new(alloc),
-            listeners: Listeners::new(alloc, most(LimitKind::Listeners, version)),
-            frame_callbacks: FrameCallbacks::new(alloc, most(LimitKind::FrameCallbacks, version)),
-            timers: Timers::new(alloc, most(LimitKind::Timers, version)),
-            tasks: Tasks::new(alloc, most(LimitKind::Tasks, version)),
+            listeners,
+            frame_callbacks,
+            timers,
+            tasks,
             screen: FIRST_SCREEN,
             noted,
             version,
@@ -444,15 +426,22 @@ pub(crate) fn shown_in<'a>(
     ShownDocument::new(laid.page(), laid.boxes(), scrolls, screen, document)
 }
 
-// The same of the whole page for a reading of many elements, for which it is found once what each document shows.
+// What is shown of a page of whose boxes none is due, for an update of intersection observers. Where there are any, many elements may
+// be read, for which it is found once what each document shows and how far its viewport is scrolled.
 pub(crate) fn shown_at_once<'a>(
     laid: &'a LaidTree,
     scrolls: &'a Scrolls,
     screen: Screen,
+    watchers: &Watchers,
 ) -> Shown<'a>
     requires screen { IsScreen screen }
     requires done { (n : ℕ) → is_due laid.now.elements.tree (seen_screen screen) laid.now.kept n ≡ false }
     ensures { result ≡ shown_with laid.now.elements.tree (seen_screen screen) scrolls.now }
 {
-    shown_now(laid, scrolls, screen).with_documents()
+    let shown = shown_now(laid, scrolls, screen);
+    if watchers.count() > 0 {
+        shown.with_documents()
+    } else {
+        shown
+    }
 }

@@ -18,6 +18,7 @@ ghost use Rattle.page_state.specs.Labels.{IsIn};
 use crate::answers::{Effect, PageFault};
 use crate::page::{Page, shown_in};
 use element_tree::NodeId;
+use page_geometry::document_read;
 use page_tree::Container;
 use script_syntax::Operand;
 use std::sync::ledger::Ledger;
@@ -52,23 +53,13 @@ impl Page {
         ensures reach { HasReach (seen_line result) }
     {
         let target = self.container_name(container);
-        let document = self.document_of(container);
+        let document = document_read(self.laid.page(), container);
         self.laid.refresh_in(self.screen, document, steps);
         let shown = shown_in(&self.laid, &self.scrolls, self.screen, document).read(container);
         TraceLine::Read {
             target,
             rect: shown.rect,
             scroll: shown.scroll,
-        }
-    }
-
-    // The document that an element is an element of, or the document itself.
-    fn document_of(&self, container: Container) -> u32
-        ensures { result ≡ document_of_container self.now.world.tree (seen_container container) }
-    {
-        match container {
-            Container::Element(node) => self.laid.page().document_of(node),
-            Container::Document(document) => document,
         }
     }
 

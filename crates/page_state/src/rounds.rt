@@ -10,7 +10,7 @@ ghost use Rattle.std.specs.List.{AllByRecursion};
 ghost use Rattle.page_state.specs.Boxes.{Computes};
 ghost use Rattle.page_state.specs.Rounds.{next_turn, once_reported};
 
-use crate::page::{Page, shown_at_once, shown_now};
+use crate::page::{Page, shown_now};
 use depth_gather::Delivery;
 use resize_observer::ObserverId;
 use std::alloc::AllocError;
@@ -26,7 +26,7 @@ impl Page {
         ensures number { result ≡ active_count document self.new.world.resize_observers }
     {
         self.laid.refresh(self.screen, steps);
-        let sizes = shown_at_once(&self.laid, &self.scrolls, self.screen);
+        let sizes = shown_now(&self.laid, &self.scrolls, self.screen).with_views();
         depth_gather::gather(&mut self.observers, &sizes, document, depth)
     }
 

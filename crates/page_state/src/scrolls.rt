@@ -23,6 +23,7 @@ use crate::answers::{Effect, PageFault};
 use crate::page::{Page, shown_in};
 use element_tree::NodeId;
 use page_boxes::is_scroller;
+use page_geometry::document_scrolled;
 use page_tree::Container;
 use px_units::{Point, Size};
 use script_syntax::Operand;
@@ -115,16 +116,6 @@ impl Page {
         }
     }
 
-    // The document that a target is scrolled in.
-    fn scroll_document(&self, target: ScrollTarget) -> u32
-        ensures { result ≡ scroll_document self.now.world.tree (seen_target target) }
-    {
-        match target {
-            ScrollTarget::Node(node) => self.laid.page().document_of(node),
-            ScrollTarget::Document(document) => document,
-        }
-    }
-
     // The scroll offset in force of a target and its range, of boxes as they are now.
     fn reach<L: Ledger>(&mut self, target: ScrollTarget, steps: &mut Steps<L>) -> Reach
         ensures offset { result.offset ≡ point_of (scroll_offset self.old.world.tree self.old.world.viewports.screen self.old.world.scrolls (seen_target target)) }
@@ -134,7 +125,7 @@ impl Page {
         ensures same { self.new ≡ record self.old { kept = self.new.kept } }
         ensures boxes { ComputesIn self.old.world (Some (scroll_document self.old.world.tree (seen_target target))) self.old.kept self.new.kept steps.old steps.new }
     {
-        let document = self.scroll_document(target);
+        let document = document_scrolled(self.laid.page(), target);
         self.laid.refresh_in(self.screen, document, steps);
         let shown = shown_in(&self.laid, &self.scrolls, self.screen, document);
         Reach {
@@ -151,7 +142,7 @@ impl Page {
         ensures boxes { self.new.kept ≡ self.old.kept }
         ensures findings { self.new.found ≡ self.old.found }
     {
-        let document = self.scroll_document(target);
+        let document = document_scrolled(self.laid.page(), target);
         self.scrolls.scroll_to(document, target, to, range)?;
         Ok(Effect::Nothing)
     }

@@ -88,7 +88,7 @@ impl Page {
         ensures ticks { (chained : HaveChains (shown_of self.old.world)) → OnOk result (TakesAtMost document self.old self.new chained steps.old steps.new) }
     {
         self.laid.refresh(self.screen, steps);
-        let shown = shown_at_once(&self.laid, &self.scrolls, self.screen);
+        let shown = shown_at_once(&self.laid, &self.scrolls, self.screen, &self.watchers);
         let queued = update(
             &shown,
             &mut self.watchers,

@@ -535,6 +535,8 @@ fn read_alone(
     let shown = ShownDocument::new(page, &boxes, scrolls, screen, document);
     let found = shown.read(Container::Element(NodeId(node)));
     let rect = shown.border_rect(NodeId(node));
+    let scrolled = shown.with_offset();
+    assert_eq!(rt; scrolled.read(Container::Element(NodeId(node))), found);
     Ok((found, rect))
 }
 
@@ -572,6 +574,22 @@ fn size_some(
     Ok(size_of(page, &some, screen, NodeId(node), BoxKind::Border))
 }
 
+// The same from all boxes, where it is found first what documents show.
+fn size_viewed(
+    rt: &impl Abort,
+    alloc: Global,
+    page: &PageTree,
+    scrolls: &Scrolls,
+    screen: Screen,
+    node: u32,
+) -> Result<Size, Fail>
+    requires { IsScreen screen }
+{
+    let all = all_boxes(rt, alloc, page, screen)?;
+    let shown = Shown::new(page, &all, scrolls, screen).with_views();
+    Ok(shown.size_of(NodeId(node), BoxKind::Border))
+}
+
 // What is read of an element, the same in all ways.
 fn read_twice(
     rt: &impl Abort,
@@ -589,6 +607,8 @@ fn read_twice(
     let alone = read_alone(rt, alloc, page, scrolls, screen, node)?;
     assert_eq!(rt; alone, (found, rect));
     let size = size_some(rt, alloc, page, screen, node)?;
+    let viewed = size_viewed(rt, alloc, page, scrolls, screen, node)?;
+    assert_eq!(rt; viewed, size);
     assert_eq!(rt;
         (size.width, size.height),
         (

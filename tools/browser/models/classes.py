@@ -1,4 +1,5 @@
 """The classes that each engine has, and those in which a trace stands."""
+import functools
 import itertools
 import re
 
@@ -6,33 +7,48 @@ from reference import grammar
 from reference.page import Page
 
 from .model import Model
-from .traits import (CROSSED_IS_TURNED, DEAD_READS_THROW, EVERY_ROOT, FRAMES_IN_TIME, HIDDEN_READS_NOTHING, IMPLICIT_ROOT,
-                     KEPT_WHILE_TELLING, LATE_SCROLLS, LENGTHS_ARE_CUT, LENGTHS_ARE_FLOORED, ONE_PIXEL_AT_LEAST, PERCENTAGES_ARE_CUT,
-                     SCROLLING_ROOT_UNTOLD, SCROLLS_ARE_CUT)
+from .traits import (CROSSED_IS_TURNED, DEAD_READS_THROW, EMPTY_ROOTS_COUNT_NOTHING, EVERY_ROOT, FIRST_USE_COUNTS, FRAMES_IN_TIME,
+                     HIDDEN_READS_NOTHING, IMPLICIT_ROOT, KEPT_WHILE_TELLING, LATE_SCROLLS, LENGTHS_ARE_CUT, LENGTHS_ARE_FLOORED,
+                     NOTHING_FOR_DETACHED, ONE_PIXEL_AT_LEAST, PERCENTAGES_ARE_CUT, PLACED_AS_ROUNDS_BEGIN, QUERIES_IN_UPDATE,
+                     SCROLLING_ROOT_UNTOLD, SCROLLS_ARE_CUT, SIZES_OF_GATHERING, WINDOWS_READ_AT_ONCE)
 
 ALL_THREE = frozenset('''border-widths read-of-dead-frame hidden-frame-keeps-size frame-of-part-pixels reach-of-empty-boxes
     reach-with-margins reach-with-padding scroll-of-part-pixels observe-again first-size offset-of-moved-box frame-order stored-offset
     sizes-of-last-layout shrink-to-fit root-removed root-rectangle-of-none is-intersecting margin-percentages
     scroll-margin-percentages scroll-margin-of-viewports scroll-margin-of-root'''.split())
-CHROMIUM = ALL_THREE | {LATE_SCROLLS, LENGTHS_ARE_FLOORED, ONE_PIXEL_AT_LEAST, PERCENTAGES_ARE_CUT, SCROLLING_ROOT_UNTOLD} | set('''scroll-anchoring scroll-of-hidden-frame unobserve-in-delivery queue-after-unobserve
+CHROMIUM = ALL_THREE | {LATE_SCROLLS, LENGTHS_ARE_FLOORED, NOTHING_FOR_DETACHED, ONE_PIXEL_AT_LEAST, PERCENTAGES_ARE_CUT,
+                        PLACED_AS_ROUNDS_BEGIN, SCROLLING_ROOT_UNTOLD} | set('''
+    scroll-anchoring scroll-of-hidden-frame unobserve-in-delivery queue-after-unobserve
     listener-of-adopted-element frame-callback-late rounds-by-turns depth-at-gathering skipped-then-cured dead-frame-target
     target-of-dead-frame observers-in-any-order margin-of-part-pixels crossed-root cut-in-a-frame told-of-dead-root
-    entries-of-dead-document ratio-resize-event device-pixels-by-place'''.split())
-FIREFOX = ALL_THREE | {HIDDEN_READS_NOTHING, DEAD_READS_THROW, SCROLLS_ARE_CUT, KEPT_WHILE_TELLING, IMPLICIT_ROOT} | set('''scroll-anchoring
+    entries-of-dead-document ratio-resize-event device-pixels-by-place lengths-at-a-ratio'''.split())
+FIREFOX = ALL_THREE | {HIDDEN_READS_NOTHING, DEAD_READS_THROW, SCROLLS_ARE_CUT, KEPT_WHILE_TELLING, IMPLICIT_ROOT,
+                       NOTHING_FOR_DETACHED, QUERIES_IN_UPDATE, WINDOWS_READ_AT_ONCE} | set('''scroll-anchoring
     ratio-resize-event device-pixels-by-place queue-after-unobserve listener-of-adopted-element frame-callback-late told-of-dead-root
-    told-by-own-document resize-observers-by-use'''.split())
-WEBKIT = ALL_THREE | {SCROLLS_ARE_CUT, FRAMES_IN_TIME, CROSSED_IS_TURNED, LENGTHS_ARE_CUT, EVERY_ROOT} | set('''depth-at-gathering
-    crossed-root entries-before-tasks margin-of-part-pixels scroll-margin-below-a-root queries-of-empty-page
-    resize-observers-by-use'''.split())
+    told-by-own-document resize-observers-by-use intersection-observers-by-use lengths-at-a-ratio depth-with-document
+    frame-made-anew'''.split())
+WEBKIT = ALL_THREE | {EMPTY_ROOTS_COUNT_NOTHING, FIRST_USE_COUNTS, SCROLLS_ARE_CUT, FRAMES_IN_TIME, CROSSED_IS_TURNED, LENGTHS_ARE_CUT,
+                      EVERY_ROOT, QUERIES_IN_UPDATE, SIZES_OF_GATHERING} | set('''depth-at-gathering
+    crossed-root entries-before-tasks told-in-the-update margin-of-part-pixels scroll-margin-below-a-root queries-of-empty-page
+    resize-observers-by-use intersection-observers-by-use boxes-in-a-hidden-frame disconnected-as-root-ends
+    clips-of-border-boxes'''.split())
 CLASSES = {'chromium': CHROMIUM, 'firefox': FIREFOX, 'webkit': WEBKIT}
 NUMBER = re.compile(r'-?\d+(?:\.\d+)?(?:/\d+)?')
-NEAR = {'firefox': 0.15, 'webkit': 0.02}     # pixels, by which sums of sixtieths and percentages of margins may differ
-PARTS = {'firefox': 'sixtieths-of-a-pixel', 'webkit': 'margin-of-part-pixels'}
+# Pixels, by which sums of sixtieths, percentages of margins, and lengths of a script that sets a ratio may differ.
+NEAR = {'firefox': 0.15, 'webkit': 0.05, 'chromium': 0.15}
+PARTS = {'firefox': 'sixtieths-of-a-pixel', 'webkit': 'margin-of-part-pixels', 'chromium': 'lengths-at-a-ratio'}
+RATIO = re.compile(r'^[ \t]*ratio[ \t]', re.M)
+
+
+@functools.lru_cache(1)
+def script_of(text):
+    """The script, which runs leave as it is: each class is left out of a run of its own."""
+    return grammar.parse(text.encode('latin-1'))
 
 
 def run(text, classes, told=(), order=None):
     """The model's run of a script."""
-    model = Model(grammar.parse(text.encode('latin-1')), classes, told, order)
+    model = Model(script_of(text), classes, told, order)
     model.run()
     return model
 
@@ -40,18 +56,23 @@ def run(text, classes, told=(), order=None):
 def by_rules(text):
     """The rules' trace."""
     lines = []
-    Page(grammar.parse(text.encode('latin-1')), lambda line, script_line, about: lines.append(line)).run()
+    Page(script_of(text), lambda line, script_line, about: lines.append(line)).run()
     return lines
 
 
-def alike(lines, told, engine):
-    """Whether both traces are the same; in Firefox up to parts of a pixel, in WebKit so in lines of intersections."""
+def alike(lines, told, engine, text):
+    """Whether both traces are the same; in Firefox up to parts of a pixel, in WebKit so in lines of intersections, in Chromium so where
+    the script sets a ratio."""
     if lines == told:
         return True
-    return engine in NEAR and len(lines) == len(told) and all(near(*both, engine) for both in zip(lines, told))
+    if engine == 'chromium' and not RATIO.search(text):
+        return False
+    return len(lines) == len(told) and all(near(*both, engine) for both in zip(lines, told))
 
 
 def near(line, other, engine):
+    """The tool marks a ratio that isn't the one of its rectangles."""
+    other = other.replace('~', '')
     if line == other:
         return True
     if NUMBER.sub('#', line) != NUMBER.sub('#', other) or engine == 'webkit' and not line.startswith('intersect '):
@@ -78,14 +99,14 @@ def classes_of(text, engine, told):
     """The classes of a trace: none where it is the rules' one, None where the model doesn't give it."""
     for order in orders(text, engine, told):
         first = run(text, CLASSES[engine], told, order)
-        if alike(first.lines, told, engine):
+        if alike(first.lines, told, engine, text):
             break
     else:
         return None
     needed = set(first.noticed)
     for name in sorted(first.met):
         without = run(text, CLASSES[engine] - {name}, told, order)
-        if not alike(without.lines, told, engine):
+        if not alike(without.lines, told, engine, text):
             needed.add(name)
     if first.lines != told:
         needed.add(PARTS[engine])
@@ -98,7 +119,7 @@ def one_of(text, engine, told, order, names):
     while waiting:
         name = waiting.pop(0)
         without = run(text, left - {name}, told, order)
-        if alike(without.lines, told, engine):
+        if alike(without.lines, told, engine, text):
             left = left - {name}
             waiting += sorted(without.met - names)
             names = names | without.met

@@ -1,12 +1,16 @@
 """Commands that an engine has otherwise, or that lay out."""
+from reference import trace
 from reference.commands import EFFECTS
 from reference.media import matches
 from reference.refusals import Throw
-from reference.world import ACTIVE, Document, Element, tree_document
+from reference.world import ACTIVE, Document, Element, preorder, tree_document
 
-from .layout import PIXEL, whole
+from .layout import ONE, PIXEL, whole
 from .rounds import NEVER
-from .traits import DEAD_READS_THROW, FRAMES_IN_TIME, HIDDEN_READS_NOTHING, KEPT_WHILE_TELLING, SCROLLS_ARE_CUT
+from .traits import (DEAD_READS_THROW, FIRST_USE_COUNTS, FRAMES_IN_TIME, HIDDEN_READS_NOTHING, KEPT_WHILE_TELLING, NOTHING_FOR_DETACHED,
+                     SCROLLS_ARE_CUT, WINDOWS_READ_AT_ONCE)
+
+SCROLLING = ('hidden', 'scroll', 'auto')
 
 
 class Commands:
@@ -21,6 +25,8 @@ class Commands:
     def do_ratio(self, command, hundredths):
         changes = hundredths != self.world.pixel_ratio
         EFFECTS['ratio'](self, command, hundredths)
+        if changes:
+            self.world.changed()
         if changes and self.began and self.differs('ratio-resize-event'):
             self.resized.add(self.world.top)
             self.rescaled = True
@@ -32,12 +38,32 @@ class Commands:
     def do_read(self, command, thing):
         if isinstance(thing, Document) and thing.state is not ACTIVE and self.has(DEAD_READS_THROW) and self.differs('read-of-dead-frame'):
             raise Throw('NS_ERROR_UNEXPECTED', command.operands[0], '')
-        self.lay_out(thing if isinstance(thing, Document) else thing.document)
-        EFFECTS['read'](self, command, thing)
+        self.lay_out_for_reading(thing)
+        layout = self.world.layout
+        if isinstance(thing, Document) and self.world.pixel_ratio != ONE:
+            # A window tells its size in whole pixels.
+            units = (0, 0) + tuple(map(whole, layout.viewport(thing))) + layout.document_offset(thing)
+            self.tell(trace.read_line(thing.name, units))
+        else:
+            EFFECTS['read'](self, command, thing)
+
+    def lay_out_for_reading(self, thing):
+        """A window that isn't scrolled may tell what it has; only what is around its frame is laid out then."""
+        if not isinstance(thing, Document):
+            self.lay_out_around(thing)
+        elif thing.scroll != (0, 0) or not self.has(WINDOWS_READ_AT_ONCE):
+            self.lay_out(thing)
+        elif thing.frame is not None:
+            self.lay_out(thing.frame.document)
+
+    def lay_out_around(self, node):
+        """For an element that stands nowhere an engine may lay nothing out."""
+        if tree_document(node) is not None or not self.has(NOTHING_FOR_DETACHED):
+            self.lay_out(node.document)
 
     def holds(self, command):
         if command.condition in ('wider', 'taller'):
-            self.lay_out(self.look_up_all(command)[0].document)
+            self.lay_out_around(self.look_up_all(command)[0])
         return super().holds(command)
 
     def do_scroll(self, command, thing, left, top):
@@ -60,14 +86,30 @@ class Commands:
             self.anchors.scrolls(thing)
 
     def do_set(self, command, node, property_, declaration):
+        style = dict(node.style)
         EFFECTS['set'](self, command, node, property_, declaration)
         self.anchors.changes(node, property_)
         self.changed_in(node.document)
+        if node.style != style:
+            self.changed_documents.add(tree_document(node))
+        if property_ == 'overflow' and (style['overflow'] in SCROLLING) != (node.style['overflow'] in SCROLLING):
+            self.made_anew(node)
+
+    def made_anew(self, node):
+        """An element becomes a scroll container or ceases to be one: its box and those in it are made anew."""
+        inner = [other.framed for other in preorder(node) if other.framed is not None]
+        if inner and node.root_of is None and self.has('frame-made-anew'):
+            self.to_be_made.setdefault(node.document, set()).update(inner)
 
     def do_grow(self, command, node, property_, by):
         EFFECTS['grow'](self, command, node, property_, by)
         self.anchors.changes(node, property_)
         self.changed_in(node.document)
+        self.changed_documents.add(tree_document(node))
+
+    def do_load(self, command, node, width, height):
+        EFFECTS['load'](self, command, node, width, height)
+        self.changed_documents.add(tree_document(node))
 
     def changed_in(self, document):
         if document in self.hidden and self.differs('scroll-of-hidden-frame'):
@@ -88,8 +130,9 @@ class Commands:
             return
         if old is not None and old in observer.active and self.differs('unobserve-in-delivery'):
             observer.active.remove(old)
-        used = observer.document.resize_observers
-        if not observer.observations and used[-1] is not observer and self.differs('resize-observers-by-use'):
+        used, is_first = observer.document.resize_observers, observer not in self.tool_saw
+        if (not observer.observations and used[-1] is not observer and (is_first or not self.has(FIRST_USE_COUNTS))
+                and self.differs('resize-observers-by-use')):
             used.remove(observer)
             used.append(observer)
         EFFECTS['ro-observe'](self, command, observer, node, box)
@@ -114,7 +157,20 @@ class Commands:
     def do_ro_disconnect(self, command, observer):
         EFFECTS['ro-disconnect'](self, command, observer)
         observer.skipped = False
-        self.tool_saw.pop(observer, None)
+        if observer in self.tool_saw:
+            self.tool_saw[observer] = {}
+
+    def do_io_observe(self, command, observer, node):
+        if not observer.registrations:
+            self.comes_last(observer)
+        EFFECTS['io-observe'](self, command, observer, node)
+
+    def comes_last(self, observer):
+        """An intersection observer comes into a document's list, with a first target or as its root is adopted."""
+        known = self.world.intersection_observers
+        if known[-1] is not observer and self.differs('intersection-observers-by-use'):
+            known.remove(observer)
+            known.append(observer)
 
     def do_io_unobserve(self, command, observer, node):
         kept = [entry for entry in observer.queue if entry.target is not node]

@@ -1,7 +1,7 @@
 """What an engine's intersection observers find, and when it tells them."""
 from reference import intersection, trace
 from reference.lengths import percentage
-from reference.world import ACTIVE, Document, tree_document
+from reference.world import ACTIVE, Document, Element, tree_document
 
 from .layout import PIXEL, whole
 from .traits import (CROSSED_IS_TURNED, EVERY_ROOT, IMPLICIT_ROOT, LENGTHS_ARE_CUT, LENGTHS_ARE_FLOORED, PERCENTAGES_ARE_CUT,
@@ -93,18 +93,51 @@ class Crossings:
             return self.differs('root-removed')
         return where is document
 
-    def intersections(self, document):
+    def intersections(self, document, known=()):
+        """Looks at a document's observers; `known` has the entries that were found before, by their registrations."""
         for observer in self.observers_of(document):
-            if observer.document.state is not ACTIVE and self.has('entries-of-dead-document'):
-                continue
-            root = EngineRoot(self, observer)
-            for registration in observer.registrations.values():
-                if self.passes_over(observer, registration):
-                    continue
-                entry = self.find(observer, root, registration)
+            for registration, entry in self.found(observer, known):
                 if (registration.index, registration.meets) != (entry.index, entry.meets):
                     observer.queue.append(entry)
                 registration.index, registration.meets = entry.index, entry.meets
+
+    def found(self, observer, known=()):
+        """(registration, entry) of each target that is looked at."""
+        if observer.document.state is not ACTIVE and self.has('entries-of-dead-document'):
+            return
+        root = EngineRoot(self, observer)
+        for registration in observer.registrations.values():
+            if not self.passes_over(observer, registration):
+                yield registration, known[registration] if registration in known else self.find(observer, root, registration)
+
+    def found_in(self, document):
+        """What there is to be found with a document now, by registrations."""
+        return {registration: entry for observer in self.observers_of(document) for registration, entry in self.found(observer)}
+
+    def tells_in_update(self):
+        """Whether entries are told within the update; tasks that wait come before them then by the rules."""
+        if not self.has('told-in-the-update') or self.world.tasks and not self.differs('entries-before-tasks'):
+            return False
+        return self.differs('told-in-the-update')
+
+    def crossings_by_turns(self, documents):
+        """Looks at one document after the other and tells its entries at once. One that a callback has changed, so that it isn't laid
+        out, is left for the next update; one around which something has changed stands as it was laid out."""
+        found = {document: self.found_in(document) for document in documents}
+        self.changed_documents.clear()
+        for document in documents:
+            if document.state is not ACTIVE or document in self.changed_documents:
+                continue
+            around = self.is_changed_around(document)
+            self.intersections(document, found[document] if around else ())
+            self.tell_all([observer for observer in self.observers_of(document) if observer.queue])
+
+    def is_changed_around(self, document):
+        while document.frame is not None:
+            document = document.frame.document
+            if document in self.changed_documents:
+                return True
+        return False
 
     def passes_over(self, observer, registration):
         """Whether a target is left alone: its observer has no root, and it stands in no shown document and isn't where it stood last."""
@@ -116,7 +149,11 @@ class Crossings:
         return moved and self.differs('target-of-dead-frame')
 
     def find(self, observer, root, registration):
-        entry = intersection.find(self.world, observer, root, registration.target)
+        target = registration.target
+        if self.hidden_frame_around(observer, target):
+            entry = self.cut_off(root, target)
+        else:
+            entry = intersection.find(self.world, observer, root, target)
         if entry.clips:
             self.move_clips(observer, entry)
         entry.root = intersection.seen_from(root.origin, root.told)
@@ -133,11 +170,27 @@ class Crossings:
             entry.index = index
         return entry
 
+    def hidden_frame_around(self, observer, target):
+        """Whether a target has a box, and a frame on the way to the implicit root has none."""
+        document = target.document
+        while observer.root is None and document.frame is not None:
+            if not self.world.layout.has_box(document.frame):
+                return self.world.layout.has_box(target)
+            document = document.frame.document
+        return False
+
+    def cut_off(self, root, target):
+        """The entry of such a target: its box, with nothing of it seen."""
+        layout, entry = self.world.layout, intersection.Entry(target, root.rectangle)
+        entry.box = intersection.seen_from(layout.origin(target.document), layout.border_rectangle(target))
+        entry.whole = intersection.area(entry.box) or 1
+        return entry
+
     def move_clips(self, observer, entry):
         """By the engine's scroll margins."""
         layout, margins = self.world.layout, Margins(self, observer.scroll_margins, 'scroll-margin-percentages')
         for clip in entry.clips[1:-1]:
-            own = clip.rectangle if clip.box == 'viewport' else clip.own
+            own = clip.rectangle if clip.box == 'viewport' else self.own_clip(clip)
             by = margins.of(own) if clip.box == 'viewport' or layout.scrolls(clip.thing) else [0] * 4
             if clip.box == 'viewport':
                 moves = any(by) and self.differs('scroll-margin-of-viewports')
@@ -147,6 +200,19 @@ class Crossings:
         entry.cut = intersection.NOTHING
         intersection.measure(layout, entry)
         entry.index = intersection.index_of(observer, entry)
+
+    def own_clip(self, clip):
+        """The rectangle of an element that clips, which may be its border box: from its corner on, as many whole pixels as its place in
+        what it stands in gives it."""
+        layout, node = self.world.layout, clip.thing
+        place, holder = layout.flat_place(node), layout.holder(node)
+        if isinstance(holder, Element):
+            outer = layout.flat_place(holder)
+            place = (place[0] - outer[0], place[1] - outer[1])
+        width, height = [whole(place[axis] + side) - whole(place[axis]) for axis, side in enumerate(layout.border_size(node))]
+        left, top = layout.border_rectangle(node)[:2]
+        mine = (left, top, left + width, top + height)
+        return mine if mine != clip.own and self.differs('clips-of-border-boxes') else clip.own
 
     def move_cut(self, observer, entry):
         """A frame stands at whole pixels; of a root outside it the cut rectangle is moved by what was rounded away."""
@@ -201,12 +267,15 @@ class Crossings:
     def tell_all(self, waiting):
         begun, self.telling = set(), True
         while waiting:
-            chosen = self.next_of(waiting)
+            # A document's observers are told together, also as it ends meanwhile.
+            chosen = next((observer for observer in waiting if observer.document in begun and observer.document.state is not ACTIVE), None)
+            chosen = chosen or self.next_of(waiting)
             waiting.remove(chosen)
             if self.is_told(chosen):
                 entries, chosen.queue = chosen.queue, []
+                stands = chosen.document.state is ACTIVE
                 self.tell_entries(chosen, entries, begun)
-                begun.add(chosen.document)
+                begun |= {chosen.document} if stands else set()
         self.telling = False
 
     def next_of(self, waiting):

@@ -5,9 +5,10 @@ from reference.layout import BORDER, CONTENT, DEVICE, FRAME_WIDTH, Layout
 from reference.lengths import AUTO
 from reference.world import ACTIVE, Element, World, tree_document
 
-from .traits import ONE_PIXEL_AT_LEAST
+from .traits import EMPTY_ROOTS_COUNT_NOTHING, ONE_PIXEL_AT_LEAST
 
 PIXEL = 64
+ONE = 10000          # a ratio of 100%
 
 
 def whole(units):
@@ -15,9 +16,14 @@ def whole(units):
     return (units + PIXEL // 2) // PIXEL * PIXEL
 
 
-def whole_border(units):
-    """Cut to whole pixels, and one at least."""
-    return units and max(PIXEL, units // PIXEL * PIXEL)
+def whole_border(units, ratio=ONE):
+    """Cut to whole device pixels, and one at least."""
+    return units and in_units(max(1, units * ratio // (PIXEL * ONE)), ratio)
+
+
+def in_units(pixels, ratio):
+    """Device pixels in units of a length, rounded."""
+    return (pixels * PIXEL * ONE + ratio // 2) // ratio
 
 
 def _pixels(length):
@@ -42,21 +48,36 @@ class EngineLayout(Layout):
         self.differs = world.page.differs
         super().__init__(world)
 
+    def _find_box(self, node):
+        document, found = node.root_of, super()._find_box(node)
+        if found or document is None or document.state is not ACTIVE or node.style['display'] == 'none':
+            return found
+        return self.differs('boxes-in-a-hidden-frame')
+
     def edges(self, node):
         known = self._edges.get(node)
         if known is None:
             margin, border, padding = super().edges(node)
-            cut = tuple(map(whole_border, border))
-            if cut != border and self.differs('border-widths'):
+            cut = tuple([whole_border(width, self.world.pixel_ratio) for width in border])
+            if cut != border and self.differs(self._by_ratio('border-widths')):
                 border = cut
             known = self._edges[node] = (margin, border, padding)
         return known
+
+    def _by_ratio(self, name):
+        """The class of whole pixels, which are device pixels where a ratio is set."""
+        return name if self.world.pixel_ratio == ONE else 'lengths-at-a-ratio'
+
+    def whole_sizes(self, size):
+        """Both of a viewport, rounded to whole device pixels."""
+        ratio = self.world.pixel_ratio
+        return tuple([in_units((side * ratio + PIXEL * ONE // 2) // (PIXEL * ONE), ratio) for side in size])
 
     def size(self, node, box):
         size = super().size(node, box)
         if box != DEVICE or not self.has_box(node):
             return size
-        content, corner = super().size(node, CONTENT), self.flat_place(node)
+        content, corner = super().size(node, CONTENT), self.world.page.placed.get(node) or self.flat_place(node)
         snapped = tuple([self._device(corner[axis], content[axis]) for axis in (0, 1)])
         return snapped if snapped != size and self.differs('device-pixels-by-place') else size
 
@@ -69,7 +90,8 @@ class EngineLayout(Layout):
     def viewport(self, document):
         frame = document.frame
         if frame is None:
-            return self.world.viewport_size
+            rounded = self.whole_sizes(self.world.viewport_size)
+            return rounded if rounded != self.world.viewport_size and self.differs('lengths-at-a-ratio') else self.world.viewport_size
         if document.state is not ACTIVE:
             size = super().viewport(document)
             return (0, 0) if size != (0, 0) and self.differs('read-of-dead-frame') else size
@@ -81,8 +103,8 @@ class EngineLayout(Layout):
     def frame_size(self, document):
         """Of the viewport of a frame that has a box."""
         size = self.size(document.frame, CONTENT)
-        rounded = (whole(size[0]), whole(size[1]))
-        return rounded if rounded != size and self.differs('frame-of-part-pixels') else size
+        rounded = self.whole_sizes(size)
+        return rounded if rounded != size and self.differs(self._by_ratio('frame-of-part-pixels')) else size
 
     # --- widths out of flow -------------------------------------------------------------------------------------------------
 
@@ -194,8 +216,12 @@ class EngineLayout(Layout):
         left, top = self.flat_place(node)
         width, height = self.border_size(node)
         right, bottom = left + width, top + height
-        if node.root_of is None and node.parent is not holder:
-            return None if not (width and height) and node not in self._filled and self.differs('reach-of-empty-boxes') else (right, bottom)
+        is_deep, is_empty = node.root_of is None and node.parent is not holder, not (width and height) and node not in self._filled
+        counts = not is_deep and (node.root_of is None or not self.world.page.has(EMPTY_ROOTS_COUNT_NOTHING))
+        if is_empty and not counts and self.differs('reach-of-empty-boxes'):
+            return None
+        if is_deep:
+            return right, bottom
         margin = self.edges(node)[0]
         if (margin[1] or margin[2]) and self.differs('reach-with-margins'):
             right, bottom = right + margin[1], bottom + margin[2]
@@ -225,11 +251,18 @@ class EngineWorld(World):
         return self._layout
 
     def insert(self, parent, node, sibling=None):
+        rooted = [(observer, observer.root.document) for observer in self.intersection_observers
+                  if isinstance(observer.root, Element) and observer.registrations]
         super().insert(parent, node, sibling)
         self.page.inserted(node)
+        for observer, document in rooted:
+            if observer.root.document is not document and not self.page.has('told-by-own-document'):
+                self.page.comes_last(observer)
 
     def remove(self, node):
         stood, where = node.parent is not None or node.root_of is not None, tree_document(node)
+        if where is not None and self.page.has('told-in-the-update') and self.layout.has_box(node):
+            self.page.changed_documents.add(where)
         super().remove(node)
         if stood:
             self.page.removed(node, where)

@@ -33,6 +33,11 @@ class Model(Commands, Viewports, Rounds, Crossings, Page):
         self.insertions = {}              # document -> number, in the order in which their frames were inserted
         self.sizes = {}                   # resize observers' targets -> what they were at the last layout
         self.round = None
+        self.placed = {}                  # resize observers' targets -> where they were as the round began
+        self.to_be_made = {}              # document -> those in its frames whose boxes are made anew as it is laid out
+        self.anew = set()                 # documents with a `resize` to be fired for that
+        self.ended = set()                # documents that stand no longer
+        self.changed_documents = set()    # that aren't laid out since a change
         self.telling = False              # whether intersection observers are being told
         self.failed = set()               # documents with an error in this update: it comes once
         self.all_resize_observers = []
@@ -123,6 +128,9 @@ class Model(Commands, Viewports, Rounds, Crossings, Page):
             if thing not in document.pending_scrolls:
                 document.pending_scrolls.append(thing)
         self.late_scrolls = []
-        for document in self.documents_in_order():
-            if document.state is ACTIVE:
+        documents = self.documents_in_order()
+        if self.tells_in_update():
+            self.crossings_by_turns(documents)
+        else:
+            for document in documents:
                 self.intersections(document)

@@ -1,6 +1,8 @@
 """The resize loop as an engine has it, and its rounds as the tool tells them apart."""
 from reference import trace
-from reference.world import ACTIVE, depth
+from reference.world import ACTIVE, depth, tree_document
+
+from .traits import SIZES_OF_GATHERING
 
 NEVER = (-1, -1)     # what was reported of a target that wasn't told yet
 
@@ -37,7 +39,9 @@ class Rounds:
         least, delivered = {}, True
         self.failed.clear()
         while delivered:
+            self.placed = {}
             self.lay_out_all()
+            self.place_all()
             delivered = False
             for document in self.documents_in_order():
                 if document.state is ACTIVE:
@@ -67,6 +71,15 @@ class Rounds:
             self.dispatch((document, True), 'error')
         return None
 
+    def deep(self, node):
+        """The depth as the engine counts it: with the document, where there is one."""
+        if not self.has('depth-with-document'):
+            return depth(node)
+        if tree_document(node) is not None:
+            return depth(node) + 1
+        self.differs('depth-with-document')
+        return depth(node)
+
     def gather(self, document, least):
         depths = []
         for observer in document.resize_observers:
@@ -81,9 +94,10 @@ class Rounds:
                     continue
                 if observation.last_reported == NEVER and size == (0, 0):
                     self.differs('first-size')
-                if depth(node) > least:
+                if self.deep(node) > least:
+                    observation.gathered = self.sizes[node]
                     observer.active.append(observation)
-                    depths.append(depth(node))
+                    depths.append(self.deep(node))
                 else:
                     observer.skipped = observer.skips_now = True
         return depths
@@ -101,7 +115,7 @@ class Rounds:
             if not entries:
                 observer.skipped = False
                 continue
-            depths = [depth(entry.target) for entry in entries]
+            depths = [self.deep(entry.target) for entry in entries]
             least = min(depths + ([] if least is None else [least]))
             self.resize_told(observer, entries)
             observer.active = []
@@ -119,8 +133,9 @@ class Rounds:
             if node.document.state is not ACTIVE and self.differs('dead-frame-target'):
                 continue
             sizes = self.size_now(node)
-            if sizes != self.sizes[node] and self.differs('sizes-of-last-layout'):
-                sizes = self.sizes[node]
+            known = observation.gathered if self.has(SIZES_OF_GATHERING) else self.sizes[node]
+            if sizes != known and self.differs('sizes-of-last-layout'):
+                sizes = known
             entries.append(ResizeEntry(node, sizes))
             if observation.number in standing:
                 observation.last_reported = sizes.of(observation.box)

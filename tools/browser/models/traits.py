@@ -2,9 +2,18 @@
 HIDDEN_READS_NOTHING, DEAD_READS_THROW, SCROLLS_ARE_CUT = 'hidden reads nothing', 'dead reads throw', 'scrolls are cut'
 LATE_SCROLLS, FRAMES_IN_TIME = 'late scrolls', 'frames in time'
 KEPT_WHILE_TELLING, CROSSED_IS_TURNED = 'kept while telling', 'crossed is turned'
-# Of device pixels: a side that would have none.
-ONE_PIXEL_AT_LEAST = 'one pixel at least'
+# Of query lists of the page's own document: evaluated in an update, as by the rules.
+QUERIES_IN_UPDATE = 'queries in the update'
+# Of ranges: an element at the root that has no area.
+EMPTY_ROOTS_COUNT_NOTHING = 'empty roots count nothing'
+# Of resize observers: their place is that of their first target.
+FIRST_USE_COUNTS = 'first use counts'
+# Of resize entries: nothing since the gathering counts.
+SIZES_OF_GATHERING = 'sizes of the gathering'
+# Of device pixels: a side that would have none; places in a round.
+ONE_PIXEL_AT_LEAST, PLACED_AS_ROUNDS_BEGIN = 'one pixel at least', 'placed as rounds begin'
 # Of margins: lengths of whole pixels, floored or cut, and percentages of whole pixels; which roots a scroll margin moves.
 LENGTHS_ARE_FLOORED, LENGTHS_ARE_CUT, PERCENTAGES_ARE_CUT = 'lengths are floored', 'lengths are cut', 'percentages are cut'
 SCROLLING_ROOT_UNTOLD, IMPLICIT_ROOT, EVERY_ROOT = 'a root that scrolls, untold', 'the implicit root', 'every root'
-
+# Of readings: a window, or an element that stands nowhere, has nothing laid out.
+WINDOWS_READ_AT_ONCE, NOTHING_FOR_DETACHED = 'windows read at once', 'nothing for detached'

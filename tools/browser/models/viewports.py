@@ -2,16 +2,17 @@
 from reference import update
 from reference.layout import BORDER, CONTENT, DEVICE
 from reference.media import matches
-from reference.world import ACTIVE, preorder
+from reference.world import ACTIVE, DEAD, preorder, tree_document
 
 from .layout import NO_SIZES, Sizes, whole
-from .traits import FRAMES_IN_TIME, LATE_SCROLLS
+from .traits import FRAMES_IN_TIME, LATE_SCROLLS, PLACED_AS_ROUNDS_BEGIN, QUERIES_IN_UPDATE
 
 
 class Viewports:
     """A part of Model."""
 
     def inserted(self, node):
+        self.changed_documents.add(tree_document(node))
         for inner in preorder(node):
             document = inner.framed
             if document is not None and document.state is ACTIVE and document not in self.insertions:
@@ -30,6 +31,16 @@ class Viewports:
         for other in self.sizes:
             if other.document.state is not ACTIVE:
                 self.sizes[other] = NO_SIZES
+        self.documents_end()
+
+    def documents_end(self):
+        """Documents that stand no longer; observers with a root in one may lose their targets."""
+        ended = {document for document in self.world.documents if document.state is DEAD} - self.ended
+        self.ended |= ended
+        for observer in self.world.intersection_observers:
+            home = getattr(observer.root, 'document', observer.root)
+            if home in ended and observer.registrations and self.differs('disconnected-as-root-ends'):
+                observer.registrations.clear()
 
     def documents_in_order(self):
         """The active documents in the order of the engine."""
@@ -61,7 +72,8 @@ class Viewports:
         self.known[document] = size
         if old is not None or not self.has(FRAMES_IN_TIME):
             self.resized.add(document)
-        self.evaluate(document, size)
+        if document.frame is not None or not self.has(QUERIES_IN_UPDATE):
+            self.evaluate(document, size)
 
     def evaluate(self, document, size):
         if document.root is None and self.has('queries-of-empty-page'):
@@ -87,12 +99,24 @@ class Viewports:
         for outer in reversed(chain):
             self._laid_out(outer)
 
+    def place_all(self):
+        """Remembers where the targets' boxes are, as a round begins."""
+        if self.has(PLACED_AS_ROUNDS_BEGIN):
+            layout = self.world.layout
+            targets = {node for observer in self.all_resize_observers for node in observer.observations}
+            self.placed = {node: layout.flat_place(node) for node in targets if layout.has_box(node)}
+
     def lay_out_all(self):
         for document in self.documents_in_order():
             self._laid_out(document)
 
     def _laid_out(self, document):
         layout = self.world.layout
+        self.changed_documents.discard(document)
+        for inner in self.to_be_made.pop(document, ()):
+            if inner.state is ACTIVE and inner in self.known and layout.has_box(inner.frame) and self.differs('frame-made-anew'):
+                self.resized.add(inner)
+                self.anew.add(inner)
         for inner in list(self.insertions):
             if inner.state is ACTIVE and inner.frame.document is document and layout.has_box(inner.frame):
                 self.learns(inner, layout.frame_size(inner))
@@ -187,7 +211,9 @@ class Viewports:
         size = self.rules_viewport(document)
         first, changed = document not in self.noted, self.noted.get(document, size) != size
         self.noted[document] = size
-        if fires == changed:
+        is_anew = document in self.anew and fires
+        self.anew.discard(document)
+        if fires == changed or is_anew and not first:
             return
         if first:
             self.noticed.add('frame-first-resize' if document.frame else 'first-resize-event')
@@ -214,6 +240,8 @@ class Viewports:
         update._scroll_steps(self, document)
 
     def media_steps(self, document):
+        if document.frame is None and self.has(QUERIES_IN_UPDATE):
+            self.evaluate(document, self.world.viewport_size)
         changed = self.changed_queries.pop(document, [])
         self.note_changes(document, changed)
         for queries in changed:

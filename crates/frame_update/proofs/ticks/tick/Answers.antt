@@ -1,8 +1,8 @@
+use Rattle.script_model.specs.Syntax.{Tick}
 use Rattle.script_model.specs.Scripts.{handlers_in}
 use Rattle.page_model.specs.Commands.{begun_in}
 use Rattle.page_model.specs.Ticks.{tick, time_set}
 use Rattle.trace_runs.proofs.Runs.{run_same}
-use Rattle.frame_update.proofs.LoopStarts.{loops_exact}
 use Rattle.frame_update.proofs.Ticking.{begun_is, begun_ready, begun_run, caught_run, clock_is, ready_same, refused_run, timed_is, timed_ready, unbegun_is}
 use Rattle.frame_update.proofs.ticks.tick.Goals as goal
 
@@ -43,15 +43,12 @@ returns-clause-says g c =
 
 pub returns-in-Err-clause-loops : goal.returns-in-Err-clause-loops
 returns-in-Err-clause-loops g c =
-    loops_exact (handlers_in c.args.script.now.items) c.args.time c.args.page.now.world (c.loops_go_deeper.ensures (handlers_in c.args.script.now.items))
-    (c.loops_have_few_rounds.ensures (handlers_in c.args.script.now.items)) (c.loop_errors_are_exact.ensures (handlers_in c.args.script.now.items)) c.requires.ready.limits
+    c.listed_loops_are_exact.ensures.items (handlers_in c.args.script.now.items) (Tick c.args.line c.args.time) c.args.page.now.world c.requires.ready.limits
 
 pub returns-in-Err-set_time-clause-loops : goal.returns-in-Err-set_time-clause-loops
 returns-in-Err-set_time-clause-loops g c =
-    loops_exact (handlers_in c.args.script.now.items) c.args.time c.args.page.now.world (c.loops_go_deeper.ensures (handlers_in c.args.script.now.items))
-    (c.loops_have_few_rounds.ensures (handlers_in c.args.script.now.items)) (c.loop_errors_are_exact.ensures (handlers_in c.args.script.now.items)) c.requires.ready.limits
+    c.listed_loops_are_exact.ensures.items (handlers_in c.args.script.now.items) (Tick c.args.line c.args.time) c.args.page.now.world c.requires.ready.limits
 
 pub returns-clause-loops : goal.returns-clause-loops
 returns-clause-loops g c =
-    loops_exact (handlers_in c.args.script.now.items) c.args.time c.args.page.now.world (c.loops_go_deeper.ensures (handlers_in c.args.script.now.items))
-    (c.loops_have_few_rounds.ensures (handlers_in c.args.script.now.items)) (c.loop_errors_are_exact.ensures (handlers_in c.args.script.now.items)) c.requires.ready.limits
+    c.listed_loops_are_exact.ensures.items (handlers_in c.args.script.now.items) (Tick c.args.line c.args.time) c.args.page.now.world c.requires.ready.limits

@@ -1,5 +1,5 @@
 -- What isn't active as the rounds end is skipped.
-use Rattle.loop_laws.proofs.Errors.{errors-exact}
+use Rattle.loop_laws.proofs.Loops.{errors-exact}
 use Rattle.loop_laws.proofs.rounds.loop_errors_are_exact.Goals as goal
 
 pub returns : goal.returns

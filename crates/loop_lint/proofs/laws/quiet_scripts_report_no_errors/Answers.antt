@@ -3,7 +3,4 @@ use Rattle.loop_lint.proofs.Quiet.{quiet-lines, quiet-outcome}
 use Rattle.loop_lint.proofs.laws.quiet_scripts_report_no_errors.Goals as goal
 
 pub returns : goal.returns
-returns c = λ text script is quiet.
-    quiet-outcome text script is
-    (quiet-lines (script.items) quiet c.resize_loops_come_to_rest.ensures.gathered c.resize_loops_come_to_rest.ensures.begins
-    c.resize_loops_come_to_rest.ensures.rests c.loop_errors_are_exact.ensures (script.version))
+returns c = λ text script is quiet. quiet-outcome text script is (quiet-lines (script.items) quiet (script.version))

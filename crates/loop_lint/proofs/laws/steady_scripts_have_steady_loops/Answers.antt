@@ -3,4 +3,4 @@ use Rattle.loop_lint.proofs.Steady.{steady-loops}
 use Rattle.loop_lint.proofs.laws.steady_scripts_have_steady_loops.Goals as goal
 
 pub returns : goal.returns
-returns c = λ version items steady. steady-loops items steady c.loops_go_deeper.ensures c.loops_have_few_rounds.ensures version
+returns c = λ version items steady. steady-loops items steady version

@@ -3,4 +3,4 @@ use Rattle.loop_lint.proofs.Holding.{lines-same}
 use Rattle.loop_lint.proofs.laws.verdicts_rest_on_handlers.Goals as goal
 
 pub returns : goal.returns
-returns c = λ test items other same names. lines-same test items other same names
+returns c = lines-same

@@ -1,5 +1,6 @@
 -- How far something is scrolled and can be, of boxes as they are now.
 use Rattle.std.proofs.Common.{ℕ, Some, ap, sym, subst, ◌∙◌}
+use Rattle.page_model.specs.World.{Tree}
 use Rattle.page_model.specs.PageBoxes.{scroll_range, scroll_offset}
 use Rattle.page_model.specs.Scrolling.{scroll_document}
 use Rattle.page_boxes.specs.Pages.{seen_size}
@@ -26,25 +27,34 @@ returns-clause-range g c =
 
 pub returns-clause-boxes : goal.returns-clause-boxes
 returns-clause-boxes g c =
+    let own =
+    c.document_scrolled-document.ensures
+    ∙ ap (λ (tree : Tree). scroll_document tree (seen_target c.args.target)) (c.page.ensures.tree ∙ ap (λ (v : PageView). v.world.tree) c.self.view_is) in
     subst (λ (document : ℕ). ComputesIn c.args.self.now.world (Some document) c.args.self.now.kept c.refresh_in.new.self.kept c.args.steps.now c.refresh_in.new.steps)
-    c.scroll_document-document.ensures
+    own
     (computed_in c.self.inside c.refresh_in.new.self c.refresh_in.ensures.same c.args.self.now c.self.view_is c.refresh_in.ensures.fills _ _ c.refresh_in.ensures.ticks
-    (λ tree. Some c.scroll_document-document.result) c.refresh_in.ensures.left)
+    (λ tree. Some c.document_scrolled-document.result) c.refresh_in.ensures.left)
 
 pub offset_of-requires : goal.offset_of-requires
 offset_of-requires g c =
+    let own =
+    c.document_scrolled-document.ensures
+    ∙ ap (λ (tree : Tree). scroll_document tree (seen_target c.args.target)) (c.page.ensures.tree ∙ ap (λ (v : PageView). v.world.tree) c.self.view_is) in
     ap (λ (it : ShownIn). scroll_document it.shown.tree (seen_target c.args.target)) c.shown_in-shown.ensures
     ∙ ap (λ (v : PageView). scroll_document v.world.tree (seen_target c.args.target))
     (view_refreshed c.self.inside c.refresh_in.new.self c.refresh_in.ensures.same c.args.self.now c.self.view_is)
-    ∙ sym c.scroll_document-document.ensures
+    ∙ sym own
     ∙ ap (λ (it : ShownIn). it.document) (sym c.shown_in-shown.ensures)
 
 pub range_of-requires : goal.range_of-requires
 range_of-requires g c =
+    let own =
+    c.document_scrolled-document.ensures
+    ∙ ap (λ (tree : Tree). scroll_document tree (seen_target c.args.target)) (c.page.ensures.tree ∙ ap (λ (v : PageView). v.world.tree) c.self.view_is) in
     ap (λ (it : ShownIn). scroll_document it.shown.tree (seen_target c.args.target)) c.shown_in-shown.ensures
     ∙ ap (λ (v : PageView). scroll_document v.world.tree (seen_target c.args.target))
     (view_refreshed c.self.inside c.refresh_in.new.self c.refresh_in.ensures.same c.args.self.now c.self.view_is)
-    ∙ sym c.scroll_document-document.ensures
+    ∙ sym own
     ∙ ap (λ (it : ShownIn). it.document) (sym c.shown_in-shown.ensures)
 
 pub shown_in-shown-requires-clause-fresh : goal.shown_in-shown-requires-clause-fresh
