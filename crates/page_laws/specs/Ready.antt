@@ -5,6 +5,5 @@ use Rattle.page_model.specs.Ranges.{IsInRange}
 use Rattle.page_laws.specs.Bounds.{IsWithinLimits}
 
 -- each number in the world is that of something, a handler's that of one of so many, and the limits on what is gone over by place are kept
-pub record IsReadyFor (handlers : ℕ) (world : World) : Type 0 where
-  pub range : IsInRange handlers world
-  pub limits : IsWithinLimits world
+unfoldable pub IsReadyFor : ℕ → World → Type 0
+IsReadyFor handlers world = IsInRange handlers world × IsWithinLimits world
