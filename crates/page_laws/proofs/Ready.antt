@@ -48,48 +48,55 @@ time-within time world within = time-kept IsWithinLimits world time (λ late. ti
 
 -- all that a tick asks
 
+pub ready-of : (handlers : ℕ) (world : World) → IsInRange handlers world → IsWithinLimits world → IsReadyFor handlers world
+unfolding IsReadyFor
+ready-of handlers world within kept = (within, kept)
+
+pub range-of : (handlers : ℕ) (world : World) → IsReadyFor handlers world → IsInRange handlers world
+unfolding IsReadyFor
+range-of handlers world ready = ready.0
+
+pub limits-of : (handlers : ℕ) (world : World) → IsReadyFor handlers world → IsWithinLimits world
+unfolding IsReadyFor
+limits-of handlers world ready = ready.1
+
 pub ready-opening : (handlers : ℕ) (version : Version) → IsReadyFor handlers (opening_world version)
-ready-opening handlers version = record { range = opening-in handlers version; limits = opening-within version }
+ready-opening handlers version = ready-of handlers (opening_world version) (opening-in handlers version) (opening-within version)
 
 module _ (handlers : ℕ) (world : World) (ready : IsReadyFor handlers world) where
   pub ready-next : (after : World) → IsNext world after → IsReadyFor handlers after
-  ready-next after next = record {
-    range = next.within handlers ready.range;
-    limits = as-many world ready.limits after next.observers next.queries next.successor.begun next.successor.version next.tasks;
-  }
+  ready-next after next =
+      ready-of handlers after (next.within handlers (range-of handlers world ready))
+      (as-many world (limits-of handlers world ready) after next.observers next.queries next.successor.begun next.successor.version next.tasks)
 
   pub ready-begun : (after : World) → begun_in world ≡ Did after → IsReadyFor handlers after
-  ready-begun after is = record {
-    range = of_did _ after _ is (begun-in handlers world ready.range);
-    limits = of_did _ after _ is (begun-within world ready.limits);
-  }
+  ready-begun after is =
+      ready-of handlers after (of_did _ after _ is (begun-in handlers world (range-of handlers world ready)))
+      (of_did _ after _ is (begun-within world (limits-of handlers world ready)))
 
   pub ready-timed : (time : ℕ) (after : World) → time_set time world ≡ Did after → IsReadyFor handlers after
-  ready-timed time after is = record {
-    range = of_did _ after _ is (time-in handlers time world ready.range);
-    limits = of_did _ after _ is (time-within time world ready.limits);
-  }
+  ready-timed time after is =
+      ready-of handlers after (of_did _ after _ is (time-in handlers time world (range-of handlers world ready)))
+      (of_did _ after _ is (time-within time world (limits-of handlers world ready)))
 
 module _ (script : Script) (world : World) (ready : IsReadyFor (length script) world) where
   pub ready-done : (present : Present) (action : Action) → IsPresentIn world present →
       (effect : Effect) → does (handler_names script) world present action ≡ Did effect → IsReadyFor (length script) (effect.world)
-  ready-done present action is effect done = record {
-    range = subst (λ (count : ℕ). IsInRange count (effect.world)) (same-count script)
-        (of_did _ effect _ done (does-in (handler_names script) world
-        (subst (λ (count : ℕ). IsInRange count world) (sym (same-count script)) ready.range) present action is));
-    limits = of_did _ effect _ done (does-within world ready.limits (handler_names script) present action);
-  }
+  ready-done present action is effect done =
+      ready-of (length script) (effect.world)
+      (subst (λ (count : ℕ). IsInRange count (effect.world)) (same-count script)
+      (of_did _ effect _ done (does-in (handler_names script) world
+      (subst (λ (count : ℕ). IsInRange count world) (sym (same-count script)) (range-of (length script) world ready)) present action is)))
+      (of_did _ effect _ done (does-within world (limits-of (length script) world ready) (handler_names script) present action))
 
   pub ready-command : (entries : List Present) (command : Command) (present : Present) → AllByRecursion (IsPresentIn world) entries →
       IsPresentIn world present → IsReadyFor (length script) (run_command script entries command present world).state
-  ready-command entries command present are is = record {
-    range = command-in script world ready.range entries command present are is;
-    limits = command-within script world ready.limits entries command present;
-  }
+  ready-command entries command present are is =
+      ready-of (length script) _ (command-in script world (range-of (length script) world ready) entries command present are is)
+      (command-within script world (limits-of (length script) world ready) entries command present)
 
   pub ready-called : (document : ℕ) (handler : Option ℕ) (handed : Entries) → AllByRecursion (IsPresentIn world) (presents handed) →
       IsReadyFor (length script) (call script document handler handed world).state
-  ready-called document handler handed are = record {
-    range = call-in script world ready.range document handler handed are;
-    limits = call-within script world ready.limits document handler handed;
-  }
+  ready-called document handler handed are =
+      ready-of (length script) _ (call-in script world (range-of (length script) world ready) document handler handed are)
+      (call-within script world (limits-of (length script) world ready) document handler handed)
