@@ -6,11 +6,8 @@ use Rattle.text_io.specs.declared.kinds.LimitKind.{LimitKind}
 use Rattle.script_model.specs.Syntax as model
 use Rattle.script_model.specs.Scripts.{handlers_in}
 use Rattle.script_model.specs.TraceLines.{TraceLine, LimitLine}
-use Rattle.script_syntax.specs.Seen.{item_at, item_of}
+use Rattle.script_syntax.specs.Seen.{item_of}
 use Rattle.script_syntax.specs.declared.commands.Item.{Item}
-use Rattle.script_syntax.specs.declared.commands.What.{What}
-use Rattle.script_syntax.specs.declared.commands.What.TheVariants as what
-use Rattle.script_syntax.proofs.Inner.{inner_item, inner_unless_tick}
 use Rattle.page_model.specs.Outcome.{bytes_of, opening_world, run_item}
 use Rattle.page_model.specs.Runs.{Flow, Next, Limited, Said, for_each, silent, ◌followed_by◌}
 use Rattle.page_model.specs.World.{World}
@@ -26,14 +23,6 @@ use Rattle.replay_run.specs.declared.words.Sight.{Sight}
 use Rattle.replay_run.specs.declared.status.Status.{Status}
 use Rattle.replay_run.specs.declared.status.Status.TheVariants.{Limit}
 use Rattle.replay_run.proofs.Summaries.{wrote_of, wrote_tells}
-
--- ticks ---------------------------------------------------------------------------------------------------------------------
-
-pub tick_is : (line time : ℕ) (command : What) → command ≡ what.Tick time → 1 ≡ ticks_in (item_at line command)
-tick_is line time command is = ap (λ it. ticks_in (item_at line it)) (sym is)
-
-pub other_is : (line : ℕ) (command : What) → ((time : ℕ) → command ≡ what.Tick time → ⊥) → 0 ≡ ticks_in (item_at line command)
-other_is line command ticks = ap ticks_in (sym (inner_item line command (inner_unless_tick command ticks)))
 
 -- item by item --------------------------------------------------------------------------------------------------------------
 
