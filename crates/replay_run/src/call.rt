@@ -1,17 +1,13 @@
 //! The top call.
 
-ghost use Rattle.std.specs.Prelude.{◌≡◌, ◌↔◌, ◌<◌, ◌&&◌, None, Some, Ok, Err, is_some, true, false, map, string_bytes, IfSome, [], ◌∷◌};
+ghost use Rattle.std.specs.Prelude.{◌≡◌, ◌↔◌, ◌<◌, ◌&&◌, None, Some, is_some, map, string_bytes, IfSome};
 ghost use Rattle.text_io.specs.Streams.{Rose};
 ghost use Rattle.script_model.specs.Generator.{generated};
-ghost use Rattle.script_model.specs.TraceLines.{LimitLine};
-ghost use Rattle.script_model.specs.Reading.{Reading, reading, LimitAt};
-ghost use Rattle.script_syntax.specs.Parsing.{Parses};
-ghost use Rattle.page_model.specs.Outcome.{opening_world, outcome_read};
-ghost use Rattle.trace_runs.specs.Writes.{Told};
+ghost use Rattle.script_model.specs.Reading.{reading};
+ghost use Rattle.page_model.specs.Outcome.{outcome_read};
 ghost use Rattle.run_replies.specs.Answers.{Ends, IsTaken, Tells};
 ghost use Rattle.stream_replay.specs.StreamReplies.{IsolatesPages};
-ghost use Rattle.run_replies.specs.Replies.{outcome_reply, refused_with};
-ghost use Rattle.script_replay.specs.ScriptReplies.{read_reply, script_reply};
+ghost use Rattle.script_replay.specs.ScriptReplies.{read_reply};
 ghost use Rattle.replay_run.specs.Replies.{reply, script_text};
 ghost use Rattle.run_replies.specs.Statuses.{is_done};
 ghost use Rattle.run_replies.specs.Words.{asked, has_page, is_run, looked_at, seen};

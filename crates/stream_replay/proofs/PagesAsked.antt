@@ -3,7 +3,7 @@ use Rattle.std.proofs.Common.{◌≡◌, ◌≤◌, ◌<◌, ◌∙◌, ◌+◌,
 use Rattle.std.proofs.lemmas.Bool.{true≢false}
 use Rattle.std.proofs.lemmas.List.{drop_all}
 use Rattle.std.proofs.lemmas.Option.{none-some}
-use Rattle.std.specs.Prelude.{Some, None, Err, IfSome, Bool, cond, count_by, false, true, nat_lt, ◌==◌}
+use Rattle.std.specs.Prelude.{Some, None, IfSome, Bool, cond, count_by, false, true, nat_lt, ◌==◌}
 use Rattle.text_io.specs.Streams.{PassesLimit}
 use Rattle.text_io.specs.declared.kinds.LimitKind.TheVariants as limits
 use Rattle.script_model.specs.Reading.{SyntaxAt, LimitAt, last_line}

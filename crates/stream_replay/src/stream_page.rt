@@ -1,6 +1,6 @@
 //! A page of a stream, as it runs.
 
-ghost use Rattle.std.specs.Prelude.{◌≡◌, ◌<◌, ◌++◌, ◌∷◌, [], true, IfOk, OnOk, OnErr, Err};
+ghost use Rattle.std.specs.Prelude.{◌≡◌, true, IfOk, OnOk, OnErr, Err};
 ghost use Rattle.std.specs.List.{All};
 ghost use Rattle.script_model.specs.Syntax.{Item as ItemModel};
 ghost use Rattle.script_model.specs.Reading.{Reading, reading};
