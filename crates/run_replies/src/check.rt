@@ -82,7 +82,7 @@ fn count_line(alloc: Global, script: &Script) -> Result<Vec<u8>, AllocError>
 }
 
 /// Writes `ok` and the number of a script's commands.
-pub fn check<K: Sink>(alloc: Global, script: &Script, sink: &mut K) -> Status
+pub fn write_check<K: Sink>(alloc: Global, script: &Script, sink: &mut K) -> Status
     ensures { Tells result (done_with (check_read (Ok script.now))) (K.taken sink.old) (K.taken sink.new) (K.faults sink.old) (K.faults sink.new) }
 {
     match count_line(alloc, script) {

@@ -14,7 +14,7 @@ mod summary;
 mod words;
 
 pub use certificates::write_certificates;
-pub use check::check;
+pub use check::write_check;
 pub use lines::write_lines;
 pub use printing::write_script;
 pub use refusing::{meet_limit, refuse_at, write_limit};

@@ -10,7 +10,7 @@ ghost use Rattle.trace_runs.specs.Runs.{Runs};
 ghost use Rattle.frame_update.specs.Ready.{IsReady};
 ghost use Rattle.script_items.specs.Stops.{tick_count, ticks_in, to_tick};
 
-use crate::play::run_item;
+use crate::items::run_item;
 use page_state::Page;
 use script_syntax::{Item, Script, What};
 use std::alloc::Global;

@@ -15,7 +15,7 @@ use crate::sights::write_sight;
 use crate::summary::summarize;
 use page_state::Page;
 use run_replies::{
-    Job, Status, check, meet_limit, refuse_at, status_of, write_certificates, write_limit,
+    Job, Status, meet_limit, refuse_at, status_of, write_certificates, write_check, write_limit,
     write_script,
 };
 use script_items::play;
@@ -104,7 +104,7 @@ pub fn perform<K: Sink, L: Ledger>(
     match job {
         Job::Replay => run_script(alloc, script, sink, steps),
         Job::Check => Report {
-            status: check(alloc, script, sink),
+            status: write_check(alloc, script, sink),
             page: None,
         },
         Job::Lint => Report {

@@ -8,7 +8,7 @@ returns-in-Replay-clause-tells g c =
     job_tells c.run_script.result.status _ _ _ _ _ _ _ c.in-Replay.is (replay_tells c.run_script.result.status _ _ _ _ _ c.run_script.ensures.answers)
 
 pub returns-in-Check-clause-tells : goal.returns-in-Check-clause-tells
-returns-in-Check-clause-tells g c = job_tells c.check.result _ _ _ _ _ _ _ c.in-Check.is (check_tells c.check.result _ _ _ _ _ c.check.ensures)
+returns-in-Check-clause-tells g c = job_tells c.write_check.result _ _ _ _ _ _ _ c.in-Check.is (check_tells c.write_check.result _ _ _ _ _ c.write_check.ensures)
 
 pub returns-in-Lint-clause-tells : goal.returns-in-Lint-clause-tells
 returns-in-Lint-clause-tells g c =

@@ -2,7 +2,7 @@ use Rattle.std.proofs.Common.{arith, refl}
 use Rattle.trace_runs.proofs.Following.{begin, rest_same, go_on, end_cut, done}
 use Rattle.trace_runs.proofs.Loops.{each_more, each_none}
 use Rattle.script_items.proofs.Playing.{items_are}
-use Rattle.script_items.proofs.play.play.Goals as goal
+use Rattle.script_items.proofs.items.play.Goals as goal
 
 pub loop-item-init : goal.loop-item-init
 loop-item-init g c =

@@ -6,7 +6,7 @@ use Rattle.page_model.specs.Outcome.{run_item, run_items}
 use Rattle.page_model.specs.Runs.{for_each}
 use Rattle.trace_runs.proofs.Following.{Following}
 use Rattle.frame_update.specs.Ready.{IsReady}
-use Rattle.script_items.proofs.play.play.Given as goal
+use Rattle.script_items.proofs.items.play.Given as goal
 
 -- the items up to here were run, and those from here on are to be run
 abbrev pub invariant-loop-item : goal.invariant-loop-item

@@ -1,7 +1,7 @@
 use Rattle.trace_runs.proofs.Runs.{run_same}
 use Rattle.script_syntax.proofs.Inner.{inner_unless_tick}
 use Rattle.script_items.proofs.Playing.{outside_is, ready_behind, tick_is}
-use Rattle.script_items.proofs.play.run_outside.Goals as goal
+use Rattle.script_items.proofs.items.run_outside.Goals as goal
 
 pub run_caught-requires : goal.run_caught-requires
 run_caught-requires g c = (c.requires.allowed, inner_unless_tick c.args.command.now.what c.in_default.not-Tick)
