@@ -48,6 +48,9 @@ fn certificates_of(alloc: Global, script: &Script) -> Result<Vec<u8>, AllocError
 }
 
 /// Writes the certificates of a script, a line for each.
+///
+/// `NoMemory` for want of memory, `WriteFault` only where the sink's count of faults rose in this call; a first part of the text was
+/// written then. Else `Done`.
 pub fn write_certificates<K: Sink>(alloc: Global, script: &Script, sink: &mut K) -> Status
     ensures { Tells result (done_with (lint_text script.now.items)) (K.taken sink.old) (K.taken sink.new) (K.faults sink.old) (K.faults sink.new) }
 {

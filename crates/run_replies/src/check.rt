@@ -82,6 +82,9 @@ fn count_line(alloc: Global, script: &Script) -> Result<Vec<u8>, AllocError>
 }
 
 /// Writes `ok` and the number of a script's commands.
+///
+/// `NoMemory` for want of memory, `WriteFault` only where the sink's count of faults rose in this call; a first part of the text was
+/// written then. Else `Done`.
 pub fn write_check<K: Sink>(alloc: Global, script: &Script, sink: &mut K) -> Status
     ensures { Tells result (done_with (check_read (Ok script.now))) (K.taken sink.old) (K.taken sink.new) (K.faults sink.old) (K.faults sink.new) }
 {

@@ -12,6 +12,9 @@ use std::alloc::Global;
 use text_io::Sink;
 
 /// Writes a script as it is printed, each line by itself.
+///
+/// `NoMemory` for want of memory, `WriteFault` only where the sink's count of faults rose in this call; a first part of the text was
+/// written then. Else `Done`.
 pub fn write_script<K: Sink>(alloc: Global, script: &Script, sink: &mut K) -> Status
     ensures { Tells result (done_with (printed script.now)) (K.taken sink.old) (K.taken sink.new) (K.faults sink.old) (K.faults sink.new) }
 {

@@ -34,6 +34,9 @@ pub fn write_limit<K: Sink>(
 }
 
 /// Writes the line of a limit that was met while a source was read. Such a limit is the same in each version.
+///
+/// `Limit`; or `NoMemory` for want of memory, or `WriteFault`, only where the sink's count of faults rose in this call, with a first part of
+/// the line.
 pub fn meet_limit<K: Sink>(alloc: Global, kind: LimitKind, line: u32, sink: &mut K) -> Status
     ensures tells { Tells result (refused_with (LimitAt kind line)) (K.taken sink.old) (K.taken sink.new) (K.faults sink.old) (K.faults sink.new) }
     ensures done { is_done result ≡ false }
@@ -43,6 +46,9 @@ pub fn meet_limit<K: Sink>(alloc: Global, kind: LimitKind, line: u32, sink: &mut
 }
 
 /// Writes the line of a text that is no script, by the place of its first fault: a line and a column, each counted from 1.
+///
+/// `Syntax`; or `NoMemory` for want of memory, or `WriteFault`, only where the sink's count of faults rose in this call, with a first part of
+/// the line.
 pub fn refuse_at<K: Sink>(alloc: Global, line: u32, column: u32, sink: &mut K) -> Status
     ensures tells { Tells result (refused_with (SyntaxAt line column)) (K.taken sink.old) (K.taken sink.new) (K.faults sink.old) (K.faults sink.new) }
     ensures done { is_done result ≡ false }

@@ -34,7 +34,10 @@ pub fn write_summary<K: Sink>(alloc: Global, trace: &[u8], sink: &mut K) -> Resu
     }
 }
 
-/// Writes the same of a trace up to a limit, with the limit's line.
+/// Writes the same of a trace up to a limit, with the limit's line behind it.
+///
+/// `Limit`; or `NoMemory` for want of memory, or `WriteFault`, only where the sink's count of faults rose in this call, with a first part of
+/// the summary.
 pub fn summarize_to_limit<K: Sink>(
     alloc: Global,
     kind: LimitKind,

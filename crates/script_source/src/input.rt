@@ -39,6 +39,7 @@ impl Model for ScriptText {
 }
 
 impl ScriptText {
+    /// A text of which nothing came yet. No memory.
     pub fn new(alloc: Global) -> ScriptText
         ensures { result ≡ [] }
     {
@@ -67,6 +68,9 @@ impl ScriptText {
     }
 
     /// The script that it is.
+    ///
+    /// # Errors
+    /// `Syntax` and `ScriptLimit` exactly at the first fault or limit of the bytes that came; `Memory` for want of memory.
     pub fn parse(self, alloc: Global) -> Result<Script, ParseFault>
         ensures { Parses result (reading self) }
     {
@@ -77,7 +81,11 @@ impl ScriptText {
     }
 }
 
-/// Reads the script that the source has left. The error is the status of a run that can't read it.
+/// Reads the script that the source has left: its bytes to the end, or the first 16,777,217.
+///
+/// # Errors
+/// The status of a run that can't read it: `ReadFault` only where the source's count of faults rose in this call, `NoMemory` for want of
+/// memory. No other status comes. How much was taken then isn't told.
 pub fn read_script<S: Source>(alloc: Global, source: &mut S) -> Result<ScriptText, Status>
     ensures read { IfOk result (λ script. ReadTo 16777217 (S.left source.old) (S.left source.new) script) }
     ensures cause { IfErr result (λ status. IsUnread status (S.faults source.old) (S.faults source.new)) }

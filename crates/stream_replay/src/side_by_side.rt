@@ -329,7 +329,12 @@ fn run_bytes<K: Sink, L: Ledger>(
     }
 }
 
-/// Runs the scripts of the pages that the source holds, side by side.
+/// Runs the scripts of the pages that the source holds, side by side, and writes each line with the name of its page as it is said.
+///
+/// - `Done`, `Syntax` and `Limit`: exactly by the reply to the source's bytes, and all of its text was written. The source is at its end then;
+///   of more than 16,777,216 bytes one more than that many were taken. No `Usage` comes.
+/// - `ReadFault` and `WriteFault`: only where that count of faults rose in this call; nothing was written, or a first part of the text.
+///   `NoMemory` for want of memory, with a first part of the text.
 pub fn run_pages<S: Source, K: Sink, L: Ledger>(
     alloc: Global,
     source: &mut S,
