@@ -39,6 +39,7 @@ fn push_handler(into: &mut Vec<u8>, after: u32, handler: &Handler) -> Result<u32
 }
 
 /// Appends the lines of an item behind the line of a number, and gives the number of the last one.
+#[tactic(auto, unfolding(script_text::specs::NumberedLines::item_lines))]
 fn push_item(into: &mut Vec<u8>, after: u32, item: &Item) -> Result<u32, AllocError>
     ensures text { OnOk result (into.new.items ≡ into.old.items ++ lines_text after (item_lines (item_of item.now))) }
     ensures last { IfOk result (λ last. last ≡ last_number after (item_lines (item_of item.now))) }
