@@ -15,6 +15,8 @@ use Rattle.page_state.specs.Views.{PageView}
 use Rattle.page_state.specs.Worlds.{world_of, view_of}
 use Rattle.page_state.proofs.Laid.{view_refreshed}
 use Rattle.page_state.proofs.Updated.{not_told, still_told, now_told, at_world, if_refused, stopped_last}
+use Rattle.page_laws.proofs.Changes.{update-next}
+use Rattle.page_state.proofs.Ready.{ready_by, update_stopped}
 use Rattle.page_state.proofs.page.Page.update_intersections.Goals.{then-not-queued-via-then-not-queued, then-not-queued-via-else-not-queued+then-get}
 use Rattle.page_state.proofs.page.Page.update_intersections.Goals as goal
 
@@ -143,3 +145,11 @@ returns-in_default-clause-refused g c = λ chained.
     (at_world c.self.inside c.refresh.new.self c.refresh.ensures.same c.args.self.now c.self.view_is c.shown_at_once-shown.ensures c.as_slice.ensures.value
     (λ (s : Shown) (m : List Margins) (v : PageView). AreUpdated s m c.args.document c.update.new.watchers.part c.update.new.findings)
     (record { seen = c.in_ok-queued.ensures.seen; fresh = c.in_ok-queued.ensures.fresh }))
+
+pub returns-then-not-queued-clause-ready : goal.returns-then-not-queued-clause-ready
+returns-then-not-queued-clause-ready g c = λ handlers.
+    ready_by handlers c.args.self.now.world (returns-then-not-queued-clause-updated g c) (update-next c.args.document c.args.self.now.world c.requires)
+
+pub returns-clause-ready : goal.returns-clause-ready
+returns-clause-ready g c = λ handlers.
+    ready_by handlers c.args.self.now.world (returns-clause-updated g c) (update-next c.args.document c.args.self.now.world c.requires)
