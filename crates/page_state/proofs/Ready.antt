@@ -8,6 +8,7 @@ use Rattle.script_model.specs.Syntax.{Action}
 use Rattle.page_model.specs.World.{Finding, Entry, Registration, IntersectionObserver, IntersectionObservers, FrameCallback, Task as ModelTask, Notify, Tree, World}
 use Rattle.page_model.specs.Callbacks.{Script, handler_names}
 use Rattle.page_model.specs.Commands.{does}
+use Rattle.page_model.specs.Gathering.{sight_of}
 use Rattle.page_model.specs.Intersections.{Settled, is_news, settled, watchers}
 use Rattle.page_model.specs.Ranges.{Counts, IsIntersectionObserverIn, IsPresentIn}
 use Rattle.page_model.specs.Shown.{Shown}
@@ -24,7 +25,7 @@ use Rattle.event_tables.specs.FrameCallbacks as frames
 use Rattle.event_tables.specs.Timers as timers
 use Rattle.event_tables.specs.Seen.{seen_task}
 use Rattle.event_tables.specs.Tasks.{first_of, others_of}
-use Rattle.depth_gather.specs.Deliveries.{Turn}
+use Rattle.depth_gather.specs.Deliveries.{Turn, active_at}
 use Rattle.intersection_observer.specs.Places.{Standing, standing_of}
 use Rattle.intersection_observer.specs.Serials.{registrations_at}
 use Rattle.intersection_observer.specs.Settling.{settled_if, settled_at, settled_standing, with_settled, each_settled}
@@ -87,7 +88,7 @@ timer_handed world (Some it) = timer-next world (it.serial)
 
 pub turn_reported : (world : World) (turn : Option Turn) → IsNext world (once_reported turn world)
 turn_reported world None = same-next world
-turn_reported world (Some turn) = reported-next world _ (turn.observer) _
+turn_reported world (Some turn) = reported-next world (sight_of world) (turn.observer) (active_at (world.resize_observers) (turn.observer))
 
 pub list_evaluated : (world : World) (document : ℕ) (query : Option ℕ) → IsNext world (once_evaluated document query world)
 list_evaluated world document None = same-next world
@@ -169,9 +170,9 @@ module _ (counts : Counts) (time : ℕ) where
 pub update_stopped : (shown : Shown) (margins : List Margins) (tree : Tree) (document time : ℕ) (world : World) (now : IntersectionObservers) →
     IsStopped shown margins tree document time world.intersection_observers now → IsNext world (record world { intersection_observers = now })
 update_stopped shown margins tree document time world now stopped =
-    let before = world.intersection_observers in
-    let first = first_updated shown margins tree document time (stopped.number) before in
+    let before : IntersectionObservers = world.intersection_observers in
+    let first : IntersectionObservers = first_updated shown margins tree document time (stopped.number) before in
     intersection-next world now (λ counts.
     subst (λ (it : IntersectionObservers). IsKept (IsIntersectionObserverIn counts) before.made it.made) (sym stopped.settled)
-    (then-kept (settling-kept counts time (found_through shown margins) _ before)
+    (then-kept (settling-kept counts time (found_through shown margins) (watchers tree document (record before { made = take (stopped.number) (before.made) })) before)
     (each-kept counts time _ (take (stopped.place) (registrations_at first (stopped.number))) first)))
