@@ -16,7 +16,7 @@ use event_tables::{EventTarget, HandlerId, Task};
 use handlers::{Entries, run_handler};
 use loop_laws::runs_of_tasks_come_to_rest;
 use page_state::{Label, Page};
-use script_syntax::{Item, Script};
+use script_syntax::Script;
 use std::alloc::Global;
 use std::sync::ledger::Ledger;
 use step_count::Steps;
@@ -105,9 +105,5 @@ fn handler_name(script: &Script, handler: HandlerId) -> Name
     requires { handler.0 < length (handlers_in script.now.items) }
     ensures { result ≡ handler_text (handlers_in script.now.items) handler.0 }
 {
-    match script.handler(handler.0) {
-        Some(Item::Handler { name, .. }) => *name,
-        Some(Item::Command(_)) => unreachable!(),
-        None => unreachable!(),
-    }
+    script.handler(handler.0).unwrap().name
 }

@@ -1,10 +1,11 @@
 -- Commands by what they are, and the blocks that a walk goes through.
 use Rattle.std.proofs.Common.{◌≡◌, ℕ, ◌+◌, ◌<◌, ◌≤◌, List, length, get_or, drop, refl, ap, sym, subst, ◌∙◌}
 use Rattle.std.proofs.lemmas.List.{drop_more, drop_all}
-use Rattle.script_model.specs.Syntax.{Simple, Block, Then}
-use Rattle.script_syntax.specs.Allowed.{WhatAllowed, TestAllowed}
+use Rattle.script_model.specs.Syntax.{Block, Then}
+use Rattle.script_syntax.specs.Allowed.{WhatAllowed, ActionAllowed, TestAllowed}
 use Rattle.script_syntax.specs.Seen.{action_of, command_at, command_of, condition_of, block_of}
 use Rattle.script_syntax.specs.declared.operands.Condition.{Condition}
+use Rattle.script_syntax.specs.declared.commands.Action.{Action}
 use Rattle.script_syntax.specs.declared.commands.Body.{Body}
 use Rattle.script_syntax.specs.declared.commands.Command.{Command}
 use Rattle.script_syntax.specs.declared.commands.What.{What}
@@ -17,16 +18,19 @@ use Rattle.page_model.specs.World.{World}
 
 -- commands by what they are -----------------------------------------------------------------------------------------------
 
+pub action_allowed : (command : What) (action : Action) → command ≡ what.Act action → WhatAllowed command → ActionAllowed action
+action_allowed command action is allowed = subst WhatAllowed is allowed
+
 pub test_allowed : (command : What) (condition : Condition) (body : Body) → command ≡ what.When condition body → WhatAllowed command → TestAllowed condition.asks
 test_allowed command condition body is allowed = subst WhatAllowed is allowed
 
 -- what they do ------------------------------------------------------------------------------------------------------------
 
 module _ (script : Script) (entries : List Present) (line : ℕ) (command : What) (present : Present) (world : World) where
-  pub simple_does : command_at line command ≡ Simple line (action_of command)
-      → once_begun line world (λ begun. answered line begun said_by (does (handler_names script) begun present (action_of command))) ≡ run_command script entries (command_at line command) present world
+  pub simple_does : (action : Action) → command ≡ what.Act action
+      → once_begun line world (λ begun. answered line begun said_by (does (handler_names script) begun present (action_of action))) ≡ run_command script entries (command_at line command) present world
   unfolding run_command
-  simple_does is = ap (λ it. run_command script entries it present world) (sym is)
+  simple_does action is = ap (λ it. run_command script entries (command_at line it) present world) (sym is)
 
   pub each_does : (body : Body) → command ≡ what.Each body
       → once_begun line world (λ begun. for_each (run_block script entries body.commands) entries begun) ≡ run_command script entries (command_at line command) present world
@@ -43,11 +47,11 @@ module _ (script : Script) (entries : List Present) (line : ℕ) (command : What
 pub command_begins : (script : Script) (entries : List Present) (line : ℕ) (command : What) (present : Present) (world : World)
     → (run : World → Said World) × (once_begun line world run ≡ run_command script entries (command_at line command) present world)
 unfolding run_command
+command_begins script entries line (what.Act action) present world =
+    (λ begun. answered line begun said_by (does (handler_names script) begun present (action_of action)), refl)
 command_begins script entries line (what.Each body) present world = (λ begun. for_each (run_block script entries body.commands) entries begun, refl)
 command_begins script entries line (what.When condition body) present world =
     (λ begun. answered line begun (only_if (run_block script entries body.commands present) begun) (holds begun present (condition_of condition)), refl)
-command_begins script entries line other present world =
-    (λ begun. answered line begun said_by (does (handler_names script) begun present (action_of other)), refl)
 
 -- blocks ------------------------------------------------------------------------------------------------------------------
 

@@ -2,7 +2,7 @@
 
 ghost use Rattle.std.specs.Prelude.{◌≡◌};
 ghost use Rattle.script_model.specs.Scripts.{handlers_in};
-ghost use Rattle.script_syntax.specs.Allowed.{InnerAllowed, TestAllowed};
+ghost use Rattle.script_syntax.specs.Allowed.{IsAllowed, TestAllowed};
 ghost use Rattle.script_syntax.specs.Seen.{command_of, condition_of};
 ghost use Rattle.page_model.specs.Callbacks.{answered, presents, run_block, run_command};
 ghost use Rattle.page_model.specs.Commands.{holds};
@@ -23,7 +23,7 @@ use text_io::Sink;
 use trace_runs::{Flow, RunFault, write_throw};
 
 /// Begins a command and runs it with its block, for the entry at a place of `entries` if there is one, and writes its lines.
-/// Outside handlers there are no entries. The command isn't a `tick`.
+/// Outside handlers there are no entries.
 ///
 /// `Thrown` where it threw, which was written.
 ///
@@ -42,7 +42,7 @@ pub fn run_command<K: Sink, L: Ledger>(
     sink: &mut K,
     steps: &mut Steps<L>,
 ) -> Result<Flow, RunFault>
-    requires allowed { InnerAllowed command.now }
+    requires allowed { IsAllowed command.now }
     requires targets { AreIn page.old.world (presents (entries_of entries.now)) }
     ensures { Runs flow_of (λ _. page.new.world) result (K.taken sink.old) (K.taken sink.new) (K.faults sink.old) (K.faults sink.new)
         (run_command (handlers_in script.now.items) (presents (entries_of entries.now)) (command_of command.now) (present_at (presents (entries_of entries.now)) subject) page.old.world) }
@@ -51,6 +51,19 @@ pub fn run_command<K: Sink, L: Ledger>(
         return refuse(alloc, command.line, fault, page.version(), sink);
     }
     match &command.what {
+        What::Act(action) => {
+            let present = subject_at(entries, subject);
+            apply(
+                alloc,
+                page,
+                script,
+                command.line,
+                action,
+                present,
+                sink,
+                steps,
+            )
+        }
         What::Each(body) => run_each(alloc, page, script, &body.commands, entries, sink, steps),
         What::When(condition, body) => run_when(
             alloc,
@@ -64,10 +77,6 @@ pub fn run_command<K: Sink, L: Ledger>(
             sink,
             steps,
         ),
-        _ => {
-            let present = subject_at(entries, subject);
-            apply(alloc, page, script, command, present, sink, steps)
-        }
     }
 }
 

@@ -1,5 +1,5 @@
 -- The commands of a script, counted: a script has no more of them than lines.
-use Rattle.std.proofs.Common.{◌≡◌, ◌∙◌, refl, ap, sym, ℕ, ◌+◌, ◌-◌, ◌<◌, ◌≤◌, List, [], ◌∷◌, ◌++◌, length, drop, get_or, arith, length-append}
+use Rattle.std.proofs.Common.{◌≡◌, ◌∙◌, ap, sym, ℕ, ◌+◌, ◌-◌, ◌<◌, ◌≤◌, List, [], ◌∷◌, ◌++◌, length, drop, get_or, arith, length-append}
 use Rattle.std.proofs.lemmas.List.{drop_more, drop_all, length-replicate}
 use Rattle.std.specs.Prelude.{map, replicate, codes}
 use Rattle.text_io.specs.declared.kinds.LimitKind.TheVariants as limits
@@ -7,14 +7,14 @@ use Rattle.text_io.specs.Kinds.{version_word}
 use Rattle.text_io.specs.Limits.{common_limit}
 use Rattle.script_model.specs.Syntax.{Command, Simple, Each, When, Block, NoMore, Then, Item, Outside, Tick, Handler, Script}
 use Rattle.script_model.specs.Scripts.{commands_in, block_commands, item_commands, command_count}
-use Rattle.script_syntax.specs.Seen.{block_of, command_at, command_of, item_at, item_of}
+use Rattle.script_syntax.specs.Seen.{block_of, command_at, command_of, item_of}
 use Rattle.script_syntax.specs.declared.operands.Condition.{Condition}
+use Rattle.script_syntax.specs.declared.commands.Action.{Action}
 use Rattle.script_syntax.specs.declared.commands.Body.{Body}
 use Rattle.script_syntax.specs.declared.commands.Command as code
 use Rattle.script_syntax.specs.declared.commands.Item as code_item
 use Rattle.script_syntax.specs.declared.commands.What.{What}
 use Rattle.script_syntax.specs.declared.commands.What.TheVariants as what
-use Rattle.script_syntax.proofs.Walked.{simple_is}
 use Rattle.script_text.specs.NumberedLines.{NumberedLine, end_line, command_lines, block_lines, item_lines, items_lines}
 use Rattle.script_text.specs.ScriptText.{line_text, lines_text, script_text}
 use Rattle.script_text.specs.WellFormed.{Rise, IsWellFormed}
@@ -113,13 +113,6 @@ pub when_count : (line : ℕ) (command : What) (condition : Condition) (body : B
 unfolding commands_in
 when_count line command condition body is = ap (λ it. commands_in (command_at line it)) is
 
-pub simple_count : (line : ℕ) (command : What) → ((body : Body) → command ≡ what.Each body → ⊥)
-    → ((condition : Condition) (body : Body) → command ≡ what.When condition body → ⊥) → 1 ≡ commands_in (command_at line command)
+pub simple_count : (line : ℕ) (command : What) (action : Action) → command ≡ what.Act action → 1 ≡ commands_in (command_at line command)
 unfolding commands_in
-simple_count line command each whens = sym (ap commands_in (simple_is line command each whens))
-
--- a tick is a command too
-pub outside_count : (line : ℕ) (command : What) → item_commands (item_at line command) ≡ commands_in (command_at line command)
-unfolding commands_in
-outside_count line (what.Tick time) = refl
-outside_count line other = refl
+simple_count line command action is = sym (ap (λ it. commands_in (command_at line it)) is)

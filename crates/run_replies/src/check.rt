@@ -22,9 +22,9 @@ fn count_command(command: &Command) -> u64
     ensures { result ≡ commands_in (command_of command.now) }
 {
     match &command.what {
+        What::Act(_) => 1,
         What::Each(body) => 1 + count_commands(body.commands.as_slice()),
         What::When(_, body) => 1 + count_commands(body.commands.as_slice()),
-        _ => 1,
     }
 }
 
@@ -47,7 +47,8 @@ fn count_item(item: &Item) -> u64
 {
     match item {
         Item::Command(command) => count_command(command),
-        Item::Handler { commands, .. } => count_commands(commands.as_slice()),
+        Item::Tick { .. } => 1,
+        Item::Handler(handler) => count_commands(handler.commands.as_slice()),
     }
 }
 

@@ -3,13 +3,10 @@ use Rattle.std.proofs.Common.{◌≡◌, ℕ, List, map, refl, ap, sym, subst, �
 use Rattle.std.specs.Prelude.{Result, Option, Ok, Err, IfOk, []}
 use Rattle.text_io.specs.declared.kinds.Version.{Version}
 use Rattle.script_model.specs.Syntax as model
-use Rattle.script_model.specs.Syntax.{Handler}
+use Rattle.script_model.specs.Syntax.{Outside, Tick, Handler}
 use Rattle.script_model.specs.Scripts.{handlers_in, NamedBlock}
-use Rattle.script_syntax.specs.Seen.{command_at, item_at, item_of}
+use Rattle.script_syntax.specs.Seen.{item_of}
 use Rattle.script_syntax.specs.declared.commands.Item.{Item}
-use Rattle.script_syntax.specs.declared.commands.What.{What}
-use Rattle.script_syntax.specs.declared.commands.What.TheVariants as what
-use Rattle.script_syntax.proofs.Inner.{inner_item, inner_unless_tick}
 use Rattle.page_model.specs.Callbacks.{run_command}
 use Rattle.page_model.specs.Operands.{NoEntry}
 use Rattle.page_model.specs.Outcome.{opening_world, run_item, run_items, run_tick}
@@ -25,14 +22,13 @@ use Rattle.trace_runs.proofs.Loops.{each_mapped}
 
 -- one item
 module _ (script : List NamedBlock) (world : World) where
-  pub outside_is : (line : ℕ) (command : What) → ((time : ℕ) → command ≡ what.Tick time → ⊥)
-      → caught (run_command script [] (command_at line command) NoEntry world) ≡ run_item script (item_at line command) world
+  pub outside_is : (command : model.Command) → caught (run_command script [] command NoEntry world) ≡ run_item script (Outside command) world
   unfolding run_item
-  outside_is line command ticks = ap (λ item. run_item script item world) (sym (inner_item line command (inner_unless_tick command ticks)))
+  outside_is command = refl
 
-  pub tick_is : (line time : ℕ) (command : What) → command ≡ what.Tick time → caught (run_tick script line time world) ≡ run_item script (item_at line command) world
+  pub tick_is : (line time : ℕ) → caught (run_tick script line time world) ≡ run_item script (Tick line time) world
   unfolding run_item
-  tick_is line time command is = ap (λ it. run_item script (item_at line it) world) (sym is)
+  tick_is line time = refl
 
   pub handler_is : (line : ℕ) (name : List ℕ) (block : model.Block) (end_line : ℕ) → silent world ≡ run_item script (Handler line name block end_line) world
   unfolding run_item

@@ -2,22 +2,11 @@
 use Rattle.std.proofs.Common.{◌≡◌, ◌∙◌, ℕ, zero, suc, ◌+◌, ◌-◌, ◌<◌, ◌≤◌, List, [], ◌∷◌, drop, get_or, length, map, refl, ap, sym}
 use Rattle.std.proofs.lemmas.List.{drop_more, drop_all}
 use Rattle.script_model.specs.Syntax as model
-use Rattle.script_syntax.specs.Seen.{item_at, item_of}
+use Rattle.script_syntax.specs.Seen.{item_of}
 use Rattle.script_syntax.specs.declared.commands.Item.{Item}
-use Rattle.script_syntax.specs.declared.commands.What.{What}
-use Rattle.script_syntax.specs.declared.commands.What.TheVariants as what
-use Rattle.script_syntax.proofs.Inner.{inner_item, inner_unless_tick}
 use Rattle.page_model.specs.Runs.{Said, for_each, silent, ◌followed_by◌}
 use Rattle.page_model.specs.World.{World}
 use Rattle.script_items.specs.Stops.{tick_count, ticks_in, to_tick}
-
--- ticks ---------------------------------------------------------------------------------------------------------------------
-
-pub tick_is : (line time : ℕ) (command : What) → command ≡ what.Tick time → 1 ≡ ticks_in (item_at line command)
-tick_is line time command is = ap (λ it. ticks_in (item_at line it)) (sym is)
-
-pub other_is : (line : ℕ) (command : What) → ((time : ℕ) → command ≡ what.Tick time → ⊥) → 0 ≡ ticks_in (item_at line command)
-other_is line command ticks = ap ticks_in (sym (inner_item line command (inner_unless_tick command ticks)))
 
 -- item by item --------------------------------------------------------------------------------------------------------------
 

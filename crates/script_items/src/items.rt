@@ -2,8 +2,8 @@
 
 ghost use Rattle.std.specs.Prelude.{[], IfOk};
 ghost use Rattle.script_model.specs.Scripts.{handlers_in};
-ghost use Rattle.script_syntax.specs.Allowed.{InnerAllowed, IsAllowed, ItemAllowed};
-ghost use Rattle.script_syntax.specs.Seen.{command_of, item_at, item_of};
+ghost use Rattle.script_syntax.specs.Allowed.{IsAllowed, ItemAllowed};
+ghost use Rattle.script_syntax.specs.Seen.{command_of, item_of};
 ghost use Rattle.page_model.specs.Callbacks.{run_command};
 ghost use Rattle.page_model.specs.Operands.{NoEntry};
 ghost use Rattle.page_model.specs.Outcome.{run_item, run_items};
@@ -15,14 +15,14 @@ ghost use Rattle.trace_runs.specs.Runs.{Runs};
 use frame_update::tick;
 use handlers::{Entries, run_command};
 use page_state::Page;
-use script_syntax::{Command, Item, Script, What};
+use script_syntax::{Command, Item, Script};
 use std::alloc::Global;
 use std::sync::ledger::Ledger;
 use step_count::Steps;
 use text_io::Sink;
 use trace_runs::RunFault;
 
-// A command that is no `tick`, outside handlers. What it throws is caught.
+// A command outside handlers. What it throws is caught.
 fn run_caught<K: Sink, L: Ledger>(
     alloc: Global,
     page: &mut Page,
@@ -31,7 +31,7 @@ fn run_caught<K: Sink, L: Ledger>(
     sink: &mut K,
     steps: &mut Steps<L>,
 ) -> Result<(), RunFault>
-    requires { InnerAllowed command.now }
+    requires { IsAllowed command.now }
     ensures { Runs goes_on (λ _. page.new.world) result (K.taken sink.old) (K.taken sink.new) (K.faults sink.old) (K.faults sink.new)
         (caught (run_command (handlers_in script.now.items) [] (command_of command.now) NoEntry page.old.world)) }
 {
@@ -39,27 +39,6 @@ fn run_caught<K: Sink, L: Ledger>(
     match run_command(alloc, page, script, command, &nothing, None, sink, steps) {
         Ok(_) => Ok(()),
         Err(fault) => Err(fault),
-    }
-}
-
-// One command outside handlers.
-fn run_outside<K: Sink, L: Ledger>(
-    alloc: Global,
-    page: &mut Page,
-    script: &Script,
-    command: &Command,
-    sink: &mut K,
-    steps: &mut Steps<L>,
-) -> Result<(), RunFault>
-    requires ready { IsReady script.now.items page.old.world }
-    requires allowed { IsAllowed command.now }
-    ensures says { Runs goes_on (λ _. page.new.world) result (K.taken sink.old) (K.taken sink.new) (K.faults sink.old) (K.faults sink.new)
-        (run_item (handlers_in script.now.items) (item_at command.now.line command.now.what) page.old.world) }
-    ensures ready { IfOk result (λ _. IsReady script.now.items page.new.world) }
-{
-    match command.what {
-        What::Tick(time) => tick(alloc, page, script, command.line, time, sink, steps),
-        _ => run_caught(alloc, page, script, command, sink, steps),
     }
 }
 
@@ -79,8 +58,9 @@ pub fn run_item<K: Sink, L: Ledger>(
     ensures ready { IfOk result (λ _. IsReady script.now.items page.new.world) }
 {
     match item {
-        Item::Handler { .. } => Ok(()),
-        Item::Command(command) => run_outside(alloc, page, script, command, sink, steps),
+        Item::Command(command) => run_caught(alloc, page, script, command, sink, steps),
+        Item::Tick { line, time } => tick(alloc, page, script, *line, *time, sink, steps),
+        Item::Handler(_) => Ok(()),
     }
 }
 

@@ -12,7 +12,7 @@ ghost use Rattle.script_items.specs.Stops.{tick_count, ticks_in, to_tick};
 
 use crate::items::run_item;
 use page_state::Page;
-use script_syntax::{Item, Script, What};
+use script_syntax::{Item, Script};
 use std::alloc::Global;
 use std::sync::ledger::Ledger;
 use step_count::Steps;
@@ -25,11 +25,8 @@ fn ticks_in(item: &Item) -> u64
     ensures bound { result ≤ 1 }
 {
     match item {
-        Item::Command(command) => match command.what {
-            What::Tick(_) => 1,
-            _ => 0,
-        },
-        Item::Handler { .. } => 0,
+        Item::Tick { .. } => 1,
+        Item::Command(_) | Item::Handler(_) => 0,
     }
 }
 

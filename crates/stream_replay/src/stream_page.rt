@@ -76,7 +76,8 @@ fn first_line(item: &Item) -> u32
 {
     match item {
         Item::Command(command) => command.line,
-        Item::Handler { line, .. } => *line,
+        Item::Tick { line, .. } => *line,
+        Item::Handler(handler) => handler.line,
     }
 }
 

@@ -9,9 +9,8 @@ use Rattle.script_model.specs.Scripts.{handlers_in}
 use Rattle.handlers.specs.Entries.{entries_of, present_at}
 use Rattle.trace_runs.proofs.Answered.{threw_run}
 use Rattle.handlers.proofs.Answered.{apply_same, begun_is, found_same, held_is, unheld_is, unbegun_run}
-use Rattle.script_syntax.proofs.Inner.{inner_action}
-use Rattle.script_syntax.proofs.Walked.{each_size, simple_is, size_within, when_size}
-use Rattle.handlers.proofs.Blocks.{block_more, block_same, block_none, command_begins, each_does, simple_does, test_allowed, when_does}
+use Rattle.script_syntax.proofs.Walked.{each_size, size_within, when_size}
+use Rattle.handlers.proofs.Blocks.{action_allowed, block_more, block_same, block_none, command_begins, each_does, simple_does, test_allowed, when_does}
 use Rattle.handlers.proofs.Growing.{in_after_begun, in_after_block, in_after_command}
 use Rattle.handlers.proofs.Places.{present_is, subject_in}
 use Rattle.handlers.proofs.commands.+blocks.Goals as goal
@@ -32,7 +31,7 @@ pub run_command-apply-requires : goal.run_command-apply-requires
 run_command-apply-requires g t c =
     record {
       begun = c.in_default.ensures.begun;
-      allowed = inner_action c.args.command.now.what c.in_default-what.not-Each c.in_default-what.not-When c.requires.allowed.0 c.requires.allowed.1;
+      allowed = action_allowed c.args.command.now.what c.in-Act.action c.in-Act.is c.requires.allowed;
       subject = subject_in c.begin_command.new.self.world _ _ _ _ c.subject_at-present.ensures (in_after_begun c.args.page.now.world _ _ c.in_default.ensures.counted c.requires.targets);
     }
 
@@ -44,10 +43,10 @@ pub run_command-returns-in-When : goal.run_command-returns-in-When
 run_command-returns-in-When g t c =
     run_same (begun_is _ _ _ _ c.in_default.ensures.counted ∙ when_does _ _ _ c.args.command.now.what _ _ c.in-When.condition c.in-When.body c.in-When.is) c.run_when.ensures
 
-pub run_command-returns-in_default-what : goal.run_command-returns-in_default-what
-run_command-returns-in_default-what g t c =
+pub run_command-returns-in-Act : goal.run_command-returns-in-Act
+run_command-returns-in-Act g t c =
     run_same
-    (begun_is _ _ _ _ c.in_default.ensures.counted ∙ simple_does _ _ _ c.args.command.now.what _ _ (simple_is _ _ c.in_default-what.not-Each c.in_default-what.not-When))
+    (begun_is _ _ _ _ c.in_default.ensures.counted ∙ simple_does _ _ _ c.args.command.now.what _ _ c.in-Act.action c.in-Act.is)
     (apply_same _ _ _ _ c.subject_at-present.ensures c.apply.ensures)
 
 pub run_each-loop-place-init : goal.run_each-loop-place-init
@@ -107,7 +106,7 @@ pub run_command-run_when-requires : goal.run_command-run_when-requires
 run_command-run_when-requires g t c =
     let size : command_size (command_of c.args.command.now) ≡ block_size c.in-When.body.commands + 1 =
     when_size c.args.command.now.line c.args.command.now.what c.in-When.condition c.in-When.body c.in-When.is in
-    let allowed = test_allowed c.args.command.now.what c.in-When.condition c.in-When.body c.in-When.is c.requires.allowed.0 in
+    let allowed = test_allowed c.args.command.now.what c.in-When.condition c.in-When.body c.in-When.is c.requires.allowed in
     let targets = in_after_begun c.args.page.now.world _ _ c.in_default.ensures.counted c.requires.targets in
     λ lives within. (omega arith, search rules)
 

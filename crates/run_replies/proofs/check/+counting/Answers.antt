@@ -45,8 +45,8 @@ count_command-returns-in-When t c =
     let counts = ap block_commands c.as_slice-in-When.ensures.value in
     omega arith
 
-pub count_command-returns-in_default : goal.count_command-returns-in_default
-count_command-returns-in_default t c = simple_count c.args.command.now.line c.args.command.now.what c.in_default.not-Each c.in_default.not-When
+pub count_command-returns-in-Act : goal.count_command-returns-in-Act
+count_command-returns-in-Act t c = simple_count c.args.command.now.line c.args.command.now.what c.in-Act.field-0 c.in-Act.is
 
 pub count_commands-count_command-count-requires : goal.count_commands-count_command-count-requires
 count_commands-count_command-count-requires t c =
