@@ -1,9 +1,8 @@
 -- A tick that is begun, its time and its parts.
-use Rattle.std.proofs.Common.{◌≡◌, ◌∙◌, ℕ, ◌<◌, Bool, true, false, List, [], ◌∷◌, Option, refl, ap, sym, subst}
+use Rattle.std.proofs.Common.{◌≡◌, ◌∙◌, ℕ, Bool, true, false, List, [], ◌∷◌, Option, refl, ap, sym, subst}
 use Rattle.std.specs.Prelude.{nat_lt, cond, Result, Ok, Err, IfOk}
 use Rattle.text_io.specs.declared.kinds.Version.{Version}
 use Rattle.text_io.specs.Limits.{limit_number}
-use Rattle.text_io.specs.declared.kinds.LimitKind.TheVariants as limits
 use Rattle.text_io.specs.declared.kinds.ThrowKind.{ThrowKind}
 use Rattle.text_io.specs.declared.kinds.ThrowKind.TheVariants.{RangeError}
 use Rattle.script_model.specs.Syntax.{Item}
@@ -12,7 +11,7 @@ use Rattle.page_model.specs.Callbacks.{Script, answered}
 use Rattle.page_model.specs.Commands.{begun_in}
 use Rattle.page_model.specs.Outcome.{run_tick}
 use Rattle.page_model.specs.Runs.{Said, Next, say, ◌followed_by◌, caught, caught_flow}
-use Rattle.page_model.specs.Steps.{Step, Did, Threw, ◌>>◌}
+use Rattle.page_model.specs.Steps.{Step, Did, Threw}
 use Rattle.page_model.specs.Ticks.{run_tasks, run_timers, tick, time_set, update_rendering}
 use Rattle.page_model.specs.World.{World}
 use Rattle.page_state.specs.Answers.{Moved}

@@ -1,7 +1,6 @@
 -- A page that is ready for a tick is so behind each of its calls.
 use Rattle.std.proofs.Common.{◌≡◌, refl, ap, sym, subst, ◌∙◌}
-use Rattle.std.specs.Prelude.{ℕ, ◌<◌, ◌==◌, Bool, true, false, cond, List, [], ◌∷◌, length, map, take, filter_map, Option, Some, None, option_map, Result, Ok, Err, IfSome, IfOk, OnErr}
-use Rattle.std.specs.List.{AllByRecursion}
+use Rattle.std.specs.Prelude.{ℕ, ◌<◌, ◌==◌, Bool, true, false, cond, List, [], ◌∷◌, length, take, Option, Some, None, option_map, Result, Ok, Err, IfSome, IfOk, OnErr}
 use Rattle.std.proofs.lemmas.Option.{same_Some}
 use Rattle.script_model.specs.Margins.{Margins}
 use Rattle.script_model.specs.Syntax.{Action}
@@ -12,7 +11,7 @@ use Rattle.page_model.specs.Gathering.{sight_of}
 use Rattle.page_model.specs.Intersections.{Settled, is_news, settled, watchers}
 use Rattle.page_model.specs.Ranges.{Counts, IsIntersectionObserverIn, IsPresentIn}
 use Rattle.page_model.specs.Shown.{Shown}
-use Rattle.page_model.specs.Steps.{Step, Did, Effect as ModelEffect}
+use Rattle.page_model.specs.Steps.{Step, Did}
 use Rattle.page_model.specs.Tasks.{without_notifying}
 use Rattle.page_laws.specs.Ready.{IsReadyFor, with_first}
 use Rattle.page_laws.proofs.Lists.{IsKept, all-append, all-mapped, changed, still-kept, then-kept}

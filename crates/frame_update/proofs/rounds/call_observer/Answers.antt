@@ -1,4 +1,4 @@
-use Rattle.std.proofs.Common.{subst, sym, ◌∙◌}
+use Rattle.std.proofs.Common.{subst, sym}
 use Rattle.page_state.specs.Views.{PageView}
 use Rattle.frame_update.specs.Ready.{IsPrepared}
 use Rattle.frame_update.proofs.Delivered.{are_handed}

@@ -1,3 +1,4 @@
+use Rattle.std.specs.Prelude.{length}
 use Rattle.script_model.specs.Syntax.{Tick}
 use Rattle.script_model.specs.Scripts.{handlers_in}
 use Rattle.page_model.specs.Commands.{begun_in}
