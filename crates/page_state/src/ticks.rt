@@ -88,7 +88,14 @@ impl Page {
         ensures ticks { (chained : HaveChains (shown_of self.old.world)) → OnOk result (TakesAtMost document self.old self.new chained steps.old steps.new) }
     {
         self.laid.refresh(self.screen, steps);
-        let shown = shown_at_once(&self.laid, &self.scrolls, self.screen, &self.watchers);
+        let alloc = *self.queries.allocator();
+        let shown = shown_at_once(
+            alloc,
+            &self.laid,
+            &self.scrolls,
+            self.screen,
+            &self.watchers,
+        );
         let queued = update(
             &shown,
             &mut self.watchers,
