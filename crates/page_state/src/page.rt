@@ -462,8 +462,9 @@ pub(crate) fn shown_in<'a>(
 }
 
 // What is shown of a page of whose boxes none is due, for an update of intersection observers. Where there are any, many elements may
-// be read, for which it is found once what each document shows and how far its viewport is scrolled.
+// be read, for which it is found once what each document shows, and how far its viewport and its elements are scrolled.
 pub(crate) fn shown_at_once<'a>(
+    alloc: Global,
     laid: &'a LaidTree,
     scrolls: &'a Scrolls,
     screen: Screen,
@@ -475,7 +476,7 @@ pub(crate) fn shown_at_once<'a>(
 {
     let shown = shown_now(laid, scrolls, screen);
     if watchers.count() > 0 {
-        shown.with_documents()
+        shown.with_documents(alloc)
     } else {
         shown
     }

@@ -92,7 +92,14 @@ impl Page {
         ensures ready { (handlers : ℕ) → IsReadyFor handlers self.old.world → IsReadyFor handlers self.new.world }
     {
         self.laid.refresh(self.screen, steps);
-        let shown = shown_at_once(&self.laid, &self.scrolls, self.screen, &self.watchers);
+        let alloc = *self.queries.allocator();
+        let shown = shown_at_once(
+            alloc,
+            &self.laid,
+            &self.scrolls,
+            self.screen,
+            &self.watchers,
+        );
         let queued = update(
             &shown,
             &mut self.watchers,
