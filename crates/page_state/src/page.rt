@@ -11,6 +11,7 @@ ghost use Rattle.page_model.specs.Documents.{InDocument};
 ghost use Rattle.page_model.specs.PageBoxes.{viewport_of};
 ghost use Rattle.page_model.specs.Shown.{shown_of, shown_with};
 ghost use Rattle.page_model.specs.Ticks.{time_set};
+ghost use Rattle.page_laws.specs.Ready.{IsReadyFor};
 ghost use Rattle.page_boxes.specs.Around.{rests_on, LeavesOthers};
 ghost use Rattle.page_boxes.specs.Fresh.{IsFreshIn, IsFreshAbove};
 ghost use Rattle.page_boxes.specs.Kept.{AreKept, FillsOnly, IsExact, is_due, due_count};
@@ -62,6 +63,9 @@ const FIRST_SCREEN: Screen = Screen {
 
 /// A page with the document `top`. A contract sees it as a world of the definitions, and as whether a command was begun
 /// and not applied yet (`specs/Views.antt`).
+///
+/// A page as it opens is ready for a tick of `frame_update` (`IsReadyFor` of `page_laws`), for any number of handlers, and each of its calls
+/// leaves one ready that was (clause `ready`): `apply`, for the handlers of its script, and `notify_list`, as it says.
 ///
 /// An observation in this page, a target and a name are those of something that the page made. Boxes are kept from one
 /// reading to the next (`page_layout`): a reading first computes those that are due.
@@ -119,6 +123,7 @@ impl Page {
     pub fn new(alloc: Global, version: Version) -> Result<Page, AllocError>
         ensures opened { IfOk result (λ page. page ≡ record { world = opening_world version; begun = false; kept = []; found = page.found }) }
         ensures findings { IfOk result (λ page. IsRoomier no_findings page.found) }
+        ensures ready { IfOk result (λ page. (handlers : ℕ) → IsReadyFor handlers page.world) }
     {
         // What may be refused comes first, where little is made that would have to be dropped.
         let laid = LaidTree::new(alloc, version)?;
@@ -158,6 +163,7 @@ impl Page {
         ensures findings { self.new.found ≡ self.old.found }
         ensures begun { OnOk result (self.new.begun ≡ true) }
         ensures same { OnErr result (self.new ≡ self.old) }
+        ensures ready { (handlers : ℕ) → IsReadyFor handlers self.old.world → IsReadyFor handlers self.new.world }
     {
         if self.count >= most(LimitKind::Commands, self.version) {
             return Err(PageFault::Limit(LimitKind::Commands));
@@ -178,6 +184,7 @@ impl Page {
         ensures findings { self.new.found ≡ self.old.found }
         ensures begun { self.new.begun ≡ self.old.begun }
         ensures same { OnErr result (self.new ≡ self.old) }
+        ensures ready { (handlers : ℕ) → IsReadyFor handlers self.old.world → IsReadyFor handlers self.new.world }
     {
         if time < self.clock {
             return Err(PageFault::Throw(ThrowKind::RangeError));
@@ -207,6 +214,7 @@ impl Page {
         ensures handed { IfOk result (IsHanded self.new.world) }
         ensures boxes { BoxesAfter (present_of subject) (action_of action.now) result self.old.world self.new.world.tree self.old.kept self.new.kept steps.old steps.new }
         ensures findings { KeepsFindings self.old.world.intersection_observers self.new.world.intersection_observers self.old.found self.new.found }
+        ensures ready { IsReadyFor (length (handlers_in script.now.items)) self.old.world → IsReadyFor (length (handlers_in script.now.items)) self.new.world }
     {
         self.begun = false;
         self.act(script, action, subject, steps)
@@ -330,6 +338,7 @@ impl Page {
         ensures same { self.new ≡ record self.old { kept = self.new.kept } }
         ensures done { (n : ℕ) → is_due self.new.world.tree self.new.world.viewports.screen self.new.kept n ≡ false }
         ensures boxes { Computes self.old.world self.old.kept self.new.kept steps.old steps.new }
+        ensures ready { (handlers : ℕ) → IsReadyFor handlers self.old.world → IsReadyFor handlers self.new.world }
     {
         self.laid.refresh(self.screen, steps);
     }

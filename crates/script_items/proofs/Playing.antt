@@ -1,6 +1,6 @@
 -- The items of a script, run one after another.
 use Rattle.std.proofs.Common.{◌≡◌, ℕ, List, map, refl, ap, sym, subst, ◌∙◌}
-use Rattle.std.specs.Prelude.{Result, Option, Ok, Err, IfOk, []}
+use Rattle.std.specs.Prelude.{Result, Option, Ok, Err, IfOk, [], length}
 use Rattle.text_io.specs.declared.kinds.Version.{Version}
 use Rattle.script_model.specs.Syntax as model
 use Rattle.script_model.specs.Syntax.{Outside, Tick, Handler}
@@ -12,8 +12,9 @@ use Rattle.page_model.specs.Operands.{NoEntry}
 use Rattle.page_model.specs.Outcome.{opening_world, run_item, run_items, run_tick}
 use Rattle.page_model.specs.Runs.{caught, for_each, silent}
 use Rattle.page_model.specs.World.{World}
-use Rattle.page_laws.proofs.RunsInRange.{item-in, opening-in}
-use Rattle.page_laws.proofs.Turns.{item-within, opening-within}
+use Rattle.page_laws.proofs.Ready.{ready-of, range-of, limits-of, ready-opening}
+use Rattle.page_laws.proofs.RunsInRange.{item-in}
+use Rattle.page_laws.proofs.Turns.{item-within}
 use Rattle.frame_update.specs.Ready.{IsReady}
 use Rattle.trace_runs.specs.Flows.{goes_on}
 use Rattle.trace_runs.specs.Runs.{Runs}
@@ -38,17 +39,16 @@ module _ (script : List NamedBlock) (world : World) where
 pub ready_behind : {A : Type 0} (script : List model.Item) (item : model.Item) (before after : World) (result : Result A RunFault) {taken taken_after : Option (List ℕ)} {f g : ℕ}
     → IsReady script before → Runs goes_on (λ _. after) result taken taken_after f g (run_item (handlers_in script) item before) → IfOk result (λ _. IsReady script after)
 ready_behind script item before after (Ok done) ready run =
-    subst (IsReady script) run.ended.state_is
-    (record {
-      range = item-in (handlers_in script) item before ready.range;
-      limits = item-within (handlers_in script) before ready.limits item;
-    })
+    let handlers : ℕ = length (handlers_in script) in
+    subst (λ (world : World). IsReady script world) run.ended.state_is
+    (ready-of handlers _ (item-in (handlers_in script) item before (range-of handlers before ready))
+    (item-within (handlers_in script) before (limits-of handlers before ready) item))
 ready_behind script item before after (Err fault) ready run = tt
 
 -- and for the first one
 pub opening_ready : (script : List model.Item) (version : Version) (world : World) → world ≡ opening_world version → IsReady script world
 opening_ready script version world opening =
-    subst (IsReady script) (sym opening) (record { range = opening-in _ version; limits = opening-within version })
+    subst (λ (world : World). IsReady script world) (sym opening) (ready-opening (length (handlers_in script)) version)
 
 -- the items of the program
 pub items_are : (items : List Item) (script : List model.Item) (world : World) → map item_of items ≡ script
