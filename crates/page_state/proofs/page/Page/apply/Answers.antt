@@ -10,4 +10,4 @@ returns-clause-applied g c = search rules
 
 pub returns-clause-ready : goal.returns-clause-ready
 returns-clause-ready g c =
-    ready_applied (handlers_in c.args.script.now.items) c.args.self.now.world _ c.args.subject (action_of c.args.command.now.what) c.requires.subject _ (returns-clause-applied g c)
+    ready_applied (handlers_in c.args.script.now.items) c.args.self.now.world _ c.args.subject (action_of c.args.action.now) c.requires.subject _ (returns-clause-applied g c)
