@@ -3,14 +3,14 @@
 #![tactic(auto)]
 
 ghost use Rattle.std.specs.Prelude.{◌≡◌, ◌<◌};
-ghost use Rattle.script_syntax.specs.Allowed.{InnerAllowed};
+ghost use Rattle.script_syntax.specs.Allowed.{IsAllowed};
 
 use element_tree::NodeId;
 use frame_update::tick;
 use handlers::{Entries, run_command};
 use page_state::Page;
 use replay_run::run;
-use script_syntax::{Command, Script, What};
+use script_syntax::{Action, Command, Script, What};
 use std::alloc::Global;
 use std::io;
 use std::marker::Brand;
@@ -55,8 +55,8 @@ fn run_ticks<K: Sink, L: Ledger>(
     sink: &mut K,
     steps: &mut Steps<L>,
 ) -> Result<(), RunFault>
-    requires first { InnerAllowed first.now }
-    requires second { InnerAllowed second.now }
+    requires first { IsAllowed first.now }
+    requires second { IsAllowed second.now }
 {
     let Ok(mut page) = Page::new(alloc, script.version()) else {
         return Err(RunFault::Memory);
@@ -82,13 +82,17 @@ fn drive<L: Ledger>(rt: &HostRuntime, blank: Blank) -> io::Result<()>
     let (Some(card), Some(top)) = (Name::read(b"card"), Name::read(b"top")) else {
         return Ok(());
     };
+    let block = Action::Block {
+        name: card,
+        document: top,
+    };
     let first = Command {
         line: 1,
-        what: What::Block(card, top),
+        what: What::Act(block),
     };
     let second = Command {
         line: 2,
-        what: What::Say(card),
+        what: What::Act(Action::Say(card)),
     };
     let mut sink = StdSink::new(rt.stdout());
     match run_ticks(alloc, &script, &first, &second, &mut sink, &mut steps) {
