@@ -82,12 +82,13 @@ fn drive<L: Ledger>(rt: &HostRuntime, blank: Blank) -> io::Result<()>
     let (Some(card), Some(top)) = (Name::read(b"card"), Name::read(b"top")) else {
         return Ok(());
     };
+    let block = Action::Block {
+        name: card,
+        document: top,
+    };
     let first = Command {
         line: 1,
-        what: What::Act(Action::Block {
-            name: card,
-            document: top,
-        }),
+        what: What::Act(block),
     };
     let second = Command {
         line: 2,

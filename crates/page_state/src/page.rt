@@ -264,41 +264,41 @@ impl Page {
                 name,
                 document,
                 handler,
-            } => { self.make_observer(script, *name, *document, *handler) }
+            } => self.make_observer(script, *name, *document, *handler),
             Action::RoObserve {
                 observer,
                 node,
                 observed,
-            } => { self.observe(*observer, *node, *observed, subject) }
+            } => self.observe(*observer, *node, *observed, subject),
             Action::RoUnobserve { observer, node } => self.unobserve(*observer, *node, subject),
             Action::RoDisconnect(observer) => self.disconnect(*observer),
             Action::Listen {
                 aim,
                 event,
                 handler,
-            } => { self.listen(script, *aim, *event, *handler, subject) }
+            } => self.listen(script, *aim, *event, *handler, subject),
             Action::Unlisten {
                 aim,
                 event,
                 handler,
-            } => { self.unlisten(script, *aim, *event, *handler, subject) }
+            } => self.unlisten(script, *aim, *event, *handler, subject),
             Action::Media {
                 name,
                 document,
                 query,
-            } => { self.make_query_list(*name, *document, query, steps) }
+            } => self.make_query_list(*name, *document, query, steps),
             Action::Raf {
                 document,
                 key,
                 handler,
-            } => { self.request_frame(script, *document, *key, *handler) }
+            } => self.request_frame(script, *document, *key, *handler),
             Action::CancelRaf { document, key } => self.cancel_frame(*document, *key),
             Action::Timer {
                 document,
                 key,
                 delay,
                 handler,
-            } => { self.set_timer(script, *document, *key, *delay, *handler) }
+            } => self.set_timer(script, *document, *key, *delay, *handler),
             Action::ClearTimer { document, key } => self.clear_timer(*document, *key),
             Action::Post { document, handler } => self.post(script, *document, *handler),
             Action::Say(word) => Ok(Effect::Line(TraceLine::Say(*word))),
