@@ -69,8 +69,8 @@ class Anchors:
         for thing in self.scrolled_in(document):
             self.keep(thing)
             if self.model.has(ANCHORS_BEFORE_LAYOUT):
-                self.laid[thing] = {node: (self.bounds(node), self.place(thing, node)) for node in self.model.world.layout._boxes_of(document)
-                                    if self.holds(thing, node)}
+                boxes = [node for node in self.model.world.layout._boxes_of(document) if self.holds(thing, node)]
+                self.laid[thing] = {node: (self.bounds(node), self.place(thing, node)) for node in boxes}
         self.quiet = {node for node in self.quiet if node.document is not document}
 
     def keep(self, thing):

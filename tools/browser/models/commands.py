@@ -8,7 +8,7 @@ from reference.world import ACTIVE, Document, Element, preorder, tree_document
 from .layout import ONE, PIXEL, whole
 from .rounds import NEVER
 from .traits import (DEAD_READS_THROW, FIRST_USE_COUNTS, FRAMES_IN_TIME, HIDDEN_READS_NOTHING, NOTHING_FOR_DETACHED, QUEUES_WAIT,
-                     SCROLLS_ARE_CUT, WINDOWS_READ_AT_ONCE, WINDOWS_WAIT)
+                     SCROLLS_ARE_CUT, WINDOWS_READ_AT_ONCE)
 
 SCROLLING = ('hidden', 'scroll', 'auto')
 
@@ -20,8 +20,7 @@ class Commands:
         EFFECTS['viewport'](self, command, width, height)
         if self.began:
             self.learns(self.world.top, (width, height))
-            if not self.has(WINDOWS_WAIT):
-                self.lay_out(self.world.top)
+            self.lay_out(self.world.top)
 
     def do_ratio(self, command, hundredths):
         changes = hundredths != self.world.pixel_ratio
@@ -74,7 +73,7 @@ class Commands:
                 if not isinstance(holder, Element):
                     return True
                 node = holder
-            elif any(inner in self.touched for before in self.before(node) for inner in preorder(before)):
+            elif layout.position(node) == 'relative' or any(inner in self.touched for before in self.before(node) for inner in preorder(before)):
                 return False
             else:
                 node = node.parent
@@ -225,7 +224,8 @@ class Commands:
 
     def do_io_unobserve(self, command, observer, node):
         kept = [entry for entry in observer.queue if entry.target is not node]
-        if not self.has(QUEUES_WAIT) and node in observer.registrations and kept != observer.queue and self.differs('queue-after-unobserve'):
+        drops = node in observer.registrations and kept != observer.queue and not self.has(QUEUES_WAIT)
+        if drops and self.differs('queue-after-unobserve'):
             observer.queue = kept
         EFFECTS['io-unobserve'](self, command, observer, node)
 

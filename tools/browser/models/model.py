@@ -144,3 +144,7 @@ class Model(Commands, Viewports, Rounds, Crossings, Page):
         else:
             for document in documents:
                 self.intersections(document)
+        # What callbacks have changed is laid out as the update is shown.
+        for document in documents:
+            if document.state is ACTIVE:
+                self.places_in(document)

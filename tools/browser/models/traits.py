@@ -19,11 +19,11 @@ LENGTHS_ARE_FLOORED, LENGTHS_ARE_CUT, PERCENTAGES_ARE_CUT = 'lengths are floored
 SCROLLING_ROOT_UNTOLD, IMPLICIT_ROOT, EVERY_ROOT = 'a root that scrolls, untold', 'the implicit root', 'every root'
 # Of scroll anchoring: where the box is gone another one is chosen by the places of the last layout.
 ANCHORS_BEFORE_LAYOUT = 'anchors before layout'
+# Of frames that are put in again: the empty page in one lays out what is around it before the update.
+EMPTY_PAGES_LAY_OUT = 'empty pages lay out'
 # Of moved boxes: events that wait go with them, and a document without its root element is at its begin.
 EVENTS_GO_WITH_BOXES = 'events go with boxes'
-# Of windows that are set a size: nothing is laid out before the update.
-WINDOWS_WAIT = 'windows wait'
-# Of readings: documents of frames in what is laid out aren't told their sizes before the update.
+# Of what is laid out before an update: documents of frames in it aren't told their sizes.
 FRAMES_WAIT = 'frames wait'
 # Of frame callbacks: those are called that are there as their step begins.
 CALLBACKS_OF_THE_STEP = 'callbacks of the step'

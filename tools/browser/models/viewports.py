@@ -5,7 +5,7 @@ from reference.media import matches
 from reference.world import ACTIVE, DEAD, Element, IntersectionObserver, preorder, tree_document
 
 from .layout import NO_SIZES, Sizes, whole
-from .traits import (CALLBACKS_OF_THE_STEP, EVENTS_GO_WITH_BOXES, FRAMES_IN_TIME, FRAMES_WAIT, LATE_SCROLLS,
+from .traits import (CALLBACKS_OF_THE_STEP, EMPTY_PAGES_LAY_OUT, EVENTS_GO_WITH_BOXES, FRAMES_IN_TIME, FRAMES_WAIT, LATE_SCROLLS,
                      PLACED_AS_ROUNDS_BEGIN, QUERIES_IN_UPDATE)
 
 # The window's own view, of which a target is seen or not.
@@ -27,7 +27,8 @@ class Viewports:
             if document is None:
                 continue
             if document.state is not ACTIVE:
-                self.refilled.append(inner)
+                if self.has(EMPTY_PAGES_LAY_OUT):
+                    self.refilled.append(inner)
             elif document not in self.insertions:
                 self.insertions[document] = len(self.insertions)
                 self.new_documents.append(document)
