@@ -8,10 +8,11 @@ from reference.page import Page
 
 from .model import Model
 from .traits import (ANCHORS_BEFORE_LAYOUT, CALLBACKS_OF_THE_STEP, CROSSED_IS_TURNED, DEAD_READS_THROW, EMPTY_PAGES_LAY_OUT,
-                     EMPTY_ROOTS_COUNT_NOTHING, EVENTS_GO_WITH_BOXES, EVERY_ROOT, FIRST_USE_COUNTS, FRAMES_IN_TIME, FRAMES_WAIT,
-                     HIDDEN_READS_NOTHING, IMPLICIT_ROOT, LATE_SCROLLS, LENGTHS_ARE_CUT, LENGTHS_ARE_FLOORED, NOTHING_FOR_DETACHED,
-                     ONE_PIXEL_AT_LEAST, PERCENTAGES_ARE_CUT, PLACED_AS_ROUNDS_BEGIN, QUERIES_IN_UPDATE, QUEUES_WAIT,
-                     ROOT_MARGINS_COUNT, SCROLLING_ROOT_UNTOLD, SCROLLS_ARE_CUT, SIZES_OF_GATHERING, WINDOWS_READ_AT_ONCE)
+                     EMPTY_ROOTS_COUNT_NOTHING, EVENTS_GO_WITH_BOXES, EVERY_ROOT, FIRST_USE_COUNTS, FRAMES_BEGIN_AS_THEY_COME,
+                     FRAMES_IN_TIME, FRAMES_WAIT, HIDDEN_READS_NOTHING, IMPLICIT_ROOT, LATE_SCROLLS, LENGTHS_ARE_CUT,
+                     LENGTHS_ARE_FLOORED, NOTHING_FOR_DETACHED, ONE_PIXEL_AT_LEAST, PERCENTAGES_ARE_CUT, PLACED_AS_ROUNDS_BEGIN,
+                     QUERIES_IN_UPDATE, QUEUES_WAIT, ROOT_MARGINS_COUNT, SCROLLING_ROOT_UNTOLD, SCROLLS_ARE_CUT, SIZES_OF_GATHERING,
+                     WINDOWS_READ_AT_ONCE)
 
 ALL_THREE = frozenset('''border-widths read-of-dead-frame hidden-frame-keeps-size frame-of-part-pixels reach-of-empty-boxes
     reach-with-margins reach-with-padding scroll-of-part-pixels observe-again first-size offset-of-moved-box frame-order stored-offset
@@ -24,9 +25,9 @@ CHROMIUM = ALL_THREE | {ANCHORS_BEFORE_LAYOUT, EMPTY_PAGES_LAY_OUT, LATE_SCROLLS
     listener-of-adopted-element frame-callback-late rounds-by-turns depth-at-gathering skipped-then-cured dead-frame-target
     target-of-dead-frame observers-in-any-order margin-of-part-pixels crossed-root cut-in-a-frame told-of-dead-root
     entries-of-dead-document ratio-resize-event device-pixels-by-place lengths-at-a-ratio'''.split())
-FIREFOX = ALL_THREE | {CALLBACKS_OF_THE_STEP, DEAD_READS_THROW, EMPTY_ROOTS_COUNT_NOTHING, EVENTS_GO_WITH_BOXES, FRAMES_WAIT,
-                       HIDDEN_READS_NOTHING, IMPLICIT_ROOT, NOTHING_FOR_DETACHED, QUERIES_IN_UPDATE, QUEUES_WAIT, SCROLLS_ARE_CUT,
-                       WINDOWS_READ_AT_ONCE} | set('''scroll-anchoring hidden-document-waits
+FIREFOX = ALL_THREE | {CALLBACKS_OF_THE_STEP, DEAD_READS_THROW, EMPTY_ROOTS_COUNT_NOTHING, EVENTS_GO_WITH_BOXES,
+                       FRAMES_BEGIN_AS_THEY_COME, FRAMES_WAIT, HIDDEN_READS_NOTHING, IMPLICIT_ROOT, NOTHING_FOR_DETACHED,
+                       QUERIES_IN_UPDATE, QUEUES_WAIT, SCROLLS_ARE_CUT, WINDOWS_READ_AT_ONCE} | set('''scroll-anchoring hidden-document-waits
     ratio-resize-event device-pixels-by-place queue-after-unobserve listener-of-adopted-element frame-callback-late told-of-dead-root
     told-by-own-document resize-observers-by-use intersection-observers-by-use lengths-at-a-ratio depth-with-document
     frame-made-anew'''.split())

@@ -5,9 +5,9 @@ from reference.media import matches
 from reference.refusals import Throw
 from reference.world import ACTIVE, Document, Element, preorder, tree_document
 
-from .layout import ONE, PIXEL, whole
+from .layout import FIRST_FRAME, ONE, PIXEL, whole
 from .rounds import NEVER
-from .traits import (DEAD_READS_THROW, FIRST_USE_COUNTS, FRAMES_IN_TIME, HIDDEN_READS_NOTHING, NOTHING_FOR_DETACHED, QUEUES_WAIT,
+from .traits import (DEAD_READS_THROW, FIRST_USE_COUNTS, FRAMES_BEGIN_AS_THEY_COME, FRAMES_IN_TIME, HIDDEN_READS_NOTHING, NOTHING_FOR_DETACHED, QUEUES_WAIT,
                      SCROLLS_ARE_CUT, WINDOWS_READ_AT_ONCE)
 
 SCROLLING = ('hidden', 'scroll', 'auto')
@@ -242,6 +242,8 @@ class Commands:
         EFFECTS['media'](self, command, name, document, queries)
         if self.has(FRAMES_IN_TIME):
             self.world.names[name].state = matches(queries, self.known.get(document, (0, 0)))
+        elif self.has(FRAMES_BEGIN_AS_THEY_COME) and document.frame is not None and document not in self.known:
+            self.world.names[name].state = matches(queries, FIRST_FRAME)
         self.states[self.world.names[name]] = matches(queries, self.rules_viewport(document))
 
     def do_raf(self, command, document, key, handler):

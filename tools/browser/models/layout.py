@@ -9,6 +9,7 @@ from .traits import EMPTY_ROOTS_COUNT_NOTHING, ONE_PIXEL_AT_LEAST, ROOT_MARGINS_
 
 PIXEL = 64
 ONE = 10000          # a ratio of 100%
+FIRST_FRAME = (300 * PIXEL, 150 * PIXEL)     # a frame that wasn't laid out yet
 
 
 def whole(units):

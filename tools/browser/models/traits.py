@@ -23,6 +23,8 @@ ANCHORS_BEFORE_LAYOUT = 'anchors before layout'
 EMPTY_PAGES_LAY_OUT = 'empty pages lay out'
 # Of moved boxes: events that wait go with them, and a document without its root element is at its begin.
 EVENTS_GO_WITH_BOXES = 'events go with boxes'
+# Of query lists: in a frame that wasn't laid out yet they are made by its natural size.
+FRAMES_BEGIN_AS_THEY_COME = 'frames begin as they come'
 # Of what is laid out before an update: documents of frames in it aren't told their sizes.
 FRAMES_WAIT = 'frames wait'
 # Of frame callbacks: those are called that are there as their step begins.
