@@ -1,8 +1,5 @@
 use Rattle.embedding_example.proofs.main.Given as goal
 
--- each ledger is that of the blank
+-- the ledger is that of the blank
 abbrev pub ghosts-replay : goal.ghosts-replay
 ghosts-replay a = record { name = a.blank.name; parts = a.blank.parts }
-
-abbrev pub ghosts-drive : goal.ghosts-drive
-ghosts-drive a = record { name = a.blank.name; parts = a.blank.parts }
