@@ -760,6 +760,19 @@ fn see_each_frame(rt: &impl Abort, shown: &Shown<'_>) {
     }
 }
 
+fn see_frames_over(
+    rt: &impl Abort,
+    page: &PageTree,
+    boxes: &Kept,
+    scrolls: &Scrolls,
+    screen: Screen,
+)
+    requires screen { IsScreen screen }
+    requires fresh { IsFresh page.now.tree (seen_screen screen) boxes.now }
+{
+    see_each_frame(rt, &Shown::new(page, boxes, scrolls, screen));
+}
+
 fn see_frames(
     rt: &impl Abort,
     alloc: Global,
@@ -770,7 +783,7 @@ fn see_frames(
     scroll(rt, alloc, page, scrolls, false, OUTER, 688)?;
     let screen = screen_of(false);
     let boxes = all_boxes(rt, alloc, page, screen)?;
-    see_each_frame(rt, &Shown::new(page, &boxes, scrolls, screen));
+    see_frames_over(rt, page, &boxes, scrolls, screen);
     Ok(())
 }
 

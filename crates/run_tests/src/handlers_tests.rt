@@ -1,13 +1,14 @@
 //! Texts of commands and handlers, run over a sink in memory that may fail.
 
 ghost use Rattle.std.specs.Prelude.{◌≡◌, ◌<◌};
+ghost use Rattle.script_syntax.specs.Allowed.{IsAllowed};
 
 use crate::common::{failing, script_of};
 use event_tables::HandlerId;
 use handlers::{Entries, run_command, run_handler};
 use page_state::Page;
 use replay_run::{Report, Status};
-use script_syntax::{Item, Script};
+use script_syntax::{Command, Item, Script};
 use std::alloc::{AllocError, Global};
 use std::marker::Brand;
 use std::process::Abort;
@@ -51,6 +52,24 @@ const MARGINS_TOLD: &str =
 // No trace of a test is longer.
 const ROOM: usize = 512;
 
+// A command outside handlers, which may throw.
+fn run_outside<L: Ledger>(
+    alloc: Global,
+    page: &mut Page,
+    script: &Script,
+    command: &Command,
+    sink: &mut MemorySink,
+    steps: &mut Steps<L>,
+) -> Result<(), RunFault>
+    requires { IsAllowed command.now }
+{
+    let nothing = Entries::Nothing;
+    match run_command(alloc, page, script, command, &nothing, None, sink, steps) {
+        Ok(_) => Ok(()),
+        Err(fault) => Err(fault),
+    }
+}
+
 // Each command but `tick`, and then the first handler for a document.
 fn run_text<L: Ledger>(
     blank: Blank,
@@ -65,15 +84,13 @@ fn run_text<L: Ledger>(
     requires one_part { 0 < blank.parts }
 {
     let mut steps = Steps::<L>::new(blank);
-    let nothing = Entries::Nothing;
     for item in script.items() {
         if let Item::Command(command) = item {
-            let _flow = run_command(
-                alloc, page, script, command, &nothing, None, sink, &mut steps,
-            )?;
+            run_outside(alloc, page, script, command, sink, &mut steps)?;
         }
     }
     let handler = Some(HandlerId(0));
+    let nothing = Entries::Nothing;
     run_handler(
         alloc, page, script, document, handler, &nothing, sink, &mut steps,
     )
