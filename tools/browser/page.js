@@ -151,6 +151,11 @@ function observersRun(script, window, setting) {
   }
   // Both numbers of a box that an entry tells.
   const told = box => box[0].inlineSize + ' ' + box[0].blockSize;
+  // Two ways to read a size may differ by less than an engine's smallest length.
+  function alike(one, two) {
+    const [a, b] = [one.split(' '), two.split(' ')];
+    return a.every((side, at) => Math.abs(side - b[at]) < 0.001);
+  }
   // Of version 2: the content box in device pixels.
   function deviceSize(entry) {
     if (!entry.devicePixelContentBoxSize) throw new NotShown('resize entries with device pixels, which this browser lacks');
@@ -163,7 +168,7 @@ function observersRun(script, window, setting) {
     for (const o of observers) {
       if (o.doc !== doc) continue;
       for (const [element, seen] of o.targets) {
-        if (depth(element) > least && (seen.last === null || seen.last !== sizeOf(element, seen.box))) all.add(o.name + ' ' + nameOf(element));
+        if (depth(element) > least && (seen.last === null || !alike(seen.last, sizeOf(element, seen.box)))) all.add(o.name + ' ' + nameOf(element));
       }
     }
     return all;

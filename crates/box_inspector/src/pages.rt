@@ -100,6 +100,6 @@ pub fn inspect<L: Ledger>(
     ensures boxes { Computes page.old.world page.old.kept page.new.kept steps.old steps.new }
 {
     page.refresh_boxes(steps);
-    let shown = page.geometry().with_documents();
+    let shown = page.geometry().with_documents(alloc);
     list_boxes(alloc, page, &shown)
 }

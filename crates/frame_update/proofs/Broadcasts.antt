@@ -28,9 +28,8 @@ use Rattle.trace_runs.specs.Runs.{Runs}
 use Rattle.trace_runs.proofs.Following.{Following, begin, rest_same, followed_next, go_on, end_cut, done}
 use Rattle.trace_runs.proofs.Loops.{places, places_all, places_more, places_none, places_left}
 use Rattle.trace_runs.proofs.Runs.{run_same, lifted_run}
-use Rattle.frame_update.specs.Ready.{IsReady}
+use Rattle.frame_update.specs.Ready.{IsPrepared}
 use Rattle.frame_update.specs.Turns.{broadcast_at, least_with, AreEntriesIn}
-use Rattle.frame_update.proofs.Ready.{ready_next}
 use Rattle.frame_update.proofs.Observers.{Begin, begin_same, begin_within, next_kept, called_stand, reported_stand, emptied_stand, handler_reported, active_in, first_place, place_within, turn_past}
 
 -- turns by number ------------------------------------------------------------------------------------------------------------
@@ -134,16 +133,12 @@ module _ (document place : ℕ) (world new : World) (delivery : Delivery) (hande
   reported-is : new ≡ reported
   reported-is = handed.new_is ∙ ap (λ turn. once_reported turn world) (sym handed.turn)
 
-  pub handed_ready : (script : List Item) → IsReady script world → IsReady script new
-  handed_ready script ready =
-      subst (IsReady script) (sym reported-is) (ready_next script world reported (reported-next world (sight_of world) (delivery.observer.0) active) ready)
-
   pub handed_made : delivery.observer.0 < length new.resize_observers.made
   handed_made =
       subst (λ (now : World). delivery.observer.0 < length now.resize_observers.made) (sym reported-is)
       (subst (λ (count : ℕ). delivery.observer.0 < count) (sym (reported-next world (sight_of world) (delivery.observer.0) active).observers) handed.made)
 
-  pub handed_entries : (script : List Item) → IsReady script world → AreEntriesIn new (delivery.entries)
+  pub handed_entries : (script : List Item) → IsPrepared script world → AreEntriesIn new (delivery.entries)
   handed_entries script ready =
       subst (λ (now : World). AreEntriesIn now (delivery.entries)) (sym reported-is)
       (subst (λ (entries : List ResizeEntry). AreEntriesIn reported entries) (sym handed.entries)
@@ -169,9 +164,9 @@ pub record IsBroadcasting (script : List Item) (document : ℕ) (before now : Op
   pub next : IsNext document place number (world.resize_observers)
   pub within : number ≤ length world.resize_observers.made
   pub following : Following before now faults faults_now (broadcast (handlers_in script) document first) (turns_from (handlers_in script) document number (broadcast_at least world))
-  pub ready : IsReady script world
+  pub ready : IsPrepared script world
 
-pub broadcast_begins : (script : List Item) (document : ℕ) (now : Option (List ℕ)) (f : ℕ) (first : World) → IsReady script first
+pub broadcast_begins : (script : List Item) (document : ℕ) (now : Option (List ℕ)) (f : ℕ) (first : World) → IsPrepared script first
     → IsBroadcasting script document now now f f first 0 None first
 broadcast_begins script document now f first ready = record {
   number = 0;
@@ -201,9 +196,6 @@ module _ {script : List Item} {document : ℕ} {before mid : Option (List ℕ)} 
   module _ {new : World} (none : next_turn document place world ≡ None) (new_is : new ≡ once_reported (next_turn document place world) world) where
     unchanged : world ≡ new
     unchanged = sym (new_is ∙ ap (λ turn. once_reported turn world) none)
-
-    pub none_ready : IsReady script new
-    none_ready = subst (IsReady script) unchanged here.ready
 
     pub broadcast_none : is_active (world.tree) document ≡ true → Runs goes_on (λ (it : Option ℕ). broadcast_at it new) (Ok least) before mid f fm (broadcast (handlers_in script) document first)
     broadcast_none going =
@@ -288,7 +280,7 @@ module _ {script : List Item} {document : ℕ} {before mid : Option (List ℕ)} 
       broadcast_cut fault run =
           end_cut fault (turns_from (handlers_in script) document (observer + 1)) (rest_same (taken going) here.following) (delivered-run (Err fault) entries_are least_is run)
 
-      pub broadcast_on : Runs goes_on (λ (value : Unit {0}). now) (Ok (tt {0})) mid after fm g called → IsReady script now
+      pub broadcast_on : Runs goes_on (λ (value : Unit {0}). now) (Ok (tt {0})) mid after fm g called → IsPrepared script now
           → IsBroadcasting script document before after f g first (delivery.place) (Some (least_with least depth)) now
       broadcast_on run ready =
           let still : Begin (world.resize_observers.made) (now.resize_observers.made) = still-begin now run.ended.state_is in

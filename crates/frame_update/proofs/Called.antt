@@ -15,7 +15,7 @@ use Rattle.trace_runs.specs.Runs.{Runs}
 use Rattle.trace_runs.specs.Writes.{Told}
 use Rattle.trace_runs.proofs.Following.{cut_run, followed_next, then_run}
 use Rattle.trace_runs.proofs.Runs.{run_same, say_run}
-use Rattle.frame_update.specs.Ready.{IsReady}
+use Rattle.frame_update.specs.Ready.{IsPrepared}
 use Rattle.frame_update.proofs.Ready.{ready_called}
 
 module _ (script : Script) (document : ℕ) (handler : Option ℕ) where
@@ -55,6 +55,6 @@ module _ (script : Script) (document : ℕ) (handler : Option ℕ) where
 
 -- a page stays ready behind a callback
 pub called_ready : {A : Type 0} {before after : Option (List ℕ)} {f g : ℕ} (script : List Item) (document : ℕ) (handler : Option ℕ) (old new : World) (result : Result A RunFault)
-    → Runs goes_on (λ (_ : A). new) result before after f g (call (handlers_in script) document handler NoEntries old) → IsReady script old → IfOk result (λ _. IsReady script new)
+    → Runs goes_on (λ (_ : A). new) result before after f g (call (handlers_in script) document handler NoEntries old) → IsPrepared script old → IfOk result (λ _. IsPrepared script new)
 called_ready script document handler old new (Ok value) run ready = ready_called script document handler NoEntries old new tt run.ended.state_is ready
 called_ready script document handler old new (Err fault) run ready = tt

@@ -1,5 +1,5 @@
 -- The timers that are due, handed out one after another.
-use Rattle.std.proofs.Common.{◌≡◌, ◌∙◌, ℕ, Bool, List, Option, refl, ap, sym, subst}
+use Rattle.std.proofs.Common.{◌≡◌, ◌∙◌, ℕ, Bool, List, Option, refl, ap, sym}
 use Rattle.std.specs.Prelude.{Some, None, Ok, Err, find, map, option_map}
 use Rattle.script_model.specs.TraceLines.{TimerLine}
 use Rattle.page_model.specs.Callbacks.{Script}
@@ -11,7 +11,6 @@ use Rattle.page_model.specs.World.{FrameCallback, World}
 use Rattle.event_tables.specs.Handed.{behind_first, one_by_one, run_and_then}
 use Rattle.event_tables.specs.Timers.{callback_of, copied_stands, once_handed, timer_of, told}
 use Rattle.event_tables.proofs.Handing.{first_runs, timers_run}
-use Rattle.page_laws.proofs.Changes.{IsNext, same-next, timer-next}
 use Rattle.trace_runs.specs.declared.faults.RunFault.{RunFault}
 use Rattle.trace_runs.specs.Flows.{goes_on}
 use Rattle.trace_runs.specs.Runs.{Runs}
@@ -74,13 +73,6 @@ module _ (script : Script) (copied : List FrameCallback) (before : World) where
   -- none is left
   pub timers_none : (after : World) → None ≡ option_map told next_timer → after ≡ timer_handed next_timer → timers_left script copied before ≡ silent after
   timers_none after is changed = first_runs stands_now (run_copied script) copied before ∙ none-handed next_timer after (none_found told next_timer is) changed
-
-  handed-next : (found : Option FrameCallback) → IsNext before (timer_handed found)
-  handed-next None = same-next before
-  handed-next (Some it) = timer-next before (it.serial)
-
-  pub timer_is_next : (after : World) → after ≡ timer_handed next_timer → IsNext before after
-  timer_is_next after changed = subst (λ (world : World). IsNext before world) (sym changed) (handed-next next_timer)
 
   module _ {whole : Said World} {start mid : Option (List ℕ)} {f fm : ℕ} (following : Following start mid f fm whole (timers_left script copied before)) where
     module _ {A : Type 0} {now : Option (List ℕ)} {g : ℕ} (document : ℕ) (key : List ℕ) (handler : ℕ) (after new : World) (is : Some (document, key, handler) ≡ option_map told next_timer)

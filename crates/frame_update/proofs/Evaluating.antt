@@ -7,7 +7,6 @@ use Rattle.std.proofs.lemmas.Option.{slice_get-get_or}
 use Rattle.std.specs.Prelude.{List, [], ◌∷◌, length, cond, not, ◌&&◌, ◌==◌, nat_lt, Option, Some, None, option_map, unwrap_or, position}
 use Rattle.std.specs.List.{position_or_len}
 use Rattle.text_io.specs.declared.kinds.EventKind.TheVariants as events
-use Rattle.script_model.specs.Syntax.{Item}
 use Rattle.script_model.specs.TraceLines.{FiredChange}
 use Rattle.page_model.specs.World.{World, QueryList, QueryTarget}
 use Rattle.page_model.specs.Callbacks.{Script, fire}
@@ -20,9 +19,7 @@ use Rattle.page_model.specs.PageBoxes.{viewport_of}
 use Rattle.page_model.specs.QueryLists.{with_state}
 use Rattle.page_model.specs.Runs.{Said, silent, ◌followed_by◌, only_if}
 use Rattle.page_model.specs.Ticks.{evaluate, evaluated, media_steps}
-use Rattle.frame_update.specs.Ready.{IsReady}
-use Rattle.frame_update.proofs.Ready.{ready_next}
-use Rattle.page_laws.proofs.Changes.{IsNext, same-next, matched-next}
+use Rattle.page_state.proofs.Ready.{list_evaluated}
 use Rattle.page_state.specs.Queries.{is_changed, next_changed, once_evaluated}
 use Rattle.trace_runs.proofs.Following.{followed_next}
 use Rattle.trace_runs.proofs.Loops.{places, places_all, places_left, places_more, places_none}
@@ -190,19 +187,11 @@ at-or-behind place query (Some n) is = let same : query ≡ place + n = some-is 
     some-is : {a b : ℕ} → Some a ≡ Some b → a ≡ b
     some-is both = cc
 
-evaluated-next : (document : ℕ) (found : Option ℕ) (world : World) → IsNext world (once_evaluated document found world)
-evaluated-next document None world = same-next world
-evaluated-next document (Some query) world = matched-next world _ query
-
 module _ (document : ℕ) (found : Option ℕ) (world now : World) (is : now ≡ once_evaluated document found world) where
-  -- a page stays ready
-  pub evaluated_ready : (script : List Item) → IsReady script world → IsReady script now
-  evaluated_ready script ready = subst (IsReady script) (sym is) (ready_next script world (once_evaluated document found world) (evaluated-next document found world) ready)
-
   -- no list is taken away
   pub evaluated_there : (query : ℕ) → query < length world.queries → query < length now.queries
   evaluated_there query there =
-      let same : length now.queries ≡ length world.queries = ap (λ (state : World). length state.queries) is ∙ (evaluated-next document found world).queries in omega (arith, there)
+      let same : length now.queries ≡ length world.queries = ap (λ (state : World). length state.queries) is ∙ (list_evaluated world document found).queries in omega (arith, there)
 
 -- fewer places are left
 pub fewer_places : (place query next count : ℕ) (found : Option ℕ) → Some query ≡ option_map (λ (n : ℕ). place + n) found → next ≡ suc query → query < count → count ≤ 4096 →

@@ -13,7 +13,6 @@ use Rattle.page_model.specs.World.{FrameCallback, World}
 use Rattle.event_tables.specs.Handed.{behind_first, one_by_one, run_and_then}
 use Rattle.event_tables.specs.FrameCallbacks.{once_handed, told}
 use Rattle.event_tables.proofs.Handing.{first_runs}
-use Rattle.page_laws.proofs.Changes.{IsNext, same-next, frame-next}
 use Rattle.trace_runs.specs.declared.faults.RunFault.{RunFault}
 use Rattle.trace_runs.specs.Flows.{goes_on}
 use Rattle.trace_runs.specs.Runs.{Runs}
@@ -101,13 +100,6 @@ module _ (script : Script) (document : ℕ) (copied : List FrameCallback) (befor
   pub frames_none : (after : World) → is_active (before.tree) document ≡ true → None ≡ option_map told next_frame → after ≡ frame_handed next_frame
       → frames_left script document copied before ≡ silent after
   frames_none after active is changed = turn true active ∙ none-handed next_frame after (none_found told next_frame is) changed
-
-  handed-next : (found : Option FrameCallback) → IsNext before (frame_handed found)
-  handed-next None = same-next before
-  handed-next (Some it) = frame-next before (it.serial)
-
-  pub frame_is_next : (after : World) → after ≡ frame_handed next_frame → IsNext before after
-  frame_is_next after changed = subst (λ (world : World). IsNext before world) (sym changed) (handed-next next_frame)
 
   -- the documents stay as they are
   pub frame_active : (after : World) → after ≡ frame_handed next_frame → is_active (before.tree) document ≡ true → is_active (after.tree) document ≡ true

@@ -7,7 +7,7 @@ use Rattle.std.proofs.lemmas.List.Elements.{All-weaker}
 use Rattle.script_model.specs.Scripts.{handlers_in}
 use Rattle.script_model.specs.Syntax.{Item}
 use Rattle.trace_text.specs.Ranges.{HasReach}
-use Rattle.page_model.specs.World.{Entry, IntersectionObserver, Notify, World}
+use Rattle.page_model.specs.World.{Entry, IntersectionObserver, World}
 use Rattle.page_model.specs.Lookups.{change_at, entry_or, no_intersection_observer, intersection_observer_at}
 use Rattle.page_model.specs.Documents.{is_active}
 use Rattle.page_model.specs.IntersectionObserving.{without_queue}
@@ -18,7 +18,6 @@ use Rattle.page_model.specs.EntryLines.{intersection_line, intersection_lines}
 use Rattle.page_model.specs.Ranges.{IsPresentIn}
 use Rattle.page_model.specs.Runs.{for_each, only_if, silent}
 use Rattle.page_model.specs.Tasks.{without_notifying}
-use Rattle.page_laws.proofs.Changes.{queue-next, tasks-next, unnotified-next}
 use Rattle.page_laws.proofs.Lists.{all-mapped}
 use Rattle.intersection_observer.specs.declared.root.WatcherId.{WatcherId}
 use Rattle.intersection_update.specs.Watching.{AreWritten, IsWritten, watcher_numbers}
@@ -28,9 +27,8 @@ use Rattle.trace_runs.specs.Flows.{goes_on}
 use Rattle.trace_runs.specs.Runs.{Runs}
 use Rattle.trace_runs.proofs.Loops.{each_mapped}
 use Rattle.trace_runs.proofs.Runs.{run_same}
-use Rattle.frame_update.specs.Ready.{IsReady}
-use Rattle.frame_update.specs.Waiting.{with_first}
-use Rattle.frame_update.proofs.Ready.{ready_called, ready_next}
+use Rattle.frame_update.specs.Ready.{IsPrepared}
+use Rattle.frame_update.proofs.Ready.{ready_called}
 use Rattle.frame_update.proofs.Watchers.{called_made, changed_made}
 
 -- what is handed to the callback ---------------------------------------------------------------------------------------------
@@ -93,10 +91,6 @@ module _ (observer : ℕ) (world now : World) (taken : now ≡ once_taken observ
   records_handed entries made written =
       cuts_handed now observer entries (there_taken observer made) (subst (λ (it : World). AreWritten (length it.tree.elements) entries) (sym taken) written)
 
-  -- and a page stays ready
-  pub ready_taken : (script : List Item) → IsReady script world → IsReady script now
-  ready_taken script ready = subst (IsReady script) (sym taken) (ready_next script world _ (queue-next world observer) ready)
-
 -- what is seen of a list is empty where the list is
 pub empty_seen : {A B : Type 0} (seen : A → B) (slice : List A) (entries : List B) → map seen slice ≡ entries → length slice == 0 ≡ true → entries ≡ []
 empty_seen seen [] entries is none = sym is
@@ -150,7 +144,7 @@ module _ (script : Script) (observer : ℕ) where
 -- a page stays ready behind the callback
 pub turn_ready : {A : Type 0} {before after : Option (List ℕ)} {f g : ℕ} (script : List Item) (document : ℕ) (handler : Option ℕ) (handed : Entries) (old new : World) (result : Result A RunFault)
     → AllByRecursion (IsPresentIn old) (presents handed) → Runs goes_on (λ (_ : A). new) result before after f g (call (handlers_in script) document handler handed old)
-    → IsReady script old → IfOk result (λ _. IsReady script new)
+    → IsPrepared script old → IfOk result (λ _. IsPrepared script new)
 turn_ready script document handler handed old new (Ok value) are run ready = ready_called script document handler handed old new are run.ended.state_is ready
 turn_ready script document handler handed old new (Err fault) are run ready = tt
 
@@ -172,17 +166,6 @@ module _ (script : Script) (document : ℕ) (world : World) where
       ∙ ap (λ (numbers : List ℕ). for_each (notify_watcher script) numbers (once_cleared document world)) (sym are)
       ∙ ap (λ (it : World). for_each (notify_watcher script) (watcher_numbers items) it) (sym cleared)
       ∙ sym (each_mapped (notify_watcher script) (λ (item : WatcherId). item.0) items now)
-
-module _ (script : List Item) (document : ℕ) (world : World) (ready : IsReady script (with_first (Notify document) world)) where
-  -- the task was taken off
-  pub ready_dropped : IsReady script world
-  ready_dropped = ready_next script (with_first (Notify document) world) world (tasks-next (with_first (Notify document) world) (Notify document) (world.tasks) refl) ready
-
-  -- and the flag was cleared
-  pub ready_cleared : (now : World) → now ≡ once_cleared document world → IsReady script now
-  ready_cleared now is =
-      subst (IsReady script) (sym is)
-      (ready_next script (with_first (Notify document) world) _ (unnotified-next (with_first (Notify document) world) document (world.tasks) refl) ready)
 
 -- observers that there are
 abbrev pub AreThere : World → List WatcherId → Type 0

@@ -1,27 +1,17 @@
 -- The tasks that wait, taken off one after another.
-use Rattle.std.proofs.Common.{◌≡◌, ◌∙◌, ℕ, ◌<◌, true, false, List, [], ◌∷◌, length, Option, refl, ap, sym, subst}
+use Rattle.std.proofs.Common.{◌≡◌, ◌∙◌, ℕ, ◌<◌, true, false, List, [], ◌∷◌, Option, refl, ap, sym, subst}
 use Rattle.std.specs.Prelude.{Some, None, Ok, Err}
-use Rattle.script_model.specs.Scripts.{handlers_in}
-use Rattle.script_model.specs.Syntax.{Item}
 use Rattle.page_model.specs.Callbacks.{Script}
-use Rattle.page_model.specs.Ranges.{IsInRange}
 use Rattle.page_model.specs.Runs.{Said, ◌followed_by◌, most_steps}
 use Rattle.page_model.specs.Tasks.{has_tasks}
 use Rattle.page_model.specs.Ticks.{run_first, run_task}
 use Rattle.page_model.specs.World.{Task, World}
 use Rattle.event_tables.specs.Tasks.{first_of, others_of}
 use Rattle.loop_laws.specs.TaskRuns.{tasks_left, tasks_up_to}
-use Rattle.page_laws.specs.Bounds.{IsWithinLimits}
-use Rattle.page_laws.proofs.Changes.{IsNext, same-next, tasks-next}
-use Rattle.page_laws.proofs.RunsInRange as ranges
-use Rattle.page_laws.proofs.Turns.{first-within}
 use Rattle.trace_runs.specs.declared.faults.RunFault.{RunFault}
 use Rattle.trace_runs.specs.Flows.{goes_on}
 use Rattle.trace_runs.specs.Runs.{Runs}
 use Rattle.trace_runs.proofs.Following.{Following, end_cut, go_on, rest_same}
-use Rattle.frame_update.specs.Ready.{IsReady}
-use Rattle.frame_update.specs.Waiting.{with_first}
-use Rattle.frame_update.proofs.Ready.{ready_next}
 
 module _ (script : Script) (before : World) where
   -- a task is taken off
@@ -39,13 +29,6 @@ module _ (script : Script) (before : World) where
 
     first_is : run_first script (before.tasks) before ≡ run_task script task after
     first_is = ap (λ (tasks : List Task). run_first script tasks before) (first-in (before.tasks) is) ∙ ap (run_task script task) (sym changed)
-
-    pub task_is_next : IsNext before after
-    task_is_next = subst (λ (world : World). IsNext before world) (sym changed) (tasks-next before task (others_of (before.tasks)) (first-in (before.tasks) is))
-
-    -- it waited before the others
-    pub put_back : before ≡ with_first task after
-    put_back = ap (λ (tasks : List Task). record before { tasks = tasks }) (first-in (before.tasks) is) ∙ ap (with_first task) (sym changed)
 
     module _ {whole : Said World} {start mid : Option (List ℕ)} {f fm : ℕ} (following : Following start mid f fm whole (tasks_up_to most_steps script before))
         (unrolled : tasks_up_to most_steps script before ≡ (run_first script (before.tasks) before followed_by tasks_up_to most_steps script)) where
@@ -80,18 +63,3 @@ module _ (script : Script) (before : World) where
         ap (λ (tasks : List Task). record before { tasks = tasks }) (none-in (before.tasks) is)
         ∙ sym (ap (λ (tasks : List Task). record before { tasks = others_of tasks }) (none-in (before.tasks) is))
         ∙ sym changed
-
-    pub none_is_next : IsNext before after
-    none_is_next = subst (λ (world : World). IsNext before world) same_page (same-next before)
-
-module _ (script : List Item) (task : Task) (world : World) (ready : IsReady script (with_first task world)) where
-  -- a page stays ready once a task was taken off
-  pub ready_off : IsReady script world
-  ready_off = ready_next script (with_first task world) world (tasks-next (with_first task world) task (world.tasks) refl) ready
-
-  -- and once it was run
-  pub ready_behind : (after : World) → (run_task (handlers_in script) task world).state ≡ after → IsReady script after
-  ready_behind after is = record {
-    range = subst (IsInRange (length (handlers_in script))) is (ranges.first-in (handlers_in script) (with_first task world) ready.range);
-    limits = subst IsWithinLimits is (first-within (handlers_in script) (with_first task world) ready.limits);
-  }

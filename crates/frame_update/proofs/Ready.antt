@@ -1,6 +1,6 @@
 -- A page stays ready for the next step.
 use Rattle.std.proofs.Common.{◌≡◌, subst}
-use Rattle.std.specs.Prelude.{ℕ, List, Option, length}
+use Rattle.std.specs.Prelude.{ℕ, List, Option, length, Result, Ok, Err, IfOk}
 use Rattle.std.specs.List.{AllByRecursion}
 use Rattle.script_model.specs.Syntax.{Item}
 use Rattle.script_model.specs.Scripts.{handlers_in}
@@ -8,17 +8,36 @@ use Rattle.page_model.specs.World.{World}
 use Rattle.page_model.specs.Callbacks.{Entries, presents, call}
 use Rattle.page_model.specs.Ranges.{IsPresentIn}
 use Rattle.page_laws.specs.Bounds.{IsWithinLimits}
+use Rattle.page_laws.specs.Ready.{IsReadyFor}
 use Rattle.page_laws.proofs.Changes.{IsNext}
 use Rattle.page_laws.proofs.Limits.{as-many}
 use Rattle.page_laws.proofs.RunsInRange.{call-in}
 use Rattle.page_laws.proofs.Turns.{call-within}
-use Rattle.frame_update.specs.Ready.{IsReady}
+use Rattle.page_laws.proofs.Ready.{ready-of, range-of, limits-of}
+use Rattle.frame_update.specs.Ready.{IsPrepared, IsReady}
+
+-- with the parts in sight
+pub prepared : (script : List Item) (world : World) → IsReady script world → IsPrepared script world
+prepared script world ready = record {
+  range = range-of (length (handlers_in script)) world ready;
+  limits = limits-of (length (handlers_in script)) world ready;
+}
+
+pub readied : {A E : Type 0} (script : List Item) (world : World) (result : Result A E) → IfOk result (λ _. IsPrepared script world) → IfOk result (λ _. IsReady script world)
+readied script world (Ok value) ready = ready-of (length (handlers_in script)) world ready.range ready.limits
+readied script world (Err fault) ready = tt
 
 within_next : (before after : World) → IsNext before after → IsWithinLimits before → IsWithinLimits after
 within_next before after next within = as-many before within after next.observers next.queries next.successor.begun next.successor.version next.tasks
 
+-- behind a call of the page
+pub still_prepared : (script : List Item) (before after : World) → ((handlers : ℕ) → IsReadyFor handlers before → IsReadyFor handlers after) → IsPrepared script before →
+    IsPrepared script after
+still_prepared script before after step ready =
+    let handlers : ℕ = length (handlers_in script) in prepared script after (step handlers (ready-of handlers before ready.range ready.limits))
+
 -- behind a change of a tick
-pub ready_next : (script : List Item) (before after : World) → IsNext before after → IsReady script before → IsReady script after
+pub ready_next : (script : List Item) (before after : World) → IsNext before after → IsPrepared script before → IsPrepared script after
 ready_next script before after next ready = record {
   range = next.within (length (handlers_in script)) ready.range;
   limits = within_next before after next ready.limits;
@@ -26,9 +45,9 @@ ready_next script before after next ready = record {
 
 -- behind a callback
 pub ready_called : (script : List Item) (document : ℕ) (handler : Option ℕ) (handed : Entries) (before after : World) → AllByRecursion (IsPresentIn before) (presents handed)
-    → (call (handlers_in script) document handler handed before).state ≡ after → IsReady script before → IsReady script after
+    → (call (handlers_in script) document handler handed before).state ≡ after → IsPrepared script before → IsPrepared script after
 ready_called script document handler handed before after are is ready =
-    subst (IsReady script) is
+    subst (IsPrepared script) is
     (record {
       range = call-in (handlers_in script) before ready.range document handler handed are;
       limits = call-within (handlers_in script) before ready.limits document handler handed;

@@ -1,7 +1,6 @@
 -- The resize steps of a document.
 use Rattle.std.proofs.Common.{◌≡◌, ℕ, ◌<◌, true, false, List, length, ap, sym, ◌∙◌, subst}
 use Rattle.text_io.specs.declared.kinds.EventKind.TheVariants as events
-use Rattle.script_model.specs.Syntax.{Item}
 use Rattle.script_model.specs.TraceLines.{FiredResize}
 use Rattle.page_model.specs.World.{World, WindowTarget}
 use Rattle.page_model.specs.Callbacks.{Script, fire}
@@ -11,10 +10,8 @@ use Rattle.page_model.specs.PageBoxes.{viewport_of}
 use Rattle.page_model.specs.Runs.{Said, silent}
 use Rattle.page_model.specs.Ticks.{resize_steps}
 use Rattle.page_model.specs.Viewports.{differs_from, noted_size, with_noted}
-use Rattle.page_laws.proofs.Changes.{active-in, noted-next}
+use Rattle.page_laws.proofs.Changes.{active-in}
 use Rattle.trace_runs.proofs.Runs.{only_if_true, only_if_false}
-use Rattle.frame_update.specs.Ready.{IsReady}
-use Rattle.frame_update.proofs.Ready.{ready_next}
 
 -- the world once the size of a document's viewport is noted
 abbrev once_noted : ℕ → World → World
@@ -40,9 +37,5 @@ module _ (document : ℕ) (world now : World) (noted : now ≡ once_noted docume
         ∙ sym (only_if_true (resized (document_text (world.names) document)) (once_noted document world) (sym differs))
 
   module _ (active : is_active (world.tree) document ≡ true) where
-    pub noted_ready : (script : List Item) → IsReady script world → IsReady script now
-    noted_ready script ready =
-        subst (IsReady script) (sym noted) (ready_next script world (once_noted document world) (noted-next world document _ (active-in (world.tree) document active)) ready)
-
     pub noted_there : document < length now.tree.documents
     noted_there = subst (λ (state : World). document < length state.tree.documents) (sym noted) (active-in (world.tree) document active)

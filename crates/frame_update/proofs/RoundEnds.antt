@@ -18,7 +18,7 @@ use Rattle.trace_runs.specs.Runs.{Runs}
 use Rattle.trace_runs.specs.Writes.{Told}
 use Rattle.trace_runs.proofs.Following.{cut_run, then_run}
 use Rattle.trace_runs.proofs.Runs.{run_same, silent_run, say_run, cut_as, lifted_run, only_if_true, only_if_false}
-use Rattle.frame_update.specs.Ready.{IsReady}
+use Rattle.frame_update.specs.Ready.{IsPrepared}
 use Rattle.frame_update.specs.Turns.{broadcast_at}
 use Rattle.frame_update.proofs.Ready.{ready_next}
 
@@ -26,9 +26,9 @@ gather-tree : (document depth : ℕ) (world : World) → (gather document depth 
 unfolding gather
 gather-tree document depth world = refl
 
-pub gathered_ready : (script : List Item) (document depth : ℕ) (world new : World) → new ≡ gather document depth world → IsReady script world → IsReady script new
+pub gathered_ready : (script : List Item) (document depth : ℕ) (world new : World) → new ≡ gather document depth world → IsPrepared script world → IsPrepared script new
 gathered_ready script document depth world new is ready =
-    subst (IsReady script) (sym is) (ready_next script world (gather document depth world) (gather-next document depth world) ready)
+    subst (IsPrepared script) (sym is) (ready_next script world (gather document depth world) (gather-next document depth world) ready)
 
 -- a further round follows where something is active, since the document is
 pub active_round : {A : Type 0} (document depth : ℕ) (world new : World) (found : Option A) → new ≡ gather document depth world → is_active (world.tree) document ≡ true

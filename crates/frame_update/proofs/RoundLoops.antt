@@ -17,7 +17,7 @@ use Rattle.trace_runs.specs.declared.faults.RunFault.{RunFault}
 use Rattle.trace_runs.specs.Flows.{goes_on}
 use Rattle.trace_runs.specs.Runs.{Runs}
 use Rattle.trace_runs.proofs.Following.{Following, begin, rest_same, followed_next, go_on, end_cut, finish}
-use Rattle.frame_update.specs.Ready.{IsReady}
+use Rattle.frame_update.specs.Ready.{IsPrepared}
 use Rattle.frame_update.proofs.RoundEnds.{active_round, gathered_ready}
 
 -- two steps behind one -------------------------------------------------------------------------------------------------------
@@ -86,10 +86,10 @@ left-of document depth world found is each = subst (λ (it : Option ℕ). IsLeft
 
 pub record IsLooping (script : List Item) (document : ℕ) (before now : Option (List ℕ)) (faults faults_now : ℕ) (first : World) (found : Option ℕ) (world : World) : Type 0 where
   pub following : Following before now faults faults_now (resize_loop (handlers_in script) document first) (rest_of (handlers_in script) document world)
-  pub ready : IsReady script world
+  pub ready : IsPrepared script world
   pub left : IsLeft document found world
 
-pub loop_begins : AreLaws → (script : List Item) (document : ℕ) (now : Option (List ℕ)) (f : ℕ) (first world : World) (found : Option ℕ) → IsReady script first
+pub loop_begins : AreLaws → (script : List Item) (document : ℕ) (now : Option (List ℕ)) (f : ℕ) (first world : World) (found : Option ℕ) → IsPrepared script first
     → is_active (first.tree) document ≡ true → world ≡ gather document 0 first → found ≡ cond (has_active document (world.resize_observers)) (Some 0) None
     → IsLooping script document now now f f first found world
 loop_begins laws script document now f first world found ready holds gathered was = record {
@@ -144,7 +144,7 @@ module _ (laws : AreLaws) {script : List Item} {document : ℕ} {before mid : Op
           (laws.falls (handlers_in script) document depth world here.ready.limits a-round.deeper a-round.has run.ended.flow_is
           (subst (λ (it : World). is_active (it.tree) document ≡ true) (sym run.ended.state_is) (and_parts (is_active (new.tree) document) (has_active document (new.resize_observers)) has).0))
 
-      pub loop_on : IsReady script new → IsLooping script document before after f g first next new
+      pub loop_on : IsPrepared script new → IsLooping script document before after f g first next new
       loop_on ready = record {
         following = go_on (rest_of (handlers_in script) document) refl (rest_same one-more here.following) run;
         ready = ready;

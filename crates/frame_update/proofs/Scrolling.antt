@@ -17,15 +17,13 @@ use Rattle.page_model.specs.Scrolls.{pending_of, without_pending}
 use Rattle.page_model.specs.Ticks.{event_target_of, scroll_steps, scrolled_text}
 use Rattle.page_laws.specs.Successors.{is_come_to}
 use Rattle.page_laws.specs.Later.{IsLater}
-use Rattle.page_laws.proofs.Changes.{pending-next}
 use Rattle.page_laws.proofs.Keeping.{then-keeps, only_if-keeps, for_each-keeps}
 use Rattle.page_laws.proofs.Later.{call-later}
 use Rattle.page_laws.proofs.Lists.{all-map}
 use Rattle.scrolling.specs.Seen.{seen_target, seen_targets}
 use Rattle.scrolling.specs.declared.target.ScrollTarget.{ScrollTarget}
 use Rattle.trace_runs.proofs.Loops.{each_mapped}
-use Rattle.frame_update.specs.Ready.{IsReady}
-use Rattle.frame_update.proofs.Ready.{ready_next}
+use Rattle.frame_update.specs.Ready.{IsPrepared}
 
 -- the steps ------------------------------------------------------------------------------------------------------------------
 
@@ -68,7 +66,7 @@ seen-all P [] all = tt
 seen-all P (item ∷ items) all = (all.0, seen-all P items (all.1))
 
 -- those on a pending list, in the world once it was taken
-pub taken_there : (script : List Item) (document : ℕ) (items : List ScrollTarget) (world now : World) → IsReady script world → seen_targets items ≡ pending_of document (world.scrolls) →
+pub taken_there : (script : List Item) (document : ℕ) (items : List ScrollTarget) (world now : World) → IsPrepared script world → seen_targets items ≡ pending_of document (world.scrolls) →
     now ≡ record world { scrolls = without_pending document (world.scrolls) } → AllByRecursion (IsThere now) items
 taken_there script document items world now ready are is =
     subst (λ (state : World). AllByRecursion (IsThere state) items) (sym is)
@@ -77,10 +75,6 @@ taken_there script document items world now ready are is =
     (all-map (IsScrollIn (counts_of (length (handlers_in script)) world)) (IsScrollIn (counts_of 0 world)) (any-script (length (handlers_in script)) world)
     (pending_of document (world.scrolls))
     (listed-in (IsScrollIn (counts_of (length (handlers_in script)) world)) (world.scrolls.pending) document ready.range.scrolls.pending))))
-
-pub taken_ready : (script : List Item) (document : ℕ) (world now : World) → now ≡ record world { scrolls = without_pending document (world.scrolls) } → IsReady script world →
-    IsReady script now
-taken_ready script document world now is ready = subst (IsReady script) (sym is) (ready_next script world _ (pending-next world document) ready)
 
 -- nothing is taken back --------------------------------------------------------------------------------------------------------
 

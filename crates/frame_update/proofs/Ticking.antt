@@ -1,26 +1,20 @@
 -- A tick that is begun, its time and its parts.
-use Rattle.std.proofs.Common.{◌≡◌, ◌∙◌, ℕ, suc, ◌<◌, Bool, true, false, List, [], ◌∷◌, length, Option, refl, ap, sym, subst, ltb-true}
+use Rattle.std.proofs.Common.{◌≡◌, ◌∙◌, ℕ, Bool, true, false, List, [], ◌∷◌, Option, refl, ap, sym, subst}
 use Rattle.std.specs.Prelude.{nat_lt, cond, Result, Ok, Err, IfOk}
 use Rattle.text_io.specs.declared.kinds.Version.{Version}
 use Rattle.text_io.specs.Limits.{limit_number}
-use Rattle.text_io.specs.declared.kinds.LimitKind.TheVariants as limits
 use Rattle.text_io.specs.declared.kinds.ThrowKind.{ThrowKind}
 use Rattle.text_io.specs.declared.kinds.ThrowKind.TheVariants.{RangeError}
 use Rattle.script_model.specs.Syntax.{Item}
-use Rattle.script_model.specs.Scripts.{handlers_in}
 use Rattle.script_model.specs.TraceLines.{TickLine, ThrowLine}
 use Rattle.page_model.specs.Callbacks.{Script, answered}
 use Rattle.page_model.specs.Commands.{begun_in}
 use Rattle.page_model.specs.Outcome.{run_tick}
-use Rattle.page_model.specs.Ranges.{IsInRange}
 use Rattle.page_model.specs.Runs.{Said, Next, say, ◌followed_by◌, caught, caught_flow}
-use Rattle.page_model.specs.Steps.{Step, Did, Threw, ◌>>◌, met_unless}
+use Rattle.page_model.specs.Steps.{Step, Did, Threw}
 use Rattle.page_model.specs.Ticks.{run_tasks, run_timers, tick, time_set, update_rendering}
 use Rattle.page_model.specs.World.{World}
-use Rattle.page_laws.proofs.Limits.{as-many, counted-within}
-use Rattle.page_laws.proofs.Waiting.{tasks-alike}
 use Rattle.page_state.specs.Answers.{Moved}
-use Rattle.page_state.specs.Views.{PageView}
 use Rattle.page_state.specs.declared.answers.PageFault.{PageFault}
 use Rattle.page_state.specs.declared.answers.PageFault.TheVariants.{Throw, Limit, Memory}
 use Rattle.trace_runs.specs.declared.faults.RunFault.{RunFault}
@@ -34,30 +28,7 @@ use Rattle.trace_runs.proofs.Runs.{caught_cut, lines_run, run_same, say_run}
 use Rattle.frame_update.specs.Answers.{Refused, IsLeft}
 use Rattle.frame_update.specs.Ready.{IsReady}
 
--- a page stays ready once a command was begun and once the clock was set ---------------------------------------------------------
-
-begun-in : (handlers : ℕ) (world : World) → IsInRange handlers world → IsInRange handlers (record world { begun = suc world.begun })
-begun-in handlers world within = search
-
-timed-in : (handlers time : ℕ) (world : World) → IsInRange handlers world → IsInRange handlers (record world { clock = time })
-timed-in handlers time world within = search
-
-begun-did : (old new : World) (room_left : Bool) → nat_lt old.begun (limit_number (old.version) limits.Commands) ≡ room_left
-    → met_unless room_left limits.Commands >> Did (record old { begun = suc old.begun }) ≡ Did new
-    → (old.begun < limit_number (old.version) limits.Commands) × (record old { begun = suc old.begun } ≡ new)
-unfolding ◌>>◌
-begun-did old new true room is = (ltb-true _ _ room, cc)
-begun-did old new false room is = absurd (cc)
-
-begun_did : (old new : World) → begun_in old ≡ Did new → (old.begun < limit_number (old.version) limits.Commands) × (record old { begun = suc old.begun } ≡ new)
-unfolding begun_in
-begun_did old new is = begun-did old new (nat_lt old.begun (limit_number (old.version) limits.Commands)) refl is
-
-pub begun_ready : (script : List Item) (old new : World) → begun_in old ≡ Did new → IsReady script old → IsReady script new
-begun_ready script old new is ready =
-    let did : (old.begun < limit_number (old.version) limits.Commands) × (record old { begun = suc old.begun } ≡ new) = begun_did old new is in
-    subst (IsReady script) did.1
-    (record { range = begun-in (length (handlers_in script)) old ready.range; limits = counted-within old ready.limits did.0 })
+-- once the clock was set ------------------------------------------------------------------------------------------------------------
 
 timed-did : (time : ℕ) (old new : World) (early : Bool) → cond early (Threw RangeError) (Did (record old { clock = time })) ≡ Did new → record old { clock = time } ≡ new
 timed-did time old new true is = absurd (cc)
@@ -66,21 +37,13 @@ timed-did time old new false is = cc
 timed_did : (time : ℕ) (old new : World) → time_set time old ≡ Did new → record old { clock = time } ≡ new
 timed_did time old new is = timed-did time old new (nat_lt time old.clock) is
 
-pub timed_ready : (script : List Item) (time : ℕ) (old new : World) → time_set time old ≡ Did new → IsReady script old → IsReady script new
-timed_ready script time old new is ready =
-    subst (IsReady script) (timed_did time old new is)
-    (record {
-      range = timed-in (length (handlers_in script)) time old ready.range;
-      limits = as-many old ready.limits (record old { clock = time }) refl refl refl refl (tasks-alike old (record old { clock = time }) refl refl refl);
-    })
-
 pub clock_is : (time : ℕ) (old new : World) → time_set time old ≡ Did new → new.clock ≡ time
 clock_is time old new is = sym (ap (λ (world : World). world.clock) (timed_did time old new is))
 
--- and as it is where a call was refused
-pub ready_same : {A : Type 0} (script : List Item) (result : Result A RunFault) (old new : PageView) → new ≡ old → IsReady script (old.world) → IfOk result (λ _. IsReady script (new.world))
-ready_same script (Ok value) old new same ready = subst (λ (page : PageView). IsReady script (page.world)) (sym same) ready
-ready_same script (Err fault) old new same ready = tt
+-- a page is ready however a call that tells of a refusal ends
+pub ready_told : {A : Type 0} (script : List Item) (world : World) (result : Result A RunFault) → IsReady script world → IfOk result (λ _. IsReady script world)
+ready_told script world (Ok value) ready = ready
+ready_told script world (Err fault) ready = tt
 
 -- what is said ---------------------------------------------------------------------------------------------------------------------
 

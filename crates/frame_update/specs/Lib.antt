@@ -1,5 +1,4 @@
 pub mod Ready
 pub mod Turns
 pub mod Parts
-pub mod Waiting
 pub mod Answers

@@ -5,8 +5,13 @@ use Rattle.script_model.specs.Scripts.{handlers_in}
 use Rattle.page_model.specs.World.{World}
 use Rattle.page_model.specs.Ranges.{IsInRange}
 use Rattle.page_laws.specs.Bounds.{IsWithinLimits}
+use Rattle.page_laws.specs.Ready.{IsReadyFor}
 
 -- each number in the world is that of something, and the limits on what is gone over by place are kept
-pub record IsReady (script : List Item) (world : World) : Type 0 where
+abbrev pub IsReady : List Item → World → Type 0
+IsReady script world = IsReadyFor (length (handlers_in script)) world
+
+-- the same with its two parts in sight, which the parts of a tick hand on
+pub record IsPrepared (script : List Item) (world : World) : Type 0 where
   pub range : IsInRange (length (handlers_in script)) world
   pub limits : IsWithinLimits world

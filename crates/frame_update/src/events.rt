@@ -4,7 +4,7 @@ ghost use Rattle.std.specs.Prelude.{IfOk};
 ghost use Rattle.script_model.specs.Scripts.{handlers_in};
 ghost use Rattle.trace_runs.specs.Flows.{goes_on};
 ghost use Rattle.trace_runs.specs.Runs.{Runs};
-ghost use Rattle.frame_update.specs.Ready.{IsReady};
+ghost use Rattle.frame_update.specs.Ready.{IsPrepared};
 ghost use Rattle.page_model.specs.Callbacks.{bubble, fire, invoke};
 ghost use Rattle.event_tables.specs.Seen.{seen_target};
 ghost use Rattle.trace_text.specs.Seen.{seen_event};
@@ -31,10 +31,10 @@ fn invoke<K: Sink, L: Ledger>(
     sink: &mut K,
     steps: &mut Steps<L>,
 ) -> Result<(), RunFault>
-    requires ready { IsReady script.now.items page.old.world }
+    requires ready { IsPrepared script.now.items page.old.world }
     ensures says { Runs goes_on (λ _. page.new.world) result (K.taken sink.old) (K.taken sink.new) (K.faults sink.old) (K.faults sink.new)
         (invoke (handlers_in script.now.items) (seen_target target) event page.old.world) }
-    ensures ready { IfOk result (λ _. IsReady script.now.items page.new.world) }
+    ensures ready { IfOk result (λ _. IsPrepared script.now.items page.new.world) }
 {
     let Ok(mut dispatch) = page.begin_dispatch(target, event) else {
         return Err(RunFault::Memory);
@@ -67,10 +67,10 @@ fn bubble<K: Sink, L: Ledger>(
     sink: &mut K,
     steps: &mut Steps<L>,
 ) -> Result<(), RunFault>
-    requires ready { IsReady script.now.items page.old.world }
+    requires ready { IsPrepared script.now.items page.old.world }
     ensures says { Runs goes_on (λ _. page.new.world) result (K.taken sink.old) (K.taken sink.new) (K.faults sink.old) (K.faults sink.new)
         (bubble (handlers_in script.now.items) (seen_target target) event page.old.world) }
-    ensures ready { IfOk result (λ _. IsReady script.now.items page.new.world) }
+    ensures ready { IfOk result (λ _. IsPrepared script.now.items page.new.world) }
 {
     match (target, event) {
         (EventTarget::Document(document), EventKind::Scroll) => {
@@ -92,10 +92,10 @@ pub(crate) fn fire<K: Sink, L: Ledger>(
     sink: &mut K,
     steps: &mut Steps<L>,
 ) -> Result<(), RunFault>
-    requires ready { IsReady script.now.items page.old.world }
+    requires ready { IsPrepared script.now.items page.old.world }
     ensures says { Runs goes_on (λ _. page.new.world) result (K.taken sink.old) (K.taken sink.new) (K.faults sink.old) (K.faults sink.new)
         (fire (handlers_in script.now.items) (seen_event line) (seen_target target) event page.old.world) }
-    ensures ready { IfOk result (λ _. IsReady script.now.items page.new.world) }
+    ensures ready { IfOk result (λ _. IsPrepared script.now.items page.new.world) }
 {
     write_one(alloc, &TraceLine::Event(line), sink)?;
     invoke(alloc, page, script, target, event, sink, steps)?;

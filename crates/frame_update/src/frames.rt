@@ -4,7 +4,7 @@ ghost use Rattle.std.specs.Prelude.{◌≡◌, true, Some, [], ◌∷◌, IfOk};
 ghost use Rattle.script_model.specs.Scripts.{handlers_in};
 ghost use Rattle.trace_runs.specs.Flows.{goes_on};
 ghost use Rattle.trace_runs.specs.Runs.{Runs};
-ghost use Rattle.frame_update.specs.Ready.{IsReady};
+ghost use Rattle.frame_update.specs.Ready.{IsPrepared};
 ghost use Rattle.script_model.specs.TraceLines.{FrameLine};
 ghost use Rattle.page_model.specs.Callbacks.{NoEntries, call};
 ghost use Rattle.page_model.specs.Documents.{is_active};
@@ -34,12 +34,12 @@ fn run_frame_callback<K: Sink, L: Ledger>(
     sink: &mut K,
     steps: &mut Steps<L>,
 ) -> Result<(), RunFault>
-    requires ready { IsReady script.now.items page.old.world }
+    requires ready { IsPrepared script.now.items page.old.world }
     requires active { is_active page.old.world.tree document ≡ true }
     ensures says { Runs goes_on (λ _. page.new.world) result (K.taken sink.old) (K.taken sink.new) (K.faults sink.old) (K.faults sink.new)
         (say (FrameLine (document_text (page.old.world.names) document) key ∷ []) (page.old.world)
         followed_by call (handlers_in script.now.items) document (Some handler.0) NoEntries) }
-    ensures ready { IfOk result (λ _. IsReady script.now.items page.new.world) }
+    ensures ready { IfOk result (λ _. IsPrepared script.now.items page.new.world) }
 {
     let name = page.label(Label::Target(EventTarget::Document(document)));
     write_one(alloc, &TraceLine::Frame(name, key), sink)?;
@@ -65,11 +65,11 @@ pub(crate) fn frame_steps<K: Sink, L: Ledger>(
     sink: &mut K,
     steps: &mut Steps<L>,
 ) -> Result<(), RunFault>
-    requires ready { IsReady script.now.items page.old.world }
+    requires ready { IsPrepared script.now.items page.old.world }
     requires active { is_active page.old.world.tree document ≡ true }
     ensures says { Runs goes_on (λ _. page.new.world) result (K.taken sink.old) (K.taken sink.new) (K.faults sink.old) (K.faults sink.new)
         (frame_steps (handlers_in script.now.items) document page.old.world) }
-    ensures ready { IfOk result (λ _. IsReady script.now.items page.new.world) }
+    ensures ready { IfOk result (λ _. IsPrepared script.now.items page.new.world) }
 {
     let Ok(mut batch) = page.begin_frames(document) else {
         return Err(RunFault::Memory);

@@ -6,8 +6,8 @@ ghost use Rattle.page_model.specs.Intersections.{notify, notify_watcher};
 ghost use Rattle.page_model.specs.World.{Notify};
 ghost use Rattle.trace_runs.specs.Flows.{goes_on};
 ghost use Rattle.trace_runs.specs.Runs.{Runs};
-ghost use Rattle.frame_update.specs.Ready.{IsReady};
-ghost use Rattle.frame_update.specs.Waiting.{with_first};
+ghost use Rattle.frame_update.specs.Ready.{IsPrepared};
+ghost use Rattle.page_laws.specs.Ready.{with_first};
 
 use handlers::{Entries, run_handler};
 use intersection_observer::WatcherId;
@@ -28,11 +28,11 @@ fn notify_watcher<K: Sink, L: Ledger>(
     sink: &mut K,
     steps: &mut Steps<L>,
 ) -> Result<(), RunFault>
-    requires ready { IsReady script.now.items page.old.world }
+    requires ready { IsPrepared script.now.items page.old.world }
     requires made { watcher.0 < length page.old.world.intersection_observers.made }
     ensures says { Runs goes_on (λ _. page.new.world) result (K.taken sink.old) (K.taken sink.new) (K.faults sink.old) (K.faults sink.new)
         (notify_watcher (handlers_in script.now.items) watcher.0 page.old.world) }
-    ensures ready { IfOk result (λ _. IsReady script.now.items page.new.world) }
+    ensures ready { IfOk result (λ _. IsPrepared script.now.items page.new.world) }
 {
     let records = page.take_records(watcher);
     if records.as_slice().is_empty() {
@@ -55,10 +55,10 @@ pub(crate) fn notify<K: Sink, L: Ledger>(
     sink: &mut K,
     steps: &mut Steps<L>,
 ) -> Result<(), RunFault>
-    requires ready { IsReady script.now.items (with_first (Notify document) page.old.world) }
+    requires ready { IsPrepared script.now.items (with_first (Notify document) page.old.world) }
     ensures says { Runs goes_on (λ _. page.new.world) result (K.taken sink.old) (K.taken sink.new) (K.faults sink.old) (K.faults sink.new)
         (notify (handlers_in script.now.items) document page.old.world) }
-    ensures ready { IfOk result (λ _. IsReady script.now.items page.new.world) }
+    ensures ready { IfOk result (λ _. IsPrepared script.now.items page.new.world) }
 {
     if !page.is_active(document) {
         return Ok(());

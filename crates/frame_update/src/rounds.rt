@@ -13,7 +13,7 @@ ghost use Rattle.depth_gather.specs.Entries.{seen_entry, HasLengths};
 ghost use Rattle.loop_laws.specs.Rounds.{goes_on as has_round, round_depth};
 ghost use Rattle.trace_runs.specs.Flows.{goes_on};
 ghost use Rattle.trace_runs.specs.Runs.{Runs};
-ghost use Rattle.frame_update.specs.Ready.{IsReady};
+ghost use Rattle.frame_update.specs.Ready.{IsPrepared};
 ghost use Rattle.frame_update.specs.Turns.{broadcast_at, least_with, AreEntriesIn};
 
 use crate::events::fire;
@@ -53,14 +53,14 @@ fn call_observer<K: Sink, L: Ledger>(
     sink: &mut K,
     steps: &mut Steps<L>,
 ) -> Result<(), RunFault>
-    requires ready { IsReady script.now.items page.old.world }
+    requires ready { IsPrepared script.now.items page.old.world }
     requires observer { delivery.observer.0 < length page.old.world.resize_observers.made }
     requires entries { AreEntriesIn page.old.world delivery.entries }
     requires lengths { AllByRecursion HasLengths delivery.entries }
     ensures says { Runs goes_on (λ _. page.new.world) result (K.taken sink.old) (K.taken sink.new) (K.faults sink.old) (K.faults sink.new)
         (lifted (emptied document delivery.observer.0) (call (handlers_in script.now.items) document
         (resize_observer_at page.old.world.resize_observers delivery.observer.0).handler (SizeEntries delivery.observer.0 (map seen_entry delivery.entries)) page.old.world)) }
-    ensures ready { IfOk result (λ _. IsReady script.now.items page.new.world) }
+    ensures ready { IfOk result (λ _. IsPrepared script.now.items page.new.world) }
 {
     let observer = delivery.observer;
     let (_, handler) = page.callback_of(Label::Observer(observer));
@@ -84,10 +84,10 @@ fn broadcast<K: Sink, L: Ledger>(
     sink: &mut K,
     steps: &mut Steps<L>,
 ) -> Result<Option<u32>, RunFault>
-    requires ready { IsReady script.now.items page.old.world }
+    requires ready { IsPrepared script.now.items page.old.world }
     ensures says { Runs goes_on (λ least. broadcast_at least page.new.world) result (K.taken sink.old) (K.taken sink.new) (K.faults sink.old) (K.faults sink.new)
         (broadcast (handlers_in script.now.items) document page.old.world) }
-    ensures ready { IfOk result (λ _. IsReady script.now.items page.new.world) }
+    ensures ready { IfOk result (λ _. IsPrepared script.now.items page.new.world) }
 {
     entries_are_those_of_a_broadcast();
     let mut least = None;
@@ -133,11 +133,11 @@ fn round<K: Sink, L: Ledger>(
     sink: &mut K,
     steps: &mut Steps<L>,
 ) -> Result<Option<u32>, RunFault>
-    requires ready { IsReady script.now.items page.old.world }
+    requires ready { IsPrepared script.now.items page.old.world }
     ensures says { Runs goes_on (λ _. page.new.world) result (K.taken sink.old) (K.taken sink.new) (K.faults sink.old) (K.faults sink.new)
         (round (handlers_in script.now.items) document page.old.world) }
     ensures depth { IfOk result (λ depth. depth ≡ cond (has_round document page.new.world) (Some (round_depth (handlers_in script.now.items) document page.old.world)) None) }
-    ensures ready { IfOk result (λ _. IsReady script.now.items page.new.world) }
+    ensures ready { IfOk result (λ _. IsPrepared script.now.items page.new.world) }
 {
     let least = broadcast(alloc, page, script, document, sink, steps)?;
     if !page.is_active(document) {
@@ -159,10 +159,10 @@ fn report_skipped<K: Sink, L: Ledger>(
     sink: &mut K,
     steps: &mut Steps<L>,
 ) -> Result<(), RunFault>
-    requires ready { IsReady script.now.items page.old.world }
+    requires ready { IsPrepared script.now.items page.old.world }
     ensures says { Runs goes_on (λ _. page.new.world) result (K.taken sink.old) (K.taken sink.new) (K.faults sink.old) (K.faults sink.new)
         (report_skipped (handlers_in script.now.items) document page.old.world) }
-    ensures ready { IfOk result (λ _. IsReady script.now.items page.new.world) }
+    ensures ready { IfOk result (λ _. IsPrepared script.now.items page.new.world) }
 {
     if !page.is_active(document) || !page.has_skipped(document) {
         return Ok(());
@@ -190,11 +190,11 @@ pub(crate) fn resize_loop<K: Sink, L: Ledger>(
     sink: &mut K,
     steps: &mut Steps<L>,
 ) -> Result<(), RunFault>
-    requires ready { IsReady script.now.items page.old.world }
+    requires ready { IsPrepared script.now.items page.old.world }
     requires active { is_active page.old.world.tree document ≡ true }
     ensures says { Runs goes_on (λ _. page.new.world) result (K.taken sink.old) (K.taken sink.new) (K.faults sink.old) (K.faults sink.new)
         (resize_loop (handlers_in script.now.items) document page.old.world) }
-    ensures ready { IfOk result (λ _. IsReady script.now.items page.new.world) }
+    ensures ready { IfOk result (λ _. IsPrepared script.now.items page.new.world) }
 {
     resize_loops_come_to_rest();
     let mut gathered = gather(page, document, 0, steps);

@@ -5,7 +5,7 @@ ghost use Rattle.page_model.specs.Documents.{is_active};
 ghost use Rattle.script_model.specs.Scripts.{handlers_in};
 ghost use Rattle.trace_runs.specs.Flows.{goes_on};
 ghost use Rattle.trace_runs.specs.Runs.{Runs};
-ghost use Rattle.frame_update.specs.Ready.{IsReady};
+ghost use Rattle.frame_update.specs.Ready.{IsPrepared};
 ghost use Rattle.page_model.specs.Ticks.{event_target_of, media_steps, resize_steps, scroll_steps, scrolled_text};
 ghost use Rattle.page_model.specs.Callbacks.{fire, while_active};
 ghost use Rattle.page_model.specs.Ranges.{IsScrollIn, counts_of};
@@ -37,11 +37,11 @@ pub(crate) fn resize_steps<K: Sink, L: Ledger>(
     sink: &mut K,
     steps: &mut Steps<L>,
 ) -> Result<(), RunFault>
-    requires ready { IsReady script.now.items page.old.world }
+    requires ready { IsPrepared script.now.items page.old.world }
     requires active { is_active page.old.world.tree document ≡ true }
     ensures says { Runs goes_on (λ _. page.new.world) result (K.taken sink.old) (K.taken sink.new) (K.faults sink.old) (K.faults sink.new)
         (resize_steps (handlers_in script.now.items) document page.old.world) }
-    ensures ready { IfOk result (λ _. IsReady script.now.items page.new.world) }
+    ensures ready { IfOk result (λ _. IsPrepared script.now.items page.new.world) }
 {
     if !page.viewport_changed(document, steps) {
         return Ok(());
@@ -70,11 +70,11 @@ fn scroll_step<K: Sink, L: Ledger>(
     sink: &mut K,
     steps: &mut Steps<L>,
 ) -> Result<(), RunFault>
-    requires ready { IsReady script.now.items page.old.world }
+    requires ready { IsPrepared script.now.items page.old.world }
     requires target { IsScrollIn (counts_of 0 page.old.world) (seen_target target) }
     ensures says { Runs goes_on (λ _. page.new.world) result (K.taken sink.old) (K.taken sink.new) (K.faults sink.old) (K.faults sink.new)
         (while_active document (λ now. fire (handlers_in script.now.items) (FiredScroll (scrolled_text (now.names) (seen_target target))) (event_target_of (seen_target target)) events.Scroll now) page.old.world) }
-    ensures ready { IfOk result (λ _. IsReady script.now.items page.new.world) }
+    ensures ready { IfOk result (λ _. IsPrepared script.now.items page.new.world) }
 {
     if !page.is_active(document) {
         return Ok(());
@@ -106,10 +106,10 @@ pub(crate) fn scroll_steps<K: Sink, L: Ledger>(
     sink: &mut K,
     steps: &mut Steps<L>,
 ) -> Result<(), RunFault>
-    requires ready { IsReady script.now.items page.old.world }
+    requires ready { IsPrepared script.now.items page.old.world }
     ensures says { Runs goes_on (λ _. page.new.world) result (K.taken sink.old) (K.taken sink.new) (K.faults sink.old) (K.faults sink.new)
         (scroll_steps (handlers_in script.now.items) document page.old.world) }
-    ensures ready { IfOk result (λ _. IsReady script.now.items page.new.world) }
+    ensures ready { IfOk result (λ _. IsPrepared script.now.items page.new.world) }
 {
     let scrolled = page.take_scrolled(document);
     for target in scrolled.iter() {
@@ -127,11 +127,11 @@ fn report_change<K: Sink, L: Ledger>(
     sink: &mut K,
     steps: &mut Steps<L>,
 ) -> Result<(), RunFault>
-    requires ready { IsReady script.now.items page.old.world }
+    requires ready { IsPrepared script.now.items page.old.world }
     requires query { change.query < length page.old.world.queries }
     ensures says { Runs goes_on (λ _. page.new.world) result (K.taken sink.old) (K.taken sink.new) (K.faults sink.old) (K.faults sink.new)
         (fire (handlers_in script.now.items) (FiredChange (query_list_text (page.old.world.names) change.query) change.matches) (QueryTarget change.query) events.Change page.old.world) }
-    ensures ready { IfOk result (λ _. IsReady script.now.items page.new.world) }
+    ensures ready { IfOk result (λ _. IsPrepared script.now.items page.new.world) }
 {
     let target = EventTarget::Query(change.query);
     let line = EventLine::Change(page.label(Label::Target(target)), change.matches);
@@ -157,11 +157,11 @@ pub(crate) fn media_steps<K: Sink, L: Ledger>(
     sink: &mut K,
     steps: &mut Steps<L>,
 ) -> Result<(), RunFault>
-    requires ready { IsReady script.now.items page.old.world }
+    requires ready { IsPrepared script.now.items page.old.world }
     requires active { is_active page.old.world.tree document ≡ true }
     ensures says { Runs goes_on (λ _. page.new.world) result (K.taken sink.old) (K.taken sink.new) (K.faults sink.old) (K.faults sink.new)
         (media_steps (handlers_in script.now.items) document page.old.world) }
-    ensures ready { IfOk result (λ _. IsReady script.now.items page.new.world) }
+    ensures ready { IfOk result (λ _. IsPrepared script.now.items page.new.world) }
 {
     let mut place = 0;
     while page.is_active(document) {

@@ -4,8 +4,8 @@ ghost use Rattle.std.specs.Prelude.{◌≡◌, ◌<◌, length, IfOk};
 ghost use Rattle.script_model.specs.Scripts.{handlers_in};
 ghost use Rattle.trace_runs.specs.Flows.{goes_on};
 ghost use Rattle.trace_runs.specs.Runs.{Runs};
-ghost use Rattle.frame_update.specs.Ready.{IsReady};
-ghost use Rattle.frame_update.specs.Waiting.{with_first};
+ghost use Rattle.frame_update.specs.Ready.{IsPrepared};
+ghost use Rattle.page_laws.specs.Ready.{with_first};
 ghost use Rattle.page_model.specs.Ticks.{run_task, run_tasks};
 ghost use Rattle.page_model.specs.Callbacks.{handler_text};
 ghost use Rattle.page_model.specs.World.{Posted};
@@ -16,7 +16,7 @@ use event_tables::{EventTarget, HandlerId, Task};
 use handlers::{Entries, run_handler};
 use loop_laws::runs_of_tasks_come_to_rest;
 use page_state::{Label, Page};
-use script_syntax::{Item, Script};
+use script_syntax::Script;
 use std::alloc::Global;
 use std::sync::ledger::Ledger;
 use step_count::Steps;
@@ -34,11 +34,11 @@ fn run_posted<K: Sink, L: Ledger>(
     sink: &mut K,
     steps: &mut Steps<L>,
 ) -> Result<(), RunFault>
-    requires ready { IsReady script.now.items page.old.world }
+    requires ready { IsPrepared script.now.items page.old.world }
     requires handler { handler.0 < length (handlers_in script.now.items) }
     ensures says { Runs goes_on (λ _. page.new.world) result (K.taken sink.old) (K.taken sink.new) (K.faults sink.old) (K.faults sink.new)
         (run_task (handlers_in script.now.items) (Posted document handler.0) page.old.world) }
-    ensures ready { IfOk result (λ _. IsReady script.now.items page.new.world) }
+    ensures ready { IfOk result (λ _. IsPrepared script.now.items page.new.world) }
 {
     if !page.is_active(document) {
         return Ok(());
@@ -67,10 +67,10 @@ fn run_task<K: Sink, L: Ledger>(
     sink: &mut K,
     steps: &mut Steps<L>,
 ) -> Result<(), RunFault>
-    requires ready { IsReady script.now.items (with_first (seen_task task) page.old.world) }
+    requires ready { IsPrepared script.now.items (with_first (seen_task task) page.old.world) }
     ensures says { Runs goes_on (λ _. page.new.world) result (K.taken sink.old) (K.taken sink.new) (K.faults sink.old) (K.faults sink.new)
         (run_task (handlers_in script.now.items) (seen_task task) page.old.world) }
-    ensures ready { IfOk result (λ _. IsReady script.now.items page.new.world) }
+    ensures ready { IfOk result (λ _. IsPrepared script.now.items page.new.world) }
 {
     match task {
         Task::Notify(document) => notify(alloc, page, script, document, sink, steps),
@@ -88,10 +88,10 @@ pub(crate) fn run_tasks<K: Sink, L: Ledger>(
     sink: &mut K,
     steps: &mut Steps<L>,
 ) -> Result<(), RunFault>
-    requires ready { IsReady script.now.items page.old.world }
+    requires ready { IsPrepared script.now.items page.old.world }
     ensures says { Runs goes_on (λ _. page.new.world) result (K.taken sink.old) (K.taken sink.new) (K.faults sink.old) (K.faults sink.new)
         (run_tasks (handlers_in script.now.items) page.old.world) }
-    ensures ready { IfOk result (λ _. IsReady script.now.items page.new.world) }
+    ensures ready { IfOk result (λ _. IsPrepared script.now.items page.new.world) }
 {
     runs_of_tasks_come_to_rest();
     while let Some(task) = page.pop_task() {
@@ -105,9 +105,5 @@ fn handler_name(script: &Script, handler: HandlerId) -> Name
     requires { handler.0 < length (handlers_in script.now.items) }
     ensures { result ≡ handler_text (handlers_in script.now.items) handler.0 }
 {
-    match script.handler(handler.0) {
-        Some(Item::Handler { name, .. }) => *name,
-        Some(Item::Command(_)) => unreachable!(),
-        None => unreachable!(),
-    }
+    script.handler(handler.0).unwrap().name
 }

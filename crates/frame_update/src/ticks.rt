@@ -12,7 +12,7 @@ ghost use Rattle.loop_laws.specs.RunLoops.{item_loops, IsExact};
 ghost use Rattle.trace_runs.specs.Flows.{goes_on};
 ghost use Rattle.trace_runs.specs.Runs.{Runs};
 ghost use Rattle.frame_update.specs.Answers.{Refused};
-ghost use Rattle.frame_update.specs.Ready.{IsReady};
+ghost use Rattle.frame_update.specs.Ready.{IsPrepared, IsReady};
 
 use crate::tasks::run_tasks;
 use crate::timers::run_timers;
@@ -36,11 +36,11 @@ fn run_parts<K: Sink, L: Ledger>(
     sink: &mut K,
     steps: &mut Steps<L>,
 ) -> Result<(), RunFault>
-    requires ready { IsReady script.now.items page.old.world }
+    requires ready { IsPrepared script.now.items page.old.world }
     requires time { page.old.world.clock ≡ time }
     ensures says { Runs goes_on (λ _. page.new.world) result (K.taken sink.old) (K.taken sink.new) (K.faults sink.old) (K.faults sink.new)
         (tick (handlers_in script.now.items) page.old.world) }
-    ensures ready { IfOk result (λ _. IsReady script.now.items page.new.world) }
+    ensures ready { IfOk result (λ _. IsPrepared script.now.items page.new.world) }
 {
     write_one(alloc, &TraceLine::Tick(time), sink)?;
     run_timers(alloc, page, script, sink, steps)?;

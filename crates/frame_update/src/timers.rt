@@ -4,7 +4,7 @@ ghost use Rattle.std.specs.Prelude.{Some, IfOk};
 ghost use Rattle.script_model.specs.Scripts.{handlers_in};
 ghost use Rattle.trace_runs.specs.Flows.{goes_on};
 ghost use Rattle.trace_runs.specs.Runs.{Runs};
-ghost use Rattle.frame_update.specs.Ready.{IsReady};
+ghost use Rattle.frame_update.specs.Ready.{IsPrepared};
 ghost use Rattle.script_model.specs.TraceLines.{TimerLine};
 ghost use Rattle.page_model.specs.Callbacks.{NoEntries, call};
 ghost use Rattle.page_model.specs.Names.{document_text};
@@ -33,11 +33,11 @@ fn run_timer<K: Sink, L: Ledger>(
     sink: &mut K,
     steps: &mut Steps<L>,
 ) -> Result<(), RunFault>
-    requires ready { IsReady script.now.items page.old.world }
+    requires ready { IsPrepared script.now.items page.old.world }
     ensures says { Runs goes_on (λ _. page.new.world) result (K.taken sink.old) (K.taken sink.new) (K.faults sink.old) (K.faults sink.new)
         (say (line_while_active (page.old.world.tree) document (TimerLine (document_text (page.old.world.names) document) key)) (page.old.world)
         followed_by call (handlers_in script.now.items) document (Some handler.0) NoEntries) }
-    ensures ready { IfOk result (λ _. IsReady script.now.items page.new.world) }
+    ensures ready { IfOk result (λ _. IsPrepared script.now.items page.new.world) }
 {
     if !page.is_active(document) {
         return Ok(());
@@ -64,10 +64,10 @@ pub(crate) fn run_timers<K: Sink, L: Ledger>(
     sink: &mut K,
     steps: &mut Steps<L>,
 ) -> Result<(), RunFault>
-    requires ready { IsReady script.now.items page.old.world }
+    requires ready { IsPrepared script.now.items page.old.world }
     ensures says { Runs goes_on (λ _. page.new.world) result (K.taken sink.old) (K.taken sink.new) (K.faults sink.old) (K.faults sink.new)
         (run_timers (handlers_in script.now.items) page.old.world) }
-    ensures ready { IfOk result (λ _. IsReady script.now.items page.new.world) }
+    ensures ready { IfOk result (λ _. IsPrepared script.now.items page.new.world) }
 {
     let Ok(mut due) = page.take_due() else {
         return Err(RunFault::Memory);

@@ -1,10 +1,12 @@
 -- Commands by what they are, and the blocks that a walk goes through.
 use Rattle.std.proofs.Common.{◌≡◌, ℕ, ◌+◌, ◌<◌, ◌≤◌, List, length, get_or, drop, refl, ap, sym, subst, ◌∙◌}
 use Rattle.std.proofs.lemmas.List.{drop_more, drop_all}
-use Rattle.script_model.specs.Syntax.{Simple, Block, Then}
-use Rattle.script_syntax.specs.Allowed.{WhatAllowed, TestAllowed}
+use Rattle.std.specs.Prelude.{Option, Result, Ok, Err, IfOk}
+use Rattle.script_model.specs.Syntax.{Block, Then, Command as ModelCommand}
+use Rattle.script_syntax.specs.Allowed.{WhatAllowed, ActionAllowed, TestAllowed}
 use Rattle.script_syntax.specs.Seen.{action_of, command_at, command_of, condition_of, block_of}
 use Rattle.script_syntax.specs.declared.operands.Condition.{Condition}
+use Rattle.script_syntax.specs.declared.commands.Action.{Action}
 use Rattle.script_syntax.specs.declared.commands.Body.{Body}
 use Rattle.script_syntax.specs.declared.commands.Command.{Command}
 use Rattle.script_syntax.specs.declared.commands.What.{What}
@@ -14,8 +16,19 @@ use Rattle.page_model.specs.Commands.{does, holds}
 use Rattle.page_model.specs.Operands.{Present}
 use Rattle.page_model.specs.Runs.{Said, ◌followed_by◌, for_each, only_if, silent}
 use Rattle.page_model.specs.World.{World}
+use Rattle.page_laws.specs.Ready.{IsReadyFor}
+use Rattle.page_laws.proofs.Ready.{ready-command}
+use Rattle.trace_runs.specs.Flows.{flow_of}
+use Rattle.trace_runs.specs.Runs.{Runs}
+use Rattle.trace_runs.specs.declared.faults.Flow.{Flow}
+use Rattle.trace_runs.specs.declared.faults.RunFault.{RunFault}
+use Rattle.handlers.specs.Entries.{present_at, AreIn}
+use Rattle.handlers.proofs.Places.{present_in}
 
 -- commands by what they are -----------------------------------------------------------------------------------------------
+
+pub action_allowed : (command : What) (action : Action) → command ≡ what.Act action → WhatAllowed command → ActionAllowed action
+action_allowed command action is allowed = subst WhatAllowed is allowed
 
 pub test_allowed : (command : What) (condition : Condition) (body : Body) → command ≡ what.When condition body → WhatAllowed command → TestAllowed condition.asks
 test_allowed command condition body is allowed = subst WhatAllowed is allowed
@@ -23,10 +36,10 @@ test_allowed command condition body is allowed = subst WhatAllowed is allowed
 -- what they do ------------------------------------------------------------------------------------------------------------
 
 module _ (script : Script) (entries : List Present) (line : ℕ) (command : What) (present : Present) (world : World) where
-  pub simple_does : command_at line command ≡ Simple line (action_of command)
-      → once_begun line world (λ begun. answered line begun said_by (does (handler_names script) begun present (action_of command))) ≡ run_command script entries (command_at line command) present world
+  pub simple_does : (action : Action) → command ≡ what.Act action
+      → once_begun line world (λ begun. answered line begun said_by (does (handler_names script) begun present (action_of action))) ≡ run_command script entries (command_at line command) present world
   unfolding run_command
-  simple_does is = ap (λ it. run_command script entries it present world) (sym is)
+  simple_does action is = ap (λ it. run_command script entries (command_at line it) present world) (sym is)
 
   pub each_does : (body : Body) → command ≡ what.Each body
       → once_begun line world (λ begun. for_each (run_block script entries body.commands) entries begun) ≡ run_command script entries (command_at line command) present world
@@ -43,11 +56,11 @@ module _ (script : Script) (entries : List Present) (line : ℕ) (command : What
 pub command_begins : (script : Script) (entries : List Present) (line : ℕ) (command : What) (present : Present) (world : World)
     → (run : World → Said World) × (once_begun line world run ≡ run_command script entries (command_at line command) present world)
 unfolding run_command
+command_begins script entries line (what.Act action) present world =
+    (λ begun. answered line begun said_by (does (handler_names script) begun present (action_of action)), refl)
 command_begins script entries line (what.Each body) present world = (λ begun. for_each (run_block script entries body.commands) entries begun, refl)
 command_begins script entries line (what.When condition body) present world =
     (λ begun. answered line begun (only_if (run_block script entries body.commands present) begun) (holds begun present (condition_of condition)), refl)
-command_begins script entries line other present world =
-    (λ begun. answered line begun said_by (does (handler_names script) begun present (action_of other)), refl)
 
 -- blocks ------------------------------------------------------------------------------------------------------------------
 
@@ -72,3 +85,12 @@ block_none commands i script entries present world past = ap (λ rest. run_block
 pub block_same : (script : Script) (entries : List Present) (present : Present) (world : World) {block other : Block} → other ≡ block
     → run_block script entries block present world ≡ run_block script entries other present world
 block_same script entries present world same = ap (λ it. run_block script entries it present world) (sym same)
+
+-- a page stays ready for a tick behind a command with its block
+pub command_ready : {before after : Option (List ℕ)} {f g : ℕ} (script : Script) (entries : List Present) (command : ModelCommand) (subject : Option ℕ) (old new : World) (result : Result Flow RunFault)
+    → AreIn old entries → Runs flow_of (λ (_ : Flow). new) result before after f g (run_command script entries command (present_at entries subject) old)
+    → IsReadyFor (length script) old → IfOk result (λ _. IsReadyFor (length script) new)
+command_ready script entries command subject old new (Ok flow) are run ready =
+    subst (λ (world : World). IsReadyFor (length script) world) run.ended.state_is
+    (ready-command script old ready entries command (present_at entries subject) are (present_in old entries subject are))
+command_ready script entries command subject old new (Err fault) are run ready = tt

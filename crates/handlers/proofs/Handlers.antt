@@ -1,12 +1,8 @@
--- The block of a handler, found among the items of a script.
-use Rattle.std.proofs.Common.{◌≡◌, ℕ, zero, suc, List, [], ◌∷◌, true, false, Option, Some, None, refl, ap, sym, ◌∙◌}
-use Rattle.std.specs.Prelude.{filter, slice_get, option_map}
-use Rattle.script_model.specs.Scripts.{handlers_in}
-use Rattle.script_model.specs.Syntax.{Item, Outside, Tick, Handler, Block, NoMore}
-use Rattle.script_syntax.specs.Seen.{is_handler, item_at}
-use Rattle.script_syntax.specs.declared.commands.What.{What}
-use Rattle.script_syntax.specs.declared.commands.What.TheVariants as what
-use Rattle.script_syntax.proofs.Handlers.{command_is_none}
+-- The block of a handler of a script.
+use Rattle.std.proofs.Common.{◌≡◌, ℕ, List, true, false, Option, Some, None, refl, ap, sym, ◌∙◌}
+use Rattle.std.specs.Prelude.{slice_get, option_map, unwrap_or}
+use Rattle.script_model.specs.Scripts.{NamedBlock}
+use Rattle.script_model.specs.Syntax.{Block, NoMore}
 use Rattle.event_tables.specs.declared.events.HandlerId.{HandlerId}
 use Rattle.page_model.specs.Callbacks.{Script, Entries, call, entry_lines, handler_block, presents, run_block, run_handler}
 use Rattle.page_model.specs.Documents.{is_active}
@@ -15,40 +11,11 @@ use Rattle.page_model.specs.Runs.{silent, say, ◌followed_by◌, only_if, caugh
 use Rattle.page_model.specs.World.{World}
 use Rattle.trace_runs.proofs.Runs.{only_if_true, only_if_false}
 
-block_in : Option Item → Block
-block_in None = NoMore
-block_in (Some (Outside command)) = NoMore
-block_in (Some (Tick line time)) = NoMore
-block_in (Some (Handler line name block end_line)) = block
+pub handler_is : (script : List NamedBlock) (number : ℕ) (found : NamedBlock) → Some found ≡ slice_get script number → handler_block script number ≡ found.block
+handler_is script number found is = ap (λ (at : Option NamedBlock). unwrap_or (option_map (λ (it : NamedBlock). it.block) at) NoMore) (sym is)
 
--- a handler's block is that of the item of its number
-block_is : (items : List Item) (number : ℕ) → handler_block (handlers_in items) number ≡ block_in (slice_get (filter is_handler items) number)
-unfolding handlers_in block_in
-block_is [] number = refl
-block_is (Outside command ∷ items) number = block_is items number
-block_is (Tick line time ∷ items) number = block_is items number
-block_is (Handler line name block end_line ∷ items) zero = refl
-block_is (Handler line name block end_line ∷ items) (suc number) = block_is items number
-
-pub handler_is : (items : List Item) (number line : ℕ) (name : List ℕ) (block : Block) (end_line : ℕ) → Some (Handler line name block end_line) ≡ slice_get (filter is_handler items) number
-    → handler_block (handlers_in items) number ≡ block
-unfolding block_in
-handler_is items number line name block end_line is = block_is items number ∙ ap block_in (sym is)
-
-pub no_handler_is : (items : List Item) (number : ℕ) → None ≡ slice_get (filter is_handler items) number → handler_block (handlers_in items) number ≡ NoMore
-unfolding block_in
-no_handler_is items number is = block_is items number ∙ ap block_in (sym is)
-
--- what stands at a handler's number is one
-at_number : (items : List Item) (number : ℕ) (item : Item) → Some item ≡ slice_get (filter is_handler items) number → is_handler item ≡ true
-at_number [] number item is = cc
-at_number (Outside command ∷ items) number item is = at_number items number item is
-at_number (Tick line time ∷ items) number item is = at_number items number item is
-at_number (Handler line name block end_line ∷ items) zero item is = let same : item ≡ Handler line name block end_line = cc in ap is_handler same
-at_number (Handler line name block end_line ∷ items) (suc number) item is = at_number items number item is
-
-pub no_command : (items : List Item) (number line : ℕ) (command : What) → Some (item_at line command) ≡ slice_get (filter is_handler items) number → ⊥
-no_command items number line command is = let handler = at_number items number _ is in let none = command_is_none line command in cc
+pub no_handler_is : (script : List NamedBlock) (number : ℕ) → None ≡ slice_get script number → handler_block script number ≡ NoMore
+no_handler_is script number is = ap (λ (at : Option NamedBlock). unwrap_or (option_map (λ (it : NamedBlock). it.block) at) NoMore) (sym is)
 
 -- a callback ---------------------------------------------------------------------------------------------------------------
 

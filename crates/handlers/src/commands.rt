@@ -1,12 +1,13 @@
 //! Commands with their blocks, one after another.
 
-ghost use Rattle.std.specs.Prelude.{◌≡◌};
+ghost use Rattle.std.specs.Prelude.{◌≡◌, length, IfOk};
 ghost use Rattle.script_model.specs.Scripts.{handlers_in};
-ghost use Rattle.script_syntax.specs.Allowed.{InnerAllowed, TestAllowed};
+ghost use Rattle.script_syntax.specs.Allowed.{IsAllowed, TestAllowed};
 ghost use Rattle.script_syntax.specs.Seen.{command_of, condition_of};
 ghost use Rattle.page_model.specs.Callbacks.{answered, presents, run_block, run_command};
 ghost use Rattle.page_model.specs.Commands.{holds};
 ghost use Rattle.page_model.specs.Runs.{for_each, only_if};
+ghost use Rattle.page_laws.specs.Ready.{IsReadyFor};
 ghost use Rattle.trace_runs.specs.Flows.{flow_of};
 ghost use Rattle.trace_runs.specs.Runs.{Runs};
 ghost use Rattle.handlers.specs.Entries.{entries_of, present_at, AreIn};
@@ -23,9 +24,9 @@ use text_io::Sink;
 use trace_runs::{Flow, RunFault, write_throw};
 
 /// Begins a command and runs it with its block, for the entry at a place of `entries` if there is one, and writes its lines.
-/// Outside handlers there are no entries. The command isn't a `tick`.
+/// Outside handlers there are no entries.
 ///
-/// `Thrown` where it threw, which was written.
+/// `Thrown` where it threw, which was written. With Ok a page that was ready for a tick of the script is so still (`IsReadyFor`).
 ///
 /// # Errors
 /// - `Limit` only where a limit is met, where it never answers Ok; all but the limit's own line was written.
@@ -42,15 +43,29 @@ pub fn run_command<K: Sink, L: Ledger>(
     sink: &mut K,
     steps: &mut Steps<L>,
 ) -> Result<Flow, RunFault>
-    requires allowed { InnerAllowed command.now }
+    requires allowed { IsAllowed command.now }
     requires targets { AreIn page.old.world (presents (entries_of entries.now)) }
-    ensures { Runs flow_of (λ _. page.new.world) result (K.taken sink.old) (K.taken sink.new) (K.faults sink.old) (K.faults sink.new)
+    ensures says { Runs flow_of (λ _. page.new.world) result (K.taken sink.old) (K.taken sink.new) (K.faults sink.old) (K.faults sink.new)
         (run_command (handlers_in script.now.items) (presents (entries_of entries.now)) (command_of command.now) (present_at (presents (entries_of entries.now)) subject) page.old.world) }
+    ensures ready { IsReadyFor (length (handlers_in script.now.items)) page.old.world → IfOk result (λ _. IsReadyFor (length (handlers_in script.now.items)) page.new.world) }
 {
     if let Err(fault) = page.begin_command() {
         return refuse(alloc, command.line, fault, page.version(), sink);
     }
     match &command.what {
+        What::Act(action) => {
+            let present = subject_at(entries, subject);
+            apply(
+                alloc,
+                page,
+                script,
+                command.line,
+                action,
+                present,
+                sink,
+                steps,
+            )
+        }
         What::Each(body) => run_each(alloc, page, script, &body.commands, entries, sink, steps),
         What::When(condition, body) => run_when(
             alloc,
@@ -64,10 +79,6 @@ pub fn run_command<K: Sink, L: Ledger>(
             sink,
             steps,
         ),
-        _ => {
-            let present = subject_at(entries, subject);
-            apply(alloc, page, script, command, present, sink, steps)
-        }
     }
 }
 

@@ -11,7 +11,7 @@ use crate::commands::run_block;
 use crate::entries::{Entries, write_entries};
 use event_tables::HandlerId;
 use page_state::Page;
-use script_syntax::{Item, Script};
+use script_syntax::Script;
 use std::alloc::Global;
 use std::sync::ledger::Ledger;
 use step_count::Steps;
@@ -34,8 +34,8 @@ fn run_numbered<K: Sink, L: Ledger>(
 {
     match script.handler(number) {
         None => Ok(()),
-        Some(Item::Command(_)) => unreachable!(),
-        Some(Item::Handler { commands, .. }) => {
+        Some(handler) => {
+            let commands = &handler.commands;
             match run_block(alloc, page, script, commands, entries, None, sink, steps) {
                 Ok(_) => Ok(()),
                 Err(fault) => Err(fault),

@@ -17,7 +17,7 @@ ghost use Rattle.handlers.specs.Entries.{subject_of};
 use crate::entries::{Subject, write_taken};
 use page_laws::commands_read_the_target_alone;
 use page_state::{Effect, Page, PageFault};
-use script_syntax::{Command, Script};
+use script_syntax::{Action, Script};
 use std::alloc::Global;
 use std::sync::ledger::Ledger;
 use step_count::Steps;
@@ -57,28 +57,29 @@ fn tell<K: Sink>(alloc: Global, page: &Page, effect: &Effect, sink: &mut K) -> R
     }
 }
 
-// Applies a command that was begun, and writes its lines.
+// Applies a command on a line that was begun, and writes its lines.
 pub(crate) fn apply<K: Sink, L: Ledger>(
     alloc: Global,
     page: &mut Page,
     script: &Script,
-    command: &Command,
+    line: u32,
+    action: &Action,
     subject: Subject,
     sink: &mut K,
     steps: &mut Steps<L>,
 ) -> Result<Flow, RunFault>
     requires begun { page.old.begun ≡ true }
-    requires allowed { ActionAllowed command.now.what }
+    requires allowed { ActionAllowed action.now }
     requires subject { IsSubject (length page.old.world.tree.elements) subject.target }
     ensures { Runs flow_of (λ _. page.new.world) result (K.taken sink.old) (K.taken sink.new) (K.faults sink.old) (K.faults sink.new)
-        (answered command.now.line page.old.world said_by (does (handler_names (handlers_in script.now.items)) page.old.world (subject_of subject) (action_of command.now.what))) }
+        (answered line page.old.world said_by (does (handler_names (handlers_in script.now.items)) page.old.world (subject_of subject) (action_of action.now))) }
 {
     commands_read_the_target_alone();
-    match page.apply(script, command, subject.target, steps) {
+    match page.apply(script, action, subject.target, steps) {
         Ok(effect) => match tell(alloc, page, &effect, sink) {
             Ok(()) => Ok(Flow::Next),
             Err(fault) => Err(fault),
         },
-        Err(fault) => refuse(alloc, command.line, fault, page.version(), sink),
+        Err(fault) => refuse(alloc, line, fault, page.version(), sink),
     }
 }

@@ -31,6 +31,6 @@ pub fn hits<L: Ledger>(
     ensures boxes { Computes page.old.world page.old.kept page.new.kept steps.old steps.new }
 {
     page.refresh_boxes(steps);
-    let shown = page.geometry().with_documents();
+    let shown = page.geometry().with_documents(alloc);
     hits_shown(alloc, &shown, at)
 }

@@ -12,13 +12,10 @@ use Rattle.script_syntax.specs.declared.commands.Body.{Body}
 use Rattle.script_syntax.specs.declared.commands.Command.{Command}
 use Rattle.script_syntax.specs.declared.commands.Item.{Item}
 use Rattle.script_syntax.specs.declared.operands.Condition.{Condition}
-use Rattle.script_syntax.specs.Seen.{command_at, command_of, block_of, item_of, item_at}
+use Rattle.script_syntax.specs.Seen.{command_at, command_of, block_of, item_of}
 use Rattle.loop_lint.specs.LoopHandlers.{lines_in, block_lines, item_lines, is_empty, is_unnamed, names_handler, naming_lines, loop_handler_lines}
-use Rattle.loop_lint.specs.declared.kinds.Law.TheVariants as law
 use Rattle.loop_lint.specs.declared.kinds.Verdict.{Verdict}
-use Rattle.loop_lint.specs.declared.search.Sought.{Sought}
-use Rattle.loop_lint.specs.declared.search.Sought.TheVariants as sought
-use Rattle.loop_lint.specs.Searches.{is_sought, lines_at}
+use Rattle.loop_lint.specs.Searches.{lines_at}
 
 -- the first of a list ---------------------------------------------------------------------------------------------------------------------
 
@@ -84,17 +81,6 @@ module _ (test : model.Action → Bool) where
   simple-first line action sought is = of-test line sought ∙ ap (λ (it : Bool). slice_get (cond it (line ∷ []) []) 0) is
 
 -- items ---------------------------------------------------------------------------------------------------------------------------------------
-
--- a `tick` isn't looked for
-tick-unsought : (sought : Sought) → is_sought sought (model.Say []) ≡ false
-tick-unsought (sought.Naming name) = refl
-tick-unsought (sought.Forbidden law.Steady) = refl
-tick-unsought (sought.Forbidden law.Quiet) = refl
-
-pub outside-lines : (it : Sought) (line : ℕ) (command : What) → lines_in (is_sought it) (command_at line command) ≡ item_lines (is_sought it) (item_at line command)
-unfolding lines_in
-outside-lines it line (what.Tick time) = ap (λ (passes : Bool). cond passes (line ∷ []) []) (tick-unsought it)
-outside-lines it line other = refl
 
 handler-lines : (test : model.Action → Bool) (all items : List model.Item) → flat_map (lines_at test all) items
     ≡ flat_map (λ (handler : NamedBlock). cond (is_unnamed all (handler.name)) [] (block_lines test (handler.block))) (handlers_in items)

@@ -10,7 +10,7 @@ ghost use Rattle.loop_lint.specs.Seen.{forbidden_by};
 
 use crate::kinds::{Law, Verdict};
 use crate::search::{Sought, first_in, first_in_item};
-use script_syntax::{CommandList, Item, Script};
+use script_syntax::{Handler, Item, Script};
 use text_io::Name;
 
 /// Whether no `ro` among these items names a handler.
@@ -26,11 +26,11 @@ fn is_unnamed(items: &[Item], name: Name) -> bool
 }
 
 /// The line of the first command of a handler that a law forbids, where the handler is a loop handler.
-fn blame_in(items: &[Item], name: Name, commands: &CommandList, law: Law) -> Option<u32>
-    ensures { result ≡ slice_get (cond (is_unnamed (map item_of items.now) name) [] (block_lines (forbidden_by law) commands.now)) 0 }
+fn blame_in(items: &[Item], handler: &Handler, law: Law) -> Option<u32>
+    ensures { result ≡ slice_get (cond (is_unnamed (map item_of items.now) handler.now.name) [] (block_lines (forbidden_by law) handler.now.commands)) 0 }
 {
-    let line = first_in(commands.as_slice(), &Sought::Forbidden(law))?;
-    if is_unnamed(items, name) {
+    let line = first_in(handler.commands.as_slice(), &Sought::Forbidden(law))?;
+    if is_unnamed(items, handler.name) {
         return None;
     }
     Some(line)
@@ -41,8 +41,8 @@ fn blame_at(items: &[Item], item: &Item, law: Law) -> Option<u32>
     ensures { result ≡ slice_get (lines_at (forbidden_by law) (map item_of items.now) (item_of item.now)) 0 }
 {
     match item {
-        Item::Command(_) => None,
-        Item::Handler { name, commands, .. } => blame_in(items, *name, commands, law),
+        Item::Command(_) | Item::Tick { .. } => None,
+        Item::Handler(handler) => blame_in(items, handler, law),
     }
 }
 

@@ -8,7 +8,7 @@ ghost use Rattle.loop_lint.specs.Seen.{forbidden_by};
 ghost use Rattle.loop_lint.specs.Searches.{is_sought};
 
 use crate::kinds::Law;
-use script_syntax::{Command, Item, What};
+use script_syntax::{Action, Command, Item, What};
 use text_io::Name;
 
 /// What is looked for.
@@ -21,38 +21,41 @@ pub enum Sought {
 }
 
 /// Whether a command is an `ro` that names this handler.
-fn names_handler(what: &What, name: Name) -> bool
-    ensures { result ≡ names_handler name (action_of what.now) }
+fn names_handler(action: &Action, name: Name) -> bool
+    ensures { result ≡ names_handler name (action_of action.now) }
 {
-    match what {
-        What::Ro(_, _, Some(handler)) => *handler == name,
+    match action {
+        Action::Ro {
+            handler: Some(handler),
+            ..
+        } => *handler == name,
         _ => false,
     }
 }
 
 /// Whether a law forbids a command in loop handlers.
-fn is_forbidden(what: &What, law: Law) -> bool
-    ensures { result ≡ forbidden_by law (action_of what.now) }
+fn is_forbidden(action: &Action, law: Law) -> bool
+    ensures { result ≡ forbidden_by law (action_of action.now) }
 {
-    match what {
-        What::Append(..) | What::Before(..) | What::Remove(..) => true,
-        What::Viewport(..)
-        | What::Ratio(..)
-        | What::Set(..)
-        | What::Grow(..)
-        | What::Load(..)
-        | What::RoObserve(..) => law == Law::Quiet,
+    match action {
+        Action::Append { .. } | Action::Before { .. } | Action::Remove(_) => true,
+        Action::Viewport(_)
+        | Action::Ratio(_)
+        | Action::Set { .. }
+        | Action::Grow { .. }
+        | Action::Load { .. }
+        | Action::RoObserve { .. } => law == Law::Quiet,
         _ => false,
     }
 }
 
 /// Whether a command without a block is what is looked for.
-fn is_sought(what: &What, sought: &Sought) -> bool
-    ensures { result ≡ is_sought sought.now (action_of what.now) }
+fn is_sought(action: &Action, sought: &Sought) -> bool
+    ensures { result ≡ is_sought sought.now (action_of action.now) }
 {
     match sought {
-        Sought::Naming(name) => names_handler(what, *name),
-        Sought::Forbidden(law) => is_forbidden(what, *law),
+        Sought::Naming(name) => names_handler(action, *name),
+        Sought::Forbidden(law) => is_forbidden(action, *law),
     }
 }
 
@@ -62,9 +65,9 @@ pub fn first_in_command(command: &Command, sought: &Sought) -> Option<u32>
     ensures { result ≡ slice_get (lines_in (is_sought sought.now) (command_of command.now)) 0 }
 {
     match &command.what {
+        What::Act(action) => is_sought(action, sought).then_some(command.line),
         What::Each(body) => first_in(body.commands.as_slice(), sought),
         What::When(_, body) => first_in(body.commands.as_slice(), sought),
-        what => is_sought(what, sought).then_some(command.line),
     }
 }
 
@@ -88,6 +91,7 @@ pub fn first_in_item(item: &Item, sought: &Sought) -> Option<u32>
 {
     match item {
         Item::Command(command) => first_in_command(command, sought),
-        Item::Handler { commands, .. } => first_in(commands.as_slice(), sought),
+        Item::Tick { .. } => None,
+        Item::Handler(handler) => first_in(handler.commands.as_slice(), sought),
     }
 }

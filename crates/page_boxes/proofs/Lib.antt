@@ -16,3 +16,4 @@ pub mod Reaching
 pub mod Edges
 pub mod InForce
 pub mod Around
+pub mod Mapped

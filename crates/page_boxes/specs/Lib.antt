@@ -4,3 +4,4 @@ pub mod Ranges
 pub mod Kept
 pub mod LaidOut
 pub mod Around
+pub mod Offsets

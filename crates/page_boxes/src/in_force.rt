@@ -36,7 +36,8 @@ const FARTHEST: Size = Size {
 
 /// Whether the stored position of a target is the start, where nothing is scrolled whatever its range. No memory.
 pub fn is_at_start(scrolls: &Scrolls, target: ScrollTarget) -> bool
-    ensures { result ≡ true → position_of (seen_target target) scrolls.now ≡ no_extent }
+    ensures start { result ≡ true → position_of (seen_target target) scrolls.now ≡ no_extent }
+    ensures moved { position_of (seen_target target) scrolls.now ≡ no_extent → result ≡ true }
 {
     let stored = scrolls.offset_in_force(target, FARTHEST);
     stored.left == 0 && stored.top == 0

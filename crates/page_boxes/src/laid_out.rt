@@ -3,10 +3,8 @@
 ghost use Rattle.std.specs.Prelude.{◌≡◌, ◌<◌, false, true, replicate, slice_set};
 ghost use Rattle.page_boxes.specs.LaidOut.{is_marked};
 
+use page_documents::MOST_DOCUMENTS;
 use std::marker::Model;
-
-// As many documents as a page may have.
-const MOST_DOCUMENTS: usize = 64;
 
 // A mark for each document. It takes no memory.
 #[derive(Drop)]

@@ -10,6 +10,7 @@
 mod climb;
 mod documents;
 mod exact;
+mod found;
 mod in_force;
 mod laid_out;
 mod laws;
@@ -22,6 +23,7 @@ mod screens;
 
 pub use documents::{ShownRoot, box_below, has_box, has_box_below, shown_root, viewport_of};
 pub use exact::undue_boxes_are_exact;
+pub use found::boxed_offsets;
 pub use in_force::{boxed_offset, is_at_start, shown_offset};
 pub use laws::nothing_kept_fits;
 pub use layout::{refresh, refresh_for, refresh_in};

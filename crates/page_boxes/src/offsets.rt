@@ -1,6 +1,6 @@
 //! How far what holds a box is scrolled, and where it is then (CSS 2.2, 9.4.1 and 10.1; CSSOM View, 6).
 
-ghost use Rattle.std.specs.Prelude.{◌≡◌, ◌*◌, ◌<◌, ◌≤◌, ℕ, true, cond, length, is_some, unsigned_abs};
+ghost use Rattle.std.specs.Prelude.{◌≡◌, ◌*◌, ◌<◌, ◌≤◌, ℕ, true, cond, length, IfSome, is_some, unsigned_abs};
 ghost use Rattle.layout_model.specs.Nodes.{holders_of, is_on_screen};
 ghost use Rattle.layout_model.specs.Points.{plus, moved_back, sum_points};
 ghost use Rattle.layout_model.specs.Views.{View, inputs_in_view};
@@ -12,12 +12,14 @@ ghost use Rattle.positioned_layout.specs.Seen.{IsNear};
 ghost use Rattle.kept_layout.specs.Measures.{IsSized};
 ghost use Rattle.page_model.specs.PageBoxes.{point_of, stored_in};
 ghost use Rattle.page_boxes.specs.Fresh.{HoldsAll};
+ghost use Rattle.page_boxes.specs.Offsets.{AreOffsets, AreInForce};
 ghost use Rattle.page_boxes.specs.Ranges.{IsOffset, IsPlace};
 
-use crate::in_force::boxed_offset;
+use crate::found::offset_of;
 use block_layout::Styled;
 use element_tree::{NodeId, Tree};
 use kept_layout::{Kept, Shift};
+use number_map::NumberMap;
 use positioned_layout::{Holder, holder_of};
 use px_units::Point;
 use scrolling::Scrolls;
@@ -33,15 +35,23 @@ fn unsigned(offset: Point) -> Shift
 }
 
 // The scroll offset in force of a node that has a box.
-fn own_scroll<P: Styled>(tree: &Tree<P>, boxes: &Kept, scrolls: &Scrolls, node: NodeId) -> Shift
-    requires { node.0 < length tree.now.nodes }
+fn own_scroll<P: Styled>(
+    tree: &Tree<P>,
+    boxes: &Kept,
+    scrolls: &Scrolls,
+    found: Option<&NumberMap<Point>>,
+    node: NodeId,
+) -> Shift
+    requires node { node.0 < length tree.now.nodes }
+    requires found { IfSome found (λ map. AreOffsets map.now) }
     ensures value { let at = layout_tree P.style P.kind tree.now.nodes in (view : View) → IsSized view →
-        HoldsAll at view boxes.now → is_some (inputs_in_view at view node.0) ≡ true →
+        HoldsAll at view boxes.now → IfSome found.entry (λ map. AreInForce at (stored_in scrolls.now) view map.now) →
+        is_some (inputs_in_view at view node.0) ≡ true →
         (result.across, result.down) ≡ offset_in_force at (stored_in scrolls.now) view node.0 }
     ensures across { result.across ≤ 2147483647 }
     ensures down { result.down ≤ 2147483647 }
 {
-    unsigned(boxed_offset(tree, boxes, scrolls, node))
+    unsigned(offset_of(tree, boxes, scrolls, found, node))
 }
 
 // How far the elements that hold a box are scrolled, and whether the screen holds the last of them.
@@ -55,11 +65,14 @@ fn scrolled<P: Styled>(
     tree: &Tree<P>,
     boxes: &Kept,
     scrolls: &Scrolls,
+    found: Option<&NumberMap<Point>>,
     node: NodeId,
 ) -> HolderScroll
-    requires { node.0 < length tree.now.nodes }
+    requires node { node.0 < length tree.now.nodes }
+    requires found { IfSome found (λ map. AreOffsets map.now) }
     ensures value { let at = layout_tree P.style P.kind tree.now.nodes in (view : View) → IsSized view →
-        HoldsAll at view boxes.now → is_some (inputs_in_view at view node.0) ≡ true →
+        HoldsAll at view boxes.now → IfSome found.entry (λ map. AreInForce at (stored_in scrolls.now) view map.now) →
+        is_some (inputs_in_view at view node.0) ≡ true →
         (result.shift.across, result.shift.down) ≡ sum_points (offset_in_force at (stored_in scrolls.now) view) (holders_of at node.0) }
     ensures ends { result.on_screen ≡ is_on_screen (layout_tree P.style P.kind tree.now.nodes) node.0 }
     ensures across { result.shift.across ≤ 2147483647 * tree.now.most_depth }
@@ -68,7 +81,7 @@ fn scrolled<P: Styled>(
     let mut shift = Shift::NONE;
     let mut held = holder_of(tree, node);
     while let Holder::Node(element) = held {
-        let more = own_scroll(tree, boxes, scrolls, element);
+        let more = own_scroll(tree, boxes, scrolls, found, element);
         shift = Shift {
             across: shift.across + more.across,
             down: shift.down + more.down,
@@ -120,18 +133,21 @@ fn view_shift(view: Point, on_screen: bool) -> Shift
 /// one. No memory.
 ///
 /// It goes up by the boxes of the node, its ancestors and those that hold it alone, with the heights that are kept above each; what is
-/// scrolled on the way is measured.
+/// scrolled on the way is measured where its offset wasn't found before (`boxed_offsets`).
 pub fn place_in<P: Styled>(
     tree: &Tree<P>,
     boxes: &Kept,
     scrolls: &Scrolls,
+    found: Option<&NumberMap<Point>>,
     view: Point,
     node: NodeId,
 ) -> Point
     requires depth { tree.now.most_depth ≤ 256 }
+    requires found { IfSome found (λ map. AreOffsets map.now) }
     requires view { IsOffset view }
     ensures value { let at = layout_tree P.style P.kind tree.now.nodes in (inside : View) (scrolled : ℕ × ℕ) → IsSized inside →
-        HoldsAll at inside boxes.now → is_some (inputs_in_view at inside node.0) ≡ true →
+        HoldsAll at inside boxes.now → IfSome found.entry (λ map. AreInForce at (stored_in scrolls.now) inside map.now) →
+        is_some (inputs_in_view at inside node.0) ≡ true →
         view ≡ as_point (view_in_force at (record inside { scrolled = scrolled })) →
         result ≡ point_of (place_in at (stored_in scrolls.now) (record inside { scrolled = scrolled }) node.0) }
     ensures left { IsPlace result.left }
@@ -141,6 +157,6 @@ pub fn place_in<P: Styled>(
     if !tree.holds(node) {
         return place;
     }
-    let scrolled = scrolled(tree, boxes, scrolls, node);
+    let scrolled = scrolled(tree, boxes, scrolls, found, node);
     moved_back(place, scrolled.shift, view_shift(view, scrolled.on_screen))
 }

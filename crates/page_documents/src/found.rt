@@ -8,7 +8,7 @@ use std::convert::Infallible;
 use std::marker::Model;
 
 /// As many documents as are ever held.
-pub(crate) const MOST_DOCUMENTS: usize = 64;
+pub const MOST_DOCUMENTS: usize = 64;
 
 // Takes the documents that a walk comes to, in its order.
 pub(crate) trait Finder {

@@ -12,6 +12,7 @@ mod owned;
 
 pub use documents::Documents;
 pub use entry::DocumentState;
+pub use found::MOST_DOCUMENTS;
 pub use laws::{
     making_elements_keeps_frames, making_frames_keeps_frames, placing_keeps_frames,
     removing_keeps_frames, styles_keep_frames, the_opening_tree_is_framed,

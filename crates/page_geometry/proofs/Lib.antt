@@ -12,3 +12,4 @@ mod Missing
 pub mod Boxes
 pub mod Looked
 pub mod Viewports
+pub mod Scrollers

@@ -1,10 +1,14 @@
--- One document of a page, what is shown of it, and how far its viewport is scrolled.
+-- One document of a page, what is shown of it, and how far its viewport and its elements are scrolled.
 use Rattle.std.specs.Prelude.{◌≡◌, ℕ}
+use Rattle.std.specs.Ordering.{nat_cmp}
+use Rattle.std.specs.FinMap.{FinMap}
 use Rattle.px_units.specs.declared.Point.{Point}
 use Rattle.page_model.specs.World.{ScrolledDocument}
-use Rattle.page_model.specs.PageBoxes.{pair_of}
+use Rattle.page_model.specs.Documents.{nodes_of}
+use Rattle.page_model.specs.PageBoxes.{pair_of, stored_in, view_of}
 use Rattle.page_model.specs.Shown.{Shown, scroll_offset}
 use Rattle.block_layout.specs.Seen.{as_point}
+use Rattle.page_boxes.specs.Offsets.{AreOffsets, AreInForce}
 use Rattle.page_boxes.specs.Ranges.{IsOffset}
 
 pub record ShownIn : Type 0 where
@@ -15,3 +19,8 @@ pub record ShownIn : Type 0 where
 pub record IsViewOffset (shown : Shown) (document : ℕ) (offset : Point) : Type 0 where
   pub value : offset ≡ as_point (pair_of (scroll_offset shown (ScrolledDocument document)))
   pub range : IsOffset offset
+
+-- scroll offsets in force of elements, of which those in a document are so
+pub record AreOffsetsIn (shown : Shown) (document : ℕ) (found : FinMap nat_cmp Point) : Type 0 where
+  pub value : AreInForce (nodes_of shown.tree) (stored_in shown.scrolls) (view_of shown.tree shown.screen document) found
+  pub range : AreOffsets found

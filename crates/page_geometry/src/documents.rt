@@ -4,11 +4,9 @@ ghost use Rattle.std.specs.Prelude.{◌≡◌, ◌<◌, Some, None, replicate, s
 ghost use Rattle.page_geometry.specs.Found.{found_at};
 
 use crate::view::DocumentView;
+use page_documents::MOST_DOCUMENTS;
 use px_units::Point;
 use std::marker::Model;
-
-// As many documents as a page may have.
-const MOST_DOCUMENTS: usize = 64;
 
 // What a document shows, and where its viewport begins in that of `top`, none where that wasn't found.
 #[derive(Clone, Copy, Debug, PartialEq, Eq)]

@@ -124,7 +124,14 @@ impl ShownDocument<'_> {
             return NOWHERE;
         }
         let view = self.view_offset();
-        place_in(self.elements(), self.boxes(), self.scrolls(), view, node)
+        place_in(
+            self.elements(),
+            self.boxes(),
+            self.scrolls(),
+            self.offsets(),
+            view,
+            node,
+        )
     }
 
     /// The border box of an element in the viewport of its document, all zeros without a box.

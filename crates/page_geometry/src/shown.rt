@@ -23,11 +23,13 @@ use crate::shown_document::ShownDocument;
 use crate::view::{DocumentView, view_in};
 use element_tree::{NodeId, Tree};
 use kept_layout::Kept;
-use page_boxes::Screen;
+use number_map::NumberMap;
+use page_boxes::{Screen, boxed_offsets};
 use page_tree::{Container, Element, PageTree};
 use positioned_layout::{Holder, holder_of};
 use px_units::Point;
 use scrolling::Scrolls;
+use std::alloc::Global;
 use std::marker::Model;
 
 /// A page whose boxes are all held as they are now, with its scroll positions and the screen of `top`. A contract sees
@@ -39,9 +41,11 @@ pub struct Shown<'a> {
     scrolls: &'a Scrolls,
     screen: Screen,
     found: FoundDocuments,
+    offsets: Option<NumberMap<Point>>,
 }
 
 impl<'a> Model for Shown<'a> {
+    ghost use Rattle.std.specs.Prelude.{ℕ, IfSome};
     ghost use Rattle.page_model.specs.Shown.{Shown as ModelShown};
 
     ghost Value = { ModelShown };
@@ -49,11 +53,13 @@ impl<'a> Model for Shown<'a> {
     ghost use Rattle.page_model.specs.Shown.{shown_with};
     ghost use Rattle.page_boxes.specs.Fresh.{IsFresh};
     ghost use Rattle.page_boxes.specs.Pages.{seen_screen, IsScreen};
+    ghost use Rattle.page_geometry.specs.Documents.{AreOffsetsIn};
     ghost use Rattle.page_geometry.specs.Found.{AreFound};
 
     ghost view = { λ s. shown_with s.page.now.tree (seen_screen s.screen) s.scrolls.now };
 
-    ghost invariant = { λ s. IsScreen s.screen × IsFresh s.page.now.tree (seen_screen s.screen) s.boxes.now × AreFound (shown_with s.page.now.tree (seen_screen s.screen) s.scrolls.now) s.found };
+    ghost invariant = { λ s. IsScreen s.screen × IsFresh s.page.now.tree (seen_screen s.screen) s.boxes.now × AreFound (shown_with s.page.now.tree (seen_screen s.screen) s.scrolls.now) s.found
+        × IfSome s.offsets (λ map. (document : ℕ) → AreOffsetsIn (shown_with s.page.now.tree (seen_screen s.screen) s.scrolls.now) document map) };
 }
 
 impl<'a> Shown<'a> {
@@ -74,6 +80,7 @@ impl<'a> Shown<'a> {
             scrolls,
             screen,
             found: FoundDocuments::new(),
+            offsets: None,
         }
     }
 
@@ -90,17 +97,28 @@ impl<'a> Shown<'a> {
         shown
     }
 
-    /// The same, for a reading of many elements: what each document shows, how large its viewport is, how far that is scrolled, and where
-    /// it begins, is found here once, and not for each element. So each viewport whose stored position isn't the start, and lies
-    /// farther than its root element reaches, is measured, whatever is read then. No memory.
-    pub fn with_documents(self) -> Shown<'a>
+    /// The same, for a reading of many elements: how far elements are scrolled, what each document shows, how large its viewport is, how
+    /// far that is scrolled, and where it begins, is found here once, and not for each element. So each viewport whose stored position
+    /// isn't the start, and lies farther than its root element reaches, is measured, and so is each such scroll container, by its last
+    /// child, whatever is read then. Where there is no memory, each reading finds how far elements are scrolled.
+    pub fn with_documents(self, alloc: Global) -> Shown<'a>
         ensures { result ≡ self.entry }
     {
-        let mut shown = self.with_offsets();
+        let mut shown = self.with_scrollers(alloc).with_offsets();
         let count = shown.document_count();
         for document in 0..count {
             shown.place(document);
         }
+        shown
+    }
+
+    // With how far elements are scrolled, where there is memory for it.
+    fn with_scrollers(self, alloc: Global) -> Shown<'a>
+        ensures { result ≡ self.entry }
+    {
+        let mut shown = self;
+        let offsets = boxed_offsets(alloc, shown.elements(), shown.boxes, shown.scrolls);
+        shown.offsets = offsets.ok();
         shown
     }
 
@@ -227,7 +245,7 @@ impl<'a> Shown<'a> {
     }
 
     // What is shown of one document.
-    pub(crate) fn in_document(&self, document: u32) -> ShownDocument<'a>
+    pub(crate) fn in_document(&self, document: u32) -> ShownDocument<'_>
         ensures { result ≡ record { shown = self.now; document = document } }
     {
         let view = self.view_of(document);
@@ -238,11 +256,12 @@ impl<'a> Shown<'a> {
             self.screen,
             document,
             view,
+            self.offsets.as_ref(),
         )
     }
 
     // What is shown of the node document of an element.
-    pub(crate) fn in_document_of(&self, node: NodeId) -> ShownDocument<'a>
+    pub(crate) fn in_document_of(&self, node: NodeId) -> ShownDocument<'_>
         ensures { result ≡ record { shown = self.now; document = (element_at self.now.tree node.0).document } }
     {
         self.in_document(self.document_of(node))

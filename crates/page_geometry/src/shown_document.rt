@@ -13,12 +13,13 @@ ghost use Rattle.kept_layout.specs.Measures.{IsSized};
 ghost use Rattle.page_tree.specs.Items.{IsNatural, style_in, kind_in};
 ghost use Rattle.page_boxes.specs.Fresh.{IsFreshIn, IsFreshAbove};
 ghost use Rattle.page_boxes.specs.Pages.{seen_pair, seen_screen, IsScreen};
-ghost use Rattle.page_geometry.specs.Documents.{IsViewOffset};
+ghost use Rattle.page_geometry.specs.Documents.{IsViewOffset, AreOffsetsIn};
 
 use crate::view::{DocumentView, view_in};
 use block_layout::BoxOf;
 use element_tree::{NodeId, Tree};
 use kept_layout::Kept;
+use number_map::NumberMap;
 use page_boxes::{Screen, ShownRoot, box_below, has_box_below};
 use page_tree::{Element, PageTree};
 use px_units::{Point, Size};
@@ -36,12 +37,13 @@ pub struct ShownDocument<'a> {
     screen: Screen,
     document: u32,
     view: DocumentView,
+    offsets: Option<&'a NumberMap<Point>>,
 }
 
 impl<'a> Model for ShownDocument<'a> {
     ghost use Rattle.std.specs.Prelude.{◌≡◌, option_map, IfSome};
     ghost use Rattle.element_tree.specs.Links.{number};
-    ghost use Rattle.page_geometry.specs.Documents.{ShownIn, IsViewOffset};
+    ghost use Rattle.page_geometry.specs.Documents.{ShownIn, IsViewOffset, AreOffsetsIn};
 
     ghost Value = { ShownIn };
 
@@ -59,7 +61,8 @@ impl<'a> Model for ShownDocument<'a> {
         × option_map number s.view.root ≡ (view_of s.page.now.tree (seen_screen s.screen) s.document).root
         × s.view.size ≡ as_size (pair_of (viewport_of s.page.now.tree (seen_screen s.screen) s.document))
         × IsNatural s.view.size
-        × IfSome s.view.offset (IsViewOffset (shown_with s.page.now.tree (seen_screen s.screen) s.scrolls.now) s.document) };
+        × IfSome s.view.offset (IsViewOffset (shown_with s.page.now.tree (seen_screen s.screen) s.scrolls.now) s.document)
+        × IfSome s.offsets (λ map. AreOffsetsIn (shown_with s.page.now.tree (seen_screen s.screen) s.scrolls.now) s.document map.now) };
 }
 
 impl<'a> ShownDocument<'a> {
@@ -81,10 +84,10 @@ impl<'a> ShownDocument<'a> {
         ensures { result ≡ record { shown = shown_with page.now.tree (seen_screen screen) scrolls.now; document = document } }
     {
         let view = view_in(page, boxes, screen, document);
-        ShownDocument::with_view(page, boxes, scrolls, screen, document, view)
+        ShownDocument::with_view(page, boxes, scrolls, screen, document, view, None)
     }
 
-    // The same, where what the document shows was found before.
+    // The same, where what the document shows was found before, and how far elements are scrolled may have been.
     pub(crate) fn with_view(
         page: &'a PageTree,
         boxes: &'a Kept,
@@ -92,6 +95,7 @@ impl<'a> ShownDocument<'a> {
         screen: Screen,
         document: u32,
         view: DocumentView,
+        offsets: Option<&'a NumberMap<Point>>,
     ) -> ShownDocument<'a>
         requires screen { IsScreen screen }
         requires fresh { IsFreshIn page.now.tree (seen_screen screen) boxes.now document }
@@ -99,6 +103,7 @@ impl<'a> ShownDocument<'a> {
         requires size { view.size ≡ as_size (pair_of (viewport_of (shown_with page.now.tree (seen_screen screen) scrolls.now) document)) }
         requires range { IsNatural view.size }
         requires offset { IfSome view.offset (IsViewOffset (shown_with page.now.tree (seen_screen screen) scrolls.now) document) }
+        requires offsets { IfSome offsets (λ map. AreOffsetsIn (shown_with page.now.tree (seen_screen screen) scrolls.now) document map.now) }
         ensures { result ≡ record { shown = shown_with page.now.tree (seen_screen screen) scrolls.now; document = document } }
     {
         ShownDocument {
@@ -108,6 +113,7 @@ impl<'a> ShownDocument<'a> {
             screen,
             document,
             view,
+            offsets,
         }
     }
 
@@ -127,6 +133,7 @@ impl<'a> ShownDocument<'a> {
             self.screen,
             self.document,
             view,
+            self.offsets,
         )
     }
 
@@ -170,6 +177,13 @@ impl<'a> ShownDocument<'a> {
         ensures { result.now ≡ self.now.shown.scrolls }
     {
         self.scrolls
+    }
+
+    // The scroll offsets in force of elements, none where they weren't looked for.
+    pub(crate) fn offsets(&self) -> Option<&NumberMap<Point>>
+        ensures { IfSome result (λ map. AreOffsetsIn self.now.shown self.now.document map.now) }
+    {
+        self.offsets
     }
 
     // What `top` is shown on.

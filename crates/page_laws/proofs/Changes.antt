@@ -232,7 +232,7 @@ gather-next document depth world =
 
 -- the entries queued are of registered targets
 
-news-in : (P : Entry → Type 0) (entry : Entry) (news : Bool) → P entry → IfSome (cond news (Some entry) None) P
+pub news-in : (P : Entry → Type 0) (entry : Entry) (news : Bool) → P entry → IfSome (cond news (Some entry) None) P
 news-in P entry true is = is
 news-in P entry false is = tt
 
@@ -240,7 +240,7 @@ cons-in : (P : Entry → Type 0) (found : Option Entry) (rest : List Entry) → 
 cons-in P None rest is all = all
 cons-in P (Some entry) rest is all = (is, all)
 
-all-filter-map : {A : Type 0} (find : A → Option Entry) (P : Entry → Type 0) (xs : List A) → AllByRecursion (λ x. IfSome (find x) P) xs →
+pub all-filter-map : {A : Type 0} (find : A → Option Entry) (P : Entry → Type 0) (xs : List A) → AllByRecursion (λ x. IfSome (find x) P) xs →
     AllByRecursion P (filter_map find xs)
 all-filter-map find P [] all = tt
 all-filter-map find P (x ∷ xs) all = cons-in P (find x) (filter_map find xs) (all.0) (all-filter-map find P xs (all.1))
@@ -263,7 +263,7 @@ settled-in counts time find it is =
     (all-append _ (it.queue) _ is.queue (entries-settled counts time (find it) (it.registrations) is.registrations))
 
 -- observers settled one after the other
-settling-kept : (counts : Counts) (time : ℕ) (find : ℕ → IntersectionObserver → ℕ → Finding) (observers : List ℕ) (it : IntersectionObservers) →
+pub settling-kept : (counts : Counts) (time : ℕ) (find : ℕ → IntersectionObserver → ℕ → Finding) (observers : List ℕ) (it : IntersectionObservers) →
     IsKept (IsIntersectionObserverIn counts) (it.made) (settling time find observers it).made
 settling-kept counts time find [] it = still-kept (IsIntersectionObserverIn counts) (it.made)
 settling-kept counts time find (observer ∷ others) it =

@@ -21,3 +21,4 @@ pub mod Limits
 pub mod Turns
 pub mod Ratios
 pub mod Unboxed
+pub mod Ready

@@ -76,18 +76,18 @@ pub same-count : (script : Script) → length (handler_names script) ≡ length 
 same-count [] = refl
 same-count (x ∷ xs) = ap suc (same-count xs)
 
+pub counted-in : (handlers : ℕ) (world : World) → IsInRange handlers world → IsInRange handlers (counted world)
+counted-in handlers world within = search
+
+pub timed-in : (handlers time : ℕ) (world : World) → IsInRange handlers world → IsInRange handlers (record world { clock = time })
+timed-in handlers time world within = search
+
 module _ (script : Script) (Q : World → Type 0) (kept : IsKeptInRange script Q) where
   abbrev handlers : ℕ
   handlers = length (handler_names script)
 
   abbrev Running : ℕ → World → Type 0
   Running k world = IsRunning handlers Q k world
-
-  counted-in : (world : World) → IsInRange handlers world → IsInRange handlers (counted world)
-  counted-in world within = search
-
-  timed-in : (time : ℕ) (world : World) → IsInRange handlers world → IsInRange handlers (record world { clock = time })
-  timed-in time world within = search
 
   does-runs : (k : ℕ) (world : World) (present : Present) (action : Action) → IsEntryIn k present → Running k world →
       OnDid (does (handler_names script) world present action) (λ effect. Running k (effect.world))
@@ -107,7 +107,7 @@ module _ (script : Script) (Q : World → Type 0) (kept : IsKeptInRange script Q
       beside = kept.next before now next (running.beside);
     };
     carried = λ k. carried-by script _ _
-        (λ world room running. record { within = counted-in world (running.within); most = running.most; beside = kept.begun world (running.beside) })
+        (λ world room running. record { within = counted-in handlers world (running.within); most = running.most; beside = kept.begun world (running.beside) })
         (does-runs k) tt;
     entered = λ k world running. record { within = running.within; most = omega arith; beside = running.beside };
     left = λ k before now running after. record { within = after.within; most = omega (arith, running.most, after.most); beside = after.beside };
@@ -119,7 +119,7 @@ module _ (script : Script) (Q : World → Type 0) (kept : IsKeptInRange script Q
 
   running-timed : (k time : ℕ) (world : World) → Running k world → nat_lt time world.clock ≡ false → Running k (record world { clock = time })
   running-timed k time world running is =
-      record { within = timed-in time world (running.within); most = running.most; beside = kept.timed time world (running.beside) }
+      record { within = timed-in handlers time world (running.within); most = running.most; beside = kept.timed time world (running.beside) }
 
   -- of a world in range by the number of handlers, and back
 

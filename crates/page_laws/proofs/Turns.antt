@@ -38,7 +38,7 @@ limits-kept script =
     (λ before now next here. as-many before here now next.observers next.queries next.successor.begun next.successor.version next.tasks)
     (limits-carried script)
 
-timed : (time : ℕ) (world : World) → IsWithinLimits world → nat_lt time world.clock ≡ false → IsWithinLimits (record world { clock = time })
+pub timed : (time : ℕ) (world : World) → IsWithinLimits world → nat_lt time world.clock ≡ false → IsWithinLimits (record world { clock = time })
 timed time world here is = as-many world here _ refl refl refl refl (tasks-alike world _ refl refl refl)
 
 pub opening-within : (version : Version) → IsWithinLimits (opening_world version)

@@ -4,3 +4,4 @@ pub mod Quiet
 pub mod Bounds
 pub mod Making
 pub mod Changed
+pub mod Ready

@@ -6,11 +6,12 @@ ghost use Rattle.text_io.specs.declared.kinds.ThrowKind.TheVariants.{RangeError}
 ghost use Rattle.text_io.specs.declared.kinds.LimitKind.TheVariants as limits;
 ghost use Rattle.text_io.specs.declared.kinds.Version.{Version};
 ghost use Rattle.text_io.specs.Limits.{limit_number};
-ghost use Rattle.script_model.specs.Syntax.{Command, Item};
+ghost use Rattle.script_model.specs.Syntax.{Action, Command, Item};
 ghost use Rattle.script_model.specs.Scripts.{handlers_in};
 ghost use Rattle.script_model.specs.TraceLines.{ThrowLine, TickLine};
 ghost use Rattle.page_model.specs.World.{World};
-ghost use Rattle.page_model.specs.Operands.{Present};
+ghost use Rattle.page_model.specs.Operands.{Handlers, Present};
+ghost use Rattle.page_model.specs.Commands.{begun_in, does};
 ghost use Rattle.page_model.specs.Ranges.{IsInRange, IsPresentIn};
 ghost use Rattle.page_model.specs.Documents.{is_active};
 ghost use Rattle.page_model.specs.Gathering.{due_at};
@@ -18,9 +19,10 @@ ghost use Rattle.page_model.specs.Loop.{Broadcast, gather, broadcast, deliver_so
 ghost use Rattle.page_laws.specs.Bounds.{IsWithinLimits, places_up_to};
 ghost use Rattle.page_laws.specs.Later.{IsLater};
 ghost use Rattle.page_laws.specs.Quiet.{IsQuiet};
+ghost use Rattle.page_laws.specs.Successors.{OnDid};
 ghost use Rattle.page_model.specs.Runs.{Thrown};
 ghost use Rattle.page_model.specs.Callbacks.{Script, Entries, presents, run_command, call};
-ghost use Rattle.page_model.specs.Ticks.{evaluate, media_steps, run_first, tick};
+ghost use Rattle.page_model.specs.Ticks.{evaluate, media_steps, run_first, tick, time_set};
 ghost use Rattle.page_model.specs.Outcome.{opening_world, run_item, run_items, run_tick};
 
 /// A command with its block, a callback, a tick and the items of a script leave a later world than the one before (`IsLater`): what was
@@ -43,9 +45,12 @@ pub fn the_clock_stands_in_a_tick()
 
 /// Each number in a world is that of something over whole runs too, so no lookup ever comes to a default. A script opens in a
 /// world in range. From any world in range a command with its block, a callback, a tick and an item leave one, where the
-/// entries that are handed in are of elements that there are and the handlers are those of the script.
+/// entries that are handed in are of elements that there are and the handlers are those of the script; and so do the counting of a command
+/// and the setting of the clock. (Of what one command does the law `numbers_stay_in_range` says so.)
 pub fn runs_stay_in_range()
     ensures opening { (handlers : ℕ) (version : Version) → IsInRange handlers (opening_world version) }
+    ensures counts { (handlers : ℕ) (world : World) → IsInRange handlers world → OnDid (begun_in world) (IsInRange handlers) }
+    ensures times { (handlers time : ℕ) (world : World) → IsInRange handlers world → OnDid (time_set time world) (IsInRange handlers) }
     ensures commands { (script : Script) (world : World) → IsInRange (length script) world →
         (entries : List Present) (command : Command) (present : Present) → AllByRecursion (IsPresentIn world) entries → IsPresentIn world present →
         IsInRange (length script) (run_command script entries command present world).state }
@@ -64,11 +69,16 @@ pub fn ticks_of_a_quiet_page_say_nothing_more()
     ensures quiet { (script : Script) (world : World) → IsQuiet world → IsQuiet (tick script world).state }
 {}
 
-/// The limits on resize observers, query lists, commands begun, documents and tasks are kept over whole runs: by commands and callbacks, by
+/// The limits on resize observers, query lists, commands begun, documents and tasks are kept by what each command does, by the counting of
+/// commands and the setting of the clock, and over whole runs: by commands and callbacks, by
 /// gatherings, broadcasts and rounds of a resize loop, by each task, and by ticks and items. A notify task waits for marked documents alone, so
 /// at most 4,160 tasks wait.
 pub fn limits_are_kept()
     ensures opening { (version : Version) → IsWithinLimits (opening_world version) }
+    ensures effects { (handlers : Handlers) (world : World) → IsWithinLimits world → (present : Present) (action : Action) →
+        OnDid (does handlers world present action) (λ effect. IsWithinLimits (effect.world)) }
+    ensures counts { (world : World) → IsWithinLimits world → OnDid (begun_in world) IsWithinLimits }
+    ensures times { (time : ℕ) (world : World) → IsWithinLimits world → OnDid (time_set time world) IsWithinLimits }
     ensures commands { (script : Script) (world : World) → IsWithinLimits world → (entries : List Present) (command : Command) (present : Present) →
         IsWithinLimits (run_command script entries command present world).state }
     ensures callbacks { (script : Script) (world : World) → IsWithinLimits world → (document : ℕ) (handler : Option ℕ) (handed : Entries) →

@@ -21,3 +21,4 @@ mod Opening
 mod Puts
 mod Watched
 mod Updated
+pub mod Ready

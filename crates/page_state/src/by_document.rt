@@ -3,11 +3,9 @@
 ghost use Rattle.std.specs.Prelude.{◌≡◌, ◌<◌, IfOk, []};
 ghost use Rattle.page_model.specs.Lookups.{entry_or, put_at, change_at};
 
+use page_documents::MOST_DOCUMENTS;
 use std::alloc::{AllocError, Global};
 use std::marker::Model;
-
-/// As many documents as a page may have.
-const MOST_DOCUMENTS: usize = 64;
 
 /// An entry for each document. The room for all is made at first, so that setting one takes no memory.
 #[derive(Drop)]

@@ -1,11 +1,12 @@
 //! What a tick and a dispatch ask of the event tables of a page (DOM, 2.9; HTML, timers, animation frames and tasks).
 
-ghost use Rattle.std.specs.Prelude.{◌≡◌, ℕ, List, find, map, option_map, IfOk};
+ghost use Rattle.std.specs.Prelude.{◌≡◌, ℕ, List, find, map, option_map, IfOk, IfSome};
 ghost use Rattle.page_model.specs.World.{Listener as ModelListener};
 ghost use Rattle.page_model.specs.Listeners.{listeners_of, listener_stands};
 ghost use Rattle.page_model.specs.FrameCallbacks.{frame_callbacks_of, frame_callback_stands};
 ghost use Rattle.page_model.specs.Timers.{due_timers};
 ghost use Rattle.page_model.specs.Scrolls.{pending_of, without_pending};
+ghost use Rattle.page_laws.specs.Ready.{IsReadyFor, with_first};
 ghost use Rattle.event_tables.specs.FrameCallbacks as frames;
 ghost use Rattle.event_tables.specs.Handed.{behind_first};
 ghost use Rattle.event_tables.specs.Seen.{seen_target, seen_task};
@@ -59,6 +60,7 @@ impl Page {
           };
         } }
         ensures left { batch.new ≡ behind_first (λ it. frame_callback_stands it self.old.world.frame_callbacks) batch.old }
+        ensures ready { (handlers : ℕ) → IsReadyFor handlers self.old.world → IsReadyFor handlers self.new.world }
     {
         self.frame_callbacks.next(batch)
     }
@@ -82,14 +84,18 @@ impl Page {
           };
         } }
         ensures left { batch.new ≡ behind_first (copied_stands self.old.world.timers) batch.old }
+        ensures ready { (handlers : ℕ) → IsReadyFor handlers self.old.world → IsReadyFor handlers self.new.world }
     {
         self.timers.next(batch)
     }
 
-    /// Takes the first task off. None exactly where no task waits.
+    /// Takes the first task off. None exactly where no task waits. A page that was ready for a tick is so with that task before all others
+    /// too, as `notify_list` asks it.
     pub fn pop_task(&mut self) -> Option<Task>
         ensures value { option_map seen_task result ≡ first_of self.old.world.tasks }
         ensures left { self.new ≡ record self.old { world = record (self.old.world) { tasks = others_of (self.old.world.tasks) } } }
+        ensures ready { (handlers : ℕ) → IsReadyFor handlers self.old.world → IsReadyFor handlers self.new.world }
+        ensures task { (handlers : ℕ) → IsReadyFor handlers self.old.world → IfSome result (λ task. IsReadyFor handlers (with_first (seen_task task) self.new.world)) }
     {
         self.tasks.pop()
     }
@@ -99,6 +105,7 @@ impl Page {
     pub fn take_scrolled(&mut self, document: u32) -> Vec<ScrollTarget>
         ensures value { seen_targets result.items ≡ pending_of document self.old.world.scrolls }
         ensures taken { self.new ≡ record self.old { world = record (self.old.world) { scrolls = without_pending document (self.old.world.scrolls) } } }
+        ensures ready { (handlers : ℕ) → IsReadyFor handlers self.old.world → IsReadyFor handlers self.new.world }
     {
         self.scrolls.take_pending(document)
     }

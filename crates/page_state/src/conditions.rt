@@ -1,10 +1,11 @@
 //! The conditions of `when`.
 
-ghost use Rattle.std.specs.Prelude.{◌≡◌, length, Bool, nat_lt, unsigned_abs};
+ghost use Rattle.std.specs.Prelude.{◌≡◌, ℕ, length, Bool, nat_lt, unsigned_abs};
 ghost use Rattle.px_units.specs.declared.BoxKind.TheVariants.{Border};
 ghost use Rattle.page_model.specs.Commands.{asked, holds, seen_now};
 ghost use Rattle.page_model.specs.PageBoxes.{size_of};
 ghost use Rattle.page_model.specs.Documents.{InElement};
+ghost use Rattle.page_laws.specs.Ready.{IsReadyFor};
 ghost use Rattle.page_boxes.specs.Around.{rests_on};
 ghost use Rattle.page_boxes.specs.Pages.{seen_size};
 ghost use Rattle.script_syntax.specs.Allowed.{TestAllowed};
@@ -42,6 +43,7 @@ impl Page {
         ensures answer { Finds (λ (answer : Bool). answer) result (holds self.old.world (present_with subject seen) (condition_of condition.now)) }
         ensures same { self.new ≡ record self.old { kept = self.new.kept } }
         ensures boxes { ComputesIn self.old.world (answer_rests_on self.old.world (present_with subject seen) (test_of condition.now.asks)) self.old.kept self.new.kept steps.old steps.new }
+        ensures ready { (handlers : ℕ) → IsReadyFor handlers self.old.world → IsReadyFor handlers self.new.world }
     {
         match self.ask(condition.asks, subject, seen, steps) {
             Ok(answer) if condition.negated => Ok(!answer),

@@ -11,6 +11,7 @@ ghost use Rattle.page_model.specs.Documents.{InDocument};
 ghost use Rattle.page_model.specs.PageBoxes.{viewport_of};
 ghost use Rattle.page_model.specs.Shown.{shown_of, shown_with};
 ghost use Rattle.page_model.specs.Ticks.{time_set};
+ghost use Rattle.page_laws.specs.Ready.{IsReadyFor};
 ghost use Rattle.page_boxes.specs.Around.{rests_on, LeavesOthers};
 ghost use Rattle.page_boxes.specs.Fresh.{IsFreshIn, IsFreshAbove};
 ghost use Rattle.page_boxes.specs.Kept.{AreKept, FillsOnly, IsExact, is_due, due_count};
@@ -41,7 +42,7 @@ use page_layout::LaidTree;
 use page_tree::Container;
 use px_units::{Percent, Size};
 use resize_observer::{ObserverId, Observers};
-use script_syntax::{Command, Script, What};
+use script_syntax::{Action, Script};
 use scrolling::Scrolls;
 use std::alloc::{AllocError, Global};
 use std::marker::Model;
@@ -62,6 +63,9 @@ const FIRST_SCREEN: Screen = Screen {
 
 /// A page with the document `top`. A contract sees it as a world of the definitions, and as whether a command was begun
 /// and not applied yet (`specs/Views.antt`).
+///
+/// A page as it opens is ready for a tick of `frame_update` (`IsReadyFor` of `page_laws`), for any number of handlers, and each of its calls
+/// leaves one ready that was (clause `ready`): `apply`, for the handlers of its script, and `notify_list`, as it says.
 ///
 /// An observation in this page, a target and a name are those of something that the page made. Boxes are kept from one
 /// reading to the next (`page_layout`): a reading first computes those that are due.
@@ -119,6 +123,7 @@ impl Page {
     pub fn new(alloc: Global, version: Version) -> Result<Page, AllocError>
         ensures opened { IfOk result (λ page. page ≡ record { world = opening_world version; begun = false; kept = []; found = page.found }) }
         ensures findings { IfOk result (λ page. IsRoomier no_findings page.found) }
+        ensures ready { IfOk result (λ page. (handlers : ℕ) → IsReadyFor handlers page.world) }
     {
         // What may be refused comes first, where little is made that would have to be dropped.
         let laid = LaidTree::new(alloc, version)?;
@@ -158,6 +163,7 @@ impl Page {
         ensures findings { self.new.found ≡ self.old.found }
         ensures begun { OnOk result (self.new.begun ≡ true) }
         ensures same { OnErr result (self.new ≡ self.old) }
+        ensures ready { (handlers : ℕ) → IsReadyFor handlers self.old.world → IsReadyFor handlers self.new.world }
     {
         if self.count >= most(LimitKind::Commands, self.version) {
             return Err(PageFault::Limit(LimitKind::Commands));
@@ -178,6 +184,7 @@ impl Page {
         ensures findings { self.new.found ≡ self.old.found }
         ensures begun { self.new.begun ≡ self.old.begun }
         ensures same { OnErr result (self.new ≡ self.old) }
+        ensures ready { (handlers : ℕ) → IsReadyFor handlers self.old.world → IsReadyFor handlers self.new.world }
     {
         if time < self.clock {
             return Err(PageFault::Throw(ThrowKind::RangeError));
@@ -187,29 +194,30 @@ impl Page {
     }
 
     /// Applies a command that was begun: what it does is in the definition of commands, for the target of the present
-    /// entry if there is one. `tick`, `each` and `when` aren't applied.
+    /// entry if there is one.
     ///
     /// # Errors
     /// `Throw` and `Limit` exactly where the definition says so, and `Memory`. The world is then as it was.
     pub fn apply<L: Ledger>(
         &mut self,
         script: &Script,
-        command: &Command,
+        action: &Action,
         subject: Option<NodeId>,
         steps: &mut Steps<L>,
     ) -> Result<Effect, PageFault>
         requires begun { self.old.begun ≡ true }
-        requires allowed { ActionAllowed command.now.what }
+        requires allowed { ActionAllowed action.now }
         requires subject { IsSubject (length self.old.world.tree.elements) subject }
         ensures applied { Applied result self.old.world self.new.world
-            (does (handler_names (handlers_in script.now.items)) self.old.world (present_of subject) (action_of command.now.what)) }
+            (does (handler_names (handlers_in script.now.items)) self.old.world (present_of subject) (action_of action.now)) }
         ensures begun { self.new.begun ≡ false }
         ensures handed { IfOk result (IsHanded self.new.world) }
-        ensures boxes { BoxesAfter (present_of subject) (action_of command.now.what) result self.old.world self.new.world.tree self.old.kept self.new.kept steps.old steps.new }
+        ensures boxes { BoxesAfter (present_of subject) (action_of action.now) result self.old.world self.new.world.tree self.old.kept self.new.kept steps.old steps.new }
         ensures findings { KeepsFindings self.old.world.intersection_observers self.new.world.intersection_observers self.old.found self.new.found }
+        ensures ready { IsReadyFor (length (handlers_in script.now.items)) self.old.world → IsReadyFor (length (handlers_in script.now.items)) self.new.world }
     {
         self.begun = false;
-        self.act(script, &command.what, subject, steps)
+        self.act(script, action, subject, steps)
     }
 
     // Applies a command that was counted, so that each table may give one serial number more.
@@ -217,7 +225,7 @@ impl Page {
     fn act<L: Ledger>(
         &mut self,
         script: &Script,
-        what: &What,
+        action: &Action,
         subject: Option<NodeId>,
         steps: &mut Steps<L>,
     ) -> Result<Effect, PageFault>
@@ -227,60 +235,86 @@ impl Page {
         requires listeners { self.old.world.listeners.given < self.old.world.begun }
         requires frame_callbacks { self.old.world.frame_callbacks.given < self.old.world.begun }
         requires timers { self.old.world.timers.given < self.old.world.begun }
-        requires allowed { ActionAllowed what.now }
+        requires allowed { ActionAllowed action.now }
         requires subject { IsSubject (length self.old.world.tree.elements) subject }
-        ensures done { Kept self.old self.new result (does (handler_names (handlers_in script.now.items)) self.old.world (present_of subject) (action_of what.now)) }
-        ensures boxes { BoxesAfter (present_of subject) (action_of what.now) result self.old.world self.new.world.tree self.old.kept self.new.kept steps.old steps.new }
+        ensures done { Kept self.old self.new result (does (handler_names (handlers_in script.now.items)) self.old.world (present_of subject) (action_of action.now)) }
+        ensures boxes { BoxesAfter (present_of subject) (action_of action.now) result self.old.world self.new.world.tree self.old.kept self.new.kept steps.old steps.new }
         ensures findings { KeepsFindings self.old.world.intersection_observers self.new.world.intersection_observers self.old.found self.new.found }
     {
-        match what {
-            What::Viewport(size) => self.set_viewport(*size),
-            What::Ratio(ratio) => self.set_ratio(*ratio),
-            What::Block(name, document) => self.make_block(*name, *document),
-            What::Image(name, document, size) => self.make_image(*name, *document, *size),
-            What::Append(parent, node) => self.append(*parent, *node, subject),
-            What::Before(parent, node, sibling) => self.insert(*parent, *node, *sibling, subject),
-            What::Remove(node) => self.remove(*node, subject),
-            What::Set(node, declaration) => self.set(*node, *declaration, subject),
-            What::Grow(node, axis, by) => self.grow(*node, *axis, *by, subject),
-            What::Load(node, size) => self.load(*node, *size, subject),
-            What::Ro(name, document, handler) => {
-                self.make_observer(script, *name, *document, *handler)
-            }
-            What::RoObserve(observer, node, observed) => {
-                self.observe(*observer, *node, *observed, subject)
-            }
-            What::RoUnobserve(observer, node) => self.unobserve(*observer, *node, subject),
-            What::RoDisconnect(observer) => self.disconnect(*observer),
-            What::Listen(aim, event, handler) => {
-                self.listen(script, *aim, *event, *handler, subject)
-            }
-            What::Unlisten(aim, event, handler) => {
-                self.unlisten(script, *aim, *event, *handler, subject)
-            }
-            What::Media(name, document, query) => {
-                self.make_query_list(*name, *document, query, steps)
-            }
-            What::Raf(document, key, handler) => {
-                self.request_frame(script, *document, *key, *handler)
-            }
-            What::CancelRaf(document, key) => self.cancel_frame(*document, *key),
-            What::Timer(document, key, delay, handler) => {
-                self.set_timer(script, *document, *key, *delay, *handler)
-            }
-            What::ClearTimer(document, key) => self.clear_timer(*document, *key),
-            What::Post(document, handler) => self.post(script, *document, *handler),
-            What::Say(word) => Ok(Effect::Line(TraceLine::Say(*word))),
-            What::Read(node) => self.read(*node, subject, steps),
-            What::Frame(name, document, inside) => self.make_frame(*name, *document, *inside),
-            What::Io(making) => self.make_watcher(script, making, subject),
-            What::IoObserve(observer, node) => self.register(*observer, *node, subject),
-            What::IoUnobserve(observer, node) => self.unregister(*observer, *node, subject),
-            What::IoDisconnect(observer) => self.unregister_all(*observer),
-            What::IoTake(observer) => self.take_entries(*observer),
-            What::Scroll(target, to) => self.scroll_to(*target, *to, subject, steps),
-            What::ScrollBy(target, by) => self.scroll_by(*target, *by, subject, steps),
-            What::Each(_) | What::When(_, _) | What::Tick(_) => unreachable!(),
+        match action {
+            Action::Viewport(size) => self.set_viewport(*size),
+            Action::Ratio(ratio) => self.set_ratio(*ratio),
+            Action::Block { name, document } => self.make_block(*name, *document),
+            Action::Image {
+                name,
+                document,
+                size,
+            } => self.make_image(*name, *document, *size),
+            Action::Append { parent, node } => self.append(*parent, *node, subject),
+            Action::Before {
+                parent,
+                node,
+                sibling,
+            } => self.insert(*parent, *node, *sibling, subject),
+            Action::Remove(node) => self.remove(*node, subject),
+            Action::Set { node, declaration } => self.set(*node, *declaration, subject),
+            Action::Grow { node, axis, by } => self.grow(*node, *axis, *by, subject),
+            Action::Load { node, size } => self.load(*node, *size, subject),
+            Action::Ro {
+                name,
+                document,
+                handler,
+            } => self.make_observer(script, *name, *document, *handler),
+            Action::RoObserve {
+                observer,
+                node,
+                observed,
+            } => self.observe(*observer, *node, *observed, subject),
+            Action::RoUnobserve { observer, node } => self.unobserve(*observer, *node, subject),
+            Action::RoDisconnect(observer) => self.disconnect(*observer),
+            Action::Listen {
+                aim,
+                event,
+                handler,
+            } => self.listen(script, *aim, *event, *handler, subject),
+            Action::Unlisten {
+                aim,
+                event,
+                handler,
+            } => self.unlisten(script, *aim, *event, *handler, subject),
+            Action::Media {
+                name,
+                document,
+                query,
+            } => self.make_query_list(*name, *document, query, steps),
+            Action::Raf {
+                document,
+                key,
+                handler,
+            } => self.request_frame(script, *document, *key, *handler),
+            Action::CancelRaf { document, key } => self.cancel_frame(*document, *key),
+            Action::Timer {
+                document,
+                key,
+                delay,
+                handler,
+            } => self.set_timer(script, *document, *key, *delay, *handler),
+            Action::ClearTimer { document, key } => self.clear_timer(*document, *key),
+            Action::Post { document, handler } => self.post(script, *document, *handler),
+            Action::Say(word) => Ok(Effect::Line(TraceLine::Say(*word))),
+            Action::Read(node) => self.read(*node, subject, steps),
+            Action::Frame {
+                name,
+                document,
+                inside,
+            } => self.make_frame(*name, *document, *inside),
+            Action::Io(making) => self.make_watcher(script, making, subject),
+            Action::IoObserve { observer, node } => self.register(*observer, *node, subject),
+            Action::IoUnobserve { observer, node } => self.unregister(*observer, *node, subject),
+            Action::IoDisconnect(observer) => self.unregister_all(*observer),
+            Action::IoTake(observer) => self.take_entries(*observer),
+            Action::Scroll { target, to } => self.scroll_to(*target, *to, subject, steps),
+            Action::ScrollBy { target, by } => self.scroll_by(*target, *by, subject, steps),
         }
     }
 
@@ -304,6 +338,7 @@ impl Page {
         ensures same { self.new ≡ record self.old { kept = self.new.kept } }
         ensures done { (n : ℕ) → is_due self.new.world.tree self.new.world.viewports.screen self.new.kept n ≡ false }
         ensures boxes { Computes self.old.world self.old.kept self.new.kept steps.old steps.new }
+        ensures ready { (handlers : ℕ) → IsReadyFor handlers self.old.world → IsReadyFor handlers self.new.world }
     {
         self.laid.refresh(self.screen, steps);
     }
@@ -427,8 +462,9 @@ pub(crate) fn shown_in<'a>(
 }
 
 // What is shown of a page of whose boxes none is due, for an update of intersection observers. Where there are any, many elements may
-// be read, for which it is found once what each document shows and how far its viewport is scrolled.
+// be read, for which it is found once what each document shows, and how far its viewport and its elements are scrolled.
 pub(crate) fn shown_at_once<'a>(
+    alloc: Global,
     laid: &'a LaidTree,
     scrolls: &'a Scrolls,
     screen: Screen,
@@ -440,7 +476,7 @@ pub(crate) fn shown_at_once<'a>(
 {
     let shown = shown_now(laid, scrolls, screen);
     if watchers.count() > 0 {
-        shown.with_documents()
+        shown.with_documents(alloc)
     } else {
         shown
     }

@@ -6,6 +6,7 @@ ghost use Rattle.page_model.specs.Commands.{does, matches_now};
 ghost use Rattle.page_model.specs.Documents.{InDocument};
 ghost use Rattle.page_model.specs.Lookups.{query_list_at};
 ghost use Rattle.page_model.specs.Operands.{Present};
+ghost use Rattle.page_laws.specs.Ready.{IsReadyFor};
 ghost use Rattle.page_boxes.specs.Around.{rests_on};
 ghost use Rattle.page_boxes.specs.Pages.{seen_size};
 ghost use Rattle.page_state.specs.Answers.{Keeps};
@@ -127,6 +128,7 @@ impl Page {
         ensures place { IfSome result (λ change. (change.place ≡ ℕ.suc change.query) × change.query < length self.old.world.queries) }
         ensures evaluated { self.new ≡ record self.old { world = once_evaluated document (next_changed document place self.old.world) (self.old.world); kept = self.new.kept } }
         ensures boxes { ComputesIn self.old.world (rests_on self.old.world.tree (InDocument document)) self.old.kept self.new.kept steps.old steps.new }
+        ensures ready { (handlers : ℕ) → IsReadyFor handlers self.old.world → IsReadyFor handlers self.new.world }
     {
         let size = viewport_now(&mut self.laid, self.screen, document, steps);
         let query = changed_from(self.queries.as_slice(), document, size, place)?;

@@ -1,8 +1,9 @@
 //! What the resize loop asks of a page (Resize Observer, 3.4). Sizes are those of boxes as they are now.
 
-ghost use Rattle.std.specs.Prelude.{◌≡◌, ◌<◌, length, option_map, IfOk, IfSome, OnErr};
+ghost use Rattle.std.specs.Prelude.{◌≡◌, ◌<◌, ℕ, length, option_map, IfOk, IfSome, OnErr};
 ghost use Rattle.page_model.specs.Gathering.{has_skipped, sight_in, sight_of, without_active, size_entry};
 ghost use Rattle.page_model.specs.Loop.{gather};
+ghost use Rattle.page_laws.specs.Ready.{IsReadyFor};
 ghost use Rattle.depth_gather.specs.Deliveries.{turn_of, active_at, entries_in};
 ghost use Rattle.depth_gather.specs.Gathering.{active_count};
 ghost use Rattle.depth_gather.specs.Entries.{as_size, as_point, HasLengths};
@@ -24,6 +25,7 @@ impl Page {
         ensures gathered { self.new ≡ record self.old { world = gather document depth (self.old.world); kept = self.new.kept } }
         ensures boxes { Computes self.old.world self.old.kept self.new.kept steps.old steps.new }
         ensures number { result ≡ active_count document self.new.world.resize_observers }
+        ensures ready { (handlers : ℕ) → IsReadyFor handlers self.old.world → IsReadyFor handlers self.new.world }
     {
         self.laid.refresh(self.screen, steps);
         let sizes = shown_now(&self.laid, &self.scrolls, self.screen).with_views();
@@ -50,6 +52,7 @@ impl Page {
         ensures some { IfOk result (λ next. IfSome next (λ it. 0 < length it.entries)) }
         ensures lengths { IfOk result (λ next. IfSome next (λ it. AllByRecursion HasLengths it.entries)) }
         ensures same { OnErr result (self.new ≡ record self.old { kept = self.new.kept }) }
+        ensures ready { (handlers : ℕ) → IsReadyFor handlers self.old.world → IsReadyFor handlers self.new.world }
     {
         self.laid.refresh(self.screen, steps);
         let sizes = shown_now(&self.laid, &self.scrolls, self.screen);
@@ -60,7 +63,8 @@ impl Page {
     /// The end of an observer's turn, once its callback was called: its active list is emptied. No memory.
     pub fn end_delivery(&mut self, observer: ObserverId)
         requires { observer.0 < length self.old.world.resize_observers.made }
-        ensures { self.new ≡ record self.old { world = record (self.old.world) { resize_observers = without_active observer.0 (self.old.world.resize_observers) } } }
+        ensures emptied { self.new ≡ record self.old { world = record (self.old.world) { resize_observers = without_active observer.0 (self.old.world.resize_observers) } } }
+        ensures ready { (handlers : ℕ) → IsReadyFor handlers self.old.world → IsReadyFor handlers self.new.world }
     {
         depth_gather::end_delivery(&mut self.observers, observer);
     }

@@ -1,6 +1,6 @@
 //! What a tick asks of a page besides the resize loop and the event tables (HTML, update the rendering).
 
-ghost use Rattle.std.specs.Prelude.{◌≡◌, ◌<◌, All, length, IfOk, OnOk, OnErr};
+ghost use Rattle.std.specs.Prelude.{◌≡◌, ◌<◌, ℕ, All, length, IfOk, OnOk, OnErr};
 ghost use Rattle.page_model.specs.Documents.{InDocument, active_documents, is_active};
 ghost use Rattle.page_model.specs.Intersections.{update_intersections, watchers};
 ghost use Rattle.page_model.specs.IntersectionObserving.{without_queue};
@@ -8,7 +8,9 @@ ghost use Rattle.page_model.specs.Lookups.{intersection_observer_at};
 ghost use Rattle.page_model.specs.PageBoxes.{viewport_of};
 ghost use Rattle.page_model.specs.Shown.{shown_of};
 ghost use Rattle.page_model.specs.Tasks.{without_notifying};
+ghost use Rattle.page_model.specs.World.{Notify};
 ghost use Rattle.page_model.specs.Viewports.{noted_size, with_noted, differs_from};
+ghost use Rattle.page_laws.specs.Ready.{IsReadyFor, with_first};
 ghost use Rattle.page_boxes.specs.Around.{rests_on};
 ghost use Rattle.page_boxes.specs.Kept.{FillsOnly};
 ghost use Rattle.intersection_update.specs.Keeping.{HaveChains};
@@ -51,6 +53,7 @@ impl Page {
         ensures begun { self.new.begun ≡ self.old.begun }
         ensures boxes { ComputesIn self.old.world (rests_on self.old.world.tree (InDocument document)) self.old.kept self.new.kept steps.old steps.new }
         ensures findings { self.new.found ≡ self.old.found }
+        ensures ready { (handlers : ℕ) → IsReadyFor handlers self.old.world → IsReadyFor handlers self.new.world }
     {
         let size = viewport_now(&mut self.laid, self.screen, document, steps);
         // There are at most 64 documents.
@@ -86,9 +89,17 @@ impl Page {
         ensures refused { (chained : HaveChains (shown_of self.old.world)) →
             OnErr result (IsUnfinished (shown_of self.old.world) self.old.world.scroll_margins chained document self.old.world.clock self.old.world.intersection_observers self.new.world.intersection_observers self.old.found self.new.found) }
         ensures ticks { (chained : HaveChains (shown_of self.old.world)) → OnOk result (TakesAtMost document self.old self.new chained steps.old steps.new) }
+        ensures ready { (handlers : ℕ) → IsReadyFor handlers self.old.world → IsReadyFor handlers self.new.world }
     {
         self.laid.refresh(self.screen, steps);
-        let shown = shown_at_once(&self.laid, &self.scrolls, self.screen, &self.watchers);
+        let alloc = *self.queries.allocator();
+        let shown = shown_at_once(
+            alloc,
+            &self.laid,
+            &self.scrolls,
+            self.screen,
+            &self.watchers,
+        );
         let queued = update(
             &shown,
             &mut self.watchers,
@@ -111,7 +122,8 @@ impl Page {
     }
 
     /// The observers that a notify task of a document goes over, in order of making: those whose root is the document or
-    /// stands in it now (Intersection Observer, 3.2.4: notify intersection observers). Its flag is cleared.
+    /// stands in it now (Intersection Observer, 3.2.4: notify intersection observers). Its flag is cleared: so a page that was ready for a
+    /// tick stays so where a notify task of the document was taken off just before (`pop_task`), and needn't where one still waits.
     ///
     /// # Errors
     /// Want of memory; nothing is changed then.
@@ -120,6 +132,7 @@ impl Page {
         ensures made { IfOk result (λ list. All (λ watcher. watcher.0 < length self.old.world.intersection_observers.made) list.items) }
         ensures cleared { OnOk result (self.new ≡ record self.old { world = record (self.old.world) { notifying = without_notifying document (self.old.world.notifying) } }) }
         ensures same { OnErr result (self.new ≡ self.old) }
+        ensures ready { (handlers : ℕ) → IsReadyFor handlers (with_first (Notify document) self.old.world) → IsReadyFor handlers self.new.world }
     {
         let alloc = *self.queries.allocator();
         let list = watchers_of(alloc, self.laid.page(), &self.watchers, document)?;
@@ -134,6 +147,7 @@ impl Page {
         ensures value { result ≡ (intersection_observer_at self.old.world.intersection_observers watcher.0).queue }
         ensures taken { self.new ≡ record self.old { world = record (self.old.world) { intersection_observers = without_queue watcher.0 (self.old.world.intersection_observers) } } }
         ensures written { AreWritten (length self.old.world.tree.elements) result }
+        ensures ready { (handlers : ℕ) → IsReadyFor handlers self.old.world → IsReadyFor handlers self.new.world }
     {
         self.watchers.take_records(watcher)
     }

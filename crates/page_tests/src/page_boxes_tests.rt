@@ -178,6 +178,7 @@ fn see_content(rt: &impl Abort, shown: &Shown<'_>, node: u32, content: (i64, i64
 // Reads the page, if this is what the step does.
 fn see(
     rt: &impl Abort,
+    alloc: Global,
     page: &PageTree,
     boxes: &Kept,
     scrolls: &Scrolls,
@@ -187,7 +188,7 @@ fn see(
     requires screen { IsScreen screen }
     requires fresh { IsFresh page.now.tree (seen_screen screen) boxes.now }
 {
-    let shown = Shown::new(page, boxes, scrolls, screen).with_documents();
+    let shown = Shown::new(page, boxes, scrolls, screen).with_documents(alloc);
     match step {
         Step::Read(node, edges) => {
             let found = shown.read(Container::Element(NodeId(node)));
@@ -223,7 +224,7 @@ fn take_step(
 ) -> Result<(), Fail> {
     let screen = screen_of(*is_narrow);
     let boxes = all_boxes(rt, alloc, page, screen)?;
-    see(rt, page, &boxes, scrolls, screen, step);
+    see(rt, alloc, page, &boxes, scrolls, screen, step);
     change(rt, page, is_narrow, step);
     Ok(())
 }
@@ -477,7 +478,7 @@ fn read_looked(
     requires { IsScreen screen }
 {
     let all = all_boxes(rt, alloc, page, screen)?;
-    let shown = Shown::new(page, &all, scrolls, screen).with_documents();
+    let shown = Shown::new(page, &all, scrolls, screen).with_documents(alloc);
     let found = shown.read(Container::Element(NodeId(node)));
     let rect = shown.border_rect(NodeId(node));
     Ok((found, rect))
@@ -759,6 +760,19 @@ fn see_each_frame(rt: &impl Abort, shown: &Shown<'_>) {
     }
 }
 
+fn see_frames_over(
+    rt: &impl Abort,
+    page: &PageTree,
+    boxes: &Kept,
+    scrolls: &Scrolls,
+    screen: Screen,
+)
+    requires screen { IsScreen screen }
+    requires fresh { IsFresh page.now.tree (seen_screen screen) boxes.now }
+{
+    see_each_frame(rt, &Shown::new(page, boxes, scrolls, screen));
+}
+
 fn see_frames(
     rt: &impl Abort,
     alloc: Global,
@@ -769,7 +783,7 @@ fn see_frames(
     scroll(rt, alloc, page, scrolls, false, OUTER, 688)?;
     let screen = screen_of(false);
     let boxes = all_boxes(rt, alloc, page, screen)?;
-    see_each_frame(rt, &Shown::new(page, &boxes, scrolls, screen));
+    see_frames_over(rt, page, &boxes, scrolls, screen);
     Ok(())
 }
 

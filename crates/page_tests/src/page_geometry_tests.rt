@@ -6,6 +6,8 @@ ghost use Rattle.clip_chain.specs.Worlds.{element_spot, spot_of_root};
 ghost use Rattle.intersection_observer.specs.Places.{IsStanding};
 ghost use Rattle.intersection_observer.specs.Seen.{seen_root};
 ghost use Rattle.candidate_index.specs.Registrations.{IfChained, IsReady};
+ghost use Rattle.page_boxes.specs.Fresh.{IsFresh};
+ghost use Rattle.page_boxes.specs.Pages.{seen_screen, IsScreen};
 
 use crate::common::{SCREEN, all_boxes, make_elements, put, remove, set, watch};
 use candidate_index::{Index, Scene, Standing};
@@ -14,6 +16,8 @@ use element_tree::NodeId;
 use intersection_observer::{Finding, RegistrationId, Root, WatcherId, Watchers};
 use kept_clips::Clips;
 use kept_findings::Tells;
+use kept_layout::Kept;
+use page_boxes::Screen;
 use page_geometry::Shown;
 use page_tree::{Container, PageTree};
 use px_units::{Point, Rect};
@@ -433,6 +437,22 @@ fn watchers_of(rt: &impl Abort, alloc: Global, watched: &[Watched]) -> Result<Wa
     Ok(watchers)
 }
 
+fn scroll_over(
+    page: &PageTree,
+    boxes: &Kept,
+    scrolls: &mut Scrolls,
+    screen: Screen,
+    target: ScrollTarget,
+    down: i64,
+) -> Result<(), Fail>
+    requires screen { IsScreen screen }
+    requires fresh { IsFresh page.now.tree (seen_screen screen) boxes.now }
+{
+    let range = Shown::new(page, boxes, scrolls, screen).range_of(target);
+    let _outcome = scrolls.scroll_to(0, target, Point { left: 0, top: down }, range)?;
+    Ok(())
+}
+
 fn scroll(
     rt: &impl Abort,
     alloc: Global,
@@ -442,9 +462,7 @@ fn scroll(
     down: i64,
 ) -> Result<(), Fail> {
     let boxes = all_boxes(rt, alloc, page, SCREEN)?;
-    let range = Shown::new(page, &boxes, scrolls, SCREEN).range_of(target);
-    let _outcome = scrolls.scroll_to(0, target, Point { left: 0, top: down }, range)?;
-    Ok(())
+    scroll_over(page, &boxes, scrolls, SCREEN, target, down)
 }
 
 fn edges_of(rect: Rect) -> Edges {

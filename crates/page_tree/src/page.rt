@@ -27,7 +27,7 @@ use crate::faults::{MakeFault, PlaceFault};
 use crate::standing::{is_no_root, leave};
 use block_layout::{ItemKind, Styled};
 use element_tree::{NodeId, Tree, TreeFault};
-use page_documents::{Documents, Owned};
+use page_documents::{Documents, MOST_DOCUMENTS, Owned};
 use px_units::{Length, Px, Size};
 use std::alloc::{AllocError, Global};
 use std::marker::Model;
@@ -36,9 +36,6 @@ use text_io::{LimitKind, Name, ThrowKind, Version};
 
 /// As many elements as a path to a root may have.
 const MOST_DEPTH: u32 = 256;
-
-/// As many documents as a page may have, in all.
-const MOST_DOCUMENTS: u32 = 64;
 
 /// The greatest length of a style, in units of 1/64 pixel: 1,000,000 pixels.
 const MOST_UNITS: i64 = 64_000_000;
@@ -91,7 +88,7 @@ impl PageTree {
         ensures tree { IfOk result (λ page. page.tree ≡ (opening_world version).tree) }
         ensures names { IfOk result (λ page. page.names ≡ []) }
     {
-        let documents = Documents::new(alloc, MOST_DOCUMENTS)?;
+        let documents = Documents::new(alloc, MOST_DOCUMENTS as u32)?;
         Ok(PageTree {
             version,
             tree: Tree::new(alloc, most_nodes(version), MOST_DEPTH),

@@ -14,15 +14,17 @@ use Rattle.trace_judge.specs.declared.judgement.Judgement.TheVariants as judgeme
 use Rattle.trace_judge.specs.Judging.{judgement}
 use Rattle.trace_judge.specs.Recordings.{script_of, trace_of}
 use Rattle.trace_judge.specs.Texts.{judgement_text}
-use Rattle.replay_run.specs.Answers.{Ends, IsTaken, Tells}
-use Rattle.replay_run.specs.Replies.{Reply, judge_reply, judgement_reply, judgement_status, read_reply, refused_with}
-use Rattle.replay_run.specs.Statuses.{is_whole, status_after}
-use Rattle.replay_run.specs.declared.words.Job.TheVariants.{Replay}
-use Rattle.replay_run.specs.declared.status.Status.{Status}
-use Rattle.replay_run.specs.declared.status.Status.TheVariants.{Done, Syntax, Limit, NoMemory, ReadFault, WriteFault, Usage, Differs}
-use Rattle.replay_run.proofs.Endings.{tells_end}
-use Rattle.replay_run.proofs.Summaries.{IsWhole, wrote_tells}
-use Rattle.replay_run.proofs.Taking.{first_bytes_read, taken}
+use Rattle.run_replies.specs.Answers.{Ends, IsTaken, Tells}
+use Rattle.run_replies.specs.Replies.{Reply, refused_with}
+use Rattle.replay_run.specs.Replies.{judge_reply, judgement_reply, judgement_status}
+use Rattle.script_replay.specs.ScriptReplies.{read_reply}
+use Rattle.run_replies.specs.Statuses.{is_whole, status_after}
+use Rattle.run_replies.specs.declared.words.Job.TheVariants.{Replay}
+use Rattle.run_replies.specs.declared.status.Status.{Status}
+use Rattle.run_replies.specs.declared.status.Status.TheVariants.{Done, Syntax, Limit, NoMemory, ReadFault, WriteFault, Usage, Differs}
+use Rattle.run_replies.proofs.Endings.{tells_end}
+use Rattle.run_replies.proofs.Summaries.{IsWhole, wrote_tells}
+use Rattle.run_replies.proofs.Taking.{first_bytes_read, taken}
 use Rattle.replay_run.proofs.Wordless.{read_text}
 
 never : {A : Type 0} → false ≡ true → A

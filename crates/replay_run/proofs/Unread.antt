@@ -6,14 +6,16 @@ use Rattle.script_model.specs.Reading.{Reading, reading}
 use Rattle.page_model.specs.Outcome.{outcome_read}
 use Rattle.page_model.specs.World.{World}
 use Rattle.trace_runs.proofs.Writes.{no_part, nothing}
-use Rattle.replay_run.specs.Answers.{Ends, IsTaken, IsUnread, ReadTo, Tells}
-use Rattle.replay_run.specs.Replies.{Reply, read_reply}
-use Rattle.replay_run.specs.Statuses.{is_done}
-use Rattle.replay_run.specs.declared.words.Job.{Job}
-use Rattle.replay_run.specs.declared.status.Status.{Status}
-use Rattle.replay_run.specs.declared.status.Status.TheVariants.{NoMemory, ReadFault, WriteFault, Usage}
-use Rattle.replay_run.proofs.Endings.{tells_end}
-use Rattle.replay_run.proofs.Taking.{first_bytes_read, taken}
+use Rattle.run_replies.specs.Answers.{Ends, IsTaken, Tells}
+use Rattle.script_source.specs.Sources.{IsUnread, ReadTo}
+use Rattle.run_replies.specs.Replies.{Reply}
+use Rattle.script_replay.specs.ScriptReplies.{read_reply}
+use Rattle.run_replies.specs.Statuses.{is_done}
+use Rattle.run_replies.specs.declared.words.Job.{Job}
+use Rattle.run_replies.specs.declared.status.Status.{Status}
+use Rattle.run_replies.specs.declared.status.Status.TheVariants.{NoMemory, ReadFault, WriteFault, Usage}
+use Rattle.run_replies.proofs.Endings.{tells_end}
+use Rattle.run_replies.proofs.Taking.{first_bytes_read, taken}
 
 -- by the first bytes
 

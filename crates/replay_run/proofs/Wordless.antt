@@ -4,11 +4,12 @@ use Rattle.std.specs.Prelude.{Some, Ok, Err}
 use Rattle.script_model.specs.Reading.{Reading, reading}
 use Rattle.page_model.specs.Outcome.{bytes_of, outcome, outcome_read, trace}
 use Rattle.trace_runs.proofs.Lines.{bytes_one}
-use Rattle.replay_run.specs.Replies.{read_reply, reply, script_reply}
-use Rattle.replay_run.specs.Statuses.{status_at}
-use Rattle.replay_run.specs.Words.{asked}
-use Rattle.replay_run.specs.declared.words.Job.TheVariants.{Replay}
-use Rattle.replay_run.specs.declared.words.Words.TheVariants.{Script}
+use Rattle.script_replay.specs.ScriptReplies.{read_reply, script_reply}
+use Rattle.replay_run.specs.Replies.{reply}
+use Rattle.run_replies.specs.Statuses.{status_at}
+use Rattle.run_replies.specs.Words.{asked}
+use Rattle.run_replies.specs.declared.words.Job.TheVariants.{Replay}
+use Rattle.run_replies.specs.declared.words.Words.TheVariants.{Script}
 
 pub nothing_asked : asked [] ≡ Some (Script Replay)
 unfolding asked

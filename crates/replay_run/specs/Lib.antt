@@ -1,9 +1,1 @@
-pub mod Statuses
-pub mod Certificates
-pub mod Words
-pub mod Recorded
-pub mod Stops
-pub mod StreamStatuses
-pub mod StreamPages
 pub mod Replies
-pub mod Answers

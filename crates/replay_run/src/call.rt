@@ -1,215 +1,29 @@
 //! The top call.
 
-ghost use Rattle.std.specs.Prelude.{◌≡◌, ◌↔◌, ◌<◌, ◌&&◌, None, Some, Ok, Err, is_some, true, false, map, string_bytes, IfSome, [], ◌∷◌};
+ghost use Rattle.std.specs.Prelude.{◌≡◌, ◌↔◌, ◌<◌, ◌&&◌, None, Some, is_some, map, string_bytes, IfSome};
 ghost use Rattle.text_io.specs.Streams.{Rose};
 ghost use Rattle.script_model.specs.Generator.{generated};
-ghost use Rattle.script_model.specs.TraceLines.{LimitLine};
-ghost use Rattle.script_model.specs.Reading.{Reading, reading, LimitAt};
-ghost use Rattle.script_syntax.specs.Parsing.{Parses};
-ghost use Rattle.page_model.specs.Outcome.{opening_world, outcome_read};
-ghost use Rattle.trace_runs.specs.Writes.{Told};
-ghost use Rattle.replay_run.specs.Answers.{Ends, IsolatesPages, IsTaken, Tells};
-ghost use Rattle.replay_run.specs.Replies.{outcome_reply, read_reply, refused_with, reply, script_reply, script_text};
-ghost use Rattle.replay_run.specs.Statuses.{is_done};
-ghost use Rattle.replay_run.specs.Words.{asked, has_page, is_run, looked_at, seen};
+ghost use Rattle.script_model.specs.Reading.{reading};
+ghost use Rattle.page_model.specs.Outcome.{outcome_read};
+ghost use Rattle.run_replies.specs.Answers.{Ends, IsTaken, Tells};
+ghost use Rattle.stream_replay.specs.StreamReplies.{IsolatesPages};
+ghost use Rattle.script_replay.specs.ScriptReplies.{read_reply};
+ghost use Rattle.replay_run.specs.Replies.{reply, script_text};
+ghost use Rattle.run_replies.specs.Statuses.{is_done};
+ghost use Rattle.run_replies.specs.Words.{asked, has_page, is_run, looked_at, seen};
 
-use crate::certificates::write_certificates;
-use crate::check::check;
-use crate::input::{ScriptText, read_script};
 use crate::judging::judge_source;
-use crate::play::play;
-use crate::printing::write_script;
-use crate::side_by_side::run_pages;
-use crate::sights::write_sight;
-use crate::status::Status;
-use crate::summary::{status_of, summarize};
-use crate::words::{Job, Words};
-use page_state::Page;
+use run_replies::{Job, Status, Words};
 use script_generator::make;
-use script_syntax::{ParseFault, Script};
+use script_replay::{Report, perform, perform_on_text};
+use script_source::read_script;
 use std::alloc::Global;
 use std::sync::ledger::{Blank, Ledger};
 use step_count::Steps;
-use text_io::{LimitKind, Sink, Source};
-use trace_runs::{RunFault, write_one};
-use trace_text::TraceLine;
+use stream_replay::run_pages;
+use text_io::{Sink, Source};
 
-/// What a run answers.
-#[derive(Drop)]
-pub struct Report {
-    pub status: Status,
-    /// The page on which the script was run, where it was run to its end.
-    pub page: Option<Page>,
-}
-
-impl Report {
-    /// The status of a report whose page nobody wants. Dropping a page is long to prove; it is done here once.
-    pub fn into_status(self) -> Status
-        ensures { result ≡ self.status }
-    {
-        self.status
-    }
-}
-
-pub(crate) fn without_page(status: Status) -> Report
-    requires { is_done status ≡ false }
-    ensures { result ≡ record { status = status; page = None } }
-{
-    Report { status, page: None }
-}
-
-// The page of a run, where all was written to its end. It is the one place where a page is handed out or dropped, which is long
-// to prove.
-pub(crate) fn with_page(status: Status, page: Page) -> Report
-    ensures status { result.status ≡ status }
-    ensures page { is_some result.page ≡ is_done status }
-    ensures same { IfSome result.page (λ it. it ≡ page) }
-{
-    match status {
-        Status::Done => Report {
-            status,
-            page: Some(page),
-        },
-        _ => Report { status, page: None },
-    }
-}
-
-// The line of a limit, with how much there may be.
-pub(crate) fn write_limit<K: Sink>(
-    alloc: Global,
-    kind: LimitKind,
-    line: u32,
-    number: u64,
-    sink: &mut K,
-) -> Result<(), RunFault>
-    ensures { Told result (K.taken sink.old) (K.taken sink.new) (K.faults sink.old) (K.faults sink.new)
-        (LimitLine kind line number ∷ []) }
-{
-    let line = TraceLine::Limit(kind, line, number);
-    write_one(alloc, &line, sink)
-}
-
-/// A limit that was met while the source was read. Such a limit is the same in each version.
-pub(crate) fn meet_limit<K: Sink>(alloc: Global, kind: LimitKind, line: u32, sink: &mut K) -> Status
-    ensures tells { Tells result (refused_with (LimitAt kind line)) (K.taken sink.old) (K.taken sink.new) (K.faults sink.old) (K.faults sink.new) }
-    ensures done { is_done result ≡ false }
-{
-    let wrote = write_limit(alloc, kind, line, kind.common(), sink);
-    status_of(wrote, Status::Limit)
-}
-
-/// A text that is no script.
-pub(crate) fn refuse_text<K: Sink>(alloc: Global, fault: ParseFault, sink: &mut K) -> Status
-    ensures tells { (job : Job) (read : Reading) → Parses (Err fault) read → Tells result (read_reply job read)
-        (K.taken sink.old) (K.taken sink.new) (K.faults sink.old) (K.faults sink.new) }
-    ensures done { is_done result ≡ false }
-{
-    match fault {
-        ParseFault::Syntax { line, column } => {
-            let wrote = write_one(alloc, &TraceLine::Syntax(line, column), sink);
-            status_of(wrote, Status::Syntax)
-        }
-        ParseFault::ScriptLimit { kind, line } => meet_limit(alloc, kind, line, sink),
-        ParseFault::Memory => Status::NoMemory,
-    }
-}
-
-// A script, on a page that was just made.
-fn run_on<K: Sink, L: Ledger>(
-    alloc: Global,
-    page: &mut Page,
-    script: &Script,
-    sink: &mut K,
-    steps: &mut Steps<L>,
-) -> Status
-    requires opening { page.old.world ≡ opening_world script.now.version }
-    ensures answers { Tells result (outcome_reply (outcome_read (Ok script.now))) (K.taken sink.old) (K.taken sink.new) (K.faults sink.old) (K.faults sink.new) }
-    ensures world { is_done result ≡ true → page.new.world ≡ (outcome_read (Ok script.now)).world }
-{
-    match play(alloc, page, script, sink, steps) {
-        Ok(()) => Status::Done,
-        Err(RunFault::Limit { kind, line, number }) => {
-            let wrote = write_limit(alloc, kind, line, number, sink);
-            status_of(wrote, Status::Limit)
-        }
-        Err(RunFault::Memory) => Status::NoMemory,
-        Err(RunFault::WriteFault) => Status::WriteFault,
-    }
-}
-
-// A script, on a page of its own.
-fn run_script<K: Sink, L: Ledger>(
-    alloc: Global,
-    script: &Script,
-    sink: &mut K,
-    steps: &mut Steps<L>,
-) -> Report
-    ensures answers { Tells result.status (outcome_reply (outcome_read (Ok script.now))) (K.taken sink.old) (K.taken sink.new) (K.faults sink.old) (K.faults sink.new) }
-    ensures page { is_some result.page ≡ is_done result.status }
-    ensures world { IfSome result.page (λ page. page.world ≡ (outcome_read (Ok script.now)).world) }
-{
-    match Page::new(alloc, script.version()) {
-        Ok(mut page) => {
-            let status = run_on(alloc, &mut page, script, sink, steps);
-            with_page(status, page)
-        }
-        Err(_) => without_page(Status::NoMemory),
-    }
-}
-
-// What is done with a script.
-fn perform<K: Sink, L: Ledger>(
-    alloc: Global,
-    job: Job,
-    script: &Script,
-    sink: &mut K,
-    steps: &mut Steps<L>,
-) -> Report
-    ensures tells { Tells result.status (script_reply job script.now) (K.taken sink.old) (K.taken sink.new) (K.faults sink.old) (K.faults sink.new) }
-    ensures page { is_some result.page ≡ (is_run job && is_done result.status) }
-    ensures world { IfSome result.page (λ page. page.world ≡ (outcome_read (Ok script.now)).world) }
-{
-    match job {
-        Job::Replay => run_script(alloc, script, sink, steps),
-        Job::Check => Report {
-            status: check(alloc, script, sink),
-            page: None,
-        },
-        Job::Lint => Report {
-            status: write_certificates(alloc, script, sink),
-            page: None,
-        },
-        Job::Summary => summarize(alloc, script, sink, steps),
-        Job::Print => Report {
-            status: write_script(alloc, script, sink),
-            page: None,
-        },
-        Job::AtTick(sight, number) => Report {
-            status: write_sight(alloc, sight, number, script, sink, steps),
-            page: None,
-        },
-    }
-}
-
-/// The same with the script of a text.
-pub(crate) fn perform_on_text<K: Sink, L: Ledger>(
-    alloc: Global,
-    job: Job,
-    text: ScriptText,
-    sink: &mut K,
-    steps: &mut Steps<L>,
-) -> Report
-    ensures tells { Tells result.status (read_reply job (reading text)) (K.taken sink.old) (K.taken sink.new) (K.faults sink.old) (K.faults sink.new) }
-    ensures page { is_some result.page ≡ (is_run job && is_done result.status) }
-    ensures world { IfSome result.page (λ page. page.world ≡ (outcome_read (reading text)).world) }
-{
-    match text.parse(alloc) {
-        Ok(script) => perform(alloc, job, &script, sink, steps),
-        Err(fault) => without_page(refuse_text(alloc, fault, sink)),
-    }
-}
-
-// The same with the script of the source.
+// Does with the script of the source what is asked.
 fn perform_on_source<S: Source, K: Sink, L: Ledger>(
     alloc: Global,
     job: Job,
@@ -228,7 +42,7 @@ fn perform_on_source<S: Source, K: Sink, L: Ledger>(
 {
     match read_script(alloc, source) {
         Ok(text) => perform_on_text(alloc, job, text, sink, steps),
-        Err(status) => without_page(status),
+        Err(status) => Report::without_page(status),
     }
 }
 
@@ -246,7 +60,7 @@ fn perform_on_number<K: Sink, L: Ledger>(
 {
     match make(alloc, number) {
         Ok(script) => perform(alloc, job, &script, sink, steps),
-        Err(_) => without_page(Status::NoMemory),
+        Err(_) => Report::without_page(Status::NoMemory),
     }
 }
 
@@ -301,7 +115,7 @@ pub fn run<S: Source, K: Sink, L: Ledger>(
     ensures steps { asked (map string_bytes words.now) ≡ None → steps.new ≡ steps.old }
 {
     match Words::read(words) {
-        None => without_page(Status::Usage),
+        None => Report::without_page(Status::Usage),
         Some(Words::Script(job)) => perform_on_source(alloc, job, source, sink, steps),
         Some(Words::Generated(job, number)) => perform_on_number(alloc, job, number, sink, steps),
         Some(Words::Judge) => Report {

@@ -3,10 +3,10 @@
 ghost use Rattle.std.specs.Prelude.{◌≡◌, ℕ, List, [], Some};
 ghost use Rattle.page_model.specs.Outcome.{outcome, trace};
 ghost use Rattle.replay_run.specs.Replies.{reply};
-ghost use Rattle.replay_run.specs.Statuses.{status_at};
-ghost use Rattle.replay_run.specs.Words.{asked};
-ghost use Rattle.replay_run.specs.declared.words.Job.TheVariants.{Replay};
-ghost use Rattle.replay_run.specs.declared.words.Words.TheVariants.{Script};
+ghost use Rattle.run_replies.specs.Statuses.{status_at};
+ghost use Rattle.run_replies.specs.Words.{asked};
+ghost use Rattle.run_replies.specs.declared.words.Job.TheVariants.{Replay};
+ghost use Rattle.run_replies.specs.declared.words.Words.TheVariants.{Script};
 
 /// No words ask to replay the source, and what `run` writes then is the trace of the text that the source has left: its status is
 /// exactly by how the outcome of that text ends.

@@ -4,24 +4,10 @@
 #![tactic(auto)]
 
 mod call;
-mod certificates;
-mod check;
-mod input;
 mod judging;
 mod laws;
-mod lines;
-mod named;
-mod play;
-mod printing;
-mod recorded;
-mod side_by_side;
-mod sights;
-mod status;
-mod stops;
-mod stream_page;
-mod summary;
-mod words;
 
-pub use call::{Report, run, run_uncounted};
+pub use call::{run, run_uncounted};
 pub use laws::no_words_give_the_trace;
-pub use status::Status;
+pub use run_replies::Status;
+pub use script_replay::Report;

@@ -8,7 +8,7 @@ use event_tables::HandlerId;
 use handlers::{Entries, run_command, run_handler};
 use page_state::Page;
 use replay_run::{Report, Status};
-use script_syntax::{Command, Item, Script, What};
+use script_syntax::{Command, Item, Script};
 use std::alloc::{AllocError, Global};
 use std::marker::Brand;
 use std::process::Abort;
@@ -52,8 +52,7 @@ const MARGINS_TOLD: &str =
 // No trace of a test is longer.
 const ROOM: usize = 512;
 
-// A command, if it is no `tick`.
-#[tactic(auto, using(script_syntax::proofs::Inner::inner_unless_tick))]
+// A command outside handlers, which may throw.
 fn run_outside<L: Ledger>(
     alloc: Global,
     page: &mut Page,
@@ -65,12 +64,9 @@ fn run_outside<L: Ledger>(
     requires { IsAllowed command.now }
 {
     let nothing = Entries::Nothing;
-    match command.what {
-        What::Tick(_) => Ok(()),
-        _ => match run_command(alloc, page, script, command, &nothing, None, sink, steps) {
-            Ok(_) => Ok(()),
-            Err(fault) => Err(fault),
-        },
+    match run_command(alloc, page, script, command, &nothing, None, sink, steps) {
+        Ok(_) => Ok(()),
+        Err(fault) => Err(fault),
     }
 }
 

@@ -6,7 +6,7 @@ use Rattle.media_queries.proofs.Appends.{two_parts, three_parts}
 use Rattle.word_model.specs.Numbers.{decimal}
 use Rattle.text_io.specs.Kinds.{version_word}
 use Rattle.text_io.specs.declared.kinds.Version.{Version}
-use Rattle.script_model.specs.Syntax.{Action, Condition, Command as CommandModel, Simple, Each, When, Block, Item as ItemModel, Outside, Tick, Handler}
+use Rattle.script_model.specs.Syntax.{Action, Condition, Simple, Each, When, Block, Item as ItemModel, Tick, Handler}
 use Rattle.script_syntax.specs.Seen.{command_of, block_of, item_of}
 use Rattle.script_syntax.specs.declared.commands.Command.{Command}
 use Rattle.script_syntax.specs.declared.commands.Item.{Item}
@@ -117,10 +117,6 @@ handler_pushed after line next last name block old one two three new e f g n h =
 pub tick_last : (after line time : ℕ) → line ≡ last_number after (item_lines (Tick line time))
 unfolding item_lines last_number
 tick_last after line time = refl
-
-pub outside_is : (command : CommandModel) → item_lines (Outside command) ≡ command_lines command
-unfolding item_lines
-outside_is command = refl
 
 pub handler_last : (after line last : ℕ) (name : List ℕ) (block : Block) → last ≡ last_number after (item_lines (Handler line name block last))
 unfolding item_lines last_number

@@ -145,10 +145,6 @@ numbers_are (n ∷ ns) = ap (λ l. number_text n ∷ l) (numbers_are ns)
 
 -- The line of a command whose operands have several forms.
 
-pub nothing_said : (old new : List ℕ) → new ≡ old ++ codes "say " → new ≡ old ++ line_text (codes "say" ∷ [] ∷ [])
-unfolding line_text
-nothing_said old new e = e
-
 pub observer_pushed : (head : List ℕ) (first root margin numbers : List (List ℕ)) (w v : List ℕ) (old one two three four five new : List ℕ)
     → one ≡ old ++ line_text (head ∷ first) → two ≡ one ++ spaced root → three ≡ two ++ spaced (w ∷ [])
     → four ≡ three ++ spaced margin → five ≡ four ++ spaced (v ∷ []) → new ≡ five ++ spaced numbers

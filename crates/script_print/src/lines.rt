@@ -38,6 +38,10 @@ pub fn push_command(into: &mut Vec<u8>, after: u32, command: &Command) -> Result
 {
     push_line_feeds(into, after, command.line)?;
     match &command.what {
+        What::Act(action) => {
+            push_action(into, action)?;
+            Ok(command.line)
+        }
         What::Each(body) => {
             into.extend_from_slice(b"each")?;
             let last = push_body(into, command.line, body)?;
@@ -47,10 +51,6 @@ pub fn push_command(into: &mut Vec<u8>, after: u32, command: &Command) -> Result
             push_condition(into, *condition)?;
             let last = push_body(into, command.line, body)?;
             Ok(last)
-        }
-        what => {
-            push_action(into, what)?;
-            Ok(command.line)
         }
     }
 }

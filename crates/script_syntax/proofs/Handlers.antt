@@ -7,11 +7,10 @@ use Rattle.std.proofs.lemmas.List.Elements.{filter-append}
 use Rattle.std.proofs.lemmas.Option.{slice_get-map, slice_get_past, slice_get_read}
 use Rattle.script_model.specs.Syntax.{Item, Outside, Tick, Handler, Block}
 use Rattle.script_model.specs.Scripts.{NamedBlock, handlers_in, number_in, handler_number}
-use Rattle.script_syntax.specs.Seen.{is_handler, item_of, item_at}
+use Rattle.script_syntax.specs.Seen.{is_handler, item_of, handler_item, handler_of}
+use Rattle.script_syntax.specs.declared.commands.Handler.{Handler as CodeHandler}
 use Rattle.script_syntax.specs.declared.commands.Item.{Item as CodeItem}
-use Rattle.script_syntax.specs.declared.commands.What.{What}
-use Rattle.script_syntax.specs.declared.commands.What.TheVariants as what
-use Rattle.script_syntax.specs.declared.commands.What.TheVariants.{Each, When}
+use Rattle.script_syntax.specs.declared.commands.Item.TheVariants as code
 use Rattle.std.specs.Borrow.{Bor}
 use Rattle.std.specs.List.{HoldsAt}
 use Rattle.std.specs.Option.{MatchOption}
@@ -146,11 +145,43 @@ pub handler_count : (items : List Item) (places : List ℕ) (number_of : List �
 handler_count items places number_of h =
     sym (length-map places (λ (place : ℕ). slice_get items place)) ∙ ap length h.placed ∙ length-map (filter is_handler items) Some ∙ counted items
 
-pub command_is_none : (line : ℕ) (what : What) → is_handler (item_at line what) ≡ false
-command_is_none line (Each body) = refl
-command_is_none line (When condition body) = refl
-command_is_none line (what.Tick time) = refl
-command_is_none line other = refl
+-- an item that is none
+pub other_is_none : (item : CodeItem) → ((handler : CodeHandler) → item ≡ code.Handler handler → ⊥) → is_handler (item_of item) ≡ false
+other_is_none (code.Command command) other = refl
+other_is_none (code.Tick line time) other = refl
+other_is_none (code.Handler handler) other = absurd (other handler refl)
+
+-- what stands at a number is a handler
+pub at_number : (items : List Item) (number : ℕ) (item : Item) → Some item ≡ slice_get (filter is_handler items) number → is_handler item ≡ true
+at_number [] number item is = cc
+at_number (Outside command ∷ items) number item is = at_number items number item is
+at_number (Tick line time ∷ items) number item is = at_number items number item is
+at_number (Handler line name block end_line ∷ items) zero item is = let same : item ≡ Handler line name block end_line = cc in ap is_handler same
+at_number (Handler line name block end_line ∷ items) (suc number) item is = at_number items number item is
+
+named_in : Option Item → Option NamedBlock
+named_in None = None
+named_in (Some (Outside command)) = None
+named_in (Some (Tick line time)) = None
+named_in (Some (Handler line name block end_line)) = Some (record { name = name; block = block })
+
+named_is : (items : List Item) (number : ℕ) → slice_get (handlers_in items) number ≡ named_in (slice_get (filter is_handler items) number)
+unfolding handlers_in named_in
+named_is [] number = refl
+named_is (Outside command ∷ items) number = named_is items number
+named_is (Tick line time ∷ items) number = named_is items number
+named_is (Handler line name block end_line ∷ items) zero = refl
+named_is (Handler line name block end_line ∷ items) (suc number) = named_is items number
+
+-- the item at a number is the handler of that number
+pub handler_named : (items : List Item) (number : ℕ) (handler : CodeHandler) → Some (handler_item handler) ≡ slice_get (filter is_handler items) number
+    → Some (handler_of handler) ≡ slice_get (handlers_in items) number
+unfolding named_in
+handler_named items number handler is = ap named_in is ∙ sym (named_is items number)
+
+pub none_named : (items : List Item) (number : ℕ) → None ≡ slice_get (filter is_handler items) number → None ≡ slice_get (handlers_in items) number
+unfolding named_in
+none_named items number is = ap named_in is ∙ sym (named_is items number)
 
 pub item_found : (found : Option (Bor CodeItem)) (items : List CodeItem) (place : ℕ)
     → MatchOption found (length items ≤ place) (λ x. place < length items × HoldsAt (λ y. x.now ≡ y) items place)
@@ -158,6 +189,32 @@ pub item_found : (found : Option (Bor CodeItem)) (items : List CodeItem) (place 
 item_found None items place le = sym (slice_get-map item_of items place ∙ ap (option_map item_of) (slice_get_past items place le))
 item_found (Some x) items place h =
     sym (slice_get-map item_of items place ∙ ap (option_map item_of) (slice_get_read items (length items) place x.now refl h.0 (h.1 x.now)))
+
+place_found : (found : Option (Bor ℕ)) (places : List ℕ) (number : ℕ)
+    → MatchOption found (length places ≤ number) (λ x. number < length places × HoldsAt (λ y. x.now ≡ y) places number)
+    → option_map (λ x. x.now) found ≡ slice_get places number
+place_found None places number le = sym (slice_get_past places number le)
+place_found (Some x) places number h = sym (slice_get_read places (length places) number x.now refl h.0 (h.1 x.now))
+
+-- what stands at a place that was looked up, and where none was found
+module _ (script : List Item) (code : List CodeItem) (places seen : List ℕ) (number_of : List ℕ → Option ℕ) (number : ℕ) (first : Option (Bor ℕ))
+    (indexed : Indexed (map item_of code) places number_of) (view : map item_of code ≡ script) (is : seen ≡ places)
+    (there : MatchOption first (length seen ≤ number) (λ x. number < length seen × HoldsAt (λ y. x.now ≡ y) seen number)) where
+  place_is : option_map (λ x. x.now) first ≡ slice_get places number
+  place_is = place_found first seen number there ∙ ap (λ (xs : List ℕ). slice_get xs number) is
+
+  pub found_at : (held : List CodeItem) (place : Bor ℕ) (found : Option (Bor CodeItem)) → first ≡ Some place → held ≡ code
+      → MatchOption found (length held ≤ place.now) (λ x. place.now < length held × HoldsAt (λ y. x.now ≡ y) held place.now)
+      → option_map (λ x. item_of x.now) found ≡ slice_get (filter is_handler script) number
+  found_at held place found some same at =
+      item_found found held place.now at ∙ ap (λ (xs : List CodeItem). slice_get (map item_of xs) place.now) same
+      ∙ handler_at (map item_of code) places number_of number place.now indexed (sym place_is ∙ ap (option_map (λ (x : Bor ℕ). x.now)) some)
+      ∙ ap (λ (xs : List Item). slice_get (filter is_handler xs) number) view
+
+  pub not_found : first ≡ None → None ≡ slice_get (filter is_handler script) number
+  not_found none =
+      no_handler_at (map item_of code) places number_of number indexed (sym place_is ∙ ap (option_map (λ (x : Bor ℕ). x.now)) none)
+      ∙ ap (λ (xs : List Item). slice_get (filter is_handler xs) number) view
 
 pub item_at_place : (items : List CodeItem) (place : ℕ) (found item : CodeItem) → place < length items → found ≡ get_or items place found → found ≡ item
     → slice_get (map item_of items) place ≡ Some (item_of item)

@@ -2,7 +2,6 @@ pub mod Declared
 pub mod Endings
 pub mod Finishes
 pub mod Handlers
-pub mod Inner
 pub mod Joined
 pub mod LastWords
 pub mod Lookups

@@ -9,20 +9,12 @@ use Rattle.script_model.specs.Readers.{is_empty}
 use Rattle.script_model.specs.Syntax as syntax
 use Rattle.script_model.specs.Syntax.{NoMore, Then, Block}
 use Rattle.script_syntax.proofs.Reversed.{count_reversed, counted_first, reversed}
-use Rattle.script_syntax.specs.Allowed.{ActionAllowed, InnerAllowed, ItemAllowed}
+use Rattle.script_syntax.specs.Allowed.{IsAllowed, ItemAllowed}
 use Rattle.script_syntax.specs.Frames.{frame_of, opening_of, OpeningAllowed, FrameAllowed}
-use Rattle.script_syntax.specs.Seen.{action_of, command_at, block_of, command_of}
+use Rattle.script_syntax.specs.Seen.{block_of, command_of}
 use Rattle.script_syntax.specs.declared.commands.Command.{Command}
 use Rattle.script_syntax.specs.declared.commands.Item.{Item}
-use Rattle.script_syntax.specs.declared.commands.What.{What}
-use Rattle.script_syntax.specs.declared.commands.What.TheVariants.{Each, When, Tick}
 use Rattle.script_syntax.specs.declared.frames.Frame.{Frame}
-
-pub simple_command : (line : ℕ) (what : What) → ActionAllowed what → command_at line what ≡ syntax.Simple line (action_of what)
-simple_command line (Each body) a = absurd a
-simple_command line (When condition body) a = absurd a
-simple_command line (Tick time) a = absurd a
-simple_command line other a = refl
 
 empty_last : {A : Type 0} (xs : List A) (x : A) → is_empty (xs ++ (x ∷ [])) ≡ false
 unfolding is_empty
@@ -60,14 +52,14 @@ block_closed (c ∷ cs) =
     ∙ joined (reverse (map command_of cs)) (command_of c ∷ []) NoMore
     ∙ ap (λ (block : Block). Then (command_of c) block) (block_closed cs)
 
-pub frame_pushed : (frames : List Frame) (frame : Frame) → All FrameAllowed frames → OpeningAllowed frame.opening → All InnerAllowed frame.commands.items → All FrameAllowed (frames ++ (frame ∷ []))
+pub frame_pushed : (frames : List Frame) (frame : Frame) → All FrameAllowed frames → OpeningAllowed frame.opening → All IsAllowed frame.commands.items → All FrameAllowed (frames ++ (frame ∷ []))
 frame_pushed frames frame all o c = All-push FrameAllowed frames frame all (o, c)
 
 pub frame_opened : (frames : List Frame) (frame : Frame) → All FrameAllowed frames → OpeningAllowed frame.opening → frame.commands.items ≡ [] → All FrameAllowed (frames ++ (frame ∷ []))
-frame_opened frames frame all o e = All-push FrameAllowed frames frame all (o, subst (All InnerAllowed) (sym e) (All-nil InnerAllowed))
+frame_opened frames frame all o e = All-push FrameAllowed frames frame all (o, subst (All IsAllowed) (sym e) (All-nil IsAllowed))
 
-pub command_pushed : (commands : List Command) (command : Command) → All InnerAllowed commands → InnerAllowed command → All InnerAllowed (commands ++ (command ∷ []))
-command_pushed commands command all a = All-push InnerAllowed commands command all a
+pub command_pushed : (commands : List Command) (command : Command) → All IsAllowed commands → IsAllowed command → All IsAllowed (commands ++ (command ∷ []))
+command_pushed commands command all a = All-push IsAllowed commands command all a
 
 pub item_pushed : (items : List Item) (item : Item) → All ItemAllowed items → ItemAllowed item → All ItemAllowed (items ++ (item ∷ []))
 item_pushed items item all a = All-push ItemAllowed items item all a

@@ -1,26 +1,17 @@
 -- Commands by what they are, and sizes of blocks: what a walk through commands goes by.
 use Rattle.std.proofs.Common.{◌≡◌, ℕ, zero, suc, ◌+◌, ◌<◌, ◌≤◌, List, [], ◌∷◌, get_or, length, refl, ap, arith}
-use Rattle.script_model.specs.Syntax.{Simple, Outside}
-use Rattle.script_syntax.specs.Seen.{action_of, command_at, command_of, block_of, item_at, command_size, block_size}
+use Rattle.script_model.specs.Syntax.{Simple}
+use Rattle.script_syntax.specs.Seen.{action_of, command_at, command_of, block_of, command_size, block_size}
 use Rattle.script_syntax.specs.declared.operands.Condition.{Condition}
+use Rattle.script_syntax.specs.declared.commands.Action.{Action}
 use Rattle.script_syntax.specs.declared.commands.Body.{Body}
 use Rattle.script_syntax.specs.declared.commands.Command.{Command}
 use Rattle.script_syntax.specs.declared.commands.What.{What}
 use Rattle.script_syntax.specs.declared.commands.What.TheVariants as what
 
 -- a command that isn't a block is its action's line
-pub simple_is : (line : ℕ) (command : What) → ((body : Body) → command ≡ what.Each body → ⊥)
-    → ((condition : Condition) (body : Body) → command ≡ what.When condition body → ⊥) → command_at line command ≡ Simple line (action_of command)
-simple_is line (what.Each body) each whens = absurd (each body refl)
-simple_is line (what.When condition body) each whens = absurd (whens condition body refl)
-simple_is line other each whens = refl
-
--- one that isn't `tick` stands outside as a command
-pub outside_at : (line : ℕ) (command : What) → ((time : ℕ) → command ≡ what.Tick time → ⊥) → item_at line command ≡ Outside (command_at line command)
-outside_at line (what.Tick time) ticks = absurd (ticks time refl)
-outside_at line (what.Each body) ticks = refl
-outside_at line (what.When condition body) ticks = refl
-outside_at line other ticks = refl
+pub simple_is : (line : ℕ) (command : What) (action : Action) → command ≡ what.Act action → command_at line command ≡ Simple line (action_of action)
+simple_is line command action is = ap (command_at line) is
 
 -- a block is one smaller than its command, and a command of a list no larger than the list
 pub each_size : (line : ℕ) (command : What) (body : Body) → command ≡ what.Each body → command_size (command_at line command) ≡ block_size body.commands + 1

@@ -7,6 +7,8 @@ use Rattle.px_units.specs.declared.Size.{Size}
 use Rattle.px_units.specs.declared.Point.{Point}
 use Rattle.script_syntax.specs.declared.operands.Test.{Test}
 use Rattle.script_syntax.specs.declared.operands.Test.TheVariants as test
+use Rattle.script_syntax.specs.declared.commands.Action.{Action}
+use Rattle.script_syntax.specs.declared.commands.Action.TheVariants as action
 use Rattle.script_syntax.specs.declared.commands.What.{What}
 use Rattle.script_syntax.specs.declared.commands.What.TheVariants as what
 use Rattle.script_syntax.specs.declared.commands.Command.{Command}
@@ -36,40 +38,28 @@ TestAllowed (test.Wider node px) = IsUnits px.0
 TestAllowed (test.Taller node px) = IsUnits px.0
 TestAllowed other = Unit {0}
 
+abbrev pub ActionAllowed : Action → Type 0
+ActionAllowed (action.Viewport size) = IsSize size
+ActionAllowed (action.Ratio percent) = IsPercent percent.0
+ActionAllowed (action.Image name document size) = IsSize size
+ActionAllowed (action.Set node declaration) = style.IsAllowed declaration
+ActionAllowed (action.Grow node axis by) = IsSignedUnits by.0
+ActionAllowed (action.Load node size) = IsSize size
+ActionAllowed (action.Scroll node to) = IsOffset to
+ActionAllowed (action.ScrollBy node by) = IsOffset by
+ActionAllowed (action.Timer document key delay handler) = IsTime delay
+ActionAllowed other = Unit {0}
+
+-- the commands of a block have this by their type
 abbrev pub WhatAllowed : What → Type 0
-WhatAllowed (what.Viewport size) = IsSize size
-WhatAllowed (what.Ratio percent) = IsPercent percent.0
-WhatAllowed (what.Image name document size) = IsSize size
-WhatAllowed (what.Set node declaration) = style.IsAllowed declaration
-WhatAllowed (what.Grow node axis by) = IsSignedUnits by.0
-WhatAllowed (what.Load node size) = IsSize size
-WhatAllowed (what.Scroll node to) = IsOffset to
-WhatAllowed (what.ScrollBy node by) = IsOffset by
-WhatAllowed (what.Timer document key delay handler) = IsTime delay
+WhatAllowed (what.Act action) = ActionAllowed action
+WhatAllowed (what.Each body) = Unit {0}
 WhatAllowed (what.When condition body) = TestAllowed condition.asks
-WhatAllowed (what.Tick time) = IsTime time
-WhatAllowed other = Unit {0}
 
--- the same of a command without a block that isn't `tick`, and of no other
-abbrev pub ActionAllowed : What → Type 0
-ActionAllowed (what.Each body) = ⊥
-ActionAllowed (what.When condition body) = ⊥
-ActionAllowed (what.Tick time) = ⊥
-ActionAllowed other = WhatAllowed other
-
--- the commands of its block have this by their type
 abbrev pub IsAllowed : Command → Type 0
 IsAllowed command = WhatAllowed command.what
 
--- what can stand in a block or a handler: anything but `tick`
-abbrev pub IsInner : What → Type 0
-IsInner (what.Tick time) = ⊥
-IsInner other = Unit {0}
-
--- a command of a block or handler
-abbrev pub InnerAllowed : Command → Type 0
-InnerAllowed command = IsAllowed command × IsInner command.what
-
 abbrev pub ItemAllowed : Item → Type 0
 ItemAllowed (item.Command command) = IsAllowed command
-ItemAllowed (item.Handler line name commands end_line) = Unit {0}
+ItemAllowed (item.Tick line time) = IsTime time
+ItemAllowed (item.Handler handler) = Unit {0}

@@ -5,7 +5,7 @@ use Rattle.script_model.specs.Reading as model
 use Rattle.script_syntax.specs.declared.frames.Opening.{Opening}
 use Rattle.script_syntax.specs.declared.frames.Opening.TheVariants as opening
 use Rattle.script_syntax.specs.declared.frames.Frame.{Frame}
-use Rattle.script_syntax.specs.Allowed.{InnerAllowed, TestAllowed}
+use Rattle.script_syntax.specs.Allowed.{IsAllowed, TestAllowed}
 use Rattle.script_syntax.specs.Seen.{command_of, condition_of}
 
 abbrev pub opening_of : Opening → model.Opening
@@ -26,4 +26,4 @@ OpeningAllowed (opening.When condition) = TestAllowed condition.asks
 OpeningAllowed (opening.Handler name) = Unit {0}
 
 abbrev pub FrameAllowed : Frame → Type 0
-FrameAllowed frame = OpeningAllowed frame.opening × All InnerAllowed frame.commands.items
+FrameAllowed frame = OpeningAllowed frame.opening × All IsAllowed frame.commands.items

@@ -3,16 +3,16 @@ use Rattle.std.proofs.Common.{ℕ, ◌≤◌, List, [], ◌∷◌, arith, max}
 use denote.Param.Weighed.{most}
 use Rattle.script_syntax.specs.Seen.{block_of, block_size, command_size, command_at}
 use Rattle.script_syntax.specs.declared.commands.What.{What}
-use Rattle.script_syntax.specs.declared.commands.What.TheVariants.{Each, When}
+use Rattle.script_syntax.specs.declared.commands.What.TheVariants.{Act, Each, When}
 use Rattle.script_syntax.specs.declared.commands.Command.{Command}
 use Rattle.script_syntax.specs.declared.commands.CommandList.TheInside.{Inside}
 use Rattle.script_syntax.specs.declared.commands.CommandList.TheDeep.{deep-Command, deep-What}
 
 what_is_smaller : (line : ℕ) (what : What) → deep-What what ≤ command_size (command_at line what)
 unfolding command_size block_size
+what_is_smaller line (Act action) = omega arith
 what_is_smaller line (Each body) = omega arith
 what_is_smaller line (When condition body) = omega arith
-what_is_smaller line other = omega arith
 
 commands_are_smaller_in : (commands : List Command) → most deep-Command commands ≤ block_size (block_of commands)
 unfolding command_size block_size

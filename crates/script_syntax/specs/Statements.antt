@@ -8,7 +8,7 @@ use Rattle.script_syntax.specs.Allowed.{ActionAllowed, IsTime, TestAllowed}
 use Rattle.script_syntax.specs.Seen.{action_of, condition_of}
 
 abbrev pub statement_of : Statement → model.Statement
-statement_of (statement.Does what) = model.Does (action_of what)
+statement_of (statement.Does action) = model.Does (action_of action)
 statement_of (statement.Ticks time) = model.Ticks time
 statement_of statement.OpensEach = model.OpensEach
 statement_of (statement.OpensWhen condition) = model.OpensWhen (condition_of condition)
@@ -16,7 +16,7 @@ statement_of (statement.OpensHandler name) = model.OpensHandler name
 statement_of statement.Ends = model.Ends
 
 abbrev pub StatementAllowed : Statement → Type 0
-StatementAllowed (statement.Does what) = ActionAllowed what
+StatementAllowed (statement.Does action) = ActionAllowed action
 StatementAllowed (statement.Ticks time) = IsTime time
 StatementAllowed statement.OpensEach = Unit {0}
 StatementAllowed (statement.OpensWhen condition) = TestAllowed condition.asks

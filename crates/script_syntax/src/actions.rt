@@ -7,7 +7,7 @@ ghost use Rattle.script_syntax.specs.Acts.{Acts};
 ghost use Rattle.script_syntax.specs.Allowed.{ActionAllowed};
 ghost use Rattle.script_syntax.specs.declared.heads.Verb.TheVariants as verb;
 
-use crate::commands::What;
+use crate::commands::Action;
 use crate::faults::LineFault;
 use crate::heads::Verb;
 use crate::operands::IoMaking;
@@ -22,9 +22,9 @@ pub fn action(
     version: Version,
     verb: Verb,
     words: &mut Words<'_>,
-) -> Result<What, LineFault>
+) -> Result<Action, LineFault>
     ensures value { Acts result version verb words.old }
-    ensures allowed { IfOk result (λ what. ActionAllowed what) }
+    ensures allowed { IfOk result (λ action. ActionAllowed action) }
 {
     match verb {
         Verb::Viewport => viewport(words),
@@ -64,14 +64,14 @@ pub fn action(
 
 /// `viewport WIDTH HEIGHT`
 #[tactic(auto, unfolding(script_model::specs::Forms::made, crate::specs::Acts::Acts))]
-fn viewport(words: &mut Words<'_>) -> Result<What, LineFault>
+fn viewport(words: &mut Words<'_>) -> Result<Action, LineFault>
     ensures value { Acts result First verb.Viewport words.old }
-    ensures allowed { IfOk result (λ what. ActionAllowed what) }
+    ensures allowed { IfOk result (λ action. ActionAllowed action) }
 {
     let width = words.length()?;
     let height = words.length()?;
     words.end()?;
-    Ok(What::Viewport(Size {
+    Ok(Action::Viewport(Size {
         width: width.0,
         height: height.0,
     }))
@@ -79,196 +79,212 @@ fn viewport(words: &mut Words<'_>) -> Result<What, LineFault>
 
 /// `ratio PERCENT`
 #[tactic(auto, unfolding(script_model::specs::Forms::made, crate::specs::Acts::Acts))]
-fn ratio(words: &mut Words<'_>) -> Result<What, LineFault>
+fn ratio(words: &mut Words<'_>) -> Result<Action, LineFault>
     ensures value { Acts result First verb.Ratio words.old }
-    ensures allowed { IfOk result (λ what. ActionAllowed what) }
+    ensures allowed { IfOk result (λ action. ActionAllowed action) }
 {
     let ratio = words.percent()?;
     words.end()?;
-    Ok(What::Ratio(ratio))
+    Ok(Action::Ratio(ratio))
 }
 
 /// `block NAME DOCUMENT`
 #[tactic(auto, unfolding(script_model::specs::Forms::made, crate::specs::Acts::Acts))]
-fn block(words: &mut Words<'_>) -> Result<What, LineFault>
+fn block(words: &mut Words<'_>) -> Result<Action, LineFault>
     ensures value { Acts result First verb.Block words.old }
-    ensures allowed { IfOk result (λ what. ActionAllowed what) }
+    ensures allowed { IfOk result (λ action. ActionAllowed action) }
 {
     let name = words.name()?;
     let document = words.name()?;
     words.end()?;
-    Ok(What::Block(name, document))
+    Ok(Action::Block { name, document })
 }
 
 /// `image NAME DOCUMENT WIDTH HEIGHT`
 #[tactic(auto, unfolding(script_model::specs::Forms::made, crate::specs::Acts::Acts))]
-fn image(words: &mut Words<'_>) -> Result<What, LineFault>
+fn image(words: &mut Words<'_>) -> Result<Action, LineFault>
     ensures value { Acts result First verb.Image words.old }
-    ensures allowed { IfOk result (λ what. ActionAllowed what) }
+    ensures allowed { IfOk result (λ action. ActionAllowed action) }
 {
     let name = words.name()?;
     let document = words.name()?;
     let width = words.length()?;
     let height = words.length()?;
     words.end()?;
-    Ok(What::Image(
+    Ok(Action::Image {
         name,
         document,
-        Size {
+        size: Size {
             width: width.0,
             height: height.0,
         },
-    ))
+    })
 }
 
 /// `frame NAME DOCUMENT INSIDE`
 #[tactic(auto, unfolding(script_model::specs::Forms::made, crate::specs::Acts::Acts))]
-fn frame(words: &mut Words<'_>) -> Result<What, LineFault>
+fn frame(words: &mut Words<'_>) -> Result<Action, LineFault>
     ensures value { Acts result First verb.Frame words.old }
-    ensures allowed { IfOk result (λ what. ActionAllowed what) }
+    ensures allowed { IfOk result (λ action. ActionAllowed action) }
 {
     let name = words.name()?;
     let document = words.name()?;
     let inside = words.name()?;
     words.end()?;
-    Ok(What::Frame(name, document, inside))
+    Ok(Action::Frame {
+        name,
+        document,
+        inside,
+    })
 }
 
 /// `append PARENT NODE`
 #[tactic(auto, unfolding(script_model::specs::Forms::made, crate::specs::Acts::Acts))]
-fn append(words: &mut Words<'_>) -> Result<What, LineFault>
+fn append(words: &mut Words<'_>) -> Result<Action, LineFault>
     ensures value { Acts result First verb.Append words.old }
-    ensures allowed { IfOk result (λ what. ActionAllowed what) }
+    ensures allowed { IfOk result (λ action. ActionAllowed action) }
 {
     let parent = words.node()?;
     let node = words.node()?;
     words.end()?;
-    Ok(What::Append(parent, node))
+    Ok(Action::Append { parent, node })
 }
 
 /// `before PARENT NODE SIBLING`
 #[tactic(auto, unfolding(script_model::specs::Forms::made, crate::specs::Acts::Acts))]
-fn before(words: &mut Words<'_>) -> Result<What, LineFault>
+fn before(words: &mut Words<'_>) -> Result<Action, LineFault>
     ensures value { Acts result First verb.Before words.old }
-    ensures allowed { IfOk result (λ what. ActionAllowed what) }
+    ensures allowed { IfOk result (λ action. ActionAllowed action) }
 {
     let parent = words.node()?;
     let node = words.node()?;
     let sibling = words.node()?;
     words.end()?;
-    Ok(What::Before(parent, node, sibling))
+    Ok(Action::Before {
+        parent,
+        node,
+        sibling,
+    })
 }
 
 /// `remove NODE`
 #[tactic(auto, unfolding(script_model::specs::Forms::made, crate::specs::Acts::Acts))]
-fn remove(words: &mut Words<'_>) -> Result<What, LineFault>
+fn remove(words: &mut Words<'_>) -> Result<Action, LineFault>
     ensures value { Acts result First verb.Remove words.old }
-    ensures allowed { IfOk result (λ what. ActionAllowed what) }
+    ensures allowed { IfOk result (λ action. ActionAllowed action) }
 {
     let node = words.node()?;
     words.end()?;
-    Ok(What::Remove(node))
+    Ok(Action::Remove(node))
 }
 
 /// `set NODE PROPERTY VALUE`
 #[tactic(auto, unfolding(script_model::specs::Forms::made, crate::specs::Acts::Acts))]
-fn set(version: Version, words: &mut Words<'_>) -> Result<What, LineFault>
+fn set(version: Version, words: &mut Words<'_>) -> Result<Action, LineFault>
     ensures value { Acts result version verb.Set words.old }
-    ensures allowed { IfOk result (λ what. ActionAllowed what) }
+    ensures allowed { IfOk result (λ action. ActionAllowed action) }
 {
     let node = words.node()?;
     let declaration = words.declaration(version)?;
     words.end()?;
-    Ok(What::Set(node, declaration))
+    Ok(Action::Set { node, declaration })
 }
 
 /// `grow NODE AXIS BY`
 #[tactic(auto, unfolding(script_model::specs::Forms::made, crate::specs::Acts::Acts))]
-fn grow(words: &mut Words<'_>) -> Result<What, LineFault>
+fn grow(words: &mut Words<'_>) -> Result<Action, LineFault>
     ensures value { Acts result First verb.Grow words.old }
-    ensures allowed { IfOk result (λ what. ActionAllowed what) }
+    ensures allowed { IfOk result (λ action. ActionAllowed action) }
 {
     let node = words.node()?;
     let axis = words.axis()?;
     let by = words.signed()?;
     words.end()?;
-    Ok(What::Grow(node, axis, by))
+    Ok(Action::Grow { node, axis, by })
 }
 
 /// `load NODE WIDTH HEIGHT`
 #[tactic(auto, unfolding(script_model::specs::Forms::made, crate::specs::Acts::Acts))]
-fn load(words: &mut Words<'_>) -> Result<What, LineFault>
+fn load(words: &mut Words<'_>) -> Result<Action, LineFault>
     ensures value { Acts result First verb.Load words.old }
-    ensures allowed { IfOk result (λ what. ActionAllowed what) }
+    ensures allowed { IfOk result (λ action. ActionAllowed action) }
 {
     let node = words.node()?;
     let width = words.length()?;
     let height = words.length()?;
     words.end()?;
-    Ok(What::Load(
+    Ok(Action::Load {
         node,
-        Size {
+        size: Size {
             width: width.0,
             height: height.0,
         },
-    ))
+    })
 }
 
 /// `ro NAME DOCUMENT HANDLER`
 #[tactic(auto, unfolding(script_model::specs::Forms::made, crate::specs::Acts::Acts))]
-fn ro(words: &mut Words<'_>) -> Result<What, LineFault>
+fn ro(words: &mut Words<'_>) -> Result<Action, LineFault>
     ensures value { Acts result First verb.Ro words.old }
-    ensures allowed { IfOk result (λ what. ActionAllowed what) }
+    ensures allowed { IfOk result (λ action. ActionAllowed action) }
 {
     let name = words.name()?;
     let document = words.name()?;
     let handler = words.handler()?;
     words.end()?;
-    Ok(What::Ro(name, document, handler))
+    Ok(Action::Ro {
+        name,
+        document,
+        handler,
+    })
 }
 
 /// `ro-observe OBSERVER NODE OBSERVED`
 #[tactic(auto, unfolding(script_model::specs::Forms::made, crate::specs::Acts::Acts))]
-fn ro_observe(version: Version, words: &mut Words<'_>) -> Result<What, LineFault>
+fn ro_observe(version: Version, words: &mut Words<'_>) -> Result<Action, LineFault>
     ensures value { Acts result version verb.RoObserve words.old }
-    ensures allowed { IfOk result (λ what. ActionAllowed what) }
+    ensures allowed { IfOk result (λ action. ActionAllowed action) }
 {
     let observer = words.name()?;
     let node = words.node()?;
     let observed = words.box_kind(version)?;
     words.end()?;
-    Ok(What::RoObserve(observer, node, observed))
+    Ok(Action::RoObserve {
+        observer,
+        node,
+        observed,
+    })
 }
 
 /// `ro-unobserve OBSERVER NODE`
 #[tactic(auto, unfolding(script_model::specs::Forms::made, crate::specs::Acts::Acts))]
-fn ro_unobserve(words: &mut Words<'_>) -> Result<What, LineFault>
+fn ro_unobserve(words: &mut Words<'_>) -> Result<Action, LineFault>
     ensures value { Acts result First verb.RoUnobserve words.old }
-    ensures allowed { IfOk result (λ what. ActionAllowed what) }
+    ensures allowed { IfOk result (λ action. ActionAllowed action) }
 {
     let observer = words.name()?;
     let node = words.node()?;
     words.end()?;
-    Ok(What::RoUnobserve(observer, node))
+    Ok(Action::RoUnobserve { observer, node })
 }
 
 /// `ro-disconnect OBSERVER`
 #[tactic(auto, unfolding(script_model::specs::Forms::made, crate::specs::Acts::Acts))]
-fn ro_disconnect(words: &mut Words<'_>) -> Result<What, LineFault>
+fn ro_disconnect(words: &mut Words<'_>) -> Result<Action, LineFault>
     ensures value { Acts result First verb.RoDisconnect words.old }
-    ensures allowed { IfOk result (λ what. ActionAllowed what) }
+    ensures allowed { IfOk result (λ action. ActionAllowed action) }
 {
     let observer = words.name()?;
     words.end()?;
-    Ok(What::RoDisconnect(observer))
+    Ok(Action::RoDisconnect(observer))
 }
 
 /// `io NAME DOCUMENT HANDLER root ROOT margin WORD* scroll WORD* threshold NUMBER*`, where `scroll WORD*` may be left out and
 /// stands in scripts of the second version alone
 #[tactic(auto, unfolding(script_model::specs::Forms::made, crate::specs::Acts::Acts))]
-fn io(alloc: Global, version: Version, words: &mut Words<'_>) -> Result<What, LineFault>
+fn io(alloc: Global, version: Version, words: &mut Words<'_>) -> Result<Action, LineFault>
     ensures value { Acts result version verb.Io words.old }
-    ensures allowed { IfOk result (λ what. ActionAllowed what) }
+    ensures allowed { IfOk result (λ action. ActionAllowed action) }
 {
     let name = words.name()?;
     let document = words.name()?;
@@ -280,7 +296,7 @@ fn io(alloc: Global, version: Version, words: &mut Words<'_>) -> Result<What, Li
     words.just(b"threshold")?;
     let thresholds = words.numbers(alloc)?;
     words.end()?;
-    Ok(What::Io(IoMaking {
+    Ok(Action::Io(IoMaking {
         name,
         document,
         handler,
@@ -293,208 +309,229 @@ fn io(alloc: Global, version: Version, words: &mut Words<'_>) -> Result<What, Li
 
 /// `io-observe OBSERVER NODE`
 #[tactic(auto, unfolding(script_model::specs::Forms::made, crate::specs::Acts::Acts))]
-fn io_observe(words: &mut Words<'_>) -> Result<What, LineFault>
+fn io_observe(words: &mut Words<'_>) -> Result<Action, LineFault>
     ensures value { Acts result First verb.IoObserve words.old }
-    ensures allowed { IfOk result (λ what. ActionAllowed what) }
+    ensures allowed { IfOk result (λ action. ActionAllowed action) }
 {
     let observer = words.name()?;
     let node = words.node()?;
     words.end()?;
-    Ok(What::IoObserve(observer, node))
+    Ok(Action::IoObserve { observer, node })
 }
 
 /// `io-unobserve OBSERVER NODE`
 #[tactic(auto, unfolding(script_model::specs::Forms::made, crate::specs::Acts::Acts))]
-fn io_unobserve(words: &mut Words<'_>) -> Result<What, LineFault>
+fn io_unobserve(words: &mut Words<'_>) -> Result<Action, LineFault>
     ensures value { Acts result First verb.IoUnobserve words.old }
-    ensures allowed { IfOk result (λ what. ActionAllowed what) }
+    ensures allowed { IfOk result (λ action. ActionAllowed action) }
 {
     let observer = words.name()?;
     let node = words.node()?;
     words.end()?;
-    Ok(What::IoUnobserve(observer, node))
+    Ok(Action::IoUnobserve { observer, node })
 }
 
 /// `io-disconnect OBSERVER`
 #[tactic(auto, unfolding(script_model::specs::Forms::made, crate::specs::Acts::Acts))]
-fn io_disconnect(words: &mut Words<'_>) -> Result<What, LineFault>
+fn io_disconnect(words: &mut Words<'_>) -> Result<Action, LineFault>
     ensures value { Acts result First verb.IoDisconnect words.old }
-    ensures allowed { IfOk result (λ what. ActionAllowed what) }
+    ensures allowed { IfOk result (λ action. ActionAllowed action) }
 {
     let observer = words.name()?;
     words.end()?;
-    Ok(What::IoDisconnect(observer))
+    Ok(Action::IoDisconnect(observer))
 }
 
 /// `io-take OBSERVER`
 #[tactic(auto, unfolding(script_model::specs::Forms::made, crate::specs::Acts::Acts))]
-fn io_take(words: &mut Words<'_>) -> Result<What, LineFault>
+fn io_take(words: &mut Words<'_>) -> Result<Action, LineFault>
     ensures value { Acts result First verb.IoTake words.old }
-    ensures allowed { IfOk result (λ what. ActionAllowed what) }
+    ensures allowed { IfOk result (λ action. ActionAllowed action) }
 {
     let observer = words.name()?;
     words.end()?;
-    Ok(What::IoTake(observer))
+    Ok(Action::IoTake(observer))
 }
 
 /// `listen AIM EVENT HANDLER`
 #[tactic(auto, unfolding(script_model::specs::Forms::made, crate::specs::Acts::Acts))]
-fn listen(words: &mut Words<'_>) -> Result<What, LineFault>
+fn listen(words: &mut Words<'_>) -> Result<Action, LineFault>
     ensures value { Acts result First verb.Listen words.old }
-    ensures allowed { IfOk result (λ what. ActionAllowed what) }
+    ensures allowed { IfOk result (λ action. ActionAllowed action) }
 {
     let aim = words.aim()?;
     let event = words.event()?;
     let handler = words.name()?;
     words.end()?;
-    Ok(What::Listen(aim, event, handler))
+    Ok(Action::Listen {
+        aim,
+        event,
+        handler,
+    })
 }
 
 /// `unlisten AIM EVENT HANDLER`
 #[tactic(auto, unfolding(script_model::specs::Forms::made, crate::specs::Acts::Acts))]
-fn unlisten(words: &mut Words<'_>) -> Result<What, LineFault>
+fn unlisten(words: &mut Words<'_>) -> Result<Action, LineFault>
     ensures value { Acts result First verb.Unlisten words.old }
-    ensures allowed { IfOk result (λ what. ActionAllowed what) }
+    ensures allowed { IfOk result (λ action. ActionAllowed action) }
 {
     let aim = words.aim()?;
     let event = words.event()?;
     let handler = words.name()?;
     words.end()?;
-    Ok(What::Unlisten(aim, event, handler))
+    Ok(Action::Unlisten {
+        aim,
+        event,
+        handler,
+    })
 }
 
 /// `media NAME DOCUMENT QUERY`
 #[tactic(auto, unfolding(script_model::specs::Forms::made, crate::specs::Acts::Acts))]
-fn media(alloc: Global, words: &mut Words<'_>) -> Result<What, LineFault>
+fn media(alloc: Global, words: &mut Words<'_>) -> Result<Action, LineFault>
     ensures value { Acts result First verb.Media words.old }
-    ensures allowed { IfOk result (λ what. ActionAllowed what) }
+    ensures allowed { IfOk result (λ action. ActionAllowed action) }
 {
     let name = words.name()?;
     let document = words.name()?;
     let query = words.query(alloc)?;
     words.end()?;
-    Ok(What::Media(name, document, query))
+    Ok(Action::Media {
+        name,
+        document,
+        query,
+    })
 }
 
 /// `scroll TARGET LEFT TOP`
 #[tactic(auto, unfolding(script_model::specs::Forms::made, crate::specs::Acts::Acts))]
-fn scroll(words: &mut Words<'_>) -> Result<What, LineFault>
+fn scroll(words: &mut Words<'_>) -> Result<Action, LineFault>
     ensures value { Acts result First verb.Scroll words.old }
-    ensures allowed { IfOk result (λ what. ActionAllowed what) }
+    ensures allowed { IfOk result (λ action. ActionAllowed action) }
 {
     let target = words.node()?;
     let left = words.signed()?;
     let top = words.signed()?;
     words.end()?;
-    Ok(What::Scroll(
+    Ok(Action::Scroll {
         target,
-        Point {
+        to: Point {
             left: left.0,
             top: top.0,
         },
-    ))
+    })
 }
 
 /// `scroll-by TARGET LEFT TOP`
 #[tactic(auto, unfolding(script_model::specs::Forms::made, crate::specs::Acts::Acts))]
-fn scroll_by(words: &mut Words<'_>) -> Result<What, LineFault>
+fn scroll_by(words: &mut Words<'_>) -> Result<Action, LineFault>
     ensures value { Acts result First verb.ScrollBy words.old }
-    ensures allowed { IfOk result (λ what. ActionAllowed what) }
+    ensures allowed { IfOk result (λ action. ActionAllowed action) }
 {
     let target = words.node()?;
     let left = words.signed()?;
     let top = words.signed()?;
     words.end()?;
-    Ok(What::ScrollBy(
+    Ok(Action::ScrollBy {
         target,
-        Point {
+        by: Point {
             left: left.0,
             top: top.0,
         },
-    ))
+    })
 }
 
 /// `raf DOCUMENT KEY HANDLER`
 #[tactic(auto, unfolding(script_model::specs::Forms::made, crate::specs::Acts::Acts))]
-fn raf(words: &mut Words<'_>) -> Result<What, LineFault>
+fn raf(words: &mut Words<'_>) -> Result<Action, LineFault>
     ensures value { Acts result First verb.Raf words.old }
-    ensures allowed { IfOk result (λ what. ActionAllowed what) }
+    ensures allowed { IfOk result (λ action. ActionAllowed action) }
 {
     let document = words.name()?;
     let key = words.name()?;
     let handler = words.name()?;
     words.end()?;
-    Ok(What::Raf(document, key, handler))
+    Ok(Action::Raf {
+        document,
+        key,
+        handler,
+    })
 }
 
 /// `cancel-raf DOCUMENT KEY`
 #[tactic(auto, unfolding(script_model::specs::Forms::made, crate::specs::Acts::Acts))]
-fn cancel_raf(words: &mut Words<'_>) -> Result<What, LineFault>
+fn cancel_raf(words: &mut Words<'_>) -> Result<Action, LineFault>
     ensures value { Acts result First verb.CancelRaf words.old }
-    ensures allowed { IfOk result (λ what. ActionAllowed what) }
+    ensures allowed { IfOk result (λ action. ActionAllowed action) }
 {
     let document = words.name()?;
     let key = words.name()?;
     words.end()?;
-    Ok(What::CancelRaf(document, key))
+    Ok(Action::CancelRaf { document, key })
 }
 
 /// `timer DOCUMENT KEY DELAY HANDLER`
 #[tactic(auto, unfolding(script_model::specs::Forms::made, crate::specs::Acts::Acts))]
-fn timer(words: &mut Words<'_>) -> Result<What, LineFault>
+fn timer(words: &mut Words<'_>) -> Result<Action, LineFault>
     ensures value { Acts result First verb.Timer words.old }
-    ensures allowed { IfOk result (λ what. ActionAllowed what) }
+    ensures allowed { IfOk result (λ action. ActionAllowed action) }
 {
     let document = words.name()?;
     let key = words.name()?;
     let delay = words.whole()?;
     let handler = words.name()?;
     words.end()?;
-    Ok(What::Timer(document, key, delay, handler))
+    Ok(Action::Timer {
+        document,
+        key,
+        delay,
+        handler,
+    })
 }
 
 /// `clear-timer DOCUMENT KEY`
 #[tactic(auto, unfolding(script_model::specs::Forms::made, crate::specs::Acts::Acts))]
-fn clear_timer(words: &mut Words<'_>) -> Result<What, LineFault>
+fn clear_timer(words: &mut Words<'_>) -> Result<Action, LineFault>
     ensures value { Acts result First verb.ClearTimer words.old }
-    ensures allowed { IfOk result (λ what. ActionAllowed what) }
+    ensures allowed { IfOk result (λ action. ActionAllowed action) }
 {
     let document = words.name()?;
     let key = words.name()?;
     words.end()?;
-    Ok(What::ClearTimer(document, key))
+    Ok(Action::ClearTimer { document, key })
 }
 
 /// `post DOCUMENT HANDLER`
 #[tactic(auto, unfolding(script_model::specs::Forms::made, crate::specs::Acts::Acts))]
-fn post(words: &mut Words<'_>) -> Result<What, LineFault>
+fn post(words: &mut Words<'_>) -> Result<Action, LineFault>
     ensures value { Acts result First verb.Post words.old }
-    ensures allowed { IfOk result (λ what. ActionAllowed what) }
+    ensures allowed { IfOk result (λ action. ActionAllowed action) }
 {
     let document = words.name()?;
     let handler = words.name()?;
     words.end()?;
-    Ok(What::Post(document, handler))
+    Ok(Action::Post { document, handler })
 }
 
 /// `say WORD`
 #[tactic(auto, unfolding(script_model::specs::Forms::made, crate::specs::Acts::Acts))]
-fn say(words: &mut Words<'_>) -> Result<What, LineFault>
+fn say(words: &mut Words<'_>) -> Result<Action, LineFault>
     ensures value { Acts result First verb.Say words.old }
-    ensures allowed { IfOk result (λ what. ActionAllowed what) }
+    ensures allowed { IfOk result (λ action. ActionAllowed action) }
 {
     let word = words.name()?;
     words.end()?;
-    Ok(What::Say(word))
+    Ok(Action::Say(word))
 }
 
 /// `read TARGET`
 #[tactic(auto, unfolding(script_model::specs::Forms::made, crate::specs::Acts::Acts))]
-fn read(words: &mut Words<'_>) -> Result<What, LineFault>
+fn read(words: &mut Words<'_>) -> Result<Action, LineFault>
     ensures value { Acts result First verb.Read words.old }
-    ensures allowed { IfOk result (λ what. ActionAllowed what) }
+    ensures allowed { IfOk result (λ action. ActionAllowed action) }
 {
     let target = words.node()?;
     words.end()?;
-    Ok(What::Read(target))
+    Ok(Action::Read(target))
 }

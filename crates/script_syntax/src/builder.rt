@@ -5,7 +5,7 @@ ghost use Rattle.std.specs.List.{list_any};
 ghost use Rattle.script_model.specs.Reading as model;
 ghost use Rattle.script_syntax.specs.Frames.{opening_of};
 
-use crate::commands::{Body, Command, CommandList, Item, What};
+use crate::commands::{Body, Command, CommandList, Handler, Item, What};
 use crate::faults::ParseFault;
 use crate::frames::{Frame, Opening};
 use crate::statements::Statement;
@@ -55,7 +55,7 @@ impl Builder {
     ghost use Rattle.std.specs.Prelude.{map};
     ghost use Rattle.std.specs.List.{All};
     ghost use Rattle.script_model.specs.Readers.{is_empty};
-    ghost use Rattle.script_syntax.specs.Allowed.{InnerAllowed, ItemAllowed};
+    ghost use Rattle.script_syntax.specs.Allowed.{IsAllowed, ItemAllowed};
     ghost use Rattle.script_syntax.specs.Parsing.{Answers};
     ghost use Rattle.script_syntax.specs.Seen.{command_of, item_of};
     ghost use Rattle.script_syntax.specs.Frames.{OpeningAllowed};
@@ -105,20 +105,20 @@ impl Builder {
     }
 
     /// A line's statement takes effect. A handler has a name that none has so far.
-    #[tactic(auto, unfolding(script_model::specs::Reading::placed), using(crate::proofs::Opened::simple_command, crate::proofs::Inner::action_allowed, crate::proofs::Inner::action_inner))]
+    #[tactic(auto, unfolding(script_model::specs::Reading::placed))]
     pub fn place(&mut self, line: u32, statement: Statement) -> Result<(), ParseFault>
         requires allowed { StatementAllowed statement }
         requires fresh { IsFreshAmong self.old.names statement }
         ensures { Answers (λ placed. self.new) result (model.placed line (statement_of statement) self.old) }
     {
         match statement {
-            Statement::Does(what) => {
+            Statement::Does(action) => {
+                let what = What::Act(action);
                 self.put(Command { line, what })?;
                 Ok(())
             }
             Statement::Ticks(time) => {
-                let what = What::Tick(time);
-                self.items.push(Item::Command(Command { line, what }))?;
+                self.items.push(Item::Tick { line, time })?;
                 Ok(())
             }
             Statement::OpensEach => self.open_block(line, Opening::Each),
@@ -132,9 +132,9 @@ impl Builder {
     }
 
     /// A command belongs to the innermost block or handler that is open, or is an item.
-    #[tactic(auto, unfolding(script_model::specs::Reading::put), using(crate::proofs::Inner::inner_item, crate::proofs::Opened::frame_pushed, crate::proofs::Opened::command_pushed, crate::proofs::Opened::item_pushed))]
+    #[tactic(auto, unfolding(script_model::specs::Reading::put), using(crate::proofs::Opened::frame_pushed, crate::proofs::Opened::command_pushed, crate::proofs::Opened::item_pushed))]
     fn put(&mut self, command: Command) -> Result<(), AllocError>
-        requires { InnerAllowed command }
+        requires { IsAllowed command }
         ensures { IfOk result (λ put. self.new ≡ model.put (command_of command) self.old) }
     {
         if let Some(mut frame) = self.frames.pop() {
@@ -235,12 +235,12 @@ impl Builder {
             }),
             Opening::Handler(name) => {
                 let Body { commands, end_line } = body;
-                self.items.push(Item::Handler {
+                self.items.push(Item::Handler(Handler {
                     line,
                     name,
                     commands,
                     end_line,
-                })?;
+                }))?;
                 Ok(())
             }
         }

@@ -10,83 +10,168 @@ use std::marker::Model;
 use style_values::Declaration;
 use text_io::{EventKind, Name};
 
-/// What a command does. Operands stand in the order of the command's line. Lengths are in units of 1/64 CSS pixel, at
-/// most 64,000,000; those of `Grow`, `Scroll` and `ScrollBy` may be negative.
-#[cycle(commands)]
+/// What a command without a block does. Operands have the names of the definition and stand in the order of the command's
+/// line. Lengths are in units of 1/64 CSS pixel, at most 64,000,000; those of `Grow`, `Scroll` and `ScrollBy` may be negative.
 #[derive(Drop)]
-pub enum What {
+pub enum Action {
     /// `viewport`: sets the size of the outermost document's viewport.
     Viewport(Size),
     /// `ratio`: sets the device pixel ratio of the page, in hundredths of a percent from 0 to 1,000,000. Scripts of the first
     /// version don't have it.
     Ratio(Percent),
-    /// `block`: makes a block, in the document of the second name.
-    Block(Name, Name),
+    /// `block`: makes a block.
+    Block {
+        name: Name,
+        document: Name,
+    },
     /// `image`: makes an image with a natural size.
-    Image(Name, Name, Size),
-    /// `frame`: makes a frame, with the document of the third name in it.
-    Frame(Name, Name, Name),
-    /// `append`: puts the second node last below the first.
-    Append(Operand, Operand),
-    /// `before`: puts the second node below the first, before the third.
-    Before(Operand, Operand, Operand),
+    Image {
+        name: Name,
+        document: Name,
+        size: Size,
+    },
+    /// `frame`: makes a frame, with the document `inside` in it.
+    Frame {
+        name: Name,
+        document: Name,
+        inside: Name,
+    },
+    /// `append`: puts a node last below its parent.
+    Append {
+        parent: Operand,
+        node: Operand,
+    },
+    /// `before`: puts a node below its parent, before a sibling.
+    Before {
+        parent: Operand,
+        node: Operand,
+        sibling: Operand,
+    },
     /// `remove`: detaches a node.
     Remove(Operand),
     /// `set`: sets a style property.
-    Set(Operand, Declaration),
+    Set {
+        node: Operand,
+        declaration: Declaration,
+    },
     /// `grow`: adds to a width or a height.
-    Grow(Operand, Axis, Px),
+    Grow {
+        node: Operand,
+        axis: Axis,
+        by: Px,
+    },
     /// `load`: sets the natural size of an image.
-    Load(Operand, Size),
+    Load {
+        node: Operand,
+        size: Size,
+    },
     /// `ro`: makes a resize observer; no handler for `-`.
-    Ro(Name, Name, Option<Name>),
+    Ro {
+        name: Name,
+        document: Name,
+        handler: Option<Name>,
+    },
     /// `ro-observe`
-    RoObserve(Name, Operand, BoxKind),
+    RoObserve {
+        observer: Name,
+        node: Operand,
+        observed: BoxKind,
+    },
     /// `ro-unobserve`
-    RoUnobserve(Name, Operand),
+    RoUnobserve {
+        observer: Name,
+        node: Operand,
+    },
     /// `ro-disconnect`
     RoDisconnect(Name),
     /// `io`: makes an intersection observer.
     Io(IoMaking),
     /// `io-observe`
-    IoObserve(Name, Operand),
+    IoObserve {
+        observer: Name,
+        node: Operand,
+    },
     /// `io-unobserve`
-    IoUnobserve(Name, Operand),
+    IoUnobserve {
+        observer: Name,
+        node: Operand,
+    },
     /// `io-disconnect`
     IoDisconnect(Name),
     /// `io-take`: takes the queued entries of an intersection observer.
     IoTake(Name),
     /// `listen`: registers a handler for an event.
-    Listen(Aim, EventKind, Name),
+    Listen {
+        aim: Aim,
+        event: EventKind,
+        handler: Name,
+    },
     /// `unlisten`
-    Unlisten(Aim, EventKind, Name),
+    Unlisten {
+        aim: Aim,
+        event: EventKind,
+        handler: Name,
+    },
     /// `media`: makes a query list.
-    Media(Name, Name, Query),
+    Media {
+        name: Name,
+        document: Name,
+        query: Query,
+    },
     /// `scroll`: scrolls to a position.
-    Scroll(Operand, Point),
+    Scroll {
+        target: Operand,
+        to: Point,
+    },
     /// `scroll-by`: scrolls by an offset.
-    ScrollBy(Operand, Point),
+    ScrollBy {
+        target: Operand,
+        by: Point,
+    },
     /// `raf`: requests a frame callback, with a key.
-    Raf(Name, Name, Name),
+    Raf {
+        document: Name,
+        key: Name,
+        handler: Name,
+    },
     /// `cancel-raf`
-    CancelRaf(Name, Name),
+    CancelRaf {
+        document: Name,
+        key: Name,
+    },
     /// `timer`: a callback after so many milliseconds, at most 1,000,000,000,000.
-    Timer(Name, Name, u64, Name),
+    Timer {
+        document: Name,
+        key: Name,
+        delay: u64,
+        handler: Name,
+    },
     /// `clear-timer`
-    ClearTimer(Name, Name),
+    ClearTimer {
+        document: Name,
+        key: Name,
+    },
     /// `post`: queues a task.
-    Post(Name, Name),
+    Post {
+        document: Name,
+        handler: Name,
+    },
     /// `say`: writes a word.
     Say(Name),
     /// `read`: writes an element's or document's geometry.
     Read(Operand),
+}
+
+/// What a command of a block or handler is, and one that stands outside and isn't a `tick`.
+#[cycle(commands)]
+#[derive(Drop)]
+pub enum What {
+    /// A command without a block.
+    Act(Action),
     /// `each`: its commands for each entry of the callback.
     Each(Body),
     /// `when`: its commands if the condition holds.
     When(Condition, Body),
-    /// `tick`: sets the clock, in milliseconds, at most 1,000,000,000,000, and updates the rendering. It stands outside
-    /// handlers and blocks.
-    Tick(u64),
 }
 
 /// A command with the number of its line, from 1.
@@ -105,7 +190,7 @@ pub struct Body {
     pub end_line: u32,
 }
 
-/// The commands of a block or a handler, in order, none of them a `tick`. A contract sees them as a block of commands.
+/// The commands of a block or a handler, in order. A contract sees them as a block of commands.
 #[cycle(commands)]
 #[derive(Drop)]
 pub struct CommandList {
@@ -122,11 +207,11 @@ impl Model for CommandList {
 
     ghost use Rattle.std.specs.List.{All};
     ghost use Rattle.script_syntax.specs.Seen.{block_of, block_size};
-    ghost use Rattle.script_syntax.specs.Allowed.{InnerAllowed};
+    ghost use Rattle.script_syntax.specs.Allowed.{IsAllowed};
 
     ghost view = { λ list. block_of list.commands.items };
 
-    ghost invariant = { λ list. All InnerAllowed list.commands.items };
+    ghost invariant = { λ list. All IsAllowed list.commands.items };
 
     ghost size = { block_size };
 
@@ -137,20 +222,20 @@ impl Model for CommandList {
 
 impl CommandList {
     ghost use Rattle.script_syntax.specs.Seen.{block_of};
-    ghost use Rattle.script_syntax.specs.Allowed.{InnerAllowed};
+    ghost use Rattle.script_syntax.specs.Allowed.{IsAllowed};
 
-    /// The list of these commands, none of which is a `tick`.
+    /// The list of these commands.
     pub fn new(commands: Vec<Command>) -> CommandList
-        requires { All InnerAllowed commands.items }
+        requires { All IsAllowed commands.items }
         ensures { result ≡ block_of commands.items }
     {
         CommandList { commands }
     }
 
-    /// Its commands, none of which is a `tick`.
+    /// Its commands.
     pub fn as_slice(&self) -> &[Command]
         ensures value { block_of result.now ≡ self.now }
-        ensures allowed { All InnerAllowed result.now }
+        ensures allowed { All IsAllowed result.now }
     {
         self.commands.as_slice()
     }
@@ -158,10 +243,19 @@ impl CommandList {
     /// Its commands, given back.
     pub fn into_commands(self) -> Vec<Command>
         ensures value { block_of result.items ≡ self }
-        ensures allowed { All InnerAllowed result.items }
+        ensures allowed { All IsAllowed result.items }
     {
         self.commands
     }
+}
+
+/// A handler with its commands, the line that it begins on and that of its `end`.
+#[derive(Drop)]
+pub struct Handler {
+    pub line: u32,
+    pub name: Name,
+    pub commands: CommandList,
+    pub end_line: u32,
 }
 
 /// What stands outside handlers and blocks.
@@ -169,11 +263,7 @@ impl CommandList {
 pub enum Item {
     /// A command by itself.
     Command(Command),
-    /// A handler with its commands and the line of its `end`.
-    Handler {
-        line: u32,
-        name: Name,
-        commands: CommandList,
-        end_line: u32,
-    },
+    /// `tick`: sets the clock, in milliseconds, at most 1,000,000,000,000, and updates the rendering.
+    Tick { line: u32, time: u64 },
+    Handler(Handler),
 }

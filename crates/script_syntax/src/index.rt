@@ -27,9 +27,8 @@ pub fn index_of(alloc: Global, items: &[Item]) -> Result<Index, AllocError>
         numbers: IndexMap::new(alloc),
     };
     for (place, item) in items.iter().enumerate() {
-        match item {
-            Item::Handler { name, .. } => note(&mut index, place, *name)?,
-            Item::Command(_) => {}
+        if let Item::Handler(handler) = item {
+            note(&mut index, place, handler.name)?;
         }
     }
     Ok(index)

@@ -18,7 +18,7 @@ mod tables;
 mod texts;
 mod words;
 
-pub use commands::{Body, Command, CommandList, Item, What};
+pub use commands::{Action, Body, Command, CommandList, Handler, Item, What};
 pub use faults::ParseFault;
 pub use operands::{Aim, Axis, Condition, IoMaking, Operand, Test};
 pub use parser::parse;

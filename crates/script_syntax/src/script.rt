@@ -4,11 +4,11 @@ ghost use Rattle.std.specs.Prelude.{◌≡◌, map, length, filter, option_map, 
 ghost use Rattle.std.specs.List.{All};
 ghost use Rattle.text_io.specs.declared.kinds.Version.TheVariants.{First};
 ghost use Rattle.script_model.specs.Scripts.{handlers_in, handler_number};
-ghost use Rattle.script_syntax.specs.Seen.{item_of, is_handler};
+ghost use Rattle.script_syntax.specs.Seen.{item_of, handler_of, is_handler, handler_item};
 ghost use Rattle.script_syntax.specs.Allowed.{ItemAllowed};
 ghost use Rattle.script_syntax.specs.Read.{IsRead};
 
-use crate::commands::Item;
+use crate::commands::{Handler, Item};
 use crate::index::{Index, index_of};
 use std::alloc::{AllocError, Global};
 use std::marker::Model;
@@ -102,12 +102,15 @@ impl Script {
     }
 
     /// The handler of this number, none exactly where the number isn't below `handlers`.
-    #[tactic(auto, using(crate::proofs::Handlers::handler_at, crate::proofs::Handlers::no_handler_at))]
-    pub fn handler(&self, number: u32) -> Option<&Item>
-        ensures { option_map (λ item. item_of item.now) result ≡ slice_get (filter is_handler self.now.items) number }
+    pub fn handler(&self, number: u32) -> Option<&Handler>
+        ensures value { option_map (λ handler. handler_of handler.now) result ≡ slice_get (handlers_in self.now.items) number }
+        ensures item { option_map (λ handler. handler_item handler.now) result ≡ slice_get (filter is_handler self.now.items) number }
     {
         let place = self.index.places.get(number as usize)?;
-        self.items.get(*place)
+        match self.items.get(*place)? {
+            Item::Handler(handler) => Some(handler),
+            _ => None,
+        }
     }
 
     /// The number of the handler of this name, none exactly where there is none.

@@ -15,7 +15,7 @@ ghost use Rattle.script_syntax.specs.Seen.{test_of, condition_of};
 ghost use Rattle.script_syntax.specs.Statements.{statement_of, StatementAllowed, IsFreshAmong};
 
 use crate::actions::action;
-use crate::commands::What;
+use crate::commands::Action;
 use crate::faults::LineFault;
 use crate::heads::{Head, Shape};
 use crate::operands::{Condition, Test};
@@ -29,7 +29,7 @@ use text_io::{Name, Version};
 #[derive(Drop)]
 pub enum Statement {
     /// A command without a block.
-    Does(What),
+    Does(Action),
     Ticks(u64),
     OpensEach,
     OpensWhen(Condition),
@@ -109,8 +109,8 @@ fn operands(
 {
     match head {
         Head::Act(verb) => {
-            let what = action(alloc, version, verb, words)?;
-            Ok(Statement::Does(what))
+            let action = action(alloc, version, verb, words)?;
+            Ok(Statement::Does(action))
         }
         Head::Tick => {
             let time = words.whole()?;

@@ -1,7 +1,7 @@
 //! Texts that are scripts, or have a first fault or limit, and the items of a script.
 
 use crate::scripts::script_of;
-use script_syntax::{Command, Item, MarginText, ParseFault, Script, What};
+use script_syntax::{Action, Command, Item, MarginText, ParseFault, Script, What};
 use std::alloc::{AllocError, Global};
 use std::process::Abort;
 use std::test::Fail;
@@ -199,19 +199,12 @@ fn texts_are_scripts_or_have_a_first_fault(rt: HostRuntime) -> Result<(), Fail> 
     Ok(())
 }
 
-/// The line of a command, or of a handler.
+/// The line that an item begins on.
 fn line_of(item: &Item) -> u32 {
     match item {
         Item::Command(command) => command.line,
-        Item::Handler { line, .. } => *line,
-    }
-}
-
-/// How many commands a handler has.
-fn commands_of(item: &Item) -> usize {
-    match item {
-        Item::Command(_) => 0,
-        Item::Handler { commands, .. } => commands.as_slice().len(),
+        Item::Tick { line, .. } => *line,
+        Item::Handler(handler) => handler.line,
     }
 }
 
@@ -219,10 +212,13 @@ fn see_items(rt: &impl Abort, script: &Script) {
     assert_eq!(rt; script.items().len(), 36);
     assert_eq!(rt; script.items().last().map(line_of), Some(46));
     assert_eq!(rt; script.handlers(), 2);
-    assert_eq!(rt; script.handler(0).map(line_of), Some(34));
-    assert_eq!(rt; script.handler(0).map(commands_of), Some(1));
-    assert_eq!(rt; script.handler(1).map(line_of), Some(46));
-    assert_eq!(rt; script.handler(2).map(line_of), None);
+    assert_eq!(rt; script.handler(0).map(|it| it.line), Some(34));
+    assert_eq!(rt;
+        script.handler(0).map(|it| it.commands.as_slice().len()),
+        Some(1)
+    );
+    assert_eq!(rt; script.handler(1).map(|it| it.line), Some(46));
+    assert_eq!(rt; script.handler(2).map(|it| it.line), None);
 }
 
 fn see_name(rt: &impl Abort, script: &Script, text: &str, number: Option<u32>) {
@@ -256,7 +252,7 @@ fn margins_of(item: &Item) -> Option<(&[u8], Option<&[u8]>)> {
     match item {
         Item::Command(
             Command {
-                what: What::Io(making),
+                what: What::Act(Action::Io(making)),
                 ..
             },
         ) => Some((
@@ -287,7 +283,7 @@ fn observers_have_their_margins(rt: HostRuntime) -> Result<(), Fail> {
 /// Appends the list of queries of an item that has one.
 fn push_queries(item: &Item, out: &mut Vec<u8>) -> Result<(), AllocError> {
     if let Item::Command(command) = item {
-        if let What::Media(_, _, query) = &command.what {
+        if let What::Act(Action::Media { query, .. }) = &command.what {
             query.push_text(out)?;
         }
     }

@@ -1,6 +1,8 @@
 """CSS Scroll Anchoring, as the model of an engine has it: an offset moves with the first box in view."""
 from reference.world import ACTIVE, Document, path
 
+from .traits import ANCHORS_BEFORE_LAYOUT
+
 # A change of one of these, on the way from the box up to what scrolls, leaves the offset alone.
 QUIETING = ('width', 'height', 'min-', 'max-', 'margin', 'padding')
 
@@ -9,6 +11,7 @@ class Anchors:
     def __init__(self, model):
         self.model = model
         self.kept = {}            # what is scrolled -> the box, or None, and where it was
+        self.laid = {}            # what is scrolled -> box -> its bounds and its place, as they were laid out last
         self.quiet = set()        # elements with a change that leaves offsets alone, since the last layout
 
     def changes(self, node, property_):
@@ -19,6 +22,14 @@ class Anchors:
         """The box is looked for anew as something is scrolled."""
         self.kept.pop(thing, None)
         self.keep(thing)
+
+    def removed(self, node):
+        """A box goes, or is made anew: it is no anchor any more, and has no place before the next layout."""
+        for thing, (box, _) in list(self.kept.items()):
+            if box is node:
+                del self.kept[thing]
+        for known in self.laid.values():
+            known.pop(node, None)
 
     def scrolled_in(self, document):
         """What is scrolled in a document, and has a box."""
@@ -34,27 +45,40 @@ class Anchors:
         layout = self.model.world.layout
         for thing in self.scrolled_in(document):
             box, place = self.kept.get(thing, (None, 0))
-            if box is None or not layout.has_box(box) or not self.holds(thing, box):
+            if self.is_gone(thing, box) and self.model.has(ANCHORS_BEFORE_LAYOUT):
+                box, place = self.as_laid(thing)
+            if self.is_gone(thing, box):
                 continue
             by = self.place(thing, box) - place
             if any(node in self.quiet for node in self.between(thing, box)):
-                del self.kept[thing]
+                self.kept.pop(thing, None)
             elif by:
                 yield thing, by
+
+    def is_gone(self, thing, box):
+        return box is None or not self.model.world.layout.has_box(box) or not self.holds(thing, box)
+
+    def as_laid(self, thing):
+        """The first box in view of those that were there at the last layout, and where it was."""
+        known = self.laid.get(thing, {})
+        box = self.first_in_view(thing, lambda node: known[node][0] if node in known else None)
+        return box, box and known[box][1]
 
     def settle(self, document):
         """Remembers where the boxes are, as a layout has ended."""
         for thing in self.scrolled_in(document):
             self.keep(thing)
+            if self.model.has(ANCHORS_BEFORE_LAYOUT):
+                boxes = [node for node in self.model.world.layout._boxes_of(document) if self.holds(thing, node)]
+                self.laid[thing] = {node: (self.bounds(node), self.place(thing, node)) for node in boxes}
         self.quiet = {node for node in self.quiet if node.document is not document}
 
     def keep(self, thing):
-        layout = self.model.world.layout
         if not thing.scroll[1]:
             return
         box = self.kept.get(thing, (None, 0))[0]
-        if box is None or not layout.has_box(box) or not self.holds(thing, box):
-            box = self.first_in_view(thing)
+        if self.is_gone(thing, box):
+            box = self.first_in_view(thing, self.bounds_of_boxes)
         self.kept[thing] = box, box and self.place(thing, box)
 
     @staticmethod
@@ -72,25 +96,28 @@ class Anchors:
         layout = self.model.world.layout
         return layout.flat_place(box)[1] - (0 if isinstance(thing, Document) else layout._flat_padding_corner(thing)[1])
 
-    def first_in_view(self, thing):
+    def bounds_of_boxes(self, node):
+        return self.bounds(node) if self.model.world.layout.has_box(node) else None
+
+    def first_in_view(self, thing, bounds_of):
         layout = self.model.world.layout
         if isinstance(thing, Document):
             corner, size, first = (0, 0), layout.viewport(thing), [thing.root] if thing.root else []
         else:
             corner, size, first = layout._flat_padding_corner(thing), layout.padding_size(thing), thing.children
         left, top = corner[0] + thing.scroll[0], corner[1] + thing.scroll[1]
-        return self.search(first, (left, top, left + size[0], top + size[1]))
+        return self.search(first, (left, top, left + size[0], top + size[1]), bounds_of)
 
-    def search(self, nodes, view):
+    def search(self, nodes, view, bounds_of):
         """The first that is wholly in view, or of which a part is and no box in it."""
-        layout = self.model.world.layout
         for node in nodes:
-            if not layout.has_box(node):
+            bounds = bounds_of(node)
+            if bounds is None:
                 continue
-            left, top, right, bottom = self.bounds(node)
+            left, top, right, bottom = bounds
             if right > left and bottom > top and left < view[2] and right > view[0] and top < view[3] and bottom > view[1]:
                 inside = left >= view[0] and top >= view[1] and right <= view[2] and bottom <= view[3]
-                return node if inside else self.search(node.children, view) or node
+                return node if inside else self.search(node.children, view, bounds_of) or node
         return None
 
     def bounds(self, node):

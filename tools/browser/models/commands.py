@@ -5,9 +5,9 @@ from reference.media import matches
 from reference.refusals import Throw
 from reference.world import ACTIVE, Document, Element, preorder, tree_document
 
-from .layout import ONE, PIXEL, whole
+from .layout import FIRST_FRAME, ONE, PIXEL, whole
 from .rounds import NEVER
-from .traits import (DEAD_READS_THROW, FIRST_USE_COUNTS, FRAMES_IN_TIME, HIDDEN_READS_NOTHING, KEPT_WHILE_TELLING, NOTHING_FOR_DETACHED,
+from .traits import (DEAD_READS_THROW, FIRST_USE_COUNTS, FRAMES_BEGIN_AS_THEY_COME, FRAMES_IN_TIME, HIDDEN_READS_NOTHING, NOTHING_FOR_DETACHED, QUEUES_WAIT,
                      SCROLLS_ARE_CUT, WINDOWS_READ_AT_ONCE)
 
 SCROLLING = ('hidden', 'scroll', 'auto')
@@ -38,6 +38,8 @@ class Commands:
     def do_read(self, command, thing):
         if isinstance(thing, Document) and thing.state is not ACTIVE and self.has(DEAD_READS_THROW) and self.differs('read-of-dead-frame'):
             raise Throw('NS_ERROR_UNEXPECTED', command.operands[0], '')
+        if isinstance(thing, Element) and self.reads_as_laid(thing):
+            return
         self.lay_out_for_reading(thing)
         layout = self.world.layout
         if isinstance(thing, Document) and self.world.pixel_ratio != ONE:
@@ -47,6 +49,40 @@ class Commands:
         else:
             EFFECTS['read'](self, command, thing)
 
+    def reads_as_laid(self, node):
+        """Whether a box out of flow, or one in it, is told where it was at the last layout."""
+        if not self.stands_as_laid(node):
+            return False
+        layout = self.world.layout
+        shift = [was - now for was, now in zip(self.laid_places[node], layout.flat_place(node))]
+        if shift == [0, 0] or not self.differs('static-place-read'):
+            return False
+        offset = layout.element_offset(node) if layout.scrolls(node) else (0, 0)
+        place = tuple([now + by for now, by in zip(layout.place(node), shift)])
+        self.tell(trace.read_line(node.name, place + layout.border_size(node) + offset))
+        return True
+
+    def stands_as_laid(self, node):
+        """Whether a reading lays nothing out: nothing has changed of a box out of flow, or of what is around and before it in there."""
+        layout = self.world.layout
+        if not self.has('static-place-read') or node not in self.laid_places or not layout.has_box(node) or None in self.touched:
+            return False
+        while node not in self.touched and node.root_of is None:
+            if not layout.in_flow(node):
+                holder = layout.holder(node)
+                if not isinstance(holder, Element):
+                    return True
+                node = holder
+            elif layout.position(node) == 'relative' or any(inner in self.touched for before in self.before(node) for inner in preorder(before)):
+                return False
+            else:
+                node = node.parent
+        return False
+
+    @staticmethod
+    def before(node):
+        return node.parent.children[:node.parent.children.index(node)]
+
     def lay_out_for_reading(self, thing):
         """A window that isn't scrolled may tell what it has; only what is around its frame is laid out then."""
         if not isinstance(thing, Document):
@@ -54,11 +90,11 @@ class Commands:
         elif thing.scroll != (0, 0) or not self.has(WINDOWS_READ_AT_ONCE):
             self.lay_out(thing)
         elif thing.frame is not None:
-            self.lay_out(thing.frame.document)
+            self.lay_out(thing.frame.document, thing)
 
     def lay_out_around(self, node):
-        """For an element that stands nowhere an engine may lay nothing out."""
-        if tree_document(node) is not None or not self.has(NOTHING_FOR_DETACHED):
+        """For an element that stands nowhere an engine may lay nothing out, and for one out of flow."""
+        if (tree_document(node) is not None or not self.has(NOTHING_FOR_DETACHED)) and not self.stands_as_laid(node):
             self.lay_out(node.document)
 
     def holds(self, command):
@@ -69,14 +105,22 @@ class Commands:
     def do_scroll(self, command, thing, left, top):
         # A window that is scrolled to its begin isn't laid out for it.
         if left or top or not isinstance(thing, Document):
-            self.lay_out(thing if isinstance(thing, Document) else thing.document)
+            self.lay_out_for_scrolling(thing)
         EFFECTS['scroll'](self, command, thing, *self._whole_position(left, top))
         self.anchor_anew(thing)
+        self.view_changes()
 
     def do_scroll_by(self, command, thing, left, top):
-        self.lay_out(thing if isinstance(thing, Document) else thing.document)
+        self.lay_out_for_scrolling(thing)
         EFFECTS['scroll-by'](self, command, thing, *self._whole_position(left, top))
         self.anchor_anew(thing)
+        self.view_changes()
+
+    def lay_out_for_scrolling(self, thing):
+        if isinstance(thing, Document):
+            self.lay_out(thing)
+        elif tree_document(thing) is not None or not self.has(NOTHING_FOR_DETACHED):
+            self.lay_out(thing.document)
 
     def anchor_anew(self, thing):
         if isinstance(thing, Element) and thing.root_of is not None:
@@ -92,6 +136,10 @@ class Commands:
         self.changed_in(node.document)
         if node.style != style:
             self.changed_documents.add(tree_document(node))
+            self.touched.add(node)
+        if 'absolute' in (style['position'], node.style['position']) and style['position'] != node.style['position']:
+            # What becomes absolute, or ceases to be, has all laid out.
+            self.touched.add(None)
         if property_ == 'overflow' and (style['overflow'] in SCROLLING) != (node.style['overflow'] in SCROLLING):
             self.made_anew(node)
 
@@ -106,10 +154,12 @@ class Commands:
         self.anchors.changes(node, property_)
         self.changed_in(node.document)
         self.changed_documents.add(tree_document(node))
+        self.touched.add(node)
 
     def do_load(self, command, node, width, height):
         EFFECTS['load'](self, command, node, width, height)
         self.changed_documents.add(tree_document(node))
+        self.touched.add(node)
 
     def changed_in(self, document):
         if document in self.hidden and self.differs('scroll-of-hidden-frame'):
@@ -174,15 +224,13 @@ class Commands:
 
     def do_io_unobserve(self, command, observer, node):
         kept = [entry for entry in observer.queue if entry.target is not node]
-        if self.telling and self.has(KEPT_WHILE_TELLING):
-            kept = observer.queue
-        if node in observer.registrations and kept != observer.queue and self.differs('queue-after-unobserve'):
+        drops = node in observer.registrations and kept != observer.queue and not self.has(QUEUES_WAIT)
+        if drops and self.differs('queue-after-unobserve'):
             observer.queue = kept
         EFFECTS['io-unobserve'](self, command, observer, node)
 
     def do_io_disconnect(self, command, observer):
-        kept = self.telling and self.has(KEPT_WHILE_TELLING)
-        if observer.queue and not kept and self.differs('queue-after-unobserve'):
+        if observer.queue and not self.has(QUEUES_WAIT) and self.differs('queue-after-unobserve'):
             observer.queue = [entry for entry in observer.queue if entry.target not in observer.registrations]
         EFFECTS['io-disconnect'](self, command, observer)
 
@@ -194,7 +242,13 @@ class Commands:
         EFFECTS['media'](self, command, name, document, queries)
         if self.has(FRAMES_IN_TIME):
             self.world.names[name].state = matches(queries, self.known.get(document, (0, 0)))
+        elif self.has(FRAMES_BEGIN_AS_THEY_COME) and document.frame is not None and document not in self.known:
+            self.world.names[name].state = matches(queries, FIRST_FRAME)
         self.states[self.world.names[name]] = matches(queries, self.rules_viewport(document))
+
+    def do_raf(self, command, document, key, handler):
+        EFFECTS['raf'](self, command, document, key, handler)
+        self.asked.add(document)
 
     def do_listen(self, command, listened, event, handler):
         before = len(self.world.listeners.get(listened, ()))

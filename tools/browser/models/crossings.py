@@ -5,7 +5,7 @@ from reference.world import ACTIVE, Document, Element, tree_document
 
 from .layout import PIXEL, whole
 from .traits import (CROSSED_IS_TURNED, EVERY_ROOT, IMPLICIT_ROOT, LENGTHS_ARE_CUT, LENGTHS_ARE_FLOORED, PERCENTAGES_ARE_CUT,
-                     SCROLLING_ROOT_UNTOLD)
+                     QUEUES_WAIT, SCROLLING_ROOT_UNTOLD)
 
 
 class Margins:
@@ -90,11 +90,14 @@ class Crossings:
         if (where is document) != (observer.document is document) and self.differs('told-by-own-document'):
             return observer.document is document
         if where is None and root.document is document:
-            return self.differs('root-removed')
+            # One that moved to another document after it was taken out stands in none for the engine.
+            return self.left.get(root, document) is document and self.differs('root-removed')
         return where is document
 
     def intersections(self, document, known=()):
         """Looks at a document's observers; `known` has the entries that were found before, by their registrations."""
+        if self.waits_unshown(document):
+            return
         for observer in self.observers_of(document):
             for registration, entry in self.found(observer, known):
                 if (registration.index, registration.meets) != (entry.index, entry.meets):
@@ -254,18 +257,21 @@ class Crossings:
         """Tells all observers that have entries, in the order that the browser's trace has."""
         documents = self.documents_in_order()
         if self.has('told-by-own-document'):
-            groups = [[observer for observer in self.observers_of(document) if observer.queue] for document in documents]
+            for document in documents:
+                self.tell_all([observer for observer in self.observers_of(document) if observer.queue and not self.waits_untold(observer)])
         else:
             known = [observer for document in documents for observer in self.observers_of(document) if observer.queue]
-            groups = [known + [observer for observer in self.world.intersection_observers if observer.queue and observer not in known]]
-        for waiting in groups:
-            self.tell_all(waiting)
+            self.tell_all(known + [observer for observer in self.world.intersection_observers if observer.queue and observer not in known])
         for observer in self.world.intersection_observers:
             if observer.document.state is not ACTIVE and not self.has('entries-of-dead-document'):
                 observer.queue = []
 
+    def waits_untold(self, observer):
+        """Whether an observer is in no document's list, as it has no target any more; its entries stay."""
+        return not observer.registrations and self.has(QUEUES_WAIT) and self.differs('queue-after-unobserve')
+
     def tell_all(self, waiting):
-        begun, self.telling = set(), True
+        begun = set()
         while waiting:
             # A document's observers are told together, also as it ends meanwhile.
             chosen = next((observer for observer in waiting if observer.document in begun and observer.document.state is not ACTIVE), None)
@@ -276,7 +282,6 @@ class Crossings:
                 stands = chosen.document.state is ACTIVE
                 self.tell_entries(chosen, entries, begun)
                 begun |= {chosen.document} if stands else set()
-        self.telling = False
 
     def next_of(self, waiting):
         """The observer that is told next: where the order is any one, by the browser's trace."""

@@ -5,10 +5,11 @@ from reference.layout import BORDER, CONTENT, DEVICE, FRAME_WIDTH, Layout
 from reference.lengths import AUTO
 from reference.world import ACTIVE, Element, World, tree_document
 
-from .traits import EMPTY_ROOTS_COUNT_NOTHING, ONE_PIXEL_AT_LEAST
+from .traits import EMPTY_ROOTS_COUNT_NOTHING, ONE_PIXEL_AT_LEAST, ROOT_MARGINS_COUNT
 
 PIXEL = 64
 ONE = 10000          # a ratio of 100%
+FIRST_FRAME = (300 * PIXEL, 150 * PIXEL)     # a frame that wasn't laid out yet
 
 
 def whole(units):
@@ -222,7 +223,7 @@ class EngineLayout(Layout):
             return None
         if is_deep:
             return right, bottom
-        margin = self.edges(node)[0]
+        margin = self.edges(node)[0] if node.root_of is None or self.world.page.has(ROOT_MARGINS_COUNT) else (0, 0, 0, 0)
         if (margin[1] or margin[2]) and self.differs('reach-with-margins'):
             right, bottom = right + margin[1], bottom + margin[2]
         if node.root_of is None:
@@ -260,9 +261,11 @@ class EngineWorld(World):
                 self.page.comes_last(observer)
 
     def remove(self, node):
-        stood, where = node.parent is not None or node.root_of is not None, tree_document(node)
+        stood, where, rooted = node.parent is not None or node.root_of is not None, tree_document(node), node.root_of
         if where is not None and self.page.has('told-in-the-update') and self.layout.has_box(node):
             self.page.changed_documents.add(where)
         super().remove(node)
         if stood:
             self.page.removed(node, where)
+        if rooted is not None:
+            self.page.uprooted(rooted)

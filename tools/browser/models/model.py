@@ -3,7 +3,7 @@ from reference import update
 from reference.commands import EFFECTS
 from reference.page import Page
 from reference.refusals import Throw
-from reference.world import ACTIVE
+from reference.world import ACTIVE, tree_document
 
 from .anchoring import Anchors
 from .commands import Commands
@@ -29,6 +29,7 @@ class Model(Commands, Viewports, Rounds, Crossings, Page):
         self.states = {}                  # query list -> its state by the rules
         self.changed_queries = {}         # document -> its query lists with a `change` to be fired
         self.new_documents = []           # that haven't laid themselves out
+        self.refilled = []                # frames that were put in again: in place of their document they have an empty page
         self.left = {}                    # element -> the document that it was taken out of last
         self.insertions = {}              # document -> number, in the order in which their frames were inserted
         self.sizes = {}                   # resize observers' targets -> what they were at the last layout
@@ -36,9 +37,14 @@ class Model(Commands, Viewports, Rounds, Crossings, Page):
         self.placed = {}                  # resize observers' targets -> where they were as the round began
         self.to_be_made = {}              # document -> those in its frames whose boxes are made anew as it is laid out
         self.anew = set()                 # documents with a `resize` to be fired for that
+        self.made = set()                 # those that are told so once more as the update ends
+        self.unshown = set()              # documents whose frames had no box at the last layout around them
+        self.touched = set()              # elements that have changed since the last layout; None where all is to be laid out
+        self.laid_places = {}             # boxes out of flow and those in them -> where they were then
+        self.asked = set()                # documents that have asked for a frame callback
+        self.slowed = set()               # those of them that were out of view as something around them was laid out
         self.ended = set()                # documents that stand no longer
         self.changed_documents = set()    # that aren't laid out since a change
-        self.telling = False              # whether intersection observers are being told
         self.failed = set()               # documents with an error in this update: it comes once
         self.all_resize_observers = []
         self.tool_saw = {}                # resize observer -> target -> the size that the tool saw reported last, or None
@@ -111,19 +117,23 @@ class Model(Commands, Viewports, Rounds, Crossings, Page):
     def update_the_rendering(self):
         if self.has(FRAMES_IN_TIME):
             self.lay_out_all()
-        for document in self.new_documents:
+            for document in self.insertions:
+                self.known.setdefault(document, (0, 0))
+        for document in self.new_documents + [tree_document(frame) for frame in self.refilled if tree_document(frame) is not None]:
             self.lay_out(document)
-        self.new_documents = []
+        self.new_documents, self.refilled = [], []
         documents = self.documents_in_order()
         awake = {document for document in documents if self.has_work(document)}
         for part in (self.resize_steps, self.scroll_steps, self.media_steps):
             for document in documents:
                 if document.state is ACTIVE:
                     part(document)
+        awake = self.awake_for_callbacks(documents, awake)
         for document in documents:
             if document.state is ACTIVE and self.runs_frame_callbacks(document, awake):
                 update._frame_callbacks(self, document)
         self.resize_loop()
+        self.make_again()
         for thing, document in self.late_scrolls:
             if thing not in document.pending_scrolls:
                 document.pending_scrolls.append(thing)
@@ -134,3 +144,7 @@ class Model(Commands, Viewports, Rounds, Crossings, Page):
         else:
             for document in documents:
                 self.intersections(document)
+        # What callbacks have changed is laid out as the update is shown.
+        for document in documents:
+            if document.state is ACTIVE:
+                self.places_in(document)

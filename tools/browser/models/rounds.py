@@ -29,11 +29,13 @@ class Rounds:
             self.rounds_by_turns()
             return
         self.failed.clear()
-        for document in self.documents_in_order():
+        documents = self.documents_in_order()
+        still = [document for document in documents if document.resize_observers and self.waits_unshown(document)]
+        for document in documents:
             least = 0
             while document.state is ACTIVE and least is not None:
                 self.lay_out_all()
-                least = self.one_round(document, least)
+                least = None if document in still else self.one_round(document, least)
 
     def rounds_by_turns(self):
         least, delivered = {}, True

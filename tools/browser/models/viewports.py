@@ -1,11 +1,19 @@
 """What documents are told of their sizes, what a layout does to offsets, and the first steps of an update."""
-from reference import update
+from reference import intersection, update
 from reference.layout import BORDER, CONTENT, DEVICE
 from reference.media import matches
-from reference.world import ACTIVE, DEAD, preorder, tree_document
+from reference.world import ACTIVE, DEAD, Element, IntersectionObserver, preorder, tree_document
 
 from .layout import NO_SIZES, Sizes, whole
-from .traits import FRAMES_IN_TIME, LATE_SCROLLS, PLACED_AS_ROUNDS_BEGIN, QUERIES_IN_UPDATE
+from .traits import (CALLBACKS_OF_THE_STEP, EMPTY_PAGES_LAY_OUT, EVENTS_GO_WITH_BOXES, FRAMES_IN_TIME, FRAMES_WAIT, LATE_SCROLLS,
+                     PLACED_AS_ROUNDS_BEGIN, QUERIES_IN_UPDATE)
+
+# The window's own view, of which a target is seen or not.
+WINDOW = IntersectionObserver('-', None, None, None, None, [('px', 0)] * 4, None, [0])
+
+
+def intersection_size(rectangle):
+    return rectangle[2] - rectangle[0], rectangle[3] - rectangle[1]
 
 
 class Viewports:
@@ -13,25 +21,48 @@ class Viewports:
 
     def inserted(self, node):
         self.changed_documents.add(tree_document(node))
+        self.touched |= {node, node.parent}
         for inner in preorder(node):
             document = inner.framed
-            if document is not None and document.state is ACTIVE and document not in self.insertions:
+            if document is None:
+                continue
+            if document.state is not ACTIVE:
+                if self.has(EMPTY_PAGES_LAY_OUT):
+                    self.refilled.append(inner)
+            elif document not in self.insertions:
                 self.insertions[document] = len(self.insertions)
                 self.new_documents.append(document)
 
     def removed(self, node, where):
         """Boxes go from a document; they come back with nothing scrolled."""
+        self.touched.add(node)
         for inner in preorder(node):
             if where is not None:
                 self.left[inner] = where
             if inner in self.sizes:
                 self.sizes[inner] = NO_SIZES
+            self.anchors.removed(inner)
             if inner.scroll != (0, 0) and self.differs('offset-of-moved-box'):
                 inner.scroll = (0, 0)
+            if self.has(EVENTS_GO_WITH_BOXES):
+                self.forget_scroll(inner, where)
         for other in self.sizes:
             if other.document.state is not ACTIVE:
                 self.sizes[other] = NO_SIZES
         self.documents_end()
+
+    def forget_scroll(self, thing, where):
+        """The event that waits for what was scrolled goes with its box."""
+        if where is not None and thing in where.pending_scrolls and self.differs('offset-of-moved-box'):
+            where.pending_scrolls.remove(thing)
+
+    def uprooted(self, document):
+        """A document without its root element is scrolled no more."""
+        if self.has(EVENTS_GO_WITH_BOXES) and document.state is ACTIVE:
+            self.forget_scroll(document, document)
+            if document.scroll != (0, 0) and self.differs('offset-of-moved-box'):
+                document.scroll = (0, 0)
+                self.world.scrolled()
 
     def documents_end(self):
         """Documents that stand no longer; observers with a root in one may lose their targets."""
@@ -89,15 +120,15 @@ class Viewports:
                     if queries not in waiting:
                         waiting.append(queries)
 
-    def lay_out(self, document):
-        """Lays out a document and those that it stands in, from the outermost on."""
+    def lay_out(self, document, also=None):
+        """Lays out a document and those that it stands in, from the outermost on; `also` is one that is told its size besides."""
         if document.state is not ACTIVE:
             return
         chain = [document]
         while chain[-1].frame is not None:
             chain.append(chain[-1].frame.document)
         for outer in reversed(chain):
-            self._laid_out(outer)
+            self._laid_out(outer, chain + [also] if self.has(FRAMES_WAIT) else None)
 
     def place_all(self):
         """Remembers where the targets' boxes are, as a round begins."""
@@ -110,16 +141,22 @@ class Viewports:
         for document in self.documents_in_order():
             self._laid_out(document)
 
-    def _laid_out(self, document):
+    def _laid_out(self, document, told=None):
+        """`told` are the documents that are told the size of their frames, where it isn't all."""
         layout = self.world.layout
+        if document in self.changed_documents and self.has(FRAMES_IN_TIME):
+            self.changed_documents -= self.inside(document)
+            self.view_changes()
+        self.places_in(document)
         self.changed_documents.discard(document)
         for inner in self.to_be_made.pop(document, ()):
             if inner.state is ACTIVE and inner in self.known and layout.has_box(inner.frame) and self.differs('frame-made-anew'):
                 self.resized.add(inner)
                 self.anew.add(inner)
+                self.made.add(inner)
         for inner in list(self.insertions):
-            if inner.state is ACTIVE and inner.frame.document is document and layout.has_box(inner.frame):
-                self.learns(inner, layout.frame_size(inner))
+            if inner.state is ACTIVE and inner.frame.document is document:
+                self.see_frame(inner, told is None or inner in told)
             self.hide_or_show(inner)
         for node in self.sizes:
             if node.document is document:
@@ -128,6 +165,48 @@ class Viewports:
             self.move_offsets(document)
         self.cut_offsets(document)
         self.anchors.settle(document)
+
+    def places_in(self, document):
+        """Remembers where boxes out of flow are, and those in them."""
+        if self.has('static-place-read'):
+            layout = self.world.layout
+            self.touched = {node for node in self.touched if node is not None and node.document is not document}
+            self.laid_places.update({node: layout.flat_place(node) for node in layout._boxes_of(document) if self.around_out_of_flow(node)})
+
+    def around_out_of_flow(self, node):
+        """The box out of flow around an element, or itself, that hangs on the viewport alone, or None."""
+        holder, outer = self.world.layout.holder(node), node
+        while isinstance(holder, Element):
+            holder, outer = self.world.layout.holder(holder), holder
+        return outer if outer.root_of is None else None
+
+    def inside(self, document):
+        """The documents of frames in a document, and those in them: laid out with it where they wait for that."""
+        found = {inner for inner in self.insertions if inner.state is ACTIVE and inner.frame.document is document}
+        return found.union(*[self.inside(inner) for inner in found])
+
+    def see_frame(self, document, is_told):
+        """A document is told the size of its frame, if that has a box as the page around it is laid out."""
+        if self.world.layout.has_box(document.frame):
+            self.unshown.discard(document)
+            if is_told:
+                self.learns(document, self.world.layout.frame_size(document))
+        else:
+            self.unshown.add(document)
+
+    def waits_unshown(self, document):
+        """Whether a document stands still, as its frame or one around it has no box."""
+        while document.frame is not None:
+            if document in self.unshown:
+                return self.differs('hidden-document-waits')
+            document = document.frame.document
+        return False
+
+    def make_again(self):
+        """Documents of frames whose boxes were made anew are told once more as an update ends."""
+        self.resized |= self.made
+        self.anew |= self.made
+        self.made = set()
 
     def hide_or_show(self, document):
         """A scrolled document is told of it, as its frame's box goes and comes."""
@@ -147,10 +226,9 @@ class Viewports:
     def move_offsets(self, document):
         for thing, by in list(self.anchors.moved(document)):
             self.met.add('scroll-anchoring')
-            thing.scroll = (thing.scroll[0], max(0, thing.scroll[1] + whole(by)))
+            thing.scroll = (thing.scroll[0], max(0, thing.scroll[1] + (whole(by) if self.has(LATE_SCROLLS) else by)))
             self.world.scrolled()
-            if self.has(LATE_SCROLLS):
-                self.scrolled_by_layout(thing, document)
+            self.scrolled_by_layout(thing, document)
 
     def scrolled_by_layout(self, thing, document):
         if self.has(LATE_SCROLLS):
@@ -185,10 +263,37 @@ class Viewports:
         return (document is self.world.top or document in self.resized or document.pending_scrolls or self.changed_queries.get(document)
                 or self.world.frame_callbacks.get(document))
 
+    def awake_for_callbacks(self, documents, awake):
+        """The documents whose frame callbacks are run in this update: they had something to do as it began, or callbacks as this step
+        does. In the page's own document the tool has one."""
+        if not self.has(CALLBACKS_OF_THE_STEP):
+            return awake
+        return {document for document in documents if document is self.world.top or self.world.frame_callbacks.get(document)}
+
     def runs_frame_callbacks(self, document, awake):
-        if document in awake or not self.world.frame_callbacks.get(document):
+        if not self.world.frame_callbacks.get(document):
             return True
-        return not self.differs('frame-callback-late')
+        if self.waits_unshown(document) or document in self.slowed and self.differs('callback-out-of-view'):
+            return False
+        return document in awake or not self.differs('frame-callback-late')
+
+    def view_changes(self):
+        """Which documents that have asked for frame callbacks are out of view, as something around them is laid out or scrolled."""
+        if not self.has('callback-out-of-view'):
+            return
+        for document in self.asked:
+            if document.state is ACTIVE and self.is_out_of_view(document):
+                self.slowed.add(document)
+            else:
+                self.slowed.discard(document)
+
+    def is_out_of_view(self, document):
+        """Whether a document's frame has a box with an area, of which nothing is seen in the window."""
+        layout = self.world.layout
+        if document.frame is None or 0 in layout.viewport(document) or not layout.has_box(document.frame):
+            return False
+        sees_all = intersection.RootRectangle(self.world, WINDOW)
+        return 0 in intersection_size(intersection.find(self.world, WINDOW, sees_all, document.frame).cut)
 
     def resize_steps(self, document):
         fires = document in self.resized

@@ -5,7 +5,7 @@ use Rattle.page_model.specs.Runs.{for_each}
 use Rattle.page_model.specs.Callbacks.{invoke, notify_listener}
 use Rattle.event_tables.specs.Seen.{seen_target}
 use Rattle.trace_runs.proofs.Following.{Following}
-use Rattle.frame_update.specs.Ready.{IsReady}
+use Rattle.frame_update.specs.Ready.{IsPrepared}
 use Rattle.frame_update.proofs.Listening.{IsAt}
 use Rattle.frame_update.proofs.events.invoke.Given as goal
 
@@ -16,7 +16,7 @@ invariant-loop-handler g l =
     (invoke (handlers_in l.script.items) (seen_target l.fn.target) l.fn.event l.fn.page.world)
     (for_each (notify_listener (handlers_in l.script.items)) l.dispatch l.page.world)
     × AllByRecursion (IsAt (seen_target l.fn.target)) l.dispatch
-    × IsReady l.script.items l.page.world
+    × IsPrepared l.script.items l.page.world
 
 abbrev pub decreases-loop-handler : goal.decreases-loop-handler
 decreases-loop-handler g l = length l.dispatch

@@ -4,10 +4,10 @@ use Rattle.script_model.specs.Scripts.{handlers_in}
 use Rattle.page_state.specs.Views.{PageView}
 use Rattle.event_tables.specs.FrameCallbacks.{told}
 use Rattle.trace_runs.proofs.Following.{begin, done, rest_same}
-use Rattle.frame_update.proofs.Ready.{ready_next}
+use Rattle.frame_update.proofs.Ready.{still_prepared}
 use Rattle.frame_update.proofs.Stopped.{stopped_run}
 use Rattle.frame_update.proofs.Handed.{fewer_left}
-use Rattle.frame_update.proofs.FrameTurns.{copied_of, frame_is_next, frames_all, frames_cut, frames_go_on, frames_left, frames_none, frames_quiet, others_of, stands_now, AreOf}
+use Rattle.frame_update.proofs.FrameTurns.{copied_of, frames_all, frames_cut, frames_go_on, frames_left, frames_none, frames_quiet, others_of, stands_now, AreOf}
 use Rattle.frame_update.proofs.frames.frame_steps.Goals as goal
 
 pub loop-alloc-init : goal.loop-alloc-init
@@ -24,10 +24,12 @@ returns-in_default-next_frame-clause-says g c =
     (rest_same (frames_none (handlers_in c.args.script.now.items) c.args.document c.loop-alloc.batch c.loop-alloc.page.world c.next_frame.new.self.world (sym c.loop-alloc-test.ensures) c.in_default-next_frame.ensures.value (ap (λ (page : PageView). page.world) c.next_frame.ensures.removed)) c.loop-alloc.invariant.following)
 
 pub returns-in_default-next_frame-clause-ready : goal.returns-in_default-next_frame-clause-ready
-returns-in_default-next_frame-clause-ready g c = ready_next _ _ _ (frame_is_next (handlers_in c.args.script.now.items) c.args.document c.loop-alloc.batch c.loop-alloc.page.world c.next_frame.new.self.world (ap (λ (page : PageView). page.world) c.next_frame.ensures.removed)) c.loop-alloc.invariant.ready
+returns-in_default-next_frame-clause-ready g c =
+    still_prepared c.args.script.now.items c.loop-alloc.page.world c.next_frame.new.self.world c.next_frame.ensures.ready c.loop-alloc.invariant.ready
 
 pub run_frame_callback-requires-clause-ready : goal.run_frame_callback-requires-clause-ready
-run_frame_callback-requires-clause-ready g c = ready_next _ _ _ (frame_is_next (handlers_in c.args.script.now.items) c.args.document c.loop-alloc.batch c.loop-alloc.page.world c.next_frame.new.self.world (ap (λ (page : PageView). page.world) c.next_frame.ensures.removed)) c.loop-alloc.invariant.ready
+run_frame_callback-requires-clause-ready g c =
+    still_prepared c.args.script.now.items c.loop-alloc.page.world c.next_frame.new.self.world c.next_frame.ensures.ready c.loop-alloc.invariant.ready
 
 pub loop-alloc-smaller : goal.loop-alloc-smaller
 loop-alloc-smaller g c = omega (arith, fewer_left told (stands_now c.loop-alloc.page.world) _ c.loop-alloc.batch c.in-Some.ensures.value, ap length c.next_frame.ensures.left)

@@ -8,8 +8,11 @@ use Rattle.intersection_update.specs.Watching.{watcher_numbers}
 use Rattle.trace_runs.proofs.Following.{begin, done, end_cut, go_on, rest_same}
 use Rattle.trace_runs.proofs.Loops.{each_more, each_none}
 use Rattle.trace_runs.proofs.Runs.{run_same, silent_run}
-use Rattle.frame_update.proofs.Notifying.{listed_there, notify_dropped, notify_listed, ready_cleared, still_there, turn_made}
+use Rattle.frame_update.proofs.Notifying.{listed_there, notify_dropped, notify_listed, still_there, turn_made}
 use Rattle.frame_update.proofs.Stopped.{stopped_run}
+use Rattle.page_laws.specs.Ready.{with_first}
+use Rattle.page_model.specs.World.{Notify}
+use Rattle.frame_update.proofs.Ready.{still_prepared}
 use Rattle.frame_update.proofs.notify.notify.Goals as goal
 
 pub returns-then-not-is_active-clause-says : goal.returns-then-not-is_active-clause-says
@@ -27,7 +30,7 @@ loop-watcher-init g c = record {
       listed_there c.args.document c.deref-watcher-items.result.now _ c.args.page.now.world c.notify_list.new.self.world c.deref-watcher-items.ensures.value
       (ap (λ (page : PageView). page.world) c.in-Ok.ensures.cleared) c.in-Ok.ensures.made;
   ready =
-      ready_cleared c.args.script.now.items c.args.document c.args.page.now.world c.requires.ready c.notify_list.new.self.world (ap (λ (page : PageView). page.world) c.in-Ok.ensures.cleared);
+      still_prepared c.args.script.now.items (with_first (Notify c.args.document) c.args.page.now.world) c.notify_list.new.self.world c.in-Ok.ensures.ready c.requires.ready;
 }
 
 pub returns-in_err-notify_watcher-clause-says : goal.returns-in_err-notify_watcher-clause-says

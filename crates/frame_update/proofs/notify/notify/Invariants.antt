@@ -4,7 +4,7 @@ use Rattle.page_model.specs.Intersections.{notify, notify_watcher}
 use Rattle.page_model.specs.Runs.{for_each}
 use Rattle.intersection_observer.specs.declared.root.WatcherId.{WatcherId}
 use Rattle.trace_runs.proofs.Following.{Following}
-use Rattle.frame_update.specs.Ready.{IsReady}
+use Rattle.frame_update.specs.Ready.{IsPrepared}
 use Rattle.frame_update.proofs.Notifying.{AreThere}
 use Rattle.frame_update.proofs.notify.notify.Given as goal
 
@@ -16,5 +16,5 @@ invariant-loop-watcher g l = record {
       (notify (handlers_in l.script.items) l.document l.fn.page.world)
       (for_each (λ (item : WatcherId). notify_watcher (handlers_in l.script.items) (item.0)) (drop l.watcher-index l.watcher-items) l.page.world);
   there : AreThere l.page.world l.watcher-items;
-  ready : IsReady l.script.items l.page.world;
+  ready : IsPrepared l.script.items l.page.world;
 }

@@ -6,7 +6,8 @@ use Rattle.page_model.specs.Runs.{silent}
 use Rattle.page_state.specs.Views.{PageView}
 use Rattle.intersection_observer.specs.Seen.{seen_entry}
 use Rattle.trace_runs.proofs.Runs.{run_same, silent_run}
-use Rattle.frame_update.proofs.Notifying.{empty_seen, filled_seen, ready_taken, records_handed, there_taken, turn_empty, turn_ready, turn_run}
+use Rattle.frame_update.proofs.Notifying.{empty_seen, filled_seen, records_handed, there_taken, turn_empty, turn_ready, turn_run}
+use Rattle.frame_update.proofs.Ready.{still_prepared}
 use Rattle.frame_update.proofs.notify.notify_watcher.Goals as goal
 
 pub returns-then-is_empty-clause-says : goal.returns-then-is_empty-clause-says
@@ -19,8 +20,7 @@ returns-then-is_empty-clause-says g c =
 
 pub returns-then-is_empty-clause-ready : goal.returns-then-is_empty-clause-ready
 returns-then-is_empty-clause-ready g c =
-    ready_taken c.args.watcher.0 c.args.page.now.world c.take_records-records.new.self.world (ap (λ (page : PageView). page.world) c.take_records-records.ensures.taken) c.args.script.now.items
-    c.requires.ready
+    still_prepared c.args.script.now.items c.args.page.now.world c.take_records-records.new.self.world c.take_records-records.ensures.ready c.requires.ready
 
 pub callback_of-document-requires : goal.callback_of-document-requires
 callback_of-document-requires g c =
@@ -48,5 +48,4 @@ returns-clause-ready g c =
     (records_handed c.args.watcher.0 c.args.page.now.world c.take_records-records.new.self.world (ap (λ (page : PageView). page.world) c.take_records-records.ensures.taken)
     c.take_records-records.result c.requires.made c.take_records-records.ensures.written).targets
     c.run_handler.ensures
-    (ready_taken c.args.watcher.0 c.args.page.now.world c.take_records-records.new.self.world (ap (λ (page : PageView). page.world) c.take_records-records.ensures.taken) c.args.script.now.items
-    c.requires.ready)
+    (still_prepared c.args.script.now.items c.args.page.now.world c.take_records-records.new.self.world c.take_records-records.ensures.ready c.requires.ready)

@@ -4,7 +4,8 @@ use Rattle.depth_gather.specs.Deliveries.{active_at}
 use Rattle.page_state.specs.Views.{PageView}
 use Rattle.trace_runs.proofs.Following.{end_memory}
 use Rattle.frame_update.proofs.Stopped.{stopped_run}
-use Rattle.frame_update.proofs.Broadcasts.{broadcast_begins, broadcast_cut, broadcast_left, broadcast_none, broadcast_on, handed_entries, handed_made, handed_out, handed_ready, none_ready, place_few, place_past}
+use Rattle.frame_update.proofs.Broadcasts.{broadcast_begins, broadcast_cut, broadcast_left, broadcast_none, broadcast_on, handed_entries, handed_made, handed_out, place_few, place_past}
+use Rattle.frame_update.proofs.Ready.{still_prepared}
 use Rattle.frame_update.proofs.rounds.broadcast.Goals as goal
 
 pub loop-alloc-init : goal.loop-alloc-init
@@ -19,14 +20,11 @@ returns-in_default-next-clause-says g c =
 
 pub returns-in_default-next-clause-ready : goal.returns-in_default-next-clause-ready
 returns-in_default-next-clause-ready g c =
-    none_ready c.loop-alloc.invariant (sym (rw c.in_default-next.is at c.in-Ok.ensures.turn)) (ap (λ (page : PageView). page.world) c.in-Ok.ensures.reported)
+    still_prepared c.args.script.now.items c.loop-alloc.page.world c.next_delivery.new.self.world c.in-Ok.ensures.ready c.loop-alloc.invariant.ready
 
 pub call_observer-requires-clause-ready : goal.call_observer-requires-clause-ready
 call_observer-requires-clause-ready g c =
-    let it = c.in-Ok.ensures in
-    handed_ready c.args.document c.loop-alloc.place c.loop-alloc.page.world c.next_delivery.new.self.world c.in-Some.delivery
-    (handed_out _ _ _ _ c.in-Ok.next c.in-Some.delivery c.in-Some.is it.turn it.entries (ap (λ (page : PageView). page.world) it.reported) it.made it.some)
-    c.args.script.now.items c.loop-alloc.invariant.ready
+    still_prepared c.args.script.now.items c.loop-alloc.page.world c.next_delivery.new.self.world c.in-Ok.ensures.ready c.loop-alloc.invariant.ready
 
 pub call_observer-requires-clause-observer : goal.call_observer-requires-clause-observer
 call_observer-requires-clause-observer g c =

@@ -1,10 +1,9 @@
-use Rattle.std.proofs.Common.{subst, sym, ◌∙◌}
-use Rattle.page_laws.proofs.Changes.{inactive-next}
+use Rattle.std.proofs.Common.{subst, sym}
 use Rattle.page_state.specs.Views.{PageView}
-use Rattle.frame_update.specs.Ready.{IsReady}
+use Rattle.frame_update.specs.Ready.{IsPrepared}
 use Rattle.frame_update.proofs.Delivered.{are_handed}
 use Rattle.frame_update.proofs.Observers.{called_within}
-use Rattle.frame_update.proofs.Ready.{ready_called, ready_next}
+use Rattle.frame_update.proofs.Ready.{ready_called, still_prepared}
 use Rattle.frame_update.proofs.rounds.call_observer.Goals as goal
 use Rattle.frame_update.proofs.rounds.call_observer.Goals.{then-is_active, else-is_active}
 
@@ -24,7 +23,7 @@ returns-clause-ready g c =
     c.in_ok-run_handler.ensures.ended.state_is c.requires.ready in
     elim c.if-is_active.branch [
       | then-is_active w ↦
-          subst (λ (page : PageView). IsReady c.args.script.now.items page.world) (sym (w.page-is ∙ w.end_delivery.ensures))
-          (ready_next c.args.script.now.items _ _ (inactive-next c.run_handler.new.page.world c.args.delivery.observer.0) called)
-      | else-is_active w ↦ subst (λ (page : PageView). IsReady c.args.script.now.items page.world) (sym w.page-is) called
+          subst (λ (page : PageView). IsPrepared c.args.script.now.items page.world) (sym w.page-is)
+          (still_prepared c.args.script.now.items c.run_handler.new.page.world w.end_delivery.new.self.world w.end_delivery.ensures.ready called)
+      | else-is_active w ↦ subst (λ (page : PageView). IsPrepared c.args.script.now.items page.world) (sym w.page-is) called
     ]

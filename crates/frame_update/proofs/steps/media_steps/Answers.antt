@@ -4,8 +4,9 @@ use Rattle.script_model.specs.Scripts.{handlers_in}
 use Rattle.page_model.specs.World.{World}
 use Rattle.page_state.specs.Views.{PageView}
 use Rattle.trace_runs.proofs.Following.{begin, rest_same, go_on, end_cut, done}
-use Rattle.frame_update.proofs.Evaluating.{evaluated_ready, evaluated_there, fewer_places, media_turns, next_told, none_told, turns_left}
+use Rattle.frame_update.proofs.Evaluating.{evaluated_there, fewer_places, media_turns, next_told, none_told, turns_left}
 use Rattle.frame_update.proofs.Stopped.{stopped_run}
+use Rattle.frame_update.proofs.Ready.{still_prepared}
 use Rattle.frame_update.proofs.steps.media_steps.Goals as goal
 
 pub loop-alloc-init : goal.loop-alloc-init
@@ -22,13 +23,11 @@ returns-in_default-clause-says g c =
 
 pub returns-in_default-clause-ready : goal.returns-in_default-clause-ready
 returns-in_default-clause-ready g c =
-    evaluated_ready c.args.document _ c.loop-alloc.page.world c.next_change.new.self.world (ap (λ (page : PageView). page.world) c.in_default.ensures.evaluated) c.args.script.now.items
-    c.loop-alloc.invariant.1
+    still_prepared c.args.script.now.items c.loop-alloc.page.world c.next_change.new.self.world c.in_default.ensures.ready c.loop-alloc.invariant.1
 
 pub report_change-requires-clause-ready : goal.report_change-requires-clause-ready
 report_change-requires-clause-ready g c =
-    evaluated_ready c.args.document _ c.loop-alloc.page.world c.next_change.new.self.world (ap (λ (page : PageView). page.world) c.in-Some.ensures.evaluated) c.args.script.now.items
-    c.loop-alloc.invariant.1
+    still_prepared c.args.script.now.items c.loop-alloc.page.world c.next_change.new.self.world c.in-Some.ensures.ready c.loop-alloc.invariant.1
 
 pub report_change-requires-clause-query : goal.report_change-requires-clause-query
 report_change-requires-clause-query g c =

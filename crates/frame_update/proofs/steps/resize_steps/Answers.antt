@@ -1,7 +1,8 @@
 use Rattle.std.proofs.Common.{refl}
 use Rattle.script_model.specs.Scripts.{handlers_in}
 use Rattle.trace_runs.proofs.Runs.{run_same, silent_run}
-use Rattle.frame_update.proofs.Resizing.{noted_again, noted_anew, noted_ready, noted_there}
+use Rattle.frame_update.proofs.Resizing.{noted_again, noted_anew, noted_there}
+use Rattle.frame_update.proofs.Ready.{still_prepared}
 use Rattle.frame_update.proofs.steps.resize_steps.Goals as goal
 
 pub returns-then-not-viewport_changed-clause-says : goal.returns-then-not-viewport_changed-clause-says
@@ -13,16 +14,14 @@ returns-then-not-viewport_changed-clause-says g c =
 
 pub returns-then-not-viewport_changed-clause-ready : goal.returns-then-not-viewport_changed-clause-ready
 returns-then-not-viewport_changed-clause-ready g c =
-    noted_ready c.args.document c.args.page.now.world c.viewport_changed.new.self.world c.if-not-viewport_changed.ensures.noted c.requires.active c.args.script.now.items c.requires.ready
+    still_prepared c.args.script.now.items c.args.page.now.world c.viewport_changed.new.self.world c.if-not-viewport_changed.ensures.ready c.requires.ready
 
 pub label-requires : goal.label-requires
 label-requires g c = noted_there c.args.document c.args.page.now.world c.viewport_changed.new.self.world c.if-not-viewport_changed.ensures.noted c.requires.active
 
 pub fire-requires : goal.fire-requires
 fire-requires g c = record {
-  ready =
-      noted_ready c.args.document c.args.page.now.world c.viewport_changed.new.self.world c.if-not-viewport_changed.ensures.noted c.requires.active c.args.script.now.items
-      c.requires.ready;
+  ready = still_prepared c.args.script.now.items c.args.page.now.world c.viewport_changed.new.self.world c.if-not-viewport_changed.ensures.ready c.requires.ready;
 }
 
 pub returns-clause-says : goal.returns-clause-says

@@ -5,8 +5,9 @@ use Rattle.page_state.specs.Views.{PageView}
 use Rattle.scrolling.specs.Seen.{seen_target, seen_targets}
 use Rattle.trace_runs.proofs.Following.{begin, rest_same, go_on, end_cut, done}
 use Rattle.trace_runs.proofs.Loops.{each_more, each_none}
-use Rattle.frame_update.proofs.Scrolling.{IsThere, one_of_all, scroll_one, scrolls_taken, still_there, taken_ready, taken_there}
+use Rattle.frame_update.proofs.Scrolling.{IsThere, one_of_all, scroll_one, scrolls_taken, still_there, taken_there}
 use Rattle.frame_update.proofs.Stopped.{stopped_run}
+use Rattle.frame_update.proofs.Ready.{still_prepared}
 use Rattle.frame_update.proofs.steps.scroll_steps.Goals as goal
 
 pub loop-target-init : goal.loop-target-init
@@ -17,8 +18,7 @@ loop-target-init g c = (
       begin,
   taken_there c.args.script.now.items c.args.document c.deref-target-items.result.now c.args.page.now.world c.take_scrolled-scrolled.new.self.world c.requires.ready
       (ap seen_targets c.deref-target-items.ensures.value ∙ c.take_scrolled-scrolled.ensures.value) (ap (λ (page : PageView). page.world) c.take_scrolled-scrolled.ensures.taken),
-  taken_ready c.args.script.now.items c.args.document c.args.page.now.world c.take_scrolled-scrolled.new.self.world
-      (ap (λ (page : PageView). page.world) c.take_scrolled-scrolled.ensures.taken) c.requires.ready,
+  still_prepared c.args.script.now.items c.args.page.now.world c.take_scrolled-scrolled.new.self.world c.take_scrolled-scrolled.ensures.ready c.requires.ready,
 )
 
 pub scroll_step-requires-clause-ready : goal.scroll_step-requires-clause-ready

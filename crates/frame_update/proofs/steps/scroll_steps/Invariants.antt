@@ -5,7 +5,7 @@ use Rattle.page_model.specs.Runs.{for_each}
 use Rattle.page_model.specs.Ticks.{scroll_steps}
 use Rattle.scrolling.specs.Seen.{seen_target}
 use Rattle.trace_runs.proofs.Following.{Following}
-use Rattle.frame_update.specs.Ready.{IsReady}
+use Rattle.frame_update.specs.Ready.{IsPrepared}
 use Rattle.frame_update.proofs.Scrolling.{IsThere, scroll_one}
 use Rattle.frame_update.proofs.steps.scroll_steps.Given as goal
 
@@ -16,4 +16,4 @@ invariant-loop-target g l =
     (scroll_steps (handlers_in l.script.items) l.document l.fn.page.world)
     (for_each (λ item. scroll_one (handlers_in l.script.items) l.document (seen_target item)) (drop l.target-index l.target-items) l.page.world)
     × AllByRecursion (IsThere l.page.world) l.target-items
-    × IsReady l.script.items l.page.world
+    × IsPrepared l.script.items l.page.world

@@ -1,13 +1,15 @@
-use Rattle.std.proofs.Common.{◌∙◌, ap, refl, subst}
+use Rattle.std.proofs.Common.{◌∙◌, ap, refl}
+use Rattle.std.specs.Prelude.{length}
 use Rattle.script_model.specs.Scripts.{handlers_in}
 use Rattle.page_model.specs.Runs.{most_steps, silent}
 use Rattle.page_state.specs.Views.{PageView}
 use Rattle.event_tables.specs.Seen.{seen_task}
 use Rattle.trace_runs.proofs.Following.{begin, done, rest_same}
-use Rattle.frame_update.specs.Ready.{IsReady}
-use Rattle.frame_update.proofs.Ready.{ready_next}
+use Rattle.page_laws.specs.Ready.{with_first}
+use Rattle.page_laws.proofs.Ready.{ready-of}
+use Rattle.frame_update.proofs.Ready.{prepared, still_prepared}
 use Rattle.frame_update.proofs.Stopped.{stopped_run}
-use Rattle.frame_update.proofs.QueuedTasks.{fewer_tasks, none_is_next, none_waits, put_back, same_page, task_waits, tasks_cut, tasks_go_on}
+use Rattle.frame_update.proofs.QueuedTasks.{fewer_tasks, none_waits, same_page, task_waits, tasks_cut, tasks_go_on}
 use Rattle.frame_update.proofs.tasks.run_tasks.Goals as goal
 
 pub loop-task-init : goal.loop-task-init
@@ -21,7 +23,11 @@ loop-task-init g c = record {
 
 pub run_task-requires : goal.run_task-requires
 run_task-requires g c = record {
-  ready = subst (IsReady c.args.script.now.items) (put_back (handlers_in c.args.script.now.items) c.loop-task.page.world (seen_task c.in-Some.task) c.pop_task.new.self.world c.in-Some.ensures.value (ap (λ (page : PageView). page.world) c.pop_task.ensures.left)) c.loop-task.invariant.ready;
+  ready =
+      let handlers = length (handlers_in c.args.script.now.items) in
+      let before = c.loop-task.invariant.ready in
+      prepared c.args.script.now.items (with_first (seen_task c.in-Some.task) c.pop_task.new.self.world)
+      (c.in-Some.ensures.task handlers (ready-of handlers c.loop-task.page.world before.range before.limits));
 }
 
 pub loop-task-smaller : goal.loop-task-smaller
@@ -48,4 +54,4 @@ returns-clause-says g c =
 
 pub returns-clause-ready : goal.returns-clause-ready
 returns-clause-ready g c =
-    ready_next _ _ _ (none_is_next (handlers_in c.args.script.now.items) c.loop-task.page.world c.pop_task.new.self.world c.in_default.ensures.value (ap (λ (page : PageView). page.world) c.pop_task.ensures.left)) c.loop-task.invariant.ready
+    still_prepared c.args.script.now.items c.loop-task.page.world c.pop_task.new.self.world c.in_default.ensures.ready c.loop-task.invariant.ready

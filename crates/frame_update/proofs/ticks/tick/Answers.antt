@@ -1,9 +1,11 @@
+use Rattle.std.specs.Prelude.{length}
 use Rattle.script_model.specs.Syntax.{Tick}
 use Rattle.script_model.specs.Scripts.{handlers_in}
 use Rattle.page_model.specs.Commands.{begun_in}
 use Rattle.page_model.specs.Ticks.{tick, time_set}
 use Rattle.trace_runs.proofs.Runs.{run_same}
-use Rattle.frame_update.proofs.Ticking.{begun_is, begun_ready, begun_run, caught_run, clock_is, ready_same, refused_run, timed_is, timed_ready, unbegun_is}
+use Rattle.frame_update.proofs.Ticking.{begun_is, begun_run, caught_run, clock_is, ready_told, refused_run, timed_is, unbegun_is}
+use Rattle.frame_update.proofs.Ready.{prepared, readied}
 use Rattle.frame_update.proofs.ticks.tick.Goals as goal
 
 pub returns-in-Err-clause-says : goal.returns-in-Err-clause-says
@@ -13,7 +15,9 @@ returns-in-Err-clause-says g c =
     (begun_run (handlers_in c.args.script.now.items) c.args.line c.args.time c.args.page.now.world) c.version.ensures c.in-Err.ensures.counted c.refuse.ensures)
 
 pub returns-in-Err-clause-ready : goal.returns-in-Err-clause-ready
-returns-in-Err-clause-ready g c = ready_same c.args.script.now.items c.refuse.result c.args.page.now c.begin_command.new.self c.in-Err.ensures.same c.requires.ready
+returns-in-Err-clause-ready g c =
+    ready_told c.args.script.now.items c.begin_command.new.self.world c.refuse.result
+    (c.begin_command.ensures.ready (length (handlers_in c.args.script.now.items)) c.requires.ready)
 
 pub returns-in-Err-set_time-clause-says : goal.returns-in-Err-set_time-clause-says
 returns-in-Err-set_time-clause-says g c =
@@ -23,13 +27,14 @@ returns-in-Err-set_time-clause-says g c =
 
 pub returns-in-Err-set_time-clause-ready : goal.returns-in-Err-set_time-clause-ready
 returns-in-Err-set_time-clause-ready g c =
-    ready_same c.args.script.now.items c.refuse-in-Err-set_time.result c.begin_command.new.self c.set_time.new.self c.in-Err-set_time.ensures.same
-    (begun_ready c.args.script.now.items c.args.page.now.world c.begin_command.new.self.world c.in_default.ensures.counted c.requires.ready)
+    let handlers = length (handlers_in c.args.script.now.items) in
+    ready_told c.args.script.now.items c.set_time.new.self.world c.refuse-in-Err-set_time.result
+    (c.set_time.ensures.ready handlers (c.begin_command.ensures.ready handlers c.requires.ready))
 
 pub run_parts-requires-clause-ready : goal.run_parts-requires-clause-ready
 run_parts-requires-clause-ready g c =
-    timed_ready c.args.script.now.items c.args.time c.begin_command.new.self.world c.set_time.new.self.world c.in_default-set_time.ensures.set
-    (begun_ready c.args.script.now.items c.args.page.now.world c.begin_command.new.self.world c.in_default.ensures.counted c.requires.ready)
+    let handlers = length (handlers_in c.args.script.now.items) in
+    prepared c.args.script.now.items c.set_time.new.self.world (c.set_time.ensures.ready handlers (c.begin_command.ensures.ready handlers c.requires.ready))
 
 pub run_parts-requires-clause-time : goal.run_parts-requires-clause-time
 run_parts-requires-clause-time g c = clock_is c.args.time c.begin_command.new.self.world c.set_time.new.self.world c.in_default-set_time.ensures.set
@@ -41,14 +46,17 @@ returns-clause-says g c =
     c.in_default-set_time.ensures.set)
     (caught_run c.run_parts.result c.run_parts.ensures.says)
 
+pub returns-clause-ready : goal.returns-clause-ready
+returns-clause-ready g c = readied c.args.script.now.items c.run_parts.new.page.world c.run_parts.result c.run_parts.ensures.ready
+
 pub returns-in-Err-clause-loops : goal.returns-in-Err-clause-loops
 returns-in-Err-clause-loops g c =
-    c.listed_loops_are_exact.ensures.items (handlers_in c.args.script.now.items) (Tick c.args.line c.args.time) c.args.page.now.world c.requires.ready.limits
+    c.listed_loops_are_exact.ensures.items (handlers_in c.args.script.now.items) (Tick c.args.line c.args.time) c.args.page.now.world (prepared c.args.script.now.items c.args.page.now.world c.requires.ready).limits
 
 pub returns-in-Err-set_time-clause-loops : goal.returns-in-Err-set_time-clause-loops
 returns-in-Err-set_time-clause-loops g c =
-    c.listed_loops_are_exact.ensures.items (handlers_in c.args.script.now.items) (Tick c.args.line c.args.time) c.args.page.now.world c.requires.ready.limits
+    c.listed_loops_are_exact.ensures.items (handlers_in c.args.script.now.items) (Tick c.args.line c.args.time) c.args.page.now.world (prepared c.args.script.now.items c.args.page.now.world c.requires.ready).limits
 
 pub returns-clause-loops : goal.returns-clause-loops
 returns-clause-loops g c =
-    c.listed_loops_are_exact.ensures.items (handlers_in c.args.script.now.items) (Tick c.args.line c.args.time) c.args.page.now.world c.requires.ready.limits
+    c.listed_loops_are_exact.ensures.items (handlers_in c.args.script.now.items) (Tick c.args.line c.args.time) c.args.page.now.world (prepared c.args.script.now.items c.args.page.now.world c.requires.ready).limits

@@ -4,10 +4,10 @@ use Rattle.script_model.specs.Scripts.{handlers_in}
 use Rattle.page_state.specs.Views.{PageView}
 use Rattle.event_tables.specs.Timers.{copied_stands, told}
 use Rattle.trace_runs.proofs.Following.{begin, done, rest_same}
-use Rattle.frame_update.proofs.Ready.{ready_next}
+use Rattle.frame_update.proofs.Ready.{still_prepared}
 use Rattle.frame_update.proofs.Stopped.{stopped_run}
 use Rattle.frame_update.proofs.Handed.{fewer_left}
-use Rattle.frame_update.proofs.DueTimers.{timer_is_next, timers_all, timers_cut, timers_go_on, timers_left, timers_none}
+use Rattle.frame_update.proofs.DueTimers.{timers_all, timers_cut, timers_go_on, timers_left, timers_none}
 use Rattle.frame_update.proofs.timers.run_timers.Goals as goal
 
 pub loop-timer-init : goal.loop-timer-init
@@ -19,9 +19,7 @@ loop-timer-init g c = record {
 
 pub run_timer-requires : goal.run_timer-requires
 run_timer-requires g c = record {
-  ready = ready_next _ _ _
-      (timer_is_next (handlers_in c.args.script.now.items) c.loop-timer.due c.loop-timer.page.world c.next_timer.new.self.world (ap (λ (page : PageView). page.world) c.next_timer.ensures.removed))
-      c.loop-timer.invariant.ready;
+  ready = still_prepared c.args.script.now.items c.loop-timer.page.world c.next_timer.new.self.world c.next_timer.ensures.ready c.loop-timer.invariant.ready;
 }
 
 pub loop-timer-smaller : goal.loop-timer-smaller
@@ -53,6 +51,4 @@ returns-clause-says g c =
 
 pub returns-clause-ready : goal.returns-clause-ready
 returns-clause-ready g c =
-    ready_next _ _ _
-    (timer_is_next (handlers_in c.args.script.now.items) c.loop-timer.due c.loop-timer.page.world c.next_timer.new.self.world (ap (λ (page : PageView). page.world) c.next_timer.ensures.removed))
-    c.loop-timer.invariant.ready
+    still_prepared c.args.script.now.items c.loop-timer.page.world c.next_timer.new.self.world c.next_timer.ensures.ready c.loop-timer.invariant.ready

@@ -1,7 +1,7 @@
 use Rattle.std.proofs.Common.{drop}
 use Rattle.script_model.specs.Scripts.{handlers_in}
 use Rattle.trace_runs.proofs.Following.{Following}
-use Rattle.frame_update.specs.Ready.{IsReady}
+use Rattle.frame_update.specs.Ready.{IsPrepared}
 use Rattle.frame_update.proofs.Rendering.{over}
 use Rattle.frame_update.proofs.update.run_for_each.Given as goal
 
@@ -12,5 +12,5 @@ invariant-loop-document g l = record {
       Following (g.K.Sink.taken l.fn.sink) (g.K.Sink.taken l.sink) (g.K.Sink.faults l.fn.sink) (g.K.Sink.faults l.sink)
       (over (handlers_in l.script.items) l.documents l.part l.fn.page.world)
       (over (handlers_in l.script.items) (drop l.document-index l.documents) l.part l.page.world);
-  ready : IsReady l.script.items l.page.world;
+  ready : IsPrepared l.script.items l.page.world;
 }

@@ -1,12 +1,10 @@
-use Rattle.std.proofs.Common.{◌∙◌, ap, refl, subst, sym}
+use Rattle.std.proofs.Common.{◌∙◌, ap, refl, sym}
 use Rattle.script_model.specs.Scripts.{handlers_in}
 use Rattle.page_model.specs.Runs.{silent}
-use Rattle.page_model.specs.World.{World}
-use Rattle.page_laws.proofs.Changes.{IsNext, active-in, update-next}
 use Rattle.page_state.specs.Views.{PageView}
 use Rattle.trace_runs.proofs.Runs.{run_same, silent_run}
 use Rattle.frame_update.specs.Parts.{part_of}
-use Rattle.frame_update.proofs.Ready.{ready_next}
+use Rattle.frame_update.proofs.Ready.{still_prepared}
 use Rattle.frame_update.proofs.update.run_part.Goals as goal
 
 pub returns-in-Ok-clause-says : goal.returns-in-Ok-clause-says
@@ -18,7 +16,4 @@ returns-in-Ok-clause-says g c =
 
 pub returns-in-Ok-clause-ready : goal.returns-in-Ok-clause-ready
 returns-in-Ok-clause-ready g c =
-    ready_next _ _ _
-    (subst (λ (world : World). IsNext c.args.page.now.world world) (sym (ap (λ (page : PageView). page.world) c.in-Ok.ensures.updated))
-    (update-next c.args.document c.args.page.now.world (active-in (c.args.page.now.world.tree) c.args.document c.requires.active)))
-    c.requires.ready
+    still_prepared c.args.script.now.items c.args.page.now.world c.update_intersections.new.self.world c.update_intersections.ensures.ready c.requires.ready

@@ -9,15 +9,14 @@ use Rattle.script_model.specs.Scripts.{handlers_in}
 use Rattle.handlers.specs.Entries.{entries_of, present_at}
 use Rattle.trace_runs.proofs.Answered.{threw_run}
 use Rattle.handlers.proofs.Answered.{apply_same, begun_is, found_same, held_is, unheld_is, unbegun_run}
-use Rattle.script_syntax.proofs.Inner.{inner_action}
-use Rattle.script_syntax.proofs.Walked.{each_size, simple_is, size_within, when_size}
-use Rattle.handlers.proofs.Blocks.{block_more, block_same, block_none, command_begins, each_does, simple_does, test_allowed, when_does}
+use Rattle.script_syntax.proofs.Walked.{each_size, size_within, when_size}
+use Rattle.handlers.proofs.Blocks.{action_allowed, command_ready, block_more, block_same, block_none, command_begins, each_does, simple_does, test_allowed, when_does}
 use Rattle.handlers.proofs.Growing.{in_after_begun, in_after_block, in_after_command}
 use Rattle.handlers.proofs.Places.{present_is, subject_in}
 use Rattle.handlers.proofs.commands.+blocks.Goals as goal
 
-pub run_command-returns-in-Err : goal.run_command-returns-in-Err
-run_command-returns-in-Err g t c =
+pub run_command-returns-in-Err-clause-says : goal.run_command-returns-in-Err-clause-says
+run_command-returns-in-Err-clause-says g t c =
     let it = command_begins _ _ c.args.command.now.line c.args.command.now.what _ _ in
     run_same it.1 (unbegun_run c.in-Err.fault _ c.refuse.result _ _ _ _ _ _ it.0 c.version.ensures c.in-Err.ensures.counted c.refuse.ensures)
 
@@ -32,22 +31,22 @@ pub run_command-apply-requires : goal.run_command-apply-requires
 run_command-apply-requires g t c =
     record {
       begun = c.in_default.ensures.begun;
-      allowed = inner_action c.args.command.now.what c.in_default-what.not-Each c.in_default-what.not-When c.requires.allowed.0 c.requires.allowed.1;
+      allowed = action_allowed c.args.command.now.what c.in-Act.action c.in-Act.is c.requires.allowed;
       subject = subject_in c.begin_command.new.self.world _ _ _ _ c.subject_at-present.ensures (in_after_begun c.args.page.now.world _ _ c.in_default.ensures.counted c.requires.targets);
     }
 
-pub run_command-returns-in-Each : goal.run_command-returns-in-Each
-run_command-returns-in-Each g t c =
+pub run_command-returns-in-Each-clause-says : goal.run_command-returns-in-Each-clause-says
+run_command-returns-in-Each-clause-says g t c =
     run_same (begun_is _ _ _ _ c.in_default.ensures.counted ∙ each_does _ _ _ c.args.command.now.what _ _ c.in-Each.body c.in-Each.is) c.run_each.ensures
 
-pub run_command-returns-in-When : goal.run_command-returns-in-When
-run_command-returns-in-When g t c =
+pub run_command-returns-in-When-clause-says : goal.run_command-returns-in-When-clause-says
+run_command-returns-in-When-clause-says g t c =
     run_same (begun_is _ _ _ _ c.in_default.ensures.counted ∙ when_does _ _ _ c.args.command.now.what _ _ c.in-When.condition c.in-When.body c.in-When.is) c.run_when.ensures
 
-pub run_command-returns-in_default-what : goal.run_command-returns-in_default-what
-run_command-returns-in_default-what g t c =
+pub run_command-returns-in-Act-clause-says : goal.run_command-returns-in-Act-clause-says
+run_command-returns-in-Act-clause-says g t c =
     run_same
-    (begun_is _ _ _ _ c.in_default.ensures.counted ∙ simple_does _ _ _ c.args.command.now.what _ _ (simple_is _ _ c.in_default-what.not-Each c.in_default-what.not-When))
+    (begun_is _ _ _ _ c.in_default.ensures.counted ∙ simple_does _ _ _ c.args.command.now.what _ _ c.in-Act.action c.in-Act.is)
     (apply_same _ _ _ _ c.subject_at-present.ensures c.apply.ensures)
 
 pub run_each-loop-place-init : goal.run_each-loop-place-init
@@ -107,7 +106,7 @@ pub run_command-run_when-requires : goal.run_command-run_when-requires
 run_command-run_when-requires g t c =
     let size : command_size (command_of c.args.command.now) ≡ block_size c.in-When.body.commands + 1 =
     when_size c.args.command.now.line c.args.command.now.what c.in-When.condition c.in-When.body c.in-When.is in
-    let allowed = test_allowed c.args.command.now.what c.in-When.condition c.in-When.body c.in-When.is c.requires.allowed.0 in
+    let allowed = test_allowed c.args.command.now.what c.in-When.condition c.in-When.body c.in-When.is c.requires.allowed in
     let targets = in_after_begun c.args.page.now.world _ _ c.in_default.ensures.counted c.requires.targets in
     λ lives within. (omega arith, search rules)
 
@@ -121,7 +120,7 @@ pub run_block-returns-in-Ok-Thrown : goal.run_block-returns-in-Ok-Thrown
 run_block-returns-in-Ok-Thrown g t c =
     end_thrown _ refl refl refl
     (rest_same (block_more c.as_slice-command-items.result.now _ _ (omega arith) c.command-item.is _ _ _ _) c.loop-command.invariant.following)
-    (rw c.in-Ok-Thrown.field-0-is at c.in-Ok-Thrown.ensures)
+    (rw c.in-Ok-Thrown.field-0-is at c.in-Ok-Thrown.ensures.says)
 
 pub run_block-loop-command-preserved : goal.run_block-loop-command-preserved
 run_block-loop-command-preserved g t c =
@@ -129,16 +128,36 @@ run_block-loop-command-preserved g t c =
       following =
           go_on _ refl
           (rest_same (block_more c.as_slice-command-items.result.now _ _ (omega arith) c.command-item.is _ _ _ _) c.loop-command.invariant.following)
-          (rw c.in-Ok-Next.field-0-is at c.in-Ok-Next.ensures);
-      targets = in_after_command c.runs_take_nothing_back.ensures.commands _ _ _ _ _ _ c.in-Ok-Next.ensures.ended.state_is c.loop-command.invariant.targets;
+          (rw c.in-Ok-Next.field-0-is at c.in-Ok-Next.ensures.says);
+      targets = in_after_command c.runs_take_nothing_back.ensures.commands _ _ _ _ _ _ c.in-Ok-Next.ensures.says.ended.state_is c.loop-command.invariant.targets;
     }
 
 pub run_block-returns-in-Err : goal.run_block-returns-in-Err
 run_block-returns-in-Err g t c =
     end_cut c.in-Err.fault _
     (rest_same (block_more c.as_slice-command-items.result.now _ _ (omega arith) c.command-item.is _ _ _ _) c.loop-command.invariant.following)
-    c.in-Err.ensures
+    c.in-Err.ensures.says
 
 pub run_block-returns : goal.run_block-returns
 run_block-returns g t c =
     done refl (rest_same (block_none c.as_slice-command-items.result.now c.loop-command.command-index _ _ _ _ (omega arith)) c.loop-command.invariant.following)
+
+pub run_command-returns-in-Err-clause-ready : goal.run_command-returns-in-Err-clause-ready
+run_command-returns-in-Err-clause-ready g t c =
+    command_ready (handlers_in c.args.script.now.items) (presents (entries_of c.args.entries.now)) (command_of c.args.command.now) c.args.subject c.args.page.now.world _ _
+    c.requires.targets (run_command-returns-in-Err-clause-says g t c)
+
+pub run_command-returns-in-Each-clause-ready : goal.run_command-returns-in-Each-clause-ready
+run_command-returns-in-Each-clause-ready g t c =
+    command_ready (handlers_in c.args.script.now.items) (presents (entries_of c.args.entries.now)) (command_of c.args.command.now) c.args.subject c.args.page.now.world _ _
+    c.requires.targets (run_command-returns-in-Each-clause-says g t c)
+
+pub run_command-returns-in-When-clause-ready : goal.run_command-returns-in-When-clause-ready
+run_command-returns-in-When-clause-ready g t c =
+    command_ready (handlers_in c.args.script.now.items) (presents (entries_of c.args.entries.now)) (command_of c.args.command.now) c.args.subject c.args.page.now.world _ _
+    c.requires.targets (run_command-returns-in-When-clause-says g t c)
+
+pub run_command-returns-in-Act-clause-ready : goal.run_command-returns-in-Act-clause-ready
+run_command-returns-in-Act-clause-ready g t c =
+    command_ready (handlers_in c.args.script.now.items) (presents (entries_of c.args.entries.now)) (command_of c.args.command.now) c.args.subject c.args.page.now.world _ _
+    c.requires.targets (run_command-returns-in-Act-clause-says g t c)

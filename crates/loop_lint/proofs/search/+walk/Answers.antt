@@ -35,11 +35,11 @@ first_in_command-returns-in-When t c =
     ∙ ap (λ lines. slice_get lines 0)
     (when-lines (is_sought c.args.sought.now) c.args.command.now.line c.args.command.now.what c.in-When.field-0 c.in-When.body c.in-When.is)
 
-pub first_in_command-returns-in_default : goal.first_in_command-returns-in_default
-first_in_command-returns-in_default t c =
-    let simple = simple_is c.args.command.now.line c.args.command.now.what c.in_default.not-Each c.in_default.not-When in
+pub first_in_command-returns-in-Act : goal.first_in_command-returns-in-Act
+first_in_command-returns-in-Act t c =
+    let simple = simple_is c.args.command.now.line c.args.command.now.what c.in-Act.action c.in-Act.is in
     c.then_some.ensures
-    ∙ simple-first (is_sought c.args.sought.now) c.args.command.now.line (action_of c.args.command.now.what) c.is_sought.result c.is_sought.ensures
+    ∙ simple-first (is_sought c.args.sought.now) c.args.command.now.line (action_of c.in-Act.action) c.is_sought.result c.is_sought.ensures
     ∙ ap (λ command. slice_get (lines_in (is_sought c.args.sought.now) command) 0) (sym simple)
 
 pub first_in-first_in_command-found-requires : goal.first_in-first_in_command-found-requires

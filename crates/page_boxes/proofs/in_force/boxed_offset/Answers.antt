@@ -9,7 +9,7 @@ use Rattle.page_boxes.proofs.in_force.boxed_offset.Goals as goal
 
 pub returns-then-is_at_start-clause-value : goal.returns-then-is_at_start-clause-value
 returns-then-is_at_start-clause-value g c view sized holds boxed =
-    boxed_start (layout_tree g.P.Styled.style g.P.Styled.kind c.args.tree.now.nodes) c.args.scrolls.now view (c.args.node.0) (c.is_at_start.ensures c.if-is_at_start.true)
+    boxed_start (layout_tree g.P.Styled.style g.P.Styled.kind c.args.tree.now.nodes) c.args.scrolls.now view (c.args.node.0) (c.is_at_start.ensures.start c.if-is_at_start.true)
 
 pub returns-in-Some-clause-value : goal.returns-in-Some-clause-value
 returns-in-Some-clause-value g c view sized holds boxed =

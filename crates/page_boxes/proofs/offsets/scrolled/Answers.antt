@@ -35,7 +35,7 @@ loop-held-init g c =
       across = omega (arith, low);
       down = omega (arith, low);
       boxed = λ view boxed. held_boxed at short view (c.args.node.0) c.holder_of-held.result by boxed;
-      sums = λ view sized holds boxed.
+      sums = λ view sized holds known boxed.
           sum_starts _
           ∙ ap (sum_points (offset_in_force at (stored_in c.args.scrolls.now) view)) (sym (elements_are at short (c.args.node.0) (seen_holder c.holder_of-held.result) by));
       ends = sym (ends_are at short (c.args.node.0) (seen_holder c.holder_of-held.result) by);
@@ -61,14 +61,14 @@ loop-held-preserved g c =
       across = omega (arith, low, here, c.loop-held.invariant.across, c.own_scroll-more.ensures.across);
       down = omega (arith, low, here, c.loop-held.invariant.down, c.own_scroll-more.ensures.down);
       boxed = λ view boxed. held_boxed at short view (c.in-Node.element.0) c.holder_of-held-in-Node.result by (there view boxed);
-      sums = λ view sized holds boxed.
+      sums = λ view sized holds known boxed.
           let f = offset_in_force at (stored_in c.args.scrolls.now) view in
           ap (λ es. plus (c.loop-held.shift.across + c.own_scroll-more.result.across, c.loop-held.shift.down + c.own_scroll-more.result.down) (sum_points f es)) (sym (elements_are at short (c.in-Node.element.0) (seen_holder c.holder_of-held-in-Node.result) by))
           ∙ sum_goes f (c.in-Node.element.0) (elements_from at (seen_holder c.loop-held.held)) (holders_of at (c.in-Node.element.0))
           (ap (λ (h : Holder). elements_from at (seen_holder h)) c.in-Node.is)
           (c.loop-held.shift.across) (c.loop-held.shift.down) (c.own_scroll-more.result.across) (c.own_scroll-more.result.down)
-          (c.own_scroll-more.ensures.value view sized holds (there view boxed))
-          ∙ c.loop-held.invariant.sums view sized holds boxed;
+          (c.own_scroll-more.ensures.value view sized holds known (there view boxed))
+          ∙ c.loop-held.invariant.sums view sized holds known boxed;
       ends =
           sym (ends_are at short (c.in-Node.element.0) (seen_holder c.holder_of-held-in-Node.result) by)
           ∙ sym (ap (λ (h : Holder). ends_from at (seen_holder h)) c.in-Node.is) ∙ c.loop-held.invariant.ends;
@@ -82,10 +82,10 @@ pub returns-in-Screen : goal.returns-in-Screen
 returns-in-Screen g c =
     let at = layout_tree g.P.Styled.style g.P.Styled.kind c.args.tree.now.nodes in
     record {
-      value = λ view sized holds boxed.
+      value = λ view sized holds known boxed.
           sum_ends (offset_in_force at (stored_in c.args.scrolls.now) view) (elements_from at (seen_holder c.loop-held.held)) (ap (λ (h : Holder). elements_from at (seen_holder h)) c.in-Screen.is)
           (c.loop-held.shift.across) (c.loop-held.shift.down)
-          ∙ c.loop-held.invariant.sums view sized holds boxed;
+          ∙ c.loop-held.invariant.sums view sized holds known boxed;
       ends = sym (ap (λ (h : Holder). ends_from at (seen_holder h)) c.in-Screen.is) ∙ c.loop-held.invariant.ends;
       across = returns_by c.holder_of-held.ensures.forest (c.args.node.0) _ _ c.loop-held.invariant.across;
       down = returns_by c.holder_of-held.ensures.forest (c.args.node.0) _ _ c.loop-held.invariant.down;
@@ -96,10 +96,10 @@ returns-in-Node-held g c =
     let at = layout_tree g.P.Styled.style g.P.Styled.kind c.args.tree.now.nodes in
     let page : c.loop-held.held ≡ Page = elim c.in-Node-held.is [ inl node ↦ absurd (c.in_default.not-Node node.0 node.1) | inr page ↦ page ] in
     record {
-      value = λ view sized holds boxed.
+      value = λ view sized holds known boxed.
           sum_ends (offset_in_force at (stored_in c.args.scrolls.now) view) (elements_from at (seen_holder c.loop-held.held)) (ap (λ (h : Holder). elements_from at (seen_holder h)) page)
           (c.loop-held.shift.across) (c.loop-held.shift.down)
-          ∙ c.loop-held.invariant.sums view sized holds boxed;
+          ∙ c.loop-held.invariant.sums view sized holds known boxed;
       ends = sym (ap (λ (h : Holder). ends_from at (seen_holder h)) page) ∙ c.loop-held.invariant.ends;
       across = returns_by c.holder_of-held.ensures.forest (c.args.node.0) _ _ c.loop-held.invariant.across;
       down = returns_by c.holder_of-held.ensures.forest (c.args.node.0) _ _ c.loop-held.invariant.down;

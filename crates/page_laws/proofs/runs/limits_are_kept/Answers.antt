@@ -1,9 +1,20 @@
 -- What each command and each change of a tick keeps.
+use Rattle.page_laws.proofs.Limits.{does-within}
+use Rattle.page_laws.proofs.Ready.{begun-within, time-within}
 use Rattle.page_laws.proofs.Turns.{opening-within, command-within, call-within, gather-within, broadcast-within, round-within, first-within, tick-within, item-within, items-within, tasks-few}
 use Rattle.page_laws.proofs.runs.limits_are_kept.Goals as goal
 
 pub returns-clause-opening : goal.returns-clause-opening
 returns-clause-opening c = opening-within
+
+pub returns-clause-effects : goal.returns-clause-effects
+returns-clause-effects c = λ handlers world within present action. does-within world within handlers present action
+
+pub returns-clause-counts : goal.returns-clause-counts
+returns-clause-counts c = begun-within
+
+pub returns-clause-times : goal.returns-clause-times
+returns-clause-times c = time-within
 
 pub returns-clause-commands : goal.returns-clause-commands
 returns-clause-commands c = command-within

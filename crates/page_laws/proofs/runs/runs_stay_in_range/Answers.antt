@@ -1,9 +1,16 @@
 -- What commands and the changes of a tick keep in range.
+use Rattle.page_laws.proofs.Ready.{begun-in, time-in}
 use Rattle.page_laws.proofs.RunsInRange.{opening-in, command-in, call-in, tick-in, item-in, items-in}
 use Rattle.page_laws.proofs.runs.runs_stay_in_range.Goals as goal
 
 pub returns-clause-opening : goal.returns-clause-opening
 returns-clause-opening c = opening-in
+
+pub returns-clause-counts : goal.returns-clause-counts
+returns-clause-counts c = begun-in
+
+pub returns-clause-times : goal.returns-clause-times
+returns-clause-times c = time-in
 
 pub returns-clause-commands : goal.returns-clause-commands
 returns-clause-commands c = command-in

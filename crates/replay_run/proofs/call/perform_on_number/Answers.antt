@@ -1,4 +1,4 @@
-use Rattle.replay_run.proofs.Asking.{script_tells}
+use Rattle.script_replay.proofs.Asking.{script_tells}
 use Rattle.replay_run.proofs.call.perform_on_number.Goals as goal
 
 pub returns-in-Ok-clause-tells : goal.returns-in-Ok-clause-tells

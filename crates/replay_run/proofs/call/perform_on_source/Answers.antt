@@ -1,5 +1,5 @@
 use Rattle.page_state.specs.Views.{PageView}
-use Rattle.replay_run.proofs.Asking.{not_read_fault, not_usage, write_fault_rose}
+use Rattle.run_replies.proofs.Telling.{not_read_fault, not_usage, write_fault_rose}
 use Rattle.replay_run.proofs.Unread.{reads_taken, reads_to_end, reads_world}
 use Rattle.replay_run.proofs.call.perform_on_source.Goals as goal
 

@@ -1,6 +1,6 @@
 use Rattle.std.proofs.Common.{◌∙◌, ap, sym}
 use Rattle.trace_summary.specs.Gathered.{Gathered}
-use Rattle.replay_run.specs.Statuses.{is_whole}
+use Rattle.run_replies.specs.Statuses.{is_whole}
 use Rattle.replay_run.proofs.Judged.{whole_gathered}
 use Rattle.replay_run.proofs.judging.trace_of.Goals as goal
 

@@ -1,12 +1,12 @@
-use Rattle.std.proofs.Common.{◌≡◌, ◌++◌, ℕ, List, OnOk, inl, inr, sym, subst}
+use Rattle.std.proofs.Common.{◌≡◌, ◌++◌, ℕ, List, OnOk, sym, subst}
 use Rattle.script_syntax.specs.Seen.{action_of}
-use Rattle.script_syntax.specs.declared.commands.What.{What}
+use Rattle.script_syntax.specs.declared.commands.Action.{Action}
 use Rattle.script_text.specs.Phrases.{action_words}
 use Rattle.script_text.specs.ScriptText.{line_text}
 use Rattle.script_print.proofs.actions.push_action.Goals as goal
 
 -- the line of a command that is known
-known : {A : Type 0} (result : A) (On : A → Type 0 → Type 0) (old new : List ℕ) (now given : What) → now ≡ given
+known : {A : Type 0} (result : A) (On : A → Type 0 → Type 0) (old new : List ℕ) (now given : Action) → now ≡ given
     → On result (new ≡ old ++ line_text (action_words (action_of given))) → On result (new ≡ old ++ line_text (action_words (action_of now)))
 known result On old new now given is pushed = subst (λ it. On result (new ≡ old ++ line_text (action_words (action_of it)))) (sym is) pushed
 
@@ -105,14 +105,3 @@ returns-in-Say c = known c.say.result OnOk _ _ _ _ c.in-Say.is c.say.ensures
 
 pub returns-in-Read : goal.returns-in-Read
 returns-in-Read c = known c.read.result OnOk _ _ _ _ c.in-Read.is c.read.ensures
-
-pub returns-in-Each : goal.returns-in-Each
-returns-in-Each c =
-    elim c.in-Each.is [
-      | inl each ↦ known c.say_nothing.result OnOk _ _ _ _ each.1 c.say_nothing.ensures
-      | inr others ↦
-          elim others [
-            | inl when ↦ known c.say_nothing.result OnOk _ _ _ _ when.2 c.say_nothing.ensures
-            | inr tick ↦ known c.say_nothing.result OnOk _ _ _ _ tick.1 c.say_nothing.ensures
-          ]
-    ]

@@ -42,14 +42,14 @@ push_command-returns-in_ok-last-in-When-clause-last t c =
     ∙ when_last c.args.after c.args.command.now.line c.in-When.body.end_line (condition_of c.in-When.condition) c.in-When.body.commands
     ∙ ap (λ what. last_number c.args.after (command_lines (command_at c.args.command.now.line what))) (sym c.in-When.is)
 
-pub push_command-returns-in_ok-push_action-in_default : goal.push_command-returns-in_ok-push_action-in_default
-push_command-returns-in_ok-push_action-in_default t c =
-    let simple = simple_is c.args.command.now.line c.args.command.now.what c.in_default.not-Each c.in_default.not-When in
+pub push_command-returns-in_ok-push_action-in-Act : goal.push_command-returns-in_ok-push_action-in-Act
+push_command-returns-in_ok-push_action-in-Act t c =
+    let simple = simple_is c.args.command.now.line c.args.command.now.what c.in-Act.action c.in-Act.is in
     record {
-      text = simple_pushed c.args.after c.args.command.now.line (action_of c.args.command.now.what) _ _ _ c.in_ok-push_line_feeds.ensures
-          c.in_ok-push_action-in_default.ensures
+      text = simple_pushed c.args.after c.args.command.now.line (action_of c.in-Act.action) _ _ _ c.in_ok-push_line_feeds.ensures
+          c.in_ok-push_action-in-Act.ensures
           ∙ ap (λ command. c.args.into.now.items ++ lines_text c.args.after (command_lines command)) (sym simple);
-      last = simple_last c.args.after c.args.command.now.line (action_of c.args.command.now.what)
+      last = simple_last c.args.after c.args.command.now.line (action_of c.in-Act.action)
           ∙ ap (λ command. last_number c.args.after (command_lines command)) (sym simple);
     }
 

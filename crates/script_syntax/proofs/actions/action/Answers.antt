@@ -2,13 +2,13 @@ use Rattle.std.proofs.Common.{◌≡◌, Result, sym, subst}
 use Rattle.text_io.specs.declared.kinds.Version.{Version}
 use Rattle.script_model.specs.Lexing.{Row}
 use Rattle.script_syntax.specs.Acts.{Acts}
-use Rattle.script_syntax.specs.declared.commands.What.{What}
+use Rattle.script_syntax.specs.declared.commands.Action.{Action}
 use Rattle.script_syntax.specs.declared.faults.LineFault.{LineFault}
 use Rattle.script_syntax.specs.declared.heads.Verb.{Verb}
 use Rattle.script_syntax.proofs.actions.action.Goals as goal
 
 -- the command whose verb is known
-known : (result : Result What LineFault) (version : Version) (row : Row) (verb given : Verb) → verb ≡ given → Acts result version given row → Acts result version verb row
+known : (result : Result Action LineFault) (version : Version) (row : Row) (verb given : Verb) → verb ≡ given → Acts result version given row → Acts result version verb row
 known result version row verb given is acts = subst (λ (it : Verb). Acts result version it row) (sym is) acts
 
 pub returns-in-Viewport-clause-value : goal.returns-in-Viewport-clause-value

@@ -8,4 +8,4 @@ use Rattle.page_geometry.proofs.shown.Shown.new.Goals as goal
 pub invariant_of-result : goal.invariant_of-result
 invariant_of-result c =
     let shown : Shown = shown_with c.args.page.now.tree (seen_screen c.args.screen) c.args.scrolls.now in
-    (c.requires.screen, c.requires.fresh, subst (AreFound shown) (sym c.new.ensures) (none_found shown 64))
+    (c.requires.screen, c.requires.fresh, subst (AreFound shown) (sym c.new.ensures) (none_found shown 64), tt)

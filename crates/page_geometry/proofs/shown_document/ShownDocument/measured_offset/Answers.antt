@@ -16,7 +16,7 @@ pub returns-then-is_at_start-clause-value : goal.returns-then-is_at_start-clause
 returns-then-is_at_start-clause-value c =
     let it = c.args.self.now.shown in
     view_start it.tree it.screen it.scrolls c.args.self.now.document
-    ((λ i. position_of (ScrolledDocument (sym c.document.ensures i)) (sym c.scrolls.ensures i)) ∙ c.is_at_start.ensures c.if-is_at_start.true)
+    ((λ i. position_of (ScrolledDocument (sym c.document.ensures i)) (sym c.scrolls.ensures i)) ∙ c.is_at_start.ensures.start c.if-is_at_start.true)
 
 pub returns-in-Some-clause-value : goal.returns-in-Some-clause-value
 returns-in-Some-clause-value c =

@@ -9,6 +9,8 @@ use Rattle.page_state.specs.Views.{PageView}
 use Rattle.page_state.specs.Worlds.{world_of, view_of}
 use Rattle.page_state.proofs.Doing.{gathers}
 use Rattle.page_state.proofs.Laid.{view_refreshed, computed}
+use Rattle.page_laws.proofs.Changes.{gather-next}
+use Rattle.page_state.proofs.Ready.{ready_by}
 use Rattle.page_state.proofs.page.Page.gather.Goals as goal
 
 pub returns-clause-gathered : goal.returns-clause-gathered
@@ -23,3 +25,7 @@ returns-clause-gathered g c =
 pub returns-clause-boxes : goal.returns-clause-boxes
 returns-clause-boxes g c =
     computed c.self.inside c.refresh.new.self c.refresh.ensures.same c.args.self.now c.self.view_is c.refresh.ensures.fills _ _ c.refresh.ensures.ticks
+
+pub returns-clause-ready : goal.returns-clause-ready
+returns-clause-ready g c = λ handlers.
+    ready_by handlers c.args.self.now.world (returns-clause-gathered g c) (gather-next c.args.document c.args.depth c.args.self.now.world)

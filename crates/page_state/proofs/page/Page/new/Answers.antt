@@ -1,6 +1,9 @@
 -- A page keeps its facts as it opens.
-use Rattle.std.proofs.Common.{rules}
 use Rattle.page_state.proofs.Opening.{known_first, no_elements, room_first}
+use Rattle.std.proofs.Common.{ap, rules}
+use Rattle.page_laws.proofs.Ready.{ready-opening}
+use Rattle.page_state.specs.Views.{PageView}
+use Rattle.page_state.proofs.Ready.{ready_at}
 use Rattle.page_state.proofs.page.Page.new.Goals as goal
 
 pub invariant_of-result : goal.invariant_of-result
@@ -24,3 +27,9 @@ invariant_of-result c =
       noted = search rules;
       time = search rules;
     }
+
+pub returns-clause-opened : goal.returns-clause-opened
+returns-clause-opened c = search rules
+
+pub returns-clause-ready : goal.returns-clause-ready
+returns-clause-ready c = λ handlers. ready_at handlers (ap (λ (page : PageView). page.world) (returns-clause-opened c)) (ready-opening handlers c.args.version)

@@ -10,6 +10,7 @@ use Rattle.page_state.specs.Views.{PageView}
 use Rattle.page_state.specs.declared.queries.QueryList.{QueryList}
 use Rattle.page_state.proofs.Laid.{view_refreshed, computed_in}
 use Rattle.page_state.proofs.QueryLists.{page_changed, page_evaluated}
+use Rattle.page_state.proofs.Ready.{ready_by, list_evaluated}
 use Rattle.page_state.proofs.page.Page.next_change.Goals as goal
 
 pub returns-clause-matches : goal.returns-clause-matches
@@ -37,3 +38,6 @@ pub returns-clause-boxes : goal.returns-clause-boxes
 returns-clause-boxes g c =
     computed_in c.self.inside c.viewport_now-size.new.laid c.viewport_now-size.ensures.same c.args.self.now c.self.view_is c.viewport_now-size.ensures.fills
     _ _ c.viewport_now-size.ensures.ticks (λ tree. rests_on tree (InDocument c.args.document)) c.viewport_now-size.ensures.others
+
+pub returns-clause-ready : goal.returns-clause-ready
+returns-clause-ready g c = λ handlers. ready_by handlers c.args.self.now.world (returns-clause-evaluated g c) (list_evaluated c.args.self.now.world c.args.document _)

@@ -7,6 +7,8 @@ use Rattle.kept_findings.proofs.Settled.{registered_taken}
 use Rattle.intersection_update.specs.Watching.{AreWritten, AreWatchers}
 use Rattle.intersection_update.proofs.Watching.{kept_taken, queue_written}
 use Rattle.page_state.specs.Views.{PageView}
+use Rattle.page_laws.proofs.Changes.{queue-next}
+use Rattle.page_state.proofs.Ready.{ready_by}
 use Rattle.page_state.proofs.page.Page.take_records.Goals as goal
 
 pub invariant_of-self : goal.invariant_of-self
@@ -25,3 +27,9 @@ returns-clause-written c =
     subst (λ (v : PageView). AreWritten (length v.world.tree.elements) c.take_records.result) c.self.view_is
     (subst (λ (entries : List Entry). AreWritten (length c.self.inside.laid.elements.tree.elements) entries) (sym c.take_records.ensures.taken)
     (queue_written (length c.self.inside.laid.elements.tree.elements) c.args.watcher.0 c.self.inside.watchers.part c.self.invariant.watched))
+
+pub returns-clause-taken : goal.returns-clause-taken
+returns-clause-taken c = search rules
+
+pub returns-clause-ready : goal.returns-clause-ready
+returns-clause-ready c = λ handlers. ready_by handlers c.args.self.now.world (returns-clause-taken c) (queue-next c.args.self.now.world c.args.watcher.0)

@@ -1,5 +1,5 @@
 -- Intersections are updated, and a task that tells it waits.
-use Rattle.std.proofs.Common.{◌≡◌, ◌<◌, ◌≤◌, ◌+◌, List, length, inl, inr, sym, ap, subst, ◌∙◌, arith, tests}
+use Rattle.std.proofs.Common.{◌≡◌, ◌<◌, ◌≤◌, ◌+◌, List, length, inl, inr, sym, ap, subst, ◌∙◌, arith, rules, tests}
 use Rattle.script_model.specs.Margins.{Margins}
 use Rattle.page_model.specs.World.{World, Tree}
 use Rattle.page_model.specs.Shown.{Shown}
@@ -15,6 +15,8 @@ use Rattle.page_state.specs.Views.{PageView}
 use Rattle.page_state.specs.Worlds.{world_of, view_of}
 use Rattle.page_state.proofs.Laid.{view_refreshed}
 use Rattle.page_state.proofs.Updated.{not_told, still_told, now_told, at_world, if_refused, stopped_last}
+use Rattle.page_laws.proofs.Changes.{update-next}
+use Rattle.page_state.proofs.Ready.{ready_by, update_stopped}
 use Rattle.page_state.proofs.page.Page.update_intersections.Goals.{then-not-queued-via-then-not-queued, then-not-queued-via-else-not-queued+then-get}
 use Rattle.page_state.proofs.page.Page.update_intersections.Goals as goal
 
@@ -143,3 +145,29 @@ returns-in_default-clause-refused g c = λ chained.
     (at_world c.self.inside c.refresh.new.self c.refresh.ensures.same c.args.self.now c.self.view_is c.shown_at_once-shown.ensures c.as_slice.ensures.value
     (λ (s : Shown) (m : List Margins) (v : PageView). AreUpdated s m c.args.document c.update.new.watchers.part c.update.new.findings)
     (record { seen = c.in_ok-queued.ensures.seen; fresh = c.in_ok-queued.ensures.fresh }))
+
+pub returns-then-not-queued-clause-ready : goal.returns-then-not-queued-clause-ready
+returns-then-not-queued-clause-ready g c = λ handlers.
+    ready_by handlers c.args.self.now.world (returns-then-not-queued-clause-updated g c) (update-next c.args.document c.args.self.now.world c.requires)
+
+pub returns-clause-ready : goal.returns-clause-ready
+returns-clause-ready g c = λ handlers.
+    ready_by handlers c.args.self.now.world (returns-clause-updated g c) (update-next c.args.document c.args.self.now.world c.requires)
+
+pub returns-in_err-queued-clause-ready : goal.returns-in_err-queued-clause-ready
+returns-in_err-queued-clause-ready g c = λ handlers.
+    ready_by handlers c.args.self.now.world
+    (ap (λ (v : PageView). record v { world = record (v.world) { intersection_observers = c.update.new.watchers.part }; found = c.update.new.findings })
+    (view_refreshed c.self.inside c.refresh.new.self c.refresh.ensures.same c.args.self.now c.self.view_is))
+    (update_stopped _ _ _ _ _ c.args.self.now.world c.update.new.watchers.part
+    (at_world c.self.inside c.refresh.new.self c.refresh.ensures.same c.args.self.now c.self.view_is c.shown_at_once-shown.ensures c.as_slice.ensures.value
+    (λ (s : Shown) (m : List Margins) (v : PageView). IsStopped s m s.tree c.args.document v.world.clock v.world.intersection_observers c.update.new.watchers.part)
+    c.in_err-queued.ensures.stopped))
+
+pub returns-in_default-clause-rest : goal.returns-in_default-clause-rest
+returns-in_default-clause-rest g c = search rules
+
+pub returns-in_default-clause-ready : goal.returns-in_default-clause-ready
+returns-in_default-clause-ready g c = λ handlers.
+    ready_by handlers c.args.self.now.world (returns-in_default-clause-rest g c)
+    (update_stopped _ _ _ _ _ c.args.self.now.world _ (returns-in_default-clause-stopped g c))

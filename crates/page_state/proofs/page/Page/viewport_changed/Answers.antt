@@ -15,6 +15,9 @@ use Rattle.page_state.specs.Views.{PageView}
 use Rattle.page_state.specs.Worlds.{world_of}
 use Rattle.page_state.proofs.Laid.{view_refreshed, computed_in}
 use Rattle.page_state.proofs.Noted.{noted_seen, natural_at, natural_put, natural_some, sizes_differ}
+use Rattle.page_laws.proofs.Changes.{noted-next}
+use Rattle.page_laws.proofs.Ready.{ready-next}
+use Rattle.page_state.proofs.Ready.{ready_at}
 use Rattle.page_state.proofs.page.Page.viewport_changed.Goals.{in-None, in-Some}
 use Rattle.page_state.proofs.page.Page.viewport_changed.Goals as goal
 
@@ -64,3 +67,7 @@ pub returns-clause-boxes : goal.returns-clause-boxes
 returns-clause-boxes g c =
     computed_in c.self.inside c.viewport_now-size.new.laid c.viewport_now-size.ensures.same c.args.self.now c.self.view_is c.viewport_now-size.ensures.fills
     _ _ c.viewport_now-size.ensures.ticks (λ tree. rests_on tree (InDocument c.args.document)) c.viewport_now-size.ensures.others
+
+pub returns-clause-ready : goal.returns-clause-ready
+returns-clause-ready g c = λ handlers ready.
+    ready_at handlers (returns-clause-noted g c) (ready-next handlers c.args.self.now.world ready _ (noted-next c.args.self.now.world c.args.document _ c.requires))

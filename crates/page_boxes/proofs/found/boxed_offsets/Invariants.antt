@@ -1,0 +1,14 @@
+use Rattle.layout_model.specs.Views.{View}
+use Rattle.page_model.specs.PageBoxes.{stored_in}
+use Rattle.block_layout.specs.Trees.{layout_tree}
+use Rattle.kept_layout.specs.Measures.{IsSized}
+use Rattle.page_boxes.specs.Fresh.{HoldsAll}
+use Rattle.page_boxes.specs.Offsets.{AreOffsets, AreInForce}
+use Rattle.page_boxes.proofs.found.boxed_offsets.Given as goal
+
+abbrev pub invariant-loop-number : goal.invariant-loop-number
+invariant-loop-number g l = record {
+  value : (view : View) → IsSized view → HoldsAll (layout_tree g.P.Styled.style g.P.Styled.kind l.tree.nodes) view l.boxes
+      → AreInForce (layout_tree g.P.Styled.style g.P.Styled.kind l.tree.nodes) (stored_in l.scrolls) view l.found;
+  range : AreOffsets l.found;
+}

@@ -1,0 +1,73 @@
+//! Scroll offsets in force of elements, found once for a reading of many.
+
+ghost use Rattle.std.specs.Prelude.{◌≡◌, ◌<◌, true, IfSome, IfOk, length, is_some};
+ghost use Rattle.layout_model.specs.Views.{View, inputs_in_view};
+ghost use Rattle.layout_model.specs.Reach.{offset_in_force};
+ghost use Rattle.page_model.specs.PageBoxes.{stored_in};
+ghost use Rattle.block_layout.specs.Seen.{as_point};
+ghost use Rattle.block_layout.specs.Trees.{layout_tree};
+ghost use Rattle.kept_layout.specs.Measures.{IsSized};
+ghost use Rattle.page_boxes.specs.Fresh.{HoldsAll};
+ghost use Rattle.page_boxes.specs.Offsets.{AreOffsets, AreInForce};
+ghost use Rattle.page_boxes.specs.Ranges.{IsOffset};
+
+use crate::in_force::{boxed_offset, is_at_start};
+use block_layout::Styled;
+use element_tree::{NodeId, Tree};
+use kept_layout::Kept;
+use number_map::NumberMap;
+use px_units::Point;
+use scrolling::{ScrollTarget, Scrolls};
+use std::alloc::{AllocError, Global};
+
+/// The scroll offset in force of each node whose stored position isn't the start, by its number. They are so where the boxes in its view
+/// are held as they are now, and no length of that is above the largest one.
+///
+/// # Errors
+///
+/// Where there is no memory.
+pub fn boxed_offsets<P: Styled>(
+    alloc: Global,
+    tree: &Tree<P>,
+    boxes: &Kept,
+    scrolls: &Scrolls,
+) -> Result<NumberMap<Point>, AllocError>
+    ensures value { let at = layout_tree P.style P.kind tree.now.nodes in (view : View) → IsSized view →
+        HoldsAll at view boxes.now → IfOk result (λ found. AreInForce at (stored_in scrolls.now) view found) }
+    ensures range { IfOk result (λ found. AreOffsets found) }
+{
+    let mut found = NumberMap::new(alloc);
+    for number in 0..u32::MAX {
+        let node = NodeId(number);
+        if !tree.holds(node) {
+            break;
+        }
+        if !is_at_start(scrolls, ScrollTarget::Node(node)) {
+            found.insert(u64::from(number), boxed_offset(tree, boxes, scrolls, node))?;
+        }
+    }
+    Ok(found)
+}
+
+// The scroll offset in force of a node that has a box, which is measured only where it wasn't found before.
+pub(crate) fn offset_of<P: Styled>(
+    tree: &Tree<P>,
+    boxes: &Kept,
+    scrolls: &Scrolls,
+    found: Option<&NumberMap<Point>>,
+    node: NodeId,
+) -> Point
+    requires node { node.0 < length tree.now.nodes }
+    requires found { IfSome found (λ map. AreOffsets map.now) }
+    ensures value { let at = layout_tree P.style P.kind tree.now.nodes in (view : View) → IsSized view →
+        HoldsAll at view boxes.now → IfSome found.entry (λ map. AreInForce at (stored_in scrolls.now) view map.now) →
+        is_some (inputs_in_view at view node.0) ≡ true → result ≡ as_point (offset_in_force at (stored_in scrolls.now) view node.0) }
+    ensures range { IsOffset result }
+{
+    if let Some(map) = found {
+        if let Some(offset) = map.get(u64::from(node.0)) {
+            return offset;
+        }
+    }
+    boxed_offset(tree, boxes, scrolls, node)
+}

@@ -1,5 +1,0 @@
-use Rattle.replay_run.proofs.Asking.{script_tells}
-use Rattle.replay_run.proofs.call.perform_on_text.Goals as goal
-
-pub returns-in-Ok-clause-tells : goal.returns-in-Ok-clause-tells
-returns-in-Ok-clause-tells g c = script_tells c.perform.result.status c.args.job _ _ _ _ _ _ c.in-Ok.ensures c.perform.ensures.tells

@@ -1,6 +1,0 @@
-use Rattle.std.proofs.Common.{sym}
-use Rattle.replay_run.proofs.Summaries.{not_done}
-use Rattle.replay_run.proofs.call.with_page.Goals as goal
-
-pub returns-in_default-clause-page : goal.returns-in_default-clause-page
-returns-in_default-clause-page c = sym (not_done c.args.status c.in_default.not-Done)

@@ -1,9 +1,0 @@
-use Rattle.std.proofs.Common.{refl}
-use Rattle.trace_runs.proofs.Runs.{caught_cut, caught_ended}
-use Rattle.replay_run.proofs.play.run_caught.Goals as goal
-
-pub returns-in-Ok : goal.returns-in-Ok
-returns-in-Ok g c = caught_ended _ refl c.in-Ok.ensures
-
-pub returns : goal.returns
-returns g c = caught_cut c.in-Err.fault c.in-Err.ensures

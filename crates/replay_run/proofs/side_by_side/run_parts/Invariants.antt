@@ -1,9 +1,0 @@
-use Rattle.std.proofs.Common.{map}
-use Rattle.replay_run.specs.StreamPages.{seen_page}
-use Rattle.replay_run.proofs.SideBySide.{Turning}
-use Rattle.replay_run.proofs.side_by_side.run_parts.Given as goal
-
--- so many lines were taken
-abbrev pub invariant-loop-part : goal.invariant-loop-part
-invariant-loop-part g l =
-    Turning (map seen_page l.fn.pages) l.parts l.part-index l.pages (g.K.Sink.taken l.fn.sink) (g.K.Sink.taken l.sink) (g.K.Sink.faults l.fn.sink) (g.K.Sink.faults l.sink)

@@ -1,6 +1,0 @@
-use Rattle.std.proofs.Common.{arith}
-use Rattle.replay_run.proofs.Sighting.{boxes_told}
-use Rattle.replay_run.proofs.sights.text_of_boxes.Goals as goal
-
-pub returns : goal.returns
-returns c = boxes_told c.args.lines.now c.loop-line.line-index _ (omega arith) c.loop-line.invariant

@@ -1,0 +1,28 @@
+-- What each status says of a call, of whose reply all was written, or a first part, or nothing.
+use Rattle.std.specs.Prelude.{◌≡◌, ℕ, List, [], drop, Option, Some}
+use Rattle.std.specs.Io.KnownBytes.{Appends}
+use Rattle.trace_runs.specs.Writes.{AppendsPart, FailsWithin}
+use Rattle.run_replies.specs.Replies.{Reply}
+use Rattle.run_replies.specs.declared.status.Status.{Status}
+use Rattle.run_replies.specs.declared.status.Status.TheVariants.{NoMemory, ReadFault, WriteFault, Usage}
+
+-- what each status says of a reply, and of what was written then; a read that failed comes before
+abbrev pub Tells : Status → Reply → Option (List ℕ) → Option (List ℕ) → ℕ → ℕ → Type 0
+Tells NoMemory reply before after faults faults_after = AppendsPart before after reply.text
+Tells WriteFault reply before after faults faults_after = FailsWithin before after faults faults_after reply.text
+Tells ReadFault reply before after faults faults_after = ⊥
+Tells Usage reply before after faults faults_after = ⊥
+Tells status reply before after faults faults_after = (reply.status ≡ status) × Appends before after reply.text
+
+-- the same of the whole call, where nothing was written after a read that failed
+abbrev pub Ends : Status → Reply → Option (List ℕ) → Option (List ℕ) → ℕ → ℕ → Type 0
+Ends ReadFault reply before after faults faults_after = Appends before after []
+Ends status reply before after faults faults_after = Tells status reply before after faults faults_after
+
+-- what was taken of a source of which so many bytes are looked at: these, or all where it has fewer
+abbrev pub IsTaken : Status → ℕ → List ℕ → Option (List ℕ) → Type 0
+IsTaken NoMemory most source left = Unit {0}
+IsTaken WriteFault most source left = Unit {0}
+IsTaken ReadFault most source left = Unit {0}
+IsTaken Usage most source left = Unit {0}
+IsTaken status most source left = left ≡ Some (drop most source)

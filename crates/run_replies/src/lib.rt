@@ -1,0 +1,23 @@
+//! What a command line asks for and what is answered to it: words, jobs, statuses, replies, and those replies that need no page.
+//!
+//! A reply is a text and a status (`specs/Replies.antt`); `Tells` of `specs/Answers.antt` says what each status says of it and of what the
+//! sink took.
+#![tactic(auto)]
+
+mod certificates;
+mod check;
+mod lines;
+mod printing;
+mod refusing;
+mod status;
+mod summary;
+mod words;
+
+pub use certificates::write_certificates;
+pub use check::write_check;
+pub use lines::write_lines;
+pub use printing::write_script;
+pub use refusing::{meet_limit, refuse_at, write_limit};
+pub use status::{Status, status_of};
+pub use summary::{summarize_to_limit, write_summary};
+pub use words::{Job, Sight, Words};

@@ -1,0 +1,25 @@
+//! Texts of lines, written whole.
+
+ghost use Rattle.run_replies.specs.Answers.{Tells};
+ghost use Rattle.run_replies.specs.Replies.{done_with};
+
+use crate::status::Status;
+use text_io::{Sink, write_all};
+use trace_summary::split_line;
+
+/// Writes a text, each of its lines by itself.
+///
+/// `WriteFault` only where the sink's count of faults rose in this call; a first part of the text was written then. Else `Done`.
+pub fn write_lines<K: Sink>(text: &[u8], sink: &mut K) -> Status
+    ensures { Tells result (done_with text.now) (K.taken sink.old) (K.taken sink.new) (K.faults sink.old) (K.faults sink.new) }
+{
+    let mut rest = text;
+    while !rest.is_empty() {
+        let (line, behind) = split_line(rest);
+        match write_all(sink, line) {
+            Ok(()) => rest = behind,
+            Err(_) => return Status::WriteFault,
+        }
+    }
+    Status::Done
+}

@@ -1,0 +1,91 @@
+//! The items of a script, run one after another on a page.
+
+ghost use Rattle.std.specs.Prelude.{[], IfOk};
+ghost use Rattle.script_model.specs.Scripts.{handlers_in};
+ghost use Rattle.script_syntax.specs.Allowed.{IsAllowed, ItemAllowed};
+ghost use Rattle.script_syntax.specs.Seen.{command_of, item_of};
+ghost use Rattle.page_model.specs.Callbacks.{run_command};
+ghost use Rattle.page_model.specs.Operands.{NoEntry};
+ghost use Rattle.page_model.specs.Outcome.{run_item, run_items};
+ghost use Rattle.page_model.specs.Runs.{caught};
+ghost use Rattle.frame_update.specs.Ready.{IsReady};
+ghost use Rattle.trace_runs.specs.Flows.{goes_on};
+ghost use Rattle.trace_runs.specs.Runs.{Runs};
+
+use frame_update::tick;
+use handlers::{Entries, run_command};
+use page_state::Page;
+use script_syntax::{Command, Item, Script};
+use std::alloc::Global;
+use std::sync::ledger::Ledger;
+use step_count::Steps;
+use text_io::Sink;
+use trace_runs::RunFault;
+
+// A command outside handlers. What it throws is caught.
+fn run_caught<K: Sink, L: Ledger>(
+    alloc: Global,
+    page: &mut Page,
+    script: &Script,
+    command: &Command,
+    sink: &mut K,
+    steps: &mut Steps<L>,
+) -> Result<(), RunFault>
+    requires { IsAllowed command.now }
+    ensures { Runs goes_on (λ _. page.new.world) result (K.taken sink.old) (K.taken sink.new) (K.faults sink.old) (K.faults sink.new)
+        (caught (run_command (handlers_in script.now.items) [] (command_of command.now) NoEntry page.old.world)) }
+{
+    let nothing = Entries::Nothing;
+    match run_command(alloc, page, script, command, &nothing, None, sink, steps) {
+        Ok(_) => Ok(()),
+        Err(fault) => Err(fault),
+    }
+}
+
+/// Runs one item of a script, and writes each line as it is said. What it throws ends it alone. Refused as `play`.
+pub fn run_item<K: Sink, L: Ledger>(
+    alloc: Global,
+    page: &mut Page,
+    script: &Script,
+    item: &Item,
+    sink: &mut K,
+    steps: &mut Steps<L>,
+) -> Result<(), RunFault>
+    requires ready { IsReady script.now.items page.old.world }
+    requires allowed { ItemAllowed item.now }
+    ensures says { Runs goes_on (λ _. page.new.world) result (K.taken sink.old) (K.taken sink.new) (K.faults sink.old) (K.faults sink.new)
+        (run_item (handlers_in script.now.items) (item_of item.now) page.old.world) }
+    ensures ready { IfOk result (λ _. IsReady script.now.items page.new.world) }
+{
+    match item {
+        Item::Command(command) => run_caught(alloc, page, script, command, sink, steps),
+        Item::Tick { line, time } => tick(alloc, page, script, *line, *time, sink, steps),
+        Item::Handler(_) => Ok(()),
+    }
+}
+
+/// Runs the items of a script, and writes each line as it is said.
+///
+/// # Errors
+/// - `Limit` only where a limit is met, and there unless memory is wanted or the sink fails before; every line up to its own was
+///   written.
+/// - `WriteFault` only where the sink's count of faults rose in this call, and `Memory` for want of memory; a first part of the
+///   lines was written.
+pub fn play<K: Sink, L: Ledger>(
+    alloc: Global,
+    page: &mut Page,
+    script: &Script,
+    sink: &mut K,
+    steps: &mut Steps<L>,
+) -> Result<(), RunFault>
+    requires ready { IsReady script.now.items page.old.world }
+    ensures { Runs goes_on (λ _. page.new.world) result (K.taken sink.old) (K.taken sink.new) (K.faults sink.old) (K.faults sink.new) (run_items script.now.items page.old.world) }
+{
+    for item in script.items() {
+        match run_item(alloc, page, script, item, sink, steps) {
+            Ok(()) => {}
+            Err(fault) => return Err(fault),
+        }
+    }
+    Ok(())
+}

@@ -1,0 +1,8 @@
+//! The items of a script, run one after another on a page: one, all, or those up to a tick.
+#![tactic(auto)]
+
+mod items;
+mod stops;
+
+pub use items::{play, run_item};
+pub use stops::play_to_tick;

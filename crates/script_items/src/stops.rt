@@ -1,0 +1,59 @@
+//! Runs that are broken off as one of their ticks ends.
+
+ghost use Rattle.std.specs.Prelude.{◌≡◌, ◌-◌, ◌≤◌, IfOk};
+ghost use Rattle.script_model.specs.Scripts.{handlers_in};
+ghost use Rattle.script_syntax.specs.Seen.{item_of};
+ghost use Rattle.page_model.specs.Outcome.{run_item};
+ghost use Rattle.page_model.specs.Runs.{for_each};
+ghost use Rattle.trace_runs.specs.Flows.{goes_on};
+ghost use Rattle.trace_runs.specs.Runs.{Runs};
+ghost use Rattle.frame_update.specs.Ready.{IsReady};
+ghost use Rattle.script_items.specs.Stops.{tick_count, ticks_in, to_tick};
+
+use crate::items::run_item;
+use page_state::Page;
+use script_syntax::{Item, Script};
+use std::alloc::Global;
+use std::sync::ledger::Ledger;
+use step_count::Steps;
+use text_io::Sink;
+use trace_runs::RunFault;
+
+// 1 for a tick, 0 for any other item.
+fn ticks_in(item: &Item) -> u64
+    ensures value { result ≡ ticks_in (item_of item.now) }
+    ensures bound { result ≤ 1 }
+{
+    match item {
+        Item::Tick { .. } => 1,
+        Item::Command(_) | Item::Handler(_) => 0,
+    }
+}
+
+/// Runs the items of a script until its tick of this number ends, counted from 1, and writes each line as it is said. It answers how
+/// many ticks are lacking: 0 where that tick ended, also where it threw, else by how many the script has fewer. Refused as `play`.
+pub fn play_to_tick<K: Sink, L: Ledger>(
+    alloc: Global,
+    page: &mut Page,
+    script: &Script,
+    number: u64,
+    sink: &mut K,
+    steps: &mut Steps<L>,
+) -> Result<u64, RunFault>
+    requires { IsReady script.now.items page.old.world }
+    ensures says { Runs goes_on (λ _. page.new.world) result (K.taken sink.old) (K.taken sink.new) (K.faults sink.old) (K.faults sink.new)
+        (for_each (run_item (handlers_in script.now.items)) (to_tick number script.now.items) page.old.world) }
+    ensures lacking { IfOk result (λ lacking. lacking ≡ number - tick_count script.now.items) }
+{
+    let mut left = number;
+    for item in script.items() {
+        if left == 0 {
+            return Ok(0);
+        }
+        match run_item(alloc, page, script, item, sink, steps) {
+            Ok(()) => left -= ticks_in(item),
+            Err(fault) => return Err(fault),
+        }
+    }
+    Ok(left)
+}

@@ -1,0 +1,25 @@
+use Rattle.std.proofs.Common.{ℕ, List, ap, sym, subst}
+use Rattle.trace_summary.specs.Counts.{IsTrace}
+use Rattle.trace_summary.specs.Gathered.{Gathered}
+use Rattle.run_replies.proofs.Endings.{done_world}
+use Rattle.script_items.proofs.Playing.{opening_ready}
+use Rattle.script_replay.proofs.Jobs.{done_summary, limit_summary}
+use Rattle.script_replay.proofs.summary.summarize_on.Goals as goal
+
+pub play-requires : goal.play-requires
+play-requires g c = record { ready = opening_ready _ _ _ c.requires.opening }
+
+pub returns-in-Ok-clause-tells : goal.returns-in-Ok-clause-tells
+returns-in-Ok-clause-tells g c =
+    rw c.status_of.ensures.status
+    (done_summary _ _ c.requires.opening c.new-gathered.result.taken _ _ _ c.write_summary.result _ _ _ _ (ap (λ (sink : Gathered). sink.taken) c.new-gathered.ensures)
+    c.in-Ok.ensures.ended (λ lines it. c.write_summary.ensures lines (subst (λ (text : List ℕ). IsTrace text lines) (sym c.taken.ensures) it)))
+
+pub returns-in-Ok-clause-world : goal.returns-in-Ok-clause-world
+returns-in-Ok-clause-world g c = λ done. done_world _ _ c.requires.opening _ _ c.in-Ok.ensures.ended
+
+pub returns-in-Err-Limit-clause-tells : goal.returns-in-Err-Limit-clause-tells
+returns-in-Err-Limit-clause-tells g c =
+    let cut = rw c.in-Err-Limit.field-0-is at c.in-Err-Limit.ensures in
+    limit_summary _ _ c.requires.opening c.new-gathered.result.taken _ _ _ _ _ _ c.summarize_to_limit.result _ _ _ _ (ap (λ (sink : Gathered). sink.taken) c.new-gathered.ensures) cut.cut_off
+    c.summarize_to_limit.ensures.tells

@@ -1,0 +1,15 @@
+-- What was read of a source, and why one can't be read.
+use Rattle.std.specs.Prelude.{◌≡◌, ℕ, List, drop, take, IfSome, Option, Some}
+use Rattle.text_io.specs.Streams.{Rose}
+use Rattle.run_replies.specs.declared.status.Status.{Status}
+use Rattle.run_replies.specs.declared.status.Status.TheVariants.{NoMemory, ReadFault}
+
+-- a source was read up to a limit: these are its first bytes, and the others are left
+abbrev pub ReadTo : ℕ → (before after : Option (List ℕ)) → List ℕ → Type 0
+ReadTo limit before after bytes = IfSome before (λ source. (bytes ≡ take limit source) × (after ≡ Some (drop limit source)))
+
+-- why a source can't be read: want of memory has no cause
+abbrev pub IsUnread : Status → (faults faults_after : ℕ) → Type 0
+IsUnread ReadFault faults faults_after = Rose faults faults_after
+IsUnread NoMemory faults faults_after = Unit {0}
+IsUnread status faults faults_after = ⊥

@@ -1,0 +1,5 @@
+pub mod NamedLines
+pub mod Turning
+pub mod SideBySide
+pub mod NoItems
+pub mod PagesAsked

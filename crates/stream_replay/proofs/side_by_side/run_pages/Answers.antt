@@ -1,0 +1,23 @@
+use Rattle.std.proofs.Common.{◌≤◌, arith, length, subst, ℕ, List}
+use Rattle.stream_replay.specs.StreamReplies.{IsolatesPages}
+use Rattle.stream_replay.proofs.PagesAsked.{pages_end_past, pages_taken, alone_end, past_alone}
+use Rattle.stream_replay.proofs.side_by_side.run_pages.Goals as goal
+
+pub returns-in-Ok-clause-read : goal.returns-in-Ok-clause-read
+returns-in-Ok-clause-read g c =
+    let fits : length c.in-Ok.bytes.items ≤ 16777216 = omega (arith, c.in-Ok.bytes.ok, c.in-Ok.ensures.within) in
+    pages_taken c.run_bytes.result _ _ c.in-Ok.bytes.items c.in-Ok.ensures.all c.in-Ok.ensures.end fits
+
+pub returns-in-Err-TooLong-clause-ends : goal.returns-in-Err-TooLong-clause-ends
+returns-in-Err-TooLong-clause-ends g c =
+    let cause = rw c.in-Err-TooLong.field-0-is at c.in-Err-TooLong.ensures.fault in
+    pages_end_past c.meet_limit.result _ _ c.in-Err-TooLong.feeds _ _ _ _ cause.2 c.meet_limit.ensures.tells
+
+pub returns-in-Ok-clause-alone : goal.returns-in-Ok-clause-alone
+returns-in-Ok-clause-alone g c =
+    alone_end c.run_bytes.result _ c.in-Ok.bytes.items c.in-Ok.ensures.all
+    (subst (λ (it : List ℕ). IsolatesPages c.run_bytes.result it) c.deref.ensures.value c.run_bytes.ensures.alone)
+
+pub returns-in-Err-TooLong-clause-alone : goal.returns-in-Err-TooLong-clause-alone
+returns-in-Err-TooLong-clause-alone g c =
+    let cause = rw c.in-Err-TooLong.field-0-is at c.in-Err-TooLong.ensures.fault in past_alone c.meet_limit.result _ _ c.in-Err-TooLong.feeds cause.2

@@ -1,0 +1,3 @@
+pub mod StreamStatuses
+pub mod StreamPages
+pub mod StreamReplies

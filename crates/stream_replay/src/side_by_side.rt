@@ -1,0 +1,360 @@
+//! Several pages of one stream, side by side.
+
+ghost use Rattle.std.specs.Io.KnownBytes.{Appends};
+ghost use Rattle.std.specs.Prelude.{ℕ, List, Option, ◌≡◌, ◌≤◌, ◌++◌, ◌∷◌, [], length, map, ◌<◌, true, Ok, Err, IfOk, IfSome, OnOk, OnErr};
+ghost use Rattle.std.specs.List.{All, list_any};
+ghost use Rattle.text_io.specs.Streams.{Rose};
+ghost use Rattle.text_io.specs.declared.kinds.Version.TheVariants.{First};
+ghost use Rattle.script_model.specs.Reading.{reading};
+ghost use Rattle.page_model.specs.Outcome.{opening_world};
+ghost use Rattle.trace_runs.specs.Writes.{Wrote};
+ghost use Rattle.trace_text.specs.Ranges.{HasReach};
+ghost use Rattle.trace_text.specs.Seen.{seen_line};
+ghost use Rattle.page_stream.specs.Pages.{pages_of};
+ghost use Rattle.page_stream.specs.Parts.{script_of};
+ghost use Rattle.run_replies.specs.Answers.{Ends, IsTaken, Tells};
+ghost use Rattle.stream_replay.specs.StreamReplies.{IsolatesPages};
+ghost use Rattle.run_replies.specs.Statuses.{is_whole};
+ghost use Rattle.stream_runs.specs.Alone.{IsOneLine, TellsAlone, lines_from, opening_lines, stream_lines};
+ghost use Rattle.stream_runs.specs.PageRuns.{opened, refused_lines};
+ghost use Rattle.stream_replay.specs.StreamReplies.{pages_reply, run_reply};
+ghost use Rattle.stream_runs.specs.StreamRuns.{named_text, parts_run, refused_text, scripts_of, stream_opened, stream_run};
+ghost use Rattle.stream_replay.specs.StreamStatuses.{is_faulty, met_limit, stream_status};
+ghost use Rattle.stream_replay.specs.StreamPages.{progress_ending, seen_page, seen_standing, IsReadyPage};
+
+use crate::named::write_named;
+use crate::stream_page::{Progress, StreamPage, take_turn};
+use page_state::Page;
+use page_stream::{Part, Stream, StreamFault, split};
+use run_replies::{Status, meet_limit, refuse_at, status_of};
+use script_source::ScriptText;
+use script_syntax::{ParseFault, Script};
+use script_text::laws::printed_script_reads_back;
+use std::alloc::Global;
+use std::sync::ledger::Ledger;
+use step_count::Steps;
+use stream_runs::laws::{
+    each_page_is_as_if_it_ran_alone, lines_of_the_stream_are_those_of_its_pages,
+};
+use text_io::{LimitKind, Name, Sink, Source, TextFault, read_all};
+use trace_runs::{RunFault, write_one};
+use trace_summary::GatherSink;
+use trace_text::{TraceLine, line_ends_once, value_is_a_line};
+
+/// The most bytes of a stream.
+const MOST_STREAM: usize = 16_777_216;
+
+/// The most pages of a stream.
+const MOST_PAGES: usize = 8;
+
+// A page before its first command, behind those that are there. It is the one place where a page of a stream is dropped, which is long
+// to prove: where no memory is left for the list.
+fn push_page(pages: &mut Vec<StreamPage>, page: StreamPage) -> Result<(), RunFault>
+    ensures ok { OnOk result (pages.new.items ≡ pages.old.items ++ (page ∷ [])) }
+    ensures err { OnErr result (result ≡ Err RunFault.Memory) }
+{
+    match pages.push(page) {
+        Ok(()) => Ok(()),
+        Err(_) => Err(RunFault::Memory),
+    }
+}
+
+fn add_page(
+    alloc: Global,
+    name: Name,
+    script: Script,
+    progress: Progress,
+    pages: &mut Vec<StreamPage>,
+) -> Result<(), RunFault>
+    ensures ok { OnOk result (map seen_page pages.new.items ≡ map seen_page pages.old.items ++ (record { name = name; standing = seen_standing progress script.items 0 (opening_world script.version) } ∷ [])) }
+    ensures ready { OnOk result (All IsReadyPage pages.old.items → All IsReadyPage pages.new.items) }
+    ensures err { OnErr result (result ≡ Err RunFault.Memory) }
+{
+    let Ok(page) = Page::new(alloc, script.version()) else {
+        return Err(RunFault::Memory);
+    };
+    push_page(
+        pages,
+        StreamPage {
+            name,
+            script,
+            page,
+            next: 0,
+            progress,
+        },
+    )
+}
+
+// A script without items, for a page whose own is refused. It is of the first version, which nobody looks at.
+fn no_script(alloc: Global) -> Result<Script, RunFault>
+    ensures none { IfOk result (λ script. script ≡ record { version = First; items = [] }) }
+    ensures memory { OnErr result (result ≡ Err RunFault.Memory) }
+{
+    // the law by which a text reads as such a script
+    printed_script_reads_back();
+    match Script::build(alloc, Vec::new(alloc)) {
+        Ok(script) => Ok(script),
+        Err(_) => Err(RunFault::Memory),
+    }
+}
+
+// A page whose script is refused: the line that says so is written.
+fn refuse_page<K: Sink>(
+    alloc: Global,
+    name: Name,
+    line: &TraceLine,
+    progress: Progress,
+    pages: &mut Vec<StreamPage>,
+    sink: &mut K,
+) -> Result<(), RunFault>
+    requires { HasReach (seen_line line.now) }
+    ensures wrote { Wrote result (K.taken sink.old) (K.taken sink.new) (K.faults sink.old) (K.faults sink.new) (named_text name (seen_line line.now ∷ [])) }
+    ensures pages { OnOk result (map seen_page pages.new.items ≡ map seen_page pages.old.items ++ (record { name = name; standing = seen_standing progress [] 0 (opening_world First) } ∷ [])) }
+    ensures ready { OnOk result (All IsReadyPage pages.old.items → All IsReadyPage pages.new.items) }
+{
+    let mut gathered = GatherSink::new(alloc);
+    let Ok(()) = write_one(alloc, line, &mut gathered) else {
+        return Err(RunFault::Memory);
+    };
+    if let Err(fault) = write_named(alloc, &name, gathered.taken(), sink) {
+        return Err(fault);
+    }
+    match no_script(alloc) {
+        Ok(script) => add_page(alloc, name, script, progress, pages),
+        Err(fault) => Err(fault),
+    }
+}
+
+// The laws by which a line ends in its only line feed.
+fn ends_once(line: &TraceLine)
+    requires { HasReach (seen_line line.now) }
+    ensures { IsOneLine (seen_line line.now) }
+{
+    value_is_a_line(line);
+    line_ends_once();
+}
+
+// A page with the text of its script.
+fn open_page<K: Sink>(
+    alloc: Global,
+    name: Name,
+    text: ScriptText,
+    pages: &mut Vec<StreamPage>,
+    sink: &mut K,
+) -> Result<(), RunFault>
+    ensures wrote { Wrote result (K.taken sink.old) (K.taken sink.new) (K.faults sink.old) (K.faults sink.new) (refused_text (record { name = name; read = reading text })) }
+    ensures lines { OnOk result (All IsOneLine (refused_lines (reading text))) }
+    ensures pages { OnOk result (map seen_page pages.new.items ≡ map seen_page pages.old.items ++ (opened (record { name = name; read = reading text }) ∷ [])) }
+    ensures ready { OnOk result (All IsReadyPage pages.old.items → All IsReadyPage pages.new.items) }
+{
+    match text.parse(alloc) {
+        Ok(script) => add_page(alloc, name, script, Progress::Going, pages),
+        Err(ParseFault::Syntax { line, column }) => {
+            let line = TraceLine::Syntax(line, column);
+            ends_once(&line);
+            refuse_page(alloc, name, &line, Progress::Faulty, pages, sink)
+        }
+        Err(ParseFault::ScriptLimit { kind, line }) => {
+            let line = TraceLine::Limit(kind, line, kind.common());
+            ends_once(&line);
+            refuse_page(alloc, name, &line, Progress::LimitMet, pages, sink)
+        }
+        Err(ParseFault::Memory) => Err(RunFault::Memory),
+    }
+}
+
+// The text of a page's script.
+fn text_of(alloc: Global, stream: &Stream<'_>, page: usize) -> Result<ScriptText, RunFault>
+    requires { page < length (pages_of stream.now) }
+    ensures text { IfOk result (λ text. reading text ≡ reading (script_of page stream.now)) }
+    ensures memory { OnErr result (result ≡ Err RunFault.Memory) }
+{
+    let Ok(script) = stream.script(alloc, page) else {
+        return Err(RunFault::Memory);
+    };
+    let mut text = ScriptText::new(alloc);
+    match text.feed(&script) {
+        Ok(()) => Ok(text),
+        Err(_) => Err(RunFault::Memory),
+    }
+}
+
+// The pages of a stream, before the first command of any of them.
+fn open_pages<K: Sink>(
+    alloc: Global,
+    stream: &Stream<'_>,
+    pages: &mut Vec<StreamPage>,
+    sink: &mut K,
+) -> Result<(), RunFault>
+    requires { pages.old.items ≡ [] }
+    ensures wrote { Wrote result (K.taken sink.old) (K.taken sink.new) (K.faults sink.old) (K.faults sink.new) (stream_opened (scripts_of stream.now)).text }
+    ensures lines { OnOk result (All IsOneLine (opening_lines (scripts_of stream.now))) }
+    ensures pages { OnOk result (map seen_page pages.new.items ≡ (stream_opened (scripts_of stream.now)).pages) }
+    ensures ready { OnOk result (All IsReadyPage pages.new.items) }
+{
+    let names = stream.pages();
+    for place in 0..names.len() {
+        let text = match text_of(alloc, stream, place) {
+            Ok(text) => text,
+            Err(fault) => return Err(fault),
+        };
+        if let Err(fault) = open_page(alloc, names[place], text, pages, sink) {
+            return Err(fault);
+        }
+    }
+    Ok(())
+}
+
+// The lines of a stream, one after another: each is a turn of its page.
+fn run_parts<K: Sink, L: Ledger>(
+    alloc: Global,
+    pages: &mut [StreamPage],
+    parts: &[Part],
+    sink: &mut K,
+    steps: &mut Steps<L>,
+) -> Result<(), RunFault>
+    requires { All IsReadyPage pages.old }
+    ensures wrote { Wrote result (K.taken sink.old) (K.taken sink.new) (K.faults sink.old) (K.faults sink.new) (parts_run (map seen_page pages.old) parts.now).text }
+    ensures lines { OnOk result (All IsOneLine (lines_from (map seen_page pages.old) parts.now)) }
+    ensures pages { OnOk result (map seen_page pages.new ≡ (parts_run (map seen_page pages.old) parts.now).pages) }
+{
+    for part in parts {
+        if part.page < pages.len() {
+            let page = &mut pages[part.page];
+            if let Err(fault) = take_turn(alloc, page, part.line, sink, steps) {
+                return Err(fault);
+            }
+        }
+    }
+    Ok(())
+}
+
+fn any_faulty(pages: &[StreamPage]) -> bool
+    ensures { result ≡ list_any (λ page. is_faulty (progress_ending page.progress)) pages.now }
+{
+    pages.iter().any(|page| page.progress.is_faulty())
+}
+
+fn any_limited(pages: &[StreamPage]) -> bool
+    ensures { result ≡ list_any (λ page. met_limit (progress_ending page.progress)) pages.now }
+{
+    pages.iter().any(|page| page.progress.met_limit())
+}
+
+// A fault of some page's script comes before a limit that some page met.
+#[tactic(auto, using(crate::proofs::SideBySide::status_seen))]
+fn status_by(pages: &[StreamPage]) -> Status
+    ensures { result ≡ stream_status (map seen_page pages.now) }
+{
+    if any_faulty(pages) {
+        Status::Syntax
+    } else if any_limited(pages) {
+        Status::Limit
+    } else {
+        Status::Done
+    }
+}
+
+// A stream whose pages are opened.
+fn run_opened<K: Sink, L: Ledger>(
+    alloc: Global,
+    stream: &Stream<'_>,
+    pages: &mut [StreamPage],
+    sink: &mut K,
+    steps: &mut Steps<L>,
+) -> Status
+    requires opened { map seen_page pages.old ≡ (stream_opened (scripts_of stream.now)).pages }
+    requires ready { All IsReadyPage pages.old }
+    requires lines { All IsOneLine (opening_lines (scripts_of stream.now)) }
+    // behind what was written when the pages were opened
+    ensures tells { (before : Option (List ℕ)) (faults : ℕ) → Appends before (K.taken sink.old) (stream_opened (scripts_of stream.now)).text → K.faults sink.old ≡ faults
+        → Tells result (run_reply (stream_run stream.now)) before (K.taken sink.new) faults (K.faults sink.new) }
+    ensures lines { is_whole result ≡ true → All IsOneLine (stream_lines stream.now) }
+{
+    let wrote = run_parts(alloc, pages, stream.parts(), sink, steps);
+    status_of(wrote, status_by(pages))
+}
+
+// A stream with room for its pages.
+fn run_with<K: Sink, L: Ledger>(
+    alloc: Global,
+    stream: &Stream<'_>,
+    pages: &mut Vec<StreamPage>,
+    sink: &mut K,
+    steps: &mut Steps<L>,
+) -> Status
+    requires { pages.old.items ≡ [] }
+    ensures tells { Tells result (run_reply (stream_run stream.now)) (K.taken sink.old) (K.taken sink.new) (K.faults sink.old) (K.faults sink.new) }
+    ensures lines { is_whole result ≡ true → All IsOneLine (stream_lines stream.now) }
+{
+    match open_pages(alloc, stream, pages, sink) {
+        Ok(()) => run_opened(alloc, stream, pages, sink, steps),
+        Err(fault) => status_of(Err(fault), Status::Done),
+    }
+}
+
+// A stream. Here its pages are dropped.
+fn run_stream<K: Sink, L: Ledger>(
+    alloc: Global,
+    stream: &Stream<'_>,
+    sink: &mut K,
+    steps: &mut Steps<L>,
+) -> Status
+    ensures tells { Tells result (run_reply (stream_run stream.now)) (K.taken sink.old) (K.taken sink.new) (K.faults sink.old) (K.faults sink.new) }
+    ensures alone { is_whole result ≡ true → TellsAlone stream.now (stream_run stream.now).text }
+{
+    // the laws by which lines that end in their only line feed tell each page apart
+    lines_of_the_stream_are_those_of_its_pages();
+    each_page_is_as_if_it_ran_alone();
+    let mut pages = Vec::new(alloc);
+    run_with(alloc, stream, &mut pages, sink, steps)
+}
+
+// The bytes of a source.
+fn run_bytes<K: Sink, L: Ledger>(
+    alloc: Global,
+    source: &[u8],
+    sink: &mut K,
+    steps: &mut Steps<L>,
+) -> Status
+    requires { length source.now ≤ 16777216 }
+    ensures tells { Tells result (pages_reply source.now) (K.taken sink.old) (K.taken sink.new) (K.faults sink.old) (K.faults sink.new) }
+    ensures alone { IsolatesPages result source.now }
+{
+    match split(alloc, source, MOST_PAGES) {
+        Ok(stream) => run_stream(alloc, &stream, sink, steps),
+        Err(StreamFault::NoPage) => refuse_at(alloc, 1, 1, sink),
+        Err(StreamFault::TooManyPages { line }) => meet_limit(alloc, LimitKind::Pages, line, sink),
+        Err(StreamFault::Memory) => Status::NoMemory,
+    }
+}
+
+/// Runs the scripts of the pages that the source holds, side by side, and writes each line with the name of its page as it is said.
+///
+/// - `Done`, `Syntax` and `Limit`: exactly by the reply to the source's bytes, and all of its text was written. The source is at its end then;
+///   of more than 16,777,216 bytes one more than that many were taken. No `Usage` comes.
+/// - `ReadFault` and `WriteFault`: only where that count of faults rose in this call; nothing was written, or a first part of the text.
+///   `NoMemory` for want of memory, with a first part of the text.
+pub fn run_pages<S: Source, K: Sink, L: Ledger>(
+    alloc: Global,
+    source: &mut S,
+    sink: &mut K,
+    steps: &mut Steps<L>,
+) -> Status
+    ensures usage { result ≡ Status.Usage → ⊥ }
+    ensures ends { IfSome (S.left source.old) (λ text.
+        Ends result (pages_reply text) (K.taken sink.old) (K.taken sink.new) (K.faults sink.old) (K.faults sink.new)) }
+    ensures alone { IfSome (S.left source.old) (λ text. IsolatesPages result text) }
+    ensures read { IfSome (S.left source.old) (λ text. IsTaken result 16777217 text (S.left source.new)) }
+    ensures read_fault { result ≡ Status.ReadFault → Rose (S.faults source.old) (S.faults source.new) × (sink.new ≡ sink.old) }
+    ensures write_fault { result ≡ Status.WriteFault → Rose (K.faults sink.old) (K.faults sink.new) }
+{
+    match read_all(alloc, source, MOST_STREAM) {
+        Ok(bytes) => run_bytes(alloc, &bytes, sink, steps),
+        Err(TextFault::TooLong { feeds }) => {
+            meet_limit(alloc, LimitKind::Script, feeds + 1, sink)
+        }
+        Err(TextFault::ReadFault) => Status::ReadFault,
+        Err(_) => Status::NoMemory,
+    }
+}
