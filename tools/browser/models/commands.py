@@ -122,8 +122,8 @@ class Commands:
         if scrolled.scroll != before:
             # The event of this place is the only one.
             self.late_scrolls = [late for late in self.late_scrolls if late[0] is not scrolled]
+            self.view_changes()
         self.anchor_anew(scrolled)
-        self.view_changes()
 
     def lay_out_for_scrolling(self, thing):
         if isinstance(thing, Document):
