@@ -142,7 +142,12 @@ def classes_of(text, engine, told):
             needed.add(name)
     if first.lines != told:
         needed.add(PARTS[engine])
-    return needed or one_of(text, engine, told, order, first.met) or {'round-lines'}
+    return needed or one_of(text, engine, told, order, first.met) or named(one_of(text, engine, told, order, CLASSES[engine])) or {'round-lines'}
+
+
+def named(classes):
+    """Those that aren't ways of an engine to have another one."""
+    return {name for name in classes if ' ' not in name}
 
 
 def one_of(text, engine, told, order, names):
