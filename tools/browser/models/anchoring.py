@@ -61,9 +61,9 @@ class Anchors:
         return box is None or not self.model.world.layout.has_box(box) or not self.holds(thing, box)
 
     def as_laid(self, thing):
-        """The first box in view of those that were there at the last layout, and where it was."""
-        known = self.laid.get(thing, {})
-        box = self.first_in_view(thing, lambda node: known[node][0] if node in known else None)
+        """The first box in view of those that were there at the last layout and still are, and where it was."""
+        known, layout = self.laid.get(thing, {}), self.model.world.layout
+        box = self.first_in_view(thing, lambda node: known[node][0] if node in known and layout.has_box(node) else None)
         return box, box and known[box][1]
 
     def settle(self, document):

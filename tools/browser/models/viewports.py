@@ -5,8 +5,8 @@ from reference.media import matches
 from reference.world import ACTIVE, DEAD, Element, IntersectionObserver, preorder, tree_document
 
 from .layout import NO_SIZES, Sizes, whole
-from .traits import (CALLBACKS_OF_THE_STEP, EMPTY_PAGES_LAY_OUT, EVENTS_GO_WITH_BOXES, FRAMES_IN_TIME, FRAMES_WAIT, LATE_SCROLLS,
-                     PLACED_AS_ROUNDS_BEGIN, QUERIES_IN_UPDATE)
+from .traits import (CALLBACKS_OF_THE_STEP, EMPTY_PAGES_LAY_OUT, EVENTS_GO_WITH_BOXES, FRAMES_IN_TIME, FRAMES_LAY_OUT, FRAMES_WAIT,
+                     LATE_SCROLLS, PLACED_AS_ROUNDS_BEGIN, QUERIES_IN_UPDATE)
 
 # The window's own view, of which a target is seen or not.
 WINDOW = IntersectionObserver('-', None, None, None, None, [('px', 0)] * 4, None, [0])
@@ -21,6 +21,8 @@ class Viewports:
 
     def inserted(self, node):
         self.changed_documents.add(tree_document(node))
+        if self.has_box_here(node):
+            self.unlaid.add(node.document)
         self.touched |= {node, node.parent}
         for inner in preorder(node):
             document = inner.framed
@@ -32,6 +34,8 @@ class Viewports:
             elif document not in self.insertions:
                 self.insertions[document] = len(self.insertions)
                 self.new_documents.append(document)
+        if self.has(FRAMES_LAY_OUT) and any(inner.framed is not None for inner in preorder(node)) and tree_document(node) is not None:
+            self.lay_out(tree_document(node))
 
     def removed(self, node, where):
         """Boxes go from a document; they come back with nothing scrolled."""
@@ -127,8 +131,11 @@ class Viewports:
         chain = [document]
         while chain[-1].frame is not None:
             chain.append(chain[-1].frame.document)
+        waiting = set(self.changed_documents)
         for outer in reversed(chain):
             self._laid_out(outer, chain + [also] if self.has(FRAMES_WAIT) else None)
+        if self.changed_documents != waiting:
+            self.find_again()
 
     def place_all(self):
         """Remembers where the targets' boxes are, as a round begins."""
@@ -145,17 +152,23 @@ class Viewports:
         """`told` are the documents that are told the size of their frames, where it isn't all."""
         layout = self.world.layout
         if document in self.changed_documents and self.has(FRAMES_IN_TIME):
-            self.changed_documents -= self.laid_inside(document)
+            if document in self.unlaid or document in self.broken:
+                self.changed_documents -= self.laid_inside(document)
             self.view_changes()
             self.new_scrollers = {node for node in self.new_scrollers if node.document is not document}
         self.places_in(document)
         self.changed_documents.discard(document)
         self.broken.discard(document)
+        self.unlaid.discard(document)
+        if document in self.emptied:
+            self.emptied.discard(document)
+            self.sized_anew(document)
+            self.evaluate(document, self.known[document])
         for inner in self.to_be_made.pop(document, ()):
             if inner.state is ACTIVE and inner in self.known and layout.has_box(inner.frame) and self.differs('frame-made-anew'):
-                self.resized.add(inner)
-                self.anew.add(inner)
-                self.made.add(inner)
+                self.sized_anew(inner)
+                if told is None or inner not in told:
+                    self.emptied.add(inner)
         for inner in list(self.insertions):
             if inner.state is ACTIVE and inner.frame.document is document:
                 self.see_frame(inner, told is None or inner in told)
@@ -209,11 +222,10 @@ class Viewports:
             document = document.frame.document
         return False
 
-    def make_again(self):
-        """Documents of frames whose boxes were made anew are told once more as an update ends."""
-        self.resized |= self.made
-        self.anew |= self.made
-        self.made = set()
+    def sized_anew(self, document):
+        """A document has another size, as the box of its frame was made anew: first none, then, as it is laid out itself, its own."""
+        self.resized.add(document)
+        self.anew.add(document)
 
     def hide_or_show(self, document):
         """A scrolled document is told of it, as its frame's box goes and comes."""
@@ -358,6 +370,8 @@ class Viewports:
     def media_steps(self, document):
         if document.frame is None and self.has(QUERIES_IN_UPDATE):
             self.evaluate(document, self.world.viewport_size)
+        if document in self.emptied:
+            self.evaluate(document, (0, 0))
         changed = self.changed_queries.pop(document, [])
         self.note_changes(document, changed)
         for queries in changed:
