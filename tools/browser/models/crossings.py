@@ -5,7 +5,7 @@ from reference.world import ACTIVE, Document, Element, tree_document
 
 from .layout import PIXEL, whole
 from .traits import (CROSSED_IS_TURNED, DEAD_ROOTS_OF_A_LIST, EDGES_REACH_OUT, EVERY_ROOT, IMPLICIT_ROOT, LENGTHS_ARE_CUT,
-                     LENGTHS_ARE_FLOORED, PERCENTAGES_ARE_CUT, QUEUES_WAIT, ROOTS_ARE_WITH_DOCUMENTS, SCROLLING_ROOT_UNTOLD)
+                     LENGTHS_ARE_FLOORED, PERCENTAGES_ARE_CUT, QUEUES_WAIT, ROOTS_GO_AWAY, SCROLLING_ROOT_UNTOLD)
 
 
 class Margins:
@@ -102,7 +102,7 @@ class Crossings:
         """Whether a root stands nowhere and has moved to another document after it was taken out, as that may count as being in none."""
         root = observer.root
         return (isinstance(root, Element) and tree_document(root) is None and self.left.get(root, root.document) is not root.document
-                and not self.has(ROOTS_ARE_WITH_DOCUMENTS))
+                and self.has(ROOTS_GO_AWAY))
 
     def intersections(self, document, known=()):
         """Looks at a document's observers; `known` has the entries that were found before, by their registrations."""

@@ -21,10 +21,10 @@ SCROLLING_ROOT_UNTOLD, IMPLICIT_ROOT, EVERY_ROOT = 'a root that scrolls, untold'
 ANCHORS_BEFORE_LAYOUT = 'anchors before layout'
 # Of frames that are put in again: the empty page in one lays out what is around it, as any new page does, before the next commands run.
 EMPTY_PAGES_LAY_OUT = 'empty pages lay out'
-# Of frames that are put in: what is around one is laid out at once.
+# Of frames that are put in: what is around one is laid out at once, if it was before.
 FRAMES_LAY_OUT = 'frames lay out'
-# Of roots that stand nowhere: they are looked at with their document, whatever that was before.
-ROOTS_ARE_WITH_DOCUMENTS = 'roots are with documents'
+# Of roots that stand nowhere: one that has moved to another document is with none.
+ROOTS_GO_AWAY = 'roots go away'
 # Of entries of an observer whose root's document has ended: they are told where it ended as observers of this document were told.
 DEAD_ROOTS_OF_A_LIST = 'dead roots of a list'
 # Of moved boxes: events that wait go with them, and a document without its root element is at its begin.

@@ -34,7 +34,7 @@ class Viewports:
             elif document not in self.insertions:
                 self.insertions[document] = len(self.insertions)
                 self.new_documents.append(document)
-        if self.has(FRAMES_LAY_OUT) and any(inner.framed is not None for inner in preorder(node)) and tree_document(node) is not None:
+        if self.has(FRAMES_LAY_OUT) and tree_document(node) in self.known and any(inner.framed is not None for inner in preorder(node)):
             self.lay_out(tree_document(node))
 
     def removed(self, node, where):
@@ -337,7 +337,8 @@ class Viewports:
     def note_resize(self, document, fires):
         """Which class it is where the rules fire and the engine doesn't, or the other way."""
         size = self.rules_viewport(document)
-        first, changed = document not in self.noted, self.noted.get(document, size) != size
+        first, before = document not in self.noted, self.noted.get(document, size)
+        changed = before != size
         self.noted[document] = size
         is_anew = document in self.anew and fires
         self.anew.discard(document)
@@ -348,8 +349,10 @@ class Viewports:
         elif document.frame is None:
             if not self.rescaled:
                 self.noticed.add('resize-back-again')
-        elif changed and not self.world.layout.has_box(document.frame):
+        elif changed and (not self.world.layout.has_box(document.frame) or self.has(FRAMES_IN_TIME) and before == (0, 0)):
             self.noticed.add('hidden-frame-keeps-size')
+        elif self.has(FRAMES_IN_TIME):
+            self.noticed.add('frame-of-part-pixels' if changed else 'resize-back-again')
         else:
             self.noticed.add('frame-resize-event')
 
