@@ -101,7 +101,7 @@ class Crossings:
     def is_root_away(self, observer):
         """Whether a root stands nowhere and has moved to another document after it was taken out, as that may count as being in none."""
         root = observer.root
-        return (isinstance(root, Element) and tree_document(root) is None and self.left.get(root, root.document) is not root.document
+        return (isinstance(root, Element) and tree_document(root) is None and self.put_in.get(root, root.document) is not root.document
                 and self.has(ROOTS_GO_AWAY))
 
     def intersections(self, document, known=()):
@@ -170,7 +170,7 @@ class Crossings:
         where = tree_document(target)
         if observer.root is not None or (where is not None and where.state is ACTIVE):
             return False
-        moved = target.document.state is not ACTIVE or self.left.get(target, target.document) is not target.document
+        moved = target.document.state is not ACTIVE or self.put_in.get(target, target.document) is not target.document
         return moved and self.differs('target-of-dead-frame')
 
     def find(self, observer, root, registration):

@@ -30,7 +30,7 @@ class Model(Commands, Viewports, Rounds, Crossings, Page):
         self.changed_queries = {}         # document -> its query lists with a `change` to be fired
         self.new_documents = []           # that haven't laid themselves out
         self.refilled = []                # frames that were put in again: in place of their document they have an empty page
-        self.left = {}                    # element -> the document that it was taken out of last
+        self.put_in = {}                  # element -> the document that it came into last, of those that stood then
         self.insertions = {}              # document -> number, in the order in which their frames were inserted
         self.sizes = {}                   # resize observers' targets -> what they were at the last layout
         self.round = None

@@ -24,7 +24,10 @@ class Viewports:
         if self.has_box_here(node):
             self.unlaid.add(node.document)
         self.touched |= {node, node.parent}
+        where = tree_document(node)
         for inner in preorder(node):
+            if where is not None and where.state is ACTIVE:
+                self.put_in[inner] = where
             document = inner.framed
             if document is None:
                 continue
@@ -41,8 +44,6 @@ class Viewports:
         """Boxes go from a document; they come back with nothing scrolled."""
         self.touched.add(node)
         for inner in preorder(node):
-            if where is not None:
-                self.left[inner] = where
             if inner in self.sizes:
                 self.sizes[inner] = NO_SIZES
             self.anchors.removed(inner)
