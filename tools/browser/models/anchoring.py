@@ -1,7 +1,8 @@
 """CSS Scroll Anchoring, as the model of an engine has it: an offset moves with the first box in view."""
 from reference.world import ACTIVE, Document, path
 
-from .traits import ANCHORS_BEFORE_LAYOUT
+from .layout import whole
+from .traits import ANCHORS_BEFORE_LAYOUT, LATE_SCROLLS
 
 # A change of one of these, on the way from the box up to what scrolls, leaves the offset alone.
 QUIETING = ('width', 'height', 'min-', 'max-', 'margin', 'padding')
@@ -51,11 +52,15 @@ class Anchors:
                 box, place = self.as_laid(thing)
             if self.is_gone(thing, box):
                 continue
-            by = self.place(thing, box) - place
+            by = self.rounded(self.place(thing, box)) - self.rounded(place)
             if any(node in self.quiet for node in self.between(thing, box)):
                 self.kept.pop(thing, None)
             elif by:
                 yield thing, by
+
+    def rounded(self, place):
+        """Where offsets are of whole pixels each of two places is rounded."""
+        return whole(place) if self.model.has(LATE_SCROLLS) else place
 
     def is_gone(self, thing, box):
         return box is None or not self.model.world.layout.has_box(box) or not self.holds(thing, box)

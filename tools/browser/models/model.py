@@ -30,7 +30,10 @@ class Model(Commands, Viewports, Rounds, Crossings, Page):
         self.changed_queries = {}         # document -> its query lists with a `change` to be fired
         self.new_documents = []           # that haven't laid themselves out
         self.refilled = []                # frames that were put in again: in place of their document they have an empty page
-        self.put_in = {}                  # element -> the document that it came into last, of those that stood then
+        self.updates = 0                  # how often intersections were looked at
+        self.came = {}                    # element -> how often that was as it was put in last
+        # element -> the document that it came into last, of those that stood then or in which an update found it
+        self.put_in = {}
         self.insertions = {}              # document -> number, in the order in which their frames were inserted
         self.sizes = {}                   # resize observers' targets -> what they were at the last layout
         self.round = None
@@ -152,6 +155,7 @@ class Model(Commands, Viewports, Rounds, Crossings, Page):
                 document.pending_scrolls.append(thing)
         self.late_scrolls = []
         documents = self.documents_in_order()
+        self.updates += 1
         if self.tells_in_update():
             self.crossings_by_turns(documents)
         else:

@@ -4,7 +4,7 @@ from reference.layout import BORDER, CONTENT, DEVICE
 from reference.media import matches
 from reference.world import ACTIVE, DEAD, Element, IntersectionObserver, preorder, tree_document
 
-from .layout import NO_SIZES, Sizes, whole
+from .layout import NO_SIZES, Sizes
 from .traits import (CALLBACKS_OF_THE_STEP, EMPTY_PAGES_LAY_OUT, EVENTS_GO_WITH_BOXES, FRAMES_IN_TIME, FRAMES_LAY_OUT, FRAMES_WAIT,
                      LATE_SCROLLS, PLACED_AS_ROUNDS_BEGIN, QUERIES_IN_UPDATE)
 
@@ -26,6 +26,7 @@ class Viewports:
         self.touched |= {node, node.parent}
         where = tree_document(node)
         for inner in preorder(node):
+            self.came[inner] = self.updates
             if where is not None and where.state is ACTIVE:
                 self.put_in[inner] = where
             document = inner.framed
@@ -44,6 +45,8 @@ class Viewports:
         """Boxes go from a document; they come back with nothing scrolled."""
         self.touched.add(node)
         for inner in preorder(node):
+            if where is not None and where.state is not ACTIVE and self.came.get(inner) != self.updates:
+                self.put_in[inner] = where
             if inner in self.sizes:
                 self.sizes[inner] = NO_SIZES
             self.anchors.removed(inner)
@@ -246,7 +249,7 @@ class Viewports:
     def move_offsets(self, document):
         for thing, by in list(self.anchors.moved(document)):
             self.met.add('scroll-anchoring')
-            thing.scroll = (thing.scroll[0], max(0, thing.scroll[1] + (whole(by) if self.has(LATE_SCROLLS) else by)))
+            thing.scroll = (thing.scroll[0], max(0, thing.scroll[1] + by))
             self.world.scrolled()
             self.scrolled_by_layout(thing, document)
 
