@@ -357,8 +357,11 @@ class Exchange(http.server.BaseHTTPRequestHandler):
         data = (text or '').encode()
         for name, value in (('Content-Type', 'text/html; charset=utf-8'), ('Cache-Control', 'no-store'), ('Content-Length', len(data))):
             self.send_header(name, str(value))
-        self.end_headers()
-        self.wfile.write(data)
+        try:
+            self.end_headers()
+            self.wfile.write(data)
+        except (BrokenPipeError, ConnectionResetError):
+            pass     # A browser that ends, or goes to another page, doesn't wait for the answer.
 
     def log_message(self, *words):
         pass

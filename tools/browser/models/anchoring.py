@@ -1,7 +1,8 @@
 """CSS Scroll Anchoring, as the model of an engine has it: an offset moves with the first box in view."""
 from reference.world import ACTIVE, Document, path
 
-from .traits import ANCHORS_BEFORE_LAYOUT
+from .layout import whole
+from .traits import ANCHORS_BEFORE_LAYOUT, LATE_SCROLLS
 
 # A change of one of these, on the way from the box up to what scrolls, leaves the offset alone.
 QUIETING = ('width', 'height', 'min-', 'max-', 'margin', 'padding')
@@ -51,19 +52,23 @@ class Anchors:
                 box, place = self.as_laid(thing)
             if self.is_gone(thing, box):
                 continue
-            by = self.place(thing, box) - place
+            by = self.rounded(self.place(thing, box)) - self.rounded(place)
             if any(node in self.quiet for node in self.between(thing, box)):
                 self.kept.pop(thing, None)
             elif by:
                 yield thing, by
 
+    def rounded(self, place):
+        """Where offsets are of whole pixels each of two places is rounded."""
+        return whole(place) if self.model.has(LATE_SCROLLS) else place
+
     def is_gone(self, thing, box):
         return box is None or not self.model.world.layout.has_box(box) or not self.holds(thing, box)
 
     def as_laid(self, thing):
-        """The first box in view of those that were there at the last layout, and where it was."""
-        known = self.laid.get(thing, {})
-        box = self.first_in_view(thing, lambda node: known[node][0] if node in known else None)
+        """The first box in view of those that were there at the last layout and still are, and where it was."""
+        known, layout = self.laid.get(thing, {}), self.model.world.layout
+        box = self.first_in_view(thing, lambda node: known[node][0] if node in known and layout.has_box(node) else None)
         return box, box and known[box][1]
 
     def settle(self, document):

@@ -7,7 +7,7 @@ from reference.world import ACTIVE, Document, Element, preorder, tree_document
 
 from .layout import FIRST_FRAME, ONE, PIXEL, whole
 from .rounds import NEVER
-from .traits import (DEAD_READS_THROW, FIRST_USE_COUNTS, FRAMES_BEGIN_AS_THEY_COME, FRAMES_IN_TIME, HIDDEN_READS_NOTHING,
+from .traits import (BEGIN_IS_THERE, DEAD_READS_THROW, FIRST_USE_COUNTS, FRAMES_BEGIN_AS_THEY_COME, FRAMES_IN_TIME, HIDDEN_READS_NOTHING,
                      NOTHING_FOR_DETACHED, QUEUES_WAIT, SCROLLS_ARE_CUT, WINDOWS_READ_AT_ONCE)
 
 SCROLLING = ('hidden', 'scroll', 'auto')
@@ -106,10 +106,15 @@ class Commands:
         return super().holds(command)
 
     def do_scroll(self, command, thing, left, top):
-        # A window that is scrolled to its begin isn't laid out for it.
-        if left or top or not isinstance(thing, Document):
+        if left or top or not self.is_begin_there(thing):
             self.lay_out_for_scrolling(thing)
         self.scroll_anew('scroll', command, thing, left, top)
+
+    def is_begin_there(self, thing):
+        """Whether scrolling to the begin lays nothing out: a window's, or that of what is there."""
+        if self.has(BEGIN_IS_THERE):
+            return thing.scroll == (0, 0) and (isinstance(thing, Document) or thing.root_of is None)
+        return isinstance(thing, Document)
 
     def do_scroll_by(self, command, thing, left, top):
         self.lay_out_for_scrolling(thing)
@@ -137,7 +142,7 @@ class Commands:
             self.anchors.scrolls(thing)
 
     def do_set(self, command, node, property_, declaration):
-        style = dict(node.style)
+        style, had_box = dict(node.style), self.has_box_here(node)
         EFFECTS['set'](self, command, node, property_, declaration)
         self.anchors.changes(node, property_)
         self.changed_in(node.document)
@@ -147,6 +152,8 @@ class Commands:
         given.update({field: property_ for field in declaration[0]})
         if node.style != style:
             self.touched.add(node)
+            if had_box or self.has_box_here(node):
+                self.unlaid.add(node.document)
         if 'absolute' in (style['position'], node.style['position']) and style['position'] != node.style['position']:
             # What becomes absolute, or ceases to be, has all laid out.
             self.touched.add(None)
@@ -162,16 +169,25 @@ class Commands:
             self.to_be_made.setdefault(node.document, set()).update(inner)
 
     def do_grow(self, command, node, property_, by):
+        style = dict(node.style)
         EFFECTS['grow'](self, command, node, property_, by)
         self.anchors.changes(node, property_)
         self.changed_in(node.document)
         self.changed_documents.add(tree_document(node))
         self.touched.add(node)
+        if node.style != style and self.has_box_here(node):
+            self.unlaid.add(node.document)
 
     def do_load(self, command, node, width, height):
         EFFECTS['load'](self, command, node, width, height)
         self.changed_documents.add(tree_document(node))
         self.touched.add(node)
+        if self.has_box_here(node):
+            self.unlaid.add(node.document)
+
+    def has_box_here(self, node):
+        """Whether an element has a box, where the engine asks for it."""
+        return self.has('told-in-the-update') and self.world.layout.has_box(node)
 
     def changed_in(self, document):
         if document in self.hidden and self.differs('scroll-of-hidden-frame'):
@@ -225,7 +241,10 @@ class Commands:
     def do_io_observe(self, command, observer, node):
         if not observer.registrations:
             self.comes_last(observer)
+        known = observer.registrations.get(node)
         EFFECTS['io-observe'](self, command, observer, node)
+        if known is None and self.is_root_away(observer):
+            self.observed_late.add(observer.registrations[node])
 
     def comes_last(self, observer):
         """An intersection observer comes into a document's list, with a first target or as its root is adopted."""

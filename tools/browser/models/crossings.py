@@ -4,8 +4,8 @@ from reference.lengths import percentage
 from reference.world import ACTIVE, Document, Element, tree_document
 
 from .layout import PIXEL, whole
-from .traits import (CROSSED_IS_TURNED, DEAD_ROOTS_OF_A_LIST, EVERY_ROOT, IMPLICIT_ROOT, LENGTHS_ARE_CUT, LENGTHS_ARE_FLOORED,
-                     PERCENTAGES_ARE_CUT, QUEUES_WAIT, SCROLLING_ROOT_UNTOLD)
+from .traits import (CROSSED_IS_TURNED, DEAD_ROOTS_OF_A_LIST, EDGES_REACH_OUT, EVERY_ROOT, IMPLICIT_ROOT, LENGTHS_ARE_CUT,
+                     LENGTHS_ARE_FLOORED, PERCENTAGES_ARE_CUT, QUEUES_WAIT, ROOTS_GO_AWAY, SCROLLING_ROOT_UNTOLD)
 
 
 class Margins:
@@ -87,12 +87,22 @@ class Crossings:
     def looks_at(self, document, observer):
         root = observer.root
         where = self.world.top if root is None else root if isinstance(root, Document) else tree_document(root)
-        if (where is document) != (observer.document is document) and self.differs('told-by-own-document'):
-            return observer.document is document
+        mine = observer.document is document
+        stands = root.document if where is None else where
+        if self.has('told-by-own-document') and (mine or stands is document):
+            if mine != (stands is document):
+                self.differs('told-by-own-document')
+            return mine and (where is not None or self.differs('root-removed'))
         if where is None and root.document is document:
-            # One that moved to another document after it was taken out stands in none for the engine.
-            return self.left.get(root, document) is document and self.differs('root-removed')
+            late = [registration for registration in observer.registrations.values() if registration in self.observed_late]
+            return bool(late or not self.is_root_away(observer)) and self.differs('root-removed')
         return where is document
+
+    def is_root_away(self, observer):
+        """Whether a root stands nowhere and has moved to another document after it was taken out, as that may count as being in none."""
+        root = observer.root
+        return (isinstance(root, Element) and tree_document(root) is None and self.put_in.get(root, root.document) is not root.document
+                and self.has(ROOTS_GO_AWAY))
 
     def intersections(self, document, known=()):
         """Looks at a document's observers; `known` has the entries that were found before, by their registrations."""
@@ -103,6 +113,7 @@ class Crossings:
                 if (registration.index, registration.meets) != (entry.index, entry.meets):
                     observer.queue.append(entry)
                 registration.index, registration.meets = entry.index, entry.meets
+                self.observed_late.discard(registration)
 
     def found(self, observer, known=()):
         """(registration, entry) of each target that is looked at."""
@@ -126,15 +137,22 @@ class Crossings:
     def crossings_by_turns(self, documents):
         """Looks at one document after the other and tells its entries at once. One that a callback has changed, so that it isn't laid
         out, is left for the next update; one around which something has changed stands as it was laid out."""
-        found = {document: self.found_in(document) for document in documents}
+        self.found_before = {document: self.found_in(document) for document in documents}
         self.changed_documents.clear()
         self.broken.clear()
+        self.unlaid.clear()
         for document in documents:
             if document.state is not ACTIVE or document in self.changed_documents:
                 continue
-            around = self.is_changed_around(document)
-            self.intersections(document, found[document] if around else ())
+            self.intersections(document, self.found_before[document] if self.is_changed_around(document) else ())
             self.tell_all([observer for observer in self.observers_of(document) if observer.queue], self.has(DEAD_ROOTS_OF_A_LIST))
+        self.found_before = {}
+
+    def find_again(self):
+        """A callback has laid out something: where nothing waits for a layout any more, this is what there was before."""
+        for document in self.found_before:
+            if document.state is ACTIVE and document not in self.changed_documents and not self.is_changed_around(document):
+                self.found_before[document] = self.found_in(document)
 
     def is_changed_around(self, document):
         while document.frame is not None:
@@ -144,12 +162,15 @@ class Crossings:
         return False
 
     def passes_over(self, observer, registration):
-        """Whether a target is left alone: its observer has no root, and it stands in no shown document and isn't where it stood last."""
+        """Whether a target is left alone: its observer has no root, and it stands in no shown document and isn't where it stood last; or its
+        observer's root is away, unless it was observed since."""
+        if self.is_root_away(observer) and registration not in self.observed_late:
+            return True
         target = registration.target
         where = tree_document(target)
         if observer.root is not None or (where is not None and where.state is ACTIVE):
             return False
-        moved = target.document.state is not ACTIVE or self.left.get(target, target.document) is not target.document
+        moved = target.document.state is not ACTIVE or self.put_in.get(target, target.document) is not target.document
         return moved and self.differs('target-of-dead-frame')
 
     def find(self, observer, root, registration):
@@ -223,11 +244,32 @@ class Crossings:
         root, document = observer.root, entry.target.document
         if not entry.meets or document.frame is None or (root is not None and getattr(root, 'document', root) is document):
             return
+        if self.has(EDGES_REACH_OUT):
+            self.move_edges(observer, entry)
+            return
         corner = self.world.layout.frame_corner(document)
         moved = [whole(place) - place for place in corner]
         if moved != [0, 0] and self.differs('cut-in-a-frame'):
             left, top, right, bottom = entry.cut
             entry.cut = (left + moved[0], top + moved[1], right + moved[0], bottom + moved[1])
+
+    def move_edges(self, observer, entry):
+        """As a cut rectangle goes out of a frame its left and top edge are moved out by what is over whole pixels of the frame's place; what
+        is outside the target's box doesn't count in the end."""
+        layout, cut, box = self.world.layout, list(entry.clips[0].rectangle), entry.clips[0].rectangle
+        for clip in entry.clips[1:]:
+            left, top, right, bottom = clip.rectangle
+            cut = [max(cut[0], left), max(cut[1], top), min(cut[2], right), min(cut[3], bottom)]
+            if clip.box == 'viewport' and clip is not entry.clips[-1]:
+                corner = layout.frame_corner(clip.thing)
+                cut = [cut[0] - corner[0] % PIXEL, cut[1] - corner[1] % PIXEL] + cut[2:]
+        cut = [max(cut[0], box[0]), max(cut[1], box[1])] + cut[2:]
+        moved = intersection.seen_from(layout.origin(entry.target.document), cut)
+        if moved != entry.cut and self.differs('cut-in-a-frame'):
+            entry.cut = moved
+            if intersection.area(box):
+                entry.part = intersection.area(moved)
+            entry.index = intersection.index_of(observer, entry)
 
     # --- tasks --------------------------------------------------------------------------------------------------------------
 

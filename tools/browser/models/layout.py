@@ -5,7 +5,7 @@ from reference.layout import BORDER, CONTENT, DEVICE, FRAME_WIDTH, Layout
 from reference.lengths import AUTO
 from reference.world import ACTIVE, Element, World, preorder, tree_document
 
-from .traits import EMPTY_ROOTS_COUNT_NOTHING, ONE_PIXEL_AT_LEAST, ROOT_MARGINS_COUNT
+from .traits import EDGES_REACH_OUT, EMPTY_ROOTS_COUNT_NOTHING, ONE_PIXEL_AT_LEAST, ROOT_MARGINS_COUNT
 
 PIXEL = 64
 ONE = 10000          # a ratio of 100%
@@ -179,7 +179,7 @@ class EngineLayout(Layout):
             if document.frame is not None and self.has_box(document.frame):
                 corner, outer = self.frame_corner(document), self.origin(document.frame.document)
                 rounded = (whole(corner[0]), whole(corner[1]))
-                if rounded != corner and self.differs('cut-in-a-frame'):
+                if rounded != corner and not self.world.page.has(EDGES_REACH_OUT) and self.differs('cut-in-a-frame'):
                     corner = rounded
                 known = (outer[0] + corner[0], outer[1] + corner[1])
             self._origins[document] = known

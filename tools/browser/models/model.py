@@ -10,7 +10,7 @@ from .commands import Commands
 from .crossings import Crossings
 from .layout import EngineWorld
 from .rounds import Rounds
-from .traits import EMPTY_PAGES_LAY_OUT, FRAMES_IN_TIME
+from .traits import EMPTY_PAGES_LAY_OUT, FRAMES_IN_TIME, TIMERS_LAY_OUT
 from .viewports import Viewports
 
 
@@ -30,14 +30,17 @@ class Model(Commands, Viewports, Rounds, Crossings, Page):
         self.changed_queries = {}         # document -> its query lists with a `change` to be fired
         self.new_documents = []           # that haven't laid themselves out
         self.refilled = []                # frames that were put in again: in place of their document they have an empty page
-        self.left = {}                    # element -> the document that it was taken out of last
+        self.updates = 0                  # how often intersections were looked at
+        self.came = {}                    # element -> how often that was as it was put in last
+        # element -> the document that it came into last, of those that stood then or in which an update found it
+        self.put_in = {}
         self.insertions = {}              # document -> number, in the order in which their frames were inserted
         self.sizes = {}                   # resize observers' targets -> what they were at the last layout
         self.round = None
         self.placed = {}                  # resize observers' targets -> where they were as the round began
         self.to_be_made = {}              # document -> those in its frames whose boxes are made anew as it is laid out
         self.anew = set()                 # documents with a `resize` to be fired for that
-        self.made = set()                 # those that are told so once more as the update ends
+        self.emptied = set()              # those of them that have no size before they are laid out themselves
         self.unshown = set()              # documents whose frames had no box at the last layout around them
         self.touched = set()              # elements that have changed since the last layout; None where all is to be laid out
         self.laid_places = {}             # boxes out of flow and those in them -> where they were then
@@ -47,6 +50,9 @@ class Model(Commands, Viewports, Rounds, Crossings, Page):
         self.ended = set()                # documents that stand no longer
         self.changed_documents = set()    # that aren't laid out since a change
         self.broken = set()               # those of them that a box is gone from
+        self.unlaid = set()               # those of them that have more to do than to find styles anew: a box has come or changed
+        self.observed_late = set()        # registrations that were made while the root was away
+        self.found_before = {}            # document -> what its observers find, as it was laid out last, while some are told
         self.given = {}                   # element -> its fields -> the property by which each was set
         self.failed = set()               # documents with an error in this update: it comes once
         self.all_resize_observers = []
@@ -117,6 +123,8 @@ class Model(Commands, Viewports, Rounds, Crossings, Page):
         self.run_tasks()
         if self.has(EMPTY_PAGES_LAY_OUT):
             self.lay_out_pages()
+        if self.has(TIMERS_LAY_OUT):
+            self.lay_out_all()
         self.end_round()
 
     def lay_out_pages(self):
@@ -142,12 +150,12 @@ class Model(Commands, Viewports, Rounds, Crossings, Page):
             if document.state is ACTIVE and self.runs_frame_callbacks(document, awake):
                 update._frame_callbacks(self, document)
         self.resize_loop()
-        self.make_again()
         for thing, document in self.late_scrolls:
             if thing not in document.pending_scrolls:
                 document.pending_scrolls.append(thing)
         self.late_scrolls = []
         documents = self.documents_in_order()
+        self.updates += 1
         if self.tells_in_update():
             self.crossings_by_turns(documents)
         else:

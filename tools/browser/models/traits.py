@@ -21,6 +21,10 @@ SCROLLING_ROOT_UNTOLD, IMPLICIT_ROOT, EVERY_ROOT = 'a root that scrolls, untold'
 ANCHORS_BEFORE_LAYOUT = 'anchors before layout'
 # Of frames that are put in again: the empty page in one lays out what is around it, as any new page does, before the next commands run.
 EMPTY_PAGES_LAY_OUT = 'empty pages lay out'
+# Of frames that are put in: what is around one is laid out at once, if it was before.
+FRAMES_LAY_OUT = 'frames lay out'
+# Of roots that stand nowhere: one that has moved to another document is with none.
+ROOTS_GO_AWAY = 'roots go away'
 # Of entries of an observer whose root's document has ended: they are told where it ended as observers of this document were told.
 DEAD_ROOTS_OF_A_LIST = 'dead roots of a list'
 # Of moved boxes: events that wait go with them, and a document without its root element is at its begin.
@@ -31,5 +35,11 @@ FRAMES_BEGIN_AS_THEY_COME = 'frames begin as they come'
 FRAMES_WAIT = 'frames wait'
 # Of frame callbacks: those are called that are there as their step begins.
 CALLBACKS_OF_THE_STEP = 'callbacks of the step'
+# Of what tasks have changed: it is laid out before the commands after that tick.
+TIMERS_LAY_OUT = 'timers lay out'
+# Of cut rectangles in frames: their left and top edge alone.
+EDGES_REACH_OUT = 'edges reach out'
+# Of scrolling to the begin: what is there lays nothing out, unless it is a root element.
+BEGIN_IS_THERE = 'begin is there'
 # Of readings: a window, or an element that stands nowhere, has nothing laid out.
 WINDOWS_READ_AT_ONCE, NOTHING_FOR_DETACHED = 'windows read at once', 'nothing for detached'

@@ -4,9 +4,9 @@ from reference.layout import BORDER, CONTENT, DEVICE
 from reference.media import matches
 from reference.world import ACTIVE, DEAD, Element, IntersectionObserver, preorder, tree_document
 
-from .layout import NO_SIZES, Sizes, whole
-from .traits import (CALLBACKS_OF_THE_STEP, EMPTY_PAGES_LAY_OUT, EVENTS_GO_WITH_BOXES, FRAMES_IN_TIME, FRAMES_WAIT, LATE_SCROLLS,
-                     PLACED_AS_ROUNDS_BEGIN, QUERIES_IN_UPDATE)
+from .layout import NO_SIZES, Sizes
+from .traits import (CALLBACKS_OF_THE_STEP, EMPTY_PAGES_LAY_OUT, EVENTS_GO_WITH_BOXES, FRAMES_IN_TIME, FRAMES_LAY_OUT, FRAMES_WAIT,
+                     LATE_SCROLLS, PLACED_AS_ROUNDS_BEGIN, QUERIES_IN_UPDATE)
 
 # The window's own view, of which a target is seen or not.
 WINDOW = IntersectionObserver('-', None, None, None, None, [('px', 0)] * 4, None, [0])
@@ -21,8 +21,14 @@ class Viewports:
 
     def inserted(self, node):
         self.changed_documents.add(tree_document(node))
+        if self.has_box_here(node):
+            self.unlaid.add(node.document)
         self.touched |= {node, node.parent}
+        where = tree_document(node)
         for inner in preorder(node):
+            self.came[inner] = self.updates
+            if where is not None and where.state is ACTIVE:
+                self.put_in[inner] = where
             document = inner.framed
             if document is None:
                 continue
@@ -32,13 +38,15 @@ class Viewports:
             elif document not in self.insertions:
                 self.insertions[document] = len(self.insertions)
                 self.new_documents.append(document)
+        if self.has(FRAMES_LAY_OUT) and tree_document(node) in self.known and any(inner.framed is not None for inner in preorder(node)):
+            self.lay_out(tree_document(node))
 
     def removed(self, node, where):
         """Boxes go from a document; they come back with nothing scrolled."""
         self.touched.add(node)
         for inner in preorder(node):
-            if where is not None:
-                self.left[inner] = where
+            if where is not None and where.state is not ACTIVE and self.came.get(inner) != self.updates:
+                self.put_in[inner] = where
             if inner in self.sizes:
                 self.sizes[inner] = NO_SIZES
             self.anchors.removed(inner)
@@ -127,8 +135,11 @@ class Viewports:
         chain = [document]
         while chain[-1].frame is not None:
             chain.append(chain[-1].frame.document)
+        waiting = set(self.changed_documents)
         for outer in reversed(chain):
             self._laid_out(outer, chain + [also] if self.has(FRAMES_WAIT) else None)
+        if self.changed_documents != waiting:
+            self.find_again()
 
     def place_all(self):
         """Remembers where the targets' boxes are, as a round begins."""
@@ -145,17 +156,23 @@ class Viewports:
         """`told` are the documents that are told the size of their frames, where it isn't all."""
         layout = self.world.layout
         if document in self.changed_documents and self.has(FRAMES_IN_TIME):
-            self.changed_documents -= self.laid_inside(document)
+            if document in self.unlaid or document in self.broken:
+                self.changed_documents -= self.laid_inside(document)
             self.view_changes()
             self.new_scrollers = {node for node in self.new_scrollers if node.document is not document}
         self.places_in(document)
         self.changed_documents.discard(document)
         self.broken.discard(document)
+        self.unlaid.discard(document)
+        if document in self.emptied:
+            self.emptied.discard(document)
+            self.sized_anew(document)
+            self.evaluate(document, self.known[document])
         for inner in self.to_be_made.pop(document, ()):
             if inner.state is ACTIVE and inner in self.known and layout.has_box(inner.frame) and self.differs('frame-made-anew'):
-                self.resized.add(inner)
-                self.anew.add(inner)
-                self.made.add(inner)
+                self.sized_anew(inner)
+                if told is None or inner not in told:
+                    self.emptied.add(inner)
         for inner in list(self.insertions):
             if inner.state is ACTIVE and inner.frame.document is document:
                 self.see_frame(inner, told is None or inner in told)
@@ -209,11 +226,10 @@ class Viewports:
             document = document.frame.document
         return False
 
-    def make_again(self):
-        """Documents of frames whose boxes were made anew are told once more as an update ends."""
-        self.resized |= self.made
-        self.anew |= self.made
-        self.made = set()
+    def sized_anew(self, document):
+        """A document has another size, as the box of its frame was made anew: first none, then, as it is laid out itself, its own."""
+        self.resized.add(document)
+        self.anew.add(document)
 
     def hide_or_show(self, document):
         """A scrolled document is told of it, as its frame's box goes and comes."""
@@ -233,7 +249,7 @@ class Viewports:
     def move_offsets(self, document):
         for thing, by in list(self.anchors.moved(document)):
             self.met.add('scroll-anchoring')
-            thing.scroll = (thing.scroll[0], max(0, thing.scroll[1] + (whole(by) if self.has(LATE_SCROLLS) else by)))
+            thing.scroll = (thing.scroll[0], max(0, thing.scroll[1] + by))
             self.world.scrolled()
             self.scrolled_by_layout(thing, document)
 
@@ -325,7 +341,8 @@ class Viewports:
     def note_resize(self, document, fires):
         """Which class it is where the rules fire and the engine doesn't, or the other way."""
         size = self.rules_viewport(document)
-        first, changed = document not in self.noted, self.noted.get(document, size) != size
+        first, before = document not in self.noted, self.noted.get(document, size)
+        changed = before != size
         self.noted[document] = size
         is_anew = document in self.anew and fires
         self.anew.discard(document)
@@ -336,8 +353,10 @@ class Viewports:
         elif document.frame is None:
             if not self.rescaled:
                 self.noticed.add('resize-back-again')
-        elif changed and not self.world.layout.has_box(document.frame):
+        elif changed and (not self.world.layout.has_box(document.frame) or self.has(FRAMES_IN_TIME) and before == (0, 0)):
             self.noticed.add('hidden-frame-keeps-size')
+        elif self.has(FRAMES_IN_TIME):
+            self.noticed.add('frame-of-part-pixels' if changed else 'resize-back-again')
         else:
             self.noticed.add('frame-resize-event')
 
@@ -358,6 +377,8 @@ class Viewports:
     def media_steps(self, document):
         if document.frame is None and self.has(QUERIES_IN_UPDATE):
             self.evaluate(document, self.world.viewport_size)
+        if document in self.emptied:
+            self.evaluate(document, (0, 0))
         changed = self.changed_queries.pop(document, [])
         self.note_changes(document, changed)
         for queries in changed:
