@@ -25,6 +25,7 @@ class Model(Commands, Viewports, Rounds, Crossings, Page):
         self.known = {}                   # document -> the viewport that the browser has told it of
         self.resized = set()              # documents with a `resize` to be fired
         self.rescaled = False             # whether that of `top` comes of a ratio
+        self.ever_laid = set()            # documents that have been laid out: a frame that comes into one has no size first
         self.noted = {}                   # document -> the size that the rules noted at the last update
         self.states = {}                  # query list -> its state by the rules
         self.changed_queries = {}         # document -> its query lists with a `change` to be fired

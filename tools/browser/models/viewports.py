@@ -38,6 +38,8 @@ class Viewports:
             elif document not in self.insertions:
                 self.insertions[document] = len(self.insertions)
                 self.new_documents.append(document)
+                if self.has(FRAMES_IN_TIME) and where in self.ever_laid:
+                    self.known[document] = (0, 0)
         if self.has(FRAMES_LAY_OUT) and tree_document(node) in self.known and any(inner.framed is not None for inner in preorder(node)):
             self.lay_out(tree_document(node))
 
@@ -160,6 +162,7 @@ class Viewports:
                 self.changed_documents -= self.laid_inside(document)
             self.view_changes()
             self.new_scrollers = {node for node in self.new_scrollers if node.document is not document}
+        self.ever_laid.add(document)
         self.places_in(document)
         self.changed_documents.discard(document)
         self.broken.discard(document)
