@@ -97,13 +97,12 @@ def _short(word):
 def _unknown_command(word, known, version):
     if word == 'script':
         return ['`script` stands in the first line alone.']
-    near = hints.close(word, known)
     explained = ['No line begins with `%s`.' % _short(word)]
-    if near:
-        explained.append('Close to it:')
-        explained += ['  ' + form for name in near for form in grammar.form_of(name, version)]
     if hints.of_version_2(word):
-        explained.append(hints.of_version_2(word))
+        return explained + [hints.of_version_2(word)]
+    near = hints.close(word, known)
+    if near:
+        return explained + ['Close to it:'] + ['  ' + form for name in near for form in grammar.form_of(name, version)]
     return explained + ['A line begins with one of: %s.' % ', '.join(known)]
 
 

@@ -287,9 +287,14 @@ def form_of(name, version):
     return [' '.join([name] + [form.shown for form in plain_commands(version)[name]])]
 
 
+def command_names(version):
+    """The names of all commands."""
+    return sorted([*plain_commands(version), 'set', 'io', 'media', 'when'])
+
+
 def first_words(version):
     """The words with which a line behind the first may begin."""
-    return sorted([*plain_commands(version), 'set', 'io', 'media', 'when', 'handler', 'end'])
+    return sorted([*command_names(version), 'handler', 'end'])
 
 
 # --- the script -------------------------------------------------------------------------------------------------------------

@@ -2,14 +2,13 @@
 import re
 
 from .lengths import px, rectangle_text
+from .world import MOST
 
 LOOP_ERROR = 'ResizeObserver loop completed with undelivered notifications.'
 
 KINDS = ('tick', 'timer', 'frame', 'task', 'event', 'resize', 'round', 'intersect', 'take', 'say', 'read', 'throw', 'limit',
          'syntax')
-LIMITS = ('script', 'line', 'handlers', 'nesting', 'commands', 'nodes', 'depth', 'documents', 'resize-observers',
-          'intersection-observers', 'resize-observations', 'intersection-observations', 'listeners', 'timers',
-          'frame-callbacks', 'tasks', 'queries', 'recorded', 'pages')
+LIMITS = ('script', 'line', 'handlers', 'nesting', 'recorded', 'pages', *MOST[2])         # those of texts, and those of pages
 THROWS = ('ReferenceError', 'TypeError', 'HierarchyRequestError', 'NotFoundError', 'SyntaxError', 'RangeError')
 
 

@@ -1,8 +1,13 @@
-"""Scripts with what they give, worked out by hand from the rules. In a text ` / ` stands for a line feed.
+"""Scripts with what they give, worked out by hand from the rules: those of the tables of crates/run_tests, which the proved program is
+tested with there, and others. In a text ` / ` stands for a line feed.
 
 Of a case of a limit only the last line is given: one script goes one past the number, and one stays at it and goes on.
 """
+import os
+import re
 
+TOP = os.path.dirname(os.path.dirname(os.path.dirname(os.path.abspath(__file__))))
+TABLES = os.path.join(TOP, 'crates', 'run_tests', 'src', 'replay_run_scripts.rt')
 CASES = []
 
 
@@ -18,63 +23,40 @@ def lines(text):
     return ''.join([line + '\n' for line in text.split(' / ')]) if text else ''
 
 
-def case(name, script, wanted, status=0, words=(), cut=False, last=False):
-    """With `cut` the script lacks its last line feed."""
+def case(name, script, wanted, status=0, words=(), last=False):
     if not isinstance(script, bytes):
         script = lines(script).encode()
-        script = script[:-1] if cut else script
     CASES.append(Case(name, script, wanted if last else lines(wanted), status, list(words), last))
 
 
+def cases_of_the_table(name):
+    """Of a table of pairs in crates/run_tests: a script and what it gives. An entry may be the name of another table."""
+    with open(TABLES) as file:
+        count, body = re.search(r'^pub\(crate\) const %s: (?:\[\(&str, &str\); ([0-9]+)\]|\(&str, &str\)) = [\[(]\n(.*?)\n[\])];' % name,
+                                file.read(), re.M | re.S).groups()
+    texts = [text.encode().decode('unicode_escape') for text in re.findall(r'"((?:[^"\\]|\\.)*)"', body)]
+    if len(texts) % 2 or len(texts) // 2 + len(re.findall(r'^ +[A-Z_]+,$', body, re.M)) != int(count or 1):
+        raise ValueError('%s in %s: not as many pairs as its type says' % (name, TABLES))
+    for number, (script, wanted) in enumerate(zip(texts[::2], texts[1::2]), 1):
+        CASES.append(Case('%s, pair %d' % (name, number), script.encode(), wanted, 1 if wanted.startswith('syntax') else 0, [], False))
+
+
+for table in ('RUNS', 'GROWING', 'REFUSED'):
+    cases_of_the_table(table)
+
 ROOT = 'script 1 / block r top / append top r'
-LOOP_ERROR = 'event error @top ResizeObserver loop completed with undelivered notifications.'
-
-# --- resize observers and their loop ----------------------------------------------------------------------------------------
-
-case('an empty script lacks its first line', '', 'syntax 1 1', 1)
 ONE_BLOCK = ROOT + ' / ro o top - / ro-observe o r content / tick 0'
 ONE_BLOCK_TRACE = 'tick 0 / resize o r rect 0 0 800 0 border 800 0 / round top 1'
 case('a block is told once', ONE_BLOCK, ONE_BLOCK_TRACE)
-case('nothing new is told', ONE_BLOCK + ' / tick 16', ONE_BLOCK_TRACE + ' / tick 16')
-case('a hidden block is told when it shows and when it goes',
-     ROOT + ' / block b top / set b display none / append r b / ro o top - / ro-observe o b content / tick 0 / '
-     'set b display block / set b width 40px / set b height 10px / tick 16 / remove b / tick 32',
-     'tick 0 / tick 16 / resize o b rect 0 0 40 10 border 40 10 / round top 2 / tick 32 / '
-     'resize o b rect 0 0 0 0 border 0 0 / round top 1')
 GROWING = ('script 1 / handler more / grow c height 1px / end / block r top / append top r / block p top / append r p / '
            'block c top / set c height 10px / append p c / ro o top more / ro-observe o p content / ro-observe o c content / '
            'tick 0 / tick 16')
-case('a parent that grows is left with the error', GROWING,
-     'tick 0 / resize o p rect 0 0 800 10 border 800 10 / resize o c rect 0 0 800 10 border 800 10 / round top 2 / '
-     'resize o c rect 0 0 800 11 border 800 11 / round top 3 / ' + LOOP_ERROR + ' / tick 16 / '
-     'resize o p rect 0 0 800 12 border 800 12 / resize o c rect 0 0 800 12 border 800 12 / round top 2 / '
-     'resize o c rect 0 0 800 13 border 800 13 / round top 3 / ' + LOOP_ERROR)
 SET_BACK = ('script 1 / handler ha / set c height 20px / end / handler hb / set c height 10px / end / block r top / '
             'append top r / block p top / append r p / block c top / set c height 10px / append p c / ro a top ha / '
             'ro-observe a p content / ro b top hb / ro-observe b c content / tick 0')
-case('a size that is set back leaves no error', SET_BACK,
-     'tick 0 / resize a p rect 0 0 800 10 border 800 10 / resize b c rect 0 0 800 20 border 800 20 / round top 2 / '
-     'resize b c rect 0 0 800 10 border 800 10 / round top 3')
-
-
-def two_observers(command):
-    """The first observer's handler does this before the second one is told."""
-    return ('script 1 / handler ha / ' + command + ' / end / block r top / append top r / block x top / set x height 10px / '
-            'append r x / block y top / set y height 10px / append r y / ro a top ha / ro-observe a x content / ro b top - / '
-            'ro-observe b y content / tick 0')
-
-
-FIRST, SECOND = 'resize a x rect 0 0 800 10 border 800 10', 'resize b y rect 0 0 800 10 border 800 10'
-case('a disconnected observer is told nothing', two_observers('ro-disconnect b'), 'tick 0 / ' + FIRST + ' / round top 2')
-case('an unobserved target is told all the same', two_observers('ro-unobserve b y'),
-     'tick 0 / ' + FIRST + ' / ' + SECOND + ' / round top 2')
-case('an observer may disconnect itself', two_observers('ro-disconnect a'),
-     'tick 0 / ' + FIRST + ' / ' + SECOND + ' / round top 2')
-case('a target observed anew by another handler is left', two_observers('ro-observe b y content') + ' / tick 16',
-     'tick 0 / ' + FIRST + ' / ' + SECOND + ' / round top 2 / ' + LOOP_ERROR + ' / tick 16 / ' + SECOND + ' / round top 2')
-case('a target observed anew by its own handler is left', two_observers('ro-observe a x border'),
-     'tick 0 / ' + FIRST + ' / ' + SECOND + ' / round top 2 / ' + LOOP_ERROR)
-
+SCROLLED = (ROOT + ' / block s top / set s height 100px / set s overflow hidden / append r s / block u top / '
+            'set u height 300px / append s u / block t top / set t height 10px / append s t / '
+            'io i top - root - margin threshold 0 / io-observe i t / tick 0 / scroll s 0px 250px / tick 16')
 ENDLESS = ('script 1 / handler ha / grow x height 1px / remove y / end / handler hb / append z y / end / block r top / '
            'append top r / block x top / set x height 10px / append r x / block z top / append r z / block y top / '
            'set y height 10px / append z y / ro a top ha / ro-observe a x content / ro b top hb / ro-observe b y content / '
@@ -90,78 +72,6 @@ def endless_trace():
 
 
 case('a loop that moves its target meets the limit of commands', ENDLESS, endless_trace(), 2)
-case('a document that ends leaves its loop',
-     'script 1 / handler bye / remove f / end / block r top / append top r / frame f top kid / append r f / block k kid / '
-     'append kid k / ro a kid bye / ro-observe a k content / ro b kid - / ro-observe b k content / tick 0',
-     'tick 0 / resize a k rect 0 0 300 0 border 300 0')
-
-# --- intersection observers -------------------------------------------------------------------------------------------------
-
-case('a block without height meets the edge',
-     ROOT + ' / block s top / set s height 600px / append r s / block t top / append r t / '
-     'io i top - root - margin threshold 0 / io-observe i t / tick 0 / set s height 600.02px / tick 16',
-     'tick 0 / intersect i t 0 yes 1/1 root 0 0 800 600 box 0 600 800 0 cut 0 600 800 0 / tick 16 / '
-     'intersect i t 16 no 0/1 root 0 0 800 600 box 0 600.015625 800 0 cut 0 0 0 0')
-SCROLLED = (ROOT + ' / block s top / set s height 100px / set s overflow hidden / append r s / block u top / '
-            'set u height 300px / append s u / block t top / set t height 10px / append s t / '
-            'io i top - root - margin threshold 0 / io-observe i t / tick 0 / scroll s 0px 250px / tick 16')
-case('a target is scrolled into view', SCROLLED,
-     'tick 0 / intersect i t 0 no 0/32768000 root 0 0 800 600 box 0 300 800 10 cut 0 0 0 0 / tick 16 / event scroll s / '
-     'intersect i t 16 yes 32768000/32768000 root 0 0 800 600 box 0 90 800 10 cut 0 90 800 10')
-case('margins and thresholds are read, and a root is no target of its own',
-     ROOT + ' / set r height 100px / io a top - root - margin 0 threshold 0 / io a top - root - margin threshold 0 1.0001 / '
-     'io a top - root - margin 10% 0px threshold / io b top - root r margin threshold 0 / io-observe a r / io-observe b r / '
-     'tick 0',
-     'throw 5 SyntaxError / throw 6 RangeError / tick 0 / intersect a r 0 yes 327680000/327680000 root 0 -80 800 760 '
-     'box 0 0 800 100 cut 0 0 800 100 / intersect b r 0 no 0/1 root 0 0 800 100 box 0 0 0 0 cut 0 0 0 0')
-case('a threshold is crossed exactly',
-     ROOT + ' / block s top / set s height 590px / append r s / block t top / set t height 20px / append r t / '
-     'io i top - root - margin threshold 0.5 / io-observe i t / tick 0 / set s height 590.02px / tick 16 / '
-     'set s height 590.04px / tick 32',
-     'tick 0 / intersect i t 0 yes 32768000/65536000 root 0 0 800 600 box 0 590 800 20 cut 0 590 800 10 / tick 16 / '
-     'intersect i t 16 yes 32716800/65536000 root 0 0 800 600 box 0 590.015625 800 20 cut 0 590.015625 800 9.984375 / tick 32')
-case('a root that was removed is told as it comes back',
-     'script 1 / handler ha / remove q / end / block r top / append top r / frame f top kid / append r f / block k kid / '
-     'append kid k / block q kid / set q height 50px / append k q / block w kid / set w height 20px / append q w / '
-     'io a top ha root - margin threshold 0 / io-observe a r / io b kid - root q margin threshold 0 / io-observe b w / tick 0 / '
-     'append k q / set w display none / tick 16',
-     'tick 0 / intersect a r 0 yes 491520000/491520000 root 0 0 800 600 box 0 0 800 150 cut 0 0 800 150 / tick 16 / '
-     'intersect b w 0 yes 24576000/24576000 root 0 0 300 50 box 0 0 300 20 cut 0 0 300 20 / '
-     'intersect b w 16 no 0/1 root 0 0 300 50 box 0 0 0 0 cut 0 0 0 0')
-case('a queue is taken',
-     'script 1 / handler h / io-take i / end / block r top / append top r / io i top - root - margin threshold / '
-     'io-observe i r / post top h / tick 0',
-     'tick 0 / task top h / take i 1 / intersect i r 0 yes 1/1 root 0 0 800 600 box 0 0 800 0 cut 0 0 800 0')
-case('a frame clips what is in it',
-     ROOT + ' / frame f top kid / append r f / block k kid / append kid k / block u kid / set u height 200px / append k u / '
-     'block t kid / set t height 10px / append k t / io i top - root - margin threshold 0 / io-observe i t / tick 0',
-     'tick 0 / intersect i t 0 no 0/12288000 root 0 0 800 600 box 0 200 300 10 cut 0 0 0 0')
-
-# --- events, callbacks, exceptions, layout ----------------------------------------------------------------------------------
-
-case('a listener is added once, and a query list changes',
-     'script 1 / handler h / say wide / end / block r top / append top r / listen @top resize h / listen @top resize h / '
-     'media m top (min-width: 600px) and (orientation: landscape) / tick 0 / viewport 500px 600px / tick 16',
-     'tick 0 / tick 16 / event resize @top / say wide / event change m false')
-case('timers, frame callbacks and tasks have their order',
-     'script 1 / handler h / say hello / end / timer top t 10 h / raf top f h / post top h / tick 5 / tick 10 / tick 9',
-     'tick 5 / frame top f / say hello / task top h / say hello / tick 10 / timer top t / say hello / throw 10 RangeError')
-case('timers clear and set one another',
-     'script 1 / handler a / clear-timer top y / timer top z 0 b / end / handler b / say late / end / timer top x 5 a / '
-     'timer top y 5 b / tick 5 / tick 6', 'tick 5 / timer top x / tick 6 / timer top z / say late')
-case('exceptions of the tree and of names',
-     'script 1 / block a top / block b top / append a b / append b a / block c top / before a c a / remove z / '
-     'ro-disconnect a / block a top',
-     'throw 5 HierarchyRequestError / throw 7 NotFoundError / throw 8 ReferenceError / throw 9 TypeError / throw 10 TypeError')
-case('percentages with a border box',
-     ROOT + ' / set r width 50% / set r box-sizing border-box / set r padding-left 10% / set r padding-top 5% / '
-     'set r border-left 2px / block c top / set c height 50% / set c min-height 10px / append r c / ro o top - / '
-     'ro-observe o r content / ro-observe o c border / tick 0',
-     'tick 0 / resize o r rect 80 40 318 10 border 400 50 / resize o c rect 0 0 318 10 border 318 10 / round top 1')
-case('a document in a frame is scrolled',
-     ROOT + ' / frame f top kid / append r f / block k kid / set k height 400px / append kid k / scroll kid 0px 900px / '
-     'read k / set f height 350px / read k / remove f / read k / tick 0',
-     'read k 0 -250 300 400 0 0 / read k 0 -50 300 400 0 0 / read k 0 0 0 0 0 0 / tick 0')
 
 # --- words of the command line ----------------------------------------------------------------------------------------------
 
@@ -181,26 +91,6 @@ case('no script is no commands', '', 'syntax 1 1', 1, ['--check'])
 case('lines are counted', GROWING,
      'tick 2 / timer 0 / frame 0 / task 0 / event 2 / resize 6 / round 4 / intersect 0 / take 0 / say 0 / read 0 / throw 0 / '
      'limit 0 / syntax 0', words=['--summary'])
-
-# --- texts that are no scripts ----------------------------------------------------------------------------------------------
-
-case('a length lacks its unit', 'script 1 / when wider a 5', 'syntax 2 14', 1)
-case('a media query lacks a unit', 'script 1 / media m top (width: 5)', 'syntax 2 22', 1)
-case('a property is unknown', 'script 1 / set a colour red', 'syntax 2 7', 1)
-case('a tick in a handler', 'script 1 / handler h / tick 0 / end', 'syntax 3 1', 1)
-case('a handler is left open', 'script 1 / handler h', 'syntax 3 1', 1)
-case('a last line is cut', ROOT + ' / ro o top - / ro-observe o', 'syntax 5 13', 1, cut=True)
-for number, (before, last_line, wanted, status) in enumerate([
-        ('', 'script', 'syntax 1 7', 1),
-        ('', 'script 1', '', 0),
-        ('script 1 / ', 'blo', 'syntax 2 1', 1),
-        ('script 1 / ', 'block r to', 'throw 2 ReferenceError', 0),
-        ('script 1 / block r top / ', 'append top', 'syntax 3 11', 1),
-        (ROOT + ' / ', 'ro o top', 'syntax 4 9', 1),
-        (ROOT + ' / ro o top - / ', 'ro-observe o r con', 'syntax 5 16', 1),
-        (ROOT + ' / ro o top - / ro-observe o r content / ', 'tick', 'syntax 6 5', 1),
-        (ROOT + ' / ro o top - / ro-observe o r content / ', 'tick 0', ONE_BLOCK_TRACE, 0)], 1):
-    case('a script that is cut in its line %d' % (before.count('/') + 1), before + last_line, wanted, status, cut=True)
 
 # --- limits -----------------------------------------------------------------------------------------------------------------
 
@@ -265,21 +155,8 @@ limit('frame callbacks', lambda count: HANDLER + numbered('raf top f%k h', count
 limit('tasks', lambda count: HANDLER + ['post top h'] * count, 'limit tasks 4100 4096', 4096)
 limit('queries', lambda count: numbered('media m%k top all', count), 'limit queries 4098 4096', 4096)
 
-# --- what the proved program doesn't have yet: version 2 --------------------------------------------------------------------
+# --- positions --------------------------------------------------------------------------------------------------------------
 
-DEVICE = (' / block r top / append top r / set r width 10.5px / set r height 3px / ratio 150% / ro o top - / '
-          'ro-observe o r device / tick 0 / ratio 200% / tick 16')
-case('device pixels are told', 'script 2' + DEVICE,
-     'tick 0 / resize o r rect 0 0 10.5 3 border 10.5 3 device 16 5 / round top 1 / tick 16 / '
-     'resize o r rect 0 0 10.5 3 border 10.5 3 device 21 6 / round top 1')
-case('version 1 has no device pixels', 'script 1' + DEVICE, 'syntax 6 1', 1)
-case('a scroll margin makes a scroll container wider',
-     'script 2 / block r top / append top r / block s top / set s height 100px / set s overflow hidden / append r s / '
-     'block u top / set u height 130px / append s u / block t top / set t height 10px / append s t / '
-     'io i top - root - margin scroll 60px threshold 0 / io j top - root - margin threshold 0 / io-observe i t / '
-     'io-observe j t / tick 0',
-     'tick 0 / intersect i t 0 yes 32768000/32768000 root 0 0 800 600 box 0 130 800 10 cut 0 130 800 10 / '
-     'intersect j t 0 no 0/32768000 root 0 0 800 600 box 0 130 800 10 cut 0 0 0 0')
 ROOT_2 = 'script 2 / block r top / append top r'
 case('an absolute position is in the padding box of its holder',
      ROOT_2 + ' / block s top / set s height 100px / set s margin-left 100px / set s position relative / append r s / '

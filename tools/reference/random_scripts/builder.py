@@ -1,11 +1,8 @@
 """Builds a random script command by command: a first tree, then commands by the weights of a kind, in handlers too."""
+from .. import grammar
+from ..forms import EVENTS
 from .choices import Choices
 
-EVENTS = ['resize', 'scroll', 'error', 'change']
-COMMANDS = (
-    'append before block cancel-raf clear-timer each frame grow image io io-disconnect io-observe io-take io-unobserve listen '
-    'load media post raf read remove ro ro-disconnect ro-observe ro-unobserve say scroll scroll-by set tick timer unlisten '
-    'viewport when').split()
 KEYS = ['k0', 'k1', 'k2', 'k3']
 
 
@@ -27,7 +24,8 @@ class Builder(Choices):
         self._weigh(weights)
 
     def _weigh(self, weights):
-        commands = list(COMMANDS) + (['ratio'] if self.version == 2 else [])
+        first = grammar.command_names(1)
+        commands = first + [name for name in grammar.command_names(self.version) if name not in first]
         every = {name: float(weights.get(name, 0.7 if name in ('block', 'image', 'frame') else 1)) for name in commands}
         self.outer_weights = dict(every, each=0.7, when=0.7, tick=max(3.0, sum(every.values()) / 9))
         inner = dict(every)

@@ -1,4 +1,5 @@
 """Small random choices: lengths, percentages, margins, thresholds and queries, the odd ones among them."""
+from ..styles import SIDES
 
 QUERIES = [
     'all', 'print', 'screen', 'not all', 'only screen', 'not print', '(min-width: 600px)', '(max-width: 599.99px)',
@@ -8,7 +9,6 @@ QUERIES = [
     'not screen and (min-width: 400px)', '(width:0px),(height:0px)', 'print, (min-width: 301px)',
     '(min-width: 200px) or (min-height: 900px) , not all',
 ]
-SIDES = ['top', 'right', 'bottom', 'left']
 OVERFLOWS = ['visible', 'hidden', 'hidden', 'clip', 'scroll', 'auto']
 POSITIONS = ['static', 'relative', 'relative', 'absolute', 'absolute', 'fixed']
 
