@@ -28,7 +28,7 @@ pub fn reaches<G: Geometry>(geometry: &G, target: Spot, root: Spot) -> bool
 
 /// The root rectangle before a margin moves it (Intersection Observer, 2.2): the viewport of a document, the padding box of an
 /// element that clips, the border box of another, zeros for an element without a box. The implicit root is the viewport of
-/// the top document, `View(0)`. No memory.
+/// the top document, its `View`. No memory.
 ///
 /// Each edge lies between -2^48 and 2^48, the width between -2^42 and 2^42, unless scroll margins moved it.
 pub fn root_rect<G: Geometry>(geometry: &G, root: Spot) -> Rect
