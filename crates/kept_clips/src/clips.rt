@@ -17,6 +17,7 @@ use crate::between::{clip_between, is_untouched};
 use crate::touches::Touches;
 use crate::{Clip, Computed, Pair};
 use clip_chain::{Geometry, Spot};
+use element_tree::DocumentId;
 use number_map::NumberMap;
 use std::alloc::{AllocError, Global};
 use std::marker::Model;
@@ -24,8 +25,8 @@ use std::sync::ledger::Ledger;
 use step_count::Steps;
 
 const NO_PAIR: Pair = Pair {
-    root: Spot::View(0),
-    of: Spot::View(0),
+    root: Spot::View(DocumentId(0)),
+    of: Spot::View(DocumentId(0)),
     computed: None,
 };
 
