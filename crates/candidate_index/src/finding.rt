@@ -21,7 +21,7 @@ ghost use Rattle.candidate_index.specs.Asked.{asked_if, steps_if, asked_for, ste
 
 use crate::{Basis, Scene, Sight, Standing};
 use clip_chain::{Geometry, Spot, root_rect};
-use element_tree::NodeId;
+use element_tree::{DocumentId, NodeId};
 use intersection_observer::{Finding, RegistrationId, Root, Watchers};
 use kept_clips::{Clip, Clips};
 use px_units::{Rect, meet};
@@ -41,7 +41,7 @@ pub(crate) fn spot_of_root(root: Root) -> Spot
     ensures { result ≡ spot_of_root (seen_root root) }
 {
     match root {
-        Root::Implicit => Spot::View(0),
+        Root::Implicit => Spot::View(DocumentId(0)),
         Root::Document(document) => Spot::View(document),
         Root::Node(node) => Spot::Node(node),
     }

@@ -37,7 +37,7 @@ pub struct Kept {
 /// A clause sees this by serial numbers.
 ///
 /// The pair of a registration in `Clips` has the registration's serial number. Its two spots are that of its observer's root,
-/// which for the implicit root is `View(0)`, and that of its target.
+/// which for the implicit root is the `View` of the top document, and that of its target.
 ///
 /// What is kept of a registration was found from its basis by its observer's thresholds (`AreFound`), which each call keeps so.
 #[derive(Drop)]
