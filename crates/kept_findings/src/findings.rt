@@ -28,7 +28,7 @@ use crate::Looks;
 use crate::seen_scene::SeenScene;
 use candidate_index::{Index, Scene};
 use clip_chain::{Scrolls, Spot, Through};
-use element_tree::NodeId;
+use element_tree::{DocumentId, NodeId};
 use intersection_observer::{Finding, RegistrationId, Root, WatcherId, Watchers};
 use kept_clips::{Clips, Sightings};
 use std::alloc::{AllocError, Global};
@@ -68,7 +68,7 @@ pub(crate) fn spot_of_root(root: Root) -> Spot
     ensures { result ≡ spot_of_root (seen_root root) }
 {
     match root {
-        Root::Implicit => Spot::View(0),
+        Root::Implicit => Spot::View(DocumentId(0)),
         Root::Document(document) => Spot::View(document),
         Root::Node(node) => Spot::Node(node),
     }

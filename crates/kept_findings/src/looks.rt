@@ -42,7 +42,7 @@ impl Looks {
     {
         match of {
             Spot::Node(node) => is_marked(self.nodes.as_slice(), node.0),
-            Spot::View(document) => is_marked(self.views.as_slice(), document),
+            Spot::View(document) => is_marked(self.views.as_slice(), document.0),
         }
     }
 
@@ -53,7 +53,7 @@ impl Looks {
     {
         match of {
             Spot::Node(node) => self.nodes[node.0 as usize] = true,
-            Spot::View(document) => self.views[document as usize] = true,
+            Spot::View(document) => self.views[document.0 as usize] = true,
         }
     }
 }
