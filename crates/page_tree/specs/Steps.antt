@@ -10,7 +10,7 @@ use Rattle.page_tree.specs.Views.{PageElements}
 
 abbrev pub seen_container : Place → Container
 seen_container (Element node) = InElement node.0
-seen_container (Document document) = InDocument document
+seen_container (Document document) = InDocument document.0
 
 abbrev pub seen_axis : Axis → Dimension
 seen_axis Width = WidthDimension
@@ -19,9 +19,9 @@ seen_axis Height = HeightDimension
 -- an element or a document that the page holds
 abbrev pub IsContainerIn : PageElements → Place → Type 0
 IsContainerIn page (Element node) = node.0 < length page.tree.elements
-IsContainerIn page (Document document) = document < length page.tree.documents
+IsContainerIn page (Document document) = document.0 < length page.tree.documents
 
 -- a document is one of so many
 abbrev pub IsBelow : ℕ → Place → Type 0
 IsBelow count (Element node) = Unit {0}
-IsBelow count (Document document) = document < count
+IsBelow count (Document document) = document.0 < count
