@@ -11,9 +11,8 @@ use Rattle.page_model.specs.Shown.{shown_with}
 use Rattle.page_model.specs.Chains.{holding}
 use Rattle.page_documents.specs.Frames.{AreFramed}
 use Rattle.clip_chain.specs.declared.spot.Spot.{Spot}
-use Rattle.clip_chain.specs.declared.spot.Spot.TheVariants.{View}
 use Rattle.clip_chain.specs.Scenes.{Scene}
-use Rattle.clip_chain.specs.Worlds.{element_spot, spot_of, scene_of}
+use Rattle.clip_chain.specs.Worlds.{element_spot, spot_of, scene_of, view_spot}
 use Rattle.page_boxes.proofs.Pages.{missing_element}
 use Rattle.page_geometry.specs.Ranks.{rank_of}
 use Rattle.page_geometry.proofs.Ends.{falls}
@@ -40,7 +39,7 @@ module _ (tree : Tree) (screen : Screen) (scrolls : Scrolls) where
     pub container_is : (found : Option Spot) → has_box tree screen n ≡ true → found ≡ option_map spot_of (holding tree n) → found ≡ scene.container (element_spot n)
     container_is found there is = is ∙ sym (ap (λ b. cond b (option_map spot_of (holding tree n)) None) there)
 
-  pub view_container : (document : ℕ) (found : Option Spot) → found ≡ option_map element_spot (document_at tree document).frame → found ≡ scene.container (View document)
+  pub view_container : (document : ℕ) (found : Option Spot) → found ≡ option_map element_spot (document_at tree document).frame → found ≡ scene.container (view_spot document)
   view_container document found is = is ∙ by_frame (document_at tree document).frame
     where
       by_frame : (frame : Option ℕ) → option_map element_spot frame ≡ option_map spot_of (option_map InElement frame)

@@ -8,7 +8,7 @@ ghost use Rattle.page_geometry.specs.Ranges.{IsOrigin, IsMoved, IsRectReached};
 
 use crate::origins::origin;
 use crate::shown::Shown;
-use element_tree::NodeId;
+use element_tree::{DocumentId, NodeId};
 use px_units::{Point, Rect, shift};
 
 pub(crate) const NO_RECT: Rect = Rect {
@@ -41,8 +41,8 @@ pub(crate) fn moved_back(from: Point, rect: Rect) -> Rect
 }
 
 // The viewport of a document.
-pub(crate) fn viewport_rect(shown: &Shown<'_>, document: u32) -> Rect
-    ensures value { result ≡ viewport_rect shown.now document }
+pub(crate) fn viewport_rect(shown: &Shown<'_>, document: DocumentId) -> Rect
+    ensures value { result ≡ viewport_rect shown.now document.0 }
     ensures range { IsBounds result }
 {
     let size = shown.viewport_of(document);
