@@ -31,7 +31,7 @@ use crate::names::Thing;
 use crate::page::Page;
 use block_layout::ItemKind;
 use clip_chain::Spot;
-use element_tree::NodeId;
+use element_tree::{DocumentId, NodeId};
 use page_laws::{boxes_do_not_read_the_ratio, what_is_made_has_no_box};
 use page_tree::{Container, PlaceFault};
 use px_units::{Percent, Px, Size};
@@ -141,7 +141,7 @@ impl Page {
             return Err(PageFault::Limit(LimitKind::Documents));
         }
         let node = self.laid.reserve()?;
-        let framed = self.laid.page().document_count();
+        let framed = DocumentId(self.laid.page().document_count());
         self.findings.add(Spot::Node(node))?;
         self.findings.add(Spot::View(framed))?;
         self.names.reserve(2)?;
