@@ -58,7 +58,11 @@ fn list_down(
 /// # Errors
 ///
 /// Where there is no memory.
-pub fn elements(alloc: Global, shown: &Shown<'_>, document: DocumentId) -> Result<Vec<NodeId>, AllocError>
+pub fn elements(
+    alloc: Global,
+    shown: &Shown<'_>,
+    document: DocumentId,
+) -> Result<Vec<NodeId>, AllocError>
     ensures list { IfOk result (λ listed. map number listed.items ≡ boxed_elements shown.now document.0) }
     ensures boxed { IfOk result (λ listed. All (λ node. has_box shown.now node.0 ≡ true) listed.items) }
 {

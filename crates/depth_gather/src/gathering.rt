@@ -14,7 +14,12 @@ use resize_observer::{ObserverId, Observers};
 /// Gathers the active observations of a document (Resize Observer, 3.4: gather active observations at depth), and answers
 /// how many there are: each observer of the document holds as active those of its targets whose size isn't the last
 /// reported one and which stand deeper than `depth`, and as skipped those whose size isn't and which don't. No memory.
-pub fn gather<Z: Sizes>(observers: &mut Observers, sizes: &Z, document: DocumentId, depth: u32) -> u32
+pub fn gather<Z: Sizes>(
+    observers: &mut Observers,
+    sizes: &Z,
+    document: DocumentId,
+    depth: u32,
+) -> u32
     ensures gathered { observers.new ≡ record observers.old { part = gathering (Z.sight sizes.now) document.0 depth (observers.old.part) } }
     ensures number { result ≡ active_count document.0 observers.new.part }
     ensures count { length observers.new.part.made ≡ length observers.old.part.made }

@@ -242,7 +242,9 @@ fn see_delivery(rt: &impl Abort, observers: &mut Observers, delivery: Delivery)
 #[test]
 fn the_least_depth_is_that_of_any_entry(rt: HostRuntime) -> Result<(), Fail> {
     let mut observers = three_observers(rt.alloc(), 9)?;
-    let observer = observers.of_document(DocumentId(1), 0).expect(&rt, "an observer");
+    let observer = observers
+        .of_document(DocumentId(1), 0)
+        .expect(&rt, "an observer");
     let entries = ResizeList::new(three_entries(rt.alloc())?);
     let delivery = Delivery {
         observer,

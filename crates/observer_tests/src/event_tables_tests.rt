@@ -262,7 +262,10 @@ fn add_many(timers: &mut Timers, x: Name) -> Result<(), Fail>
 fn see_many(rt: &impl Abort, timers: &mut Timers, batch: &mut Batch, x: Name) {
     for document in 0..300u32 {
         let called = timers.next(batch);
-        assert_eq!(rt; called, Some((DocumentId(document), x, HandlerId(document))));
+        assert_eq!(rt;
+            called,
+            Some((DocumentId(document), x, HandlerId(document)))
+        );
     }
     assert_eq!(rt; timers.next(batch), None);
     assert!(rt; !timers.is_there(DocumentId(0), x));

@@ -196,7 +196,13 @@ fn make_two(alloc: Global, watchers: &mut Watchers) -> Result<(), Fail>
     let thresholds = Thresholds::new(alloc, &[])?;
     watchers.make(DocumentId(0), None, Root::Implicit, margins, thresholds)?;
     let thresholds = Thresholds::new(alloc, &[])?;
-    watchers.make(DocumentId(1), Some(3), Root::Document(DocumentId(1)), margins, thresholds)?;
+    watchers.make(
+        DocumentId(1),
+        Some(3),
+        Root::Document(DocumentId(1)),
+        margins,
+        thresholds,
+    )?;
     Ok(())
 }
 
@@ -355,10 +361,22 @@ fn see_making(rt: &impl Abort, alloc: Global, watchers: &mut Watchers) -> Result
     assert!(rt; !watchers.is_full());
     let margins = Margins::parse(b"10px 0px")?;
     let thresholds = Thresholds::new(alloc, &[5000, 10000])?;
-    let first = watchers.make(DocumentId(7), None, Root::Node(NodeId(3)), margins, thresholds)?;
+    let first = watchers.make(
+        DocumentId(7),
+        None,
+        Root::Node(NodeId(3)),
+        margins,
+        thresholds,
+    )?;
     let margins = Margins::parse(b"")?;
     let thresholds = Thresholds::new(alloc, &[])?;
-    let second = watchers.make(DocumentId(8), Some(2), Root::Document(DocumentId(8)), margins, thresholds)?;
+    let second = watchers.make(
+        DocumentId(8),
+        Some(2),
+        Root::Document(DocumentId(8)),
+        margins,
+        thresholds,
+    )?;
     assert!(rt; watchers.is_full());
     let thresholds = Thresholds::new(alloc, &[])?;
     let refused = watchers.make(DocumentId(9), None, Root::Implicit, margins, thresholds);

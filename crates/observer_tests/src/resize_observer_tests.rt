@@ -262,7 +262,10 @@ fn see_place(
 #[test]
 fn observers_are_found_by_their_documents(rt: HostRuntime) -> Result<(), Fail> {
     let mut observers = three_observers(rt.alloc(), 3)?;
-    assert_eq!(&rt; observers.make(DocumentId(0), None), Err(ObserveFault::Limit));
+    assert_eq!(&rt;
+        observers.make(DocumentId(0), None),
+        Err(ObserveFault::Limit)
+    );
     for (document, place, want) in PLACES {
         see_place(&rt, &observers, DocumentId(document), place, want);
     }

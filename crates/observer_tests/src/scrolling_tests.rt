@@ -83,7 +83,12 @@ fn pending_lists_have_an_order_and_no_doubles(rt: HostRuntime) -> Result<(), Fai
         (2, TOP, 9),
     ];
     for (document, target, top) in steps {
-        let _outcome = scrolls.scroll_to(DocumentId(document), target, pixels(0, top), range(9, 9))?;
+        let _outcome = scrolls.scroll_to(
+            DocumentId(document),
+            target,
+            pixels(0, top),
+            range(9, 9),
+        )?;
     }
     take(&rt, &mut scrolls, DocumentId(0), &[BOX, VIEW, OTHER]);
     take(&rt, &mut scrolls, DocumentId(0), &[]);

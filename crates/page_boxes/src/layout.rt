@@ -153,7 +153,15 @@ pub fn refresh<L: Ledger>(boxes: &mut Kept, page: &PageTree, screen: Screen, ste
     let mut laid_out = LaidOut::new();
     let count = page.document_count();
     for document in 0..count {
-        lay_out_up(boxes, page, screen, DocumentId(document), count, &mut laid_out, steps);
+        lay_out_up(
+            boxes,
+            page,
+            screen,
+            DocumentId(document),
+            count,
+            &mut laid_out,
+            steps,
+        );
     }
 }
 

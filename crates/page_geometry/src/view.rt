@@ -24,7 +24,12 @@ pub(crate) struct DocumentView {
 }
 
 // Finds root element and size by a climb from frame to frame.
-pub(crate) fn view_in(page: &PageTree, boxes: &Kept, screen: Screen, document: DocumentId) -> DocumentView
+pub(crate) fn view_in(
+    page: &PageTree,
+    boxes: &Kept,
+    screen: Screen,
+    document: DocumentId,
+) -> DocumentView
     requires screen { IsScreen screen }
     requires above { IsFreshAbove page.now.tree (seen_screen screen) boxes.now document.0 }
     ensures root { option_map number result.root ≡ (view_of page.now.tree (seen_screen screen) document.0).root }

@@ -121,7 +121,12 @@ impl LaidTree {
     ///
     /// `Limit` comes exactly where the page is full; else `Memory` where there is none, which isn't after
     /// `reserve`. Nothing is changed then but that room may have been made.
-    pub fn make(&mut self, document: DocumentId, name: Name, kind: ItemKind) -> Result<NodeId, MakeFault>
+    pub fn make(
+        &mut self,
+        document: DocumentId,
+        name: Name,
+        kind: ItemKind,
+    ) -> Result<NodeId, MakeFault>
         requires { IsKind kind }
         ensures node { IfOk result (λ node. node.0 ≡ length self.old.elements.tree.elements) }
         ensures roomy { OnOk result (element_room self.old.elements ≡ Did tt) }
@@ -146,7 +151,11 @@ impl LaidTree {
     ///
     /// `Limit(Nodes)` comes exactly where the page is full, then `Limit(Documents)` where 64 documents were made; else
     /// `Memory` where there is none, which isn't after `reserve`. Nothing is changed then but that room may have been made.
-    pub fn make_frame(&mut self, document: DocumentId, name: Name) -> Result<(NodeId, DocumentId), MakeFault>
+    pub fn make_frame(
+        &mut self,
+        document: DocumentId,
+        name: Name,
+    ) -> Result<(NodeId, DocumentId), MakeFault>
         ensures node { IfOk result (λ made. made.0.0 ≡ length self.old.elements.tree.elements) }
         ensures document { IfOk result (λ made. made.1.0 ≡ length self.old.elements.tree.documents) }
         ensures roomy { OnOk result (frame_room self.old.elements ≡ Did tt) }
@@ -292,7 +301,12 @@ impl LaidTree {
     /// Computes what is due of the boxes of a document and of the documents around it, with this screen of `top`: those of the document
     /// and of the one that its frame is in are then held as they are now, and boxes of other documents aren't touched. It takes at most
     /// one step for each box that was due, and no memory.
-    pub fn refresh_in<L: Ledger>(&mut self, screen: Screen, document: DocumentId, steps: &mut Steps<L>)
+    pub fn refresh_in<L: Ledger>(
+        &mut self,
+        screen: Screen,
+        document: DocumentId,
+        steps: &mut Steps<L>,
+    )
         ensures fresh { IsFreshIn self.new.elements.tree (seen_screen screen) self.new.kept document.0 }
         ensures above { IsFreshAbove self.new.elements.tree (seen_screen screen) self.new.kept document.0 }
         ensures left { LeavesOthers self.old.elements.tree (Some document.0) self.old.kept self.new.kept }

@@ -51,7 +51,12 @@ impl QueryList {
 }
 
 // The number of the first such query list from a place on.
-fn changed_from(queries: &[QueryList], document: DocumentId, viewport: Size, place: usize) -> Option<usize>
+fn changed_from(
+    queries: &[QueryList],
+    document: DocumentId,
+    viewport: Size,
+    place: usize,
+) -> Option<usize>
     ensures value { result ≡ changed_from document.0 place (seen_size viewport) (map seen_query_list queries.now) }
     ensures there { IfSome result (λ number. number < length queries.now) }
     ensures changed { IfSome result (λ number. is_changed document.0 (seen_size viewport) (query_list_at (map seen_query_list queries.now) number) ≡ true) }

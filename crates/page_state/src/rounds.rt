@@ -22,7 +22,12 @@ use step_count::Steps;
 impl Page {
     /// Gathers the active observations of a document at a depth (Resize Observer, 3.4: gather active observations at
     /// depth), and answers how many there are. No memory.
-    pub fn gather<L: Ledger>(&mut self, document: DocumentId, depth: u32, steps: &mut Steps<L>) -> u32
+    pub fn gather<L: Ledger>(
+        &mut self,
+        document: DocumentId,
+        depth: u32,
+        steps: &mut Steps<L>,
+    ) -> u32
         ensures gathered { self.new ≡ record self.old { world = gather document.0 depth (self.old.world); kept = self.new.kept } }
         ensures boxes { Computes self.old.world self.old.kept self.new.kept steps.old steps.new }
         ensures number { result ≡ active_count document.0 self.new.world.resize_observers }

@@ -46,7 +46,11 @@ impl Page {
 
     /// Whether the size of a document's viewport isn't the one noted at the last call for this document; the size is then
     /// noted (CSSOM View, 13: run the resize steps). The first call only notes it. No memory.
-    pub fn viewport_changed<L: Ledger>(&mut self, document: DocumentId, steps: &mut Steps<L>) -> bool
+    pub fn viewport_changed<L: Ledger>(
+        &mut self,
+        document: DocumentId,
+        steps: &mut Steps<L>,
+    ) -> bool
         requires { document.0 < length self.old.world.tree.documents }
         ensures value { result ≡ differs_from (viewport_of self.old.world.tree self.old.world.viewports.screen document.0) (noted_size document.0 self.old.world.viewports) }
         ensures noted { self.new.world ≡ record (self.old.world) {

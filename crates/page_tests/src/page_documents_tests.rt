@@ -62,7 +62,10 @@ const BACK: [Life; 1] = [(Edit::Append(0, 5), "Ok", "AADD 01 000210 043-")];
 
 fn see_path(rt: &impl Abort, page: &PageTree) {
     assert!(rt; page.document_count() == 4);
-    assert_eq!(rt; page.path(DocumentId(3)).as_slice(), [DocumentId(0), DocumentId(1), DocumentId(2), DocumentId(3)].as_slice());
+    assert_eq!(rt;
+        page.path(DocumentId(3)).as_slice(),
+        [DocumentId(0), DocumentId(1), DocumentId(2), DocumentId(3)].as_slice()
+    );
 }
 
 #[test]

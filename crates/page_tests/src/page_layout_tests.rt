@@ -373,9 +373,15 @@ fn place(
 fn make_one(rt: &impl Abort, laid: &mut LaidTree, number: u32) -> Result<(), Fail> {
     let name = any_name(rt);
     if number == 3 {
-        assert_eq!(rt; laid.make_frame(DocumentId(0), name)?, (NodeId(number), DocumentId(1)));
+        assert_eq!(rt;
+            laid.make_frame(DocumentId(0), name)?,
+            (NodeId(number), DocumentId(1))
+        );
     } else {
-        assert_eq!(rt; laid.make(DocumentId(0), name, kind_of(number))?, NodeId(number));
+        assert_eq!(rt;
+            laid.make(DocumentId(0), name, kind_of(number))?,
+            NodeId(number)
+        );
     }
     Ok(())
 }

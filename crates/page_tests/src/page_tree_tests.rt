@@ -147,7 +147,10 @@ const LARGE: Size = Size {
 fn make_image(rt: &impl Abort, page: &mut PageTree) -> Result<(), Fail> {
     let name = any_name(rt);
     assert_eq!(rt; page.reserve()?, NodeId(0));
-    assert_eq!(rt; page.make(DocumentId(0), name, ItemKind::Image(SMALL))?, NodeId(0));
+    assert_eq!(rt;
+        page.make(DocumentId(0), name, ItemKind::Image(SMALL))?,
+        NodeId(0)
+    );
     assert_eq!(rt; page.make(DocumentId(0), name, ItemKind::Block)?, NodeId(1));
     assert!(rt; page.holds(NodeId(0)));
     assert_eq!(rt; page.name_of(NodeId(0)), name);
@@ -237,7 +240,10 @@ fn see_full_of_documents(rt: &impl Abort, page: &mut PageTree) -> Result<(), Fai
     assert!(rt; page.is_full_of_documents());
     let refused = page.make_frame(DocumentId(0), name);
     assert!(rt; matches!(refused, Err(MakeFault::Limit(LimitKind::Documents))));
-    assert_eq!(rt; page.make(DocumentId(0), name, ItemKind::Block)?, NodeId(63));
+    assert_eq!(rt;
+        page.make(DocumentId(0), name, ItemKind::Block)?,
+        NodeId(63)
+    );
     assert_eq!(rt; page.document_count(), 64);
     Ok(())
 }
@@ -263,7 +269,10 @@ const ENDING: [Life; 9] = [
 
 fn see_path(rt: &impl Abort, page: &PageTree) {
     assert!(rt; page.document_count() == 4);
-    assert_eq!(rt; page.path(DocumentId(3)).as_slice(), [DocumentId(0), DocumentId(2), DocumentId(3)].as_slice());
+    assert_eq!(rt;
+        page.path(DocumentId(3)).as_slice(),
+        [DocumentId(0), DocumentId(2), DocumentId(3)].as_slice()
+    );
 }
 
 #[test]
@@ -333,7 +342,10 @@ fn see_containers(rt: &impl Abort, page: &PageTree) {
     assert_eq!(rt; page.tree_document(NodeId(5)), Some(DocumentId(2)));
     let parent = Container::Element(NodeId(4));
     assert_eq!(rt; page.container_of(NodeId(5)), Some(parent));
-    assert_eq!(rt; page.container_of(NodeId(4)), Some(Container::Document(DocumentId(2))));
+    assert_eq!(rt;
+        page.container_of(NodeId(4)),
+        Some(Container::Document(DocumentId(2)))
+    );
 }
 
 #[test]

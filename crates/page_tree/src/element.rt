@@ -44,7 +44,12 @@ impl Model for Element {
 
 impl Element {
     // Made in this document, and the frame of the other one, if there is one.
-    pub(crate) fn new(name: Name, kind: ItemKind, document: DocumentId, framed: Option<DocumentId>) -> Element
+    pub(crate) fn new(
+        name: Name,
+        kind: ItemKind,
+        document: DocumentId,
+        framed: Option<DocumentId>,
+    ) -> Element
         requires { IsKind kind }
         ensures { result ≡ described name (seen_kind kind) document.0 (option_map document_number framed) }
     {

@@ -131,7 +131,12 @@ impl PageTree {
     ///
     /// `Limit` comes exactly where the page is full; else `Memory` where there is none, which isn't after
     /// `reserve`. Nothing is changed then but that room may have been made.
-    pub fn make(&mut self, document: DocumentId, name: Name, kind: ItemKind) -> Result<NodeId, MakeFault>
+    pub fn make(
+        &mut self,
+        document: DocumentId,
+        name: Name,
+        kind: ItemKind,
+    ) -> Result<NodeId, MakeFault>
         requires { IsKind kind }
         ensures node { IfOk result (λ node. node.0 ≡ length self.old.tree.elements) }
         ensures roomy { OnOk result (element_room self.old ≡ Did tt) }
@@ -161,7 +166,11 @@ impl PageTree {
     ///
     /// `Limit(Nodes)` comes exactly where the page is full, then `Limit(Documents)` where 64 documents were made; else
     /// `Memory` where there is none, which isn't after `reserve`. Nothing is changed then but that room may have been made.
-    pub fn make_frame(&mut self, document: DocumentId, name: Name) -> Result<(NodeId, DocumentId), MakeFault>
+    pub fn make_frame(
+        &mut self,
+        document: DocumentId,
+        name: Name,
+    ) -> Result<(NodeId, DocumentId), MakeFault>
         ensures node { IfOk result (λ made. made.0.0 ≡ length self.old.tree.elements) }
         ensures document { IfOk result (λ made. made.1.0 ≡ length self.old.tree.documents) }
         ensures roomy { OnOk result (frame_room self.old ≡ Did tt) }

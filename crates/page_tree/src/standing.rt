@@ -30,7 +30,11 @@ pub(crate) fn document_of(tree: &Tree<Element>, documents: &Documents, node: Nod
 }
 
 // The root element of a document, none where there is no such document.
-pub(crate) fn root_of(tree: &Tree<Element>, documents: &Documents, document: DocumentId) -> Option<NodeId>
+pub(crate) fn root_of(
+    tree: &Tree<Element>,
+    documents: &Documents,
+    document: DocumentId,
+) -> Option<NodeId>
     ensures { option_map number result ≡ (document_at (seen_tree carried_in tree.now documents.now.held) document.0).root }
 {
     if document.0 < documents.count() {

@@ -89,7 +89,11 @@ impl Observers {
     /// (Resize Observer, 2.1: the constructor).
     ///
     /// `Limit` exactly where `most_observers` were made; else `Memory` where there is none.
-    pub fn make(&mut self, document: DocumentId, handler: Option<u32>) -> Result<ObserverId, ObserveFault>
+    pub fn make(
+        &mut self,
+        document: DocumentId,
+        handler: Option<u32>,
+    ) -> Result<ObserverId, ObserveFault>
         ensures observer { IfOk result (λ observer. observer.0 ≡ length self.old.part.made) }
         ensures made { OnOk result (self.new ≡ record self.old { part = with_resize_observer document.0 handler (self.old.part) }) }
         ensures same { OnErr result (self.new ≡ self.old) }

@@ -156,7 +156,15 @@ const RUNS: [Row; 6] = [
 #[test]
 fn commands_and_handlers_give_their_lines(rt: HostRuntime) -> Result<(), Fail> {
     for (text, document, number, ending, told) in RUNS {
-        expect(&rt, rt.alloc(), text, DocumentId(document), number, ending, told)?;
+        expect(
+            &rt,
+            rt.alloc(),
+            text,
+            DocumentId(document),
+            number,
+            ending,
+            told,
+        )?;
     }
     Ok(())
 }
