@@ -151,9 +151,9 @@ fn request_three(callbacks: &mut FrameCallbacks, x: Name, y: Name) -> Result<(),
     requires { callbacks.old.part.given < 2 ^ 32 }
     ensures { callbacks.new.part.given ≤ callbacks.old.part.given + 3 }
 {
-    callbacks.request(0, x, HandlerId(4))?;
-    callbacks.request(1, x, HandlerId(5))?;
-    callbacks.request(0, y, HandlerId(6))?;
+    callbacks.request(DocumentId(0), x, HandlerId(4))?;
+    callbacks.request(DocumentId(1), x, HandlerId(5))?;
+    callbacks.request(DocumentId(0), y, HandlerId(6))?;
     Ok(())
 }
 

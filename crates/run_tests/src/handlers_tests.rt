@@ -191,5 +191,13 @@ fn a_limit_ends_the_run(rt: HostRuntime) -> Result<(), Fail> {
         line: 5,
         number: 256,
     });
-    expect(&rt, rt.alloc(), &text, 0, None, met, "say first\n")
+    expect(
+        &rt,
+        rt.alloc(),
+        &text,
+        DocumentId(0),
+        None,
+        met,
+        "say first\n",
+    )
 }
