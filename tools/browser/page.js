@@ -479,30 +479,37 @@ function observersRun(script, window, setting) {
   }
 
   // ---- updates that no tick asked for: they do no harm where they tell nothing, and the run is disturbed where they do ----
-  let ours = null, seen = [], watch = null, extra = Infinity;
+  let ours = null, over = false, seen = [], watch = null, extra = Infinity;
   const frameTime = () => document.timeline.currentTime;
   // Called in each callback of an update: whether it is the tick's own one is known once the tick's frame callback has come.
   function noteUpdate() {
     if (!setting.live) return;
     if (ours === null) seen.push(frameTime());
-    else if (Math.abs(frameTime() - ours) > 1) api.disturbed = true;
+    else if (over || Math.abs(frameTime() - ours) > 1) api.disturbed = true;
   }
   function ourUpdate() {
     ours = frameTime();
     // An engine may tell the time of day until its frame callbacks come; another update is a sixtieth of a second away.
     if (seen.some(time => Math.abs(time - ours) > 14)) api.disturbed = true;
+    // An update is one task: what comes after this message is another one's, though an engine may still tell the time of the last.
+    const mine = ours;
+    const end = new MessageChannel();
+    end.port1.onmessage = () => { end.port1.close(); over = over || ours === mine; };
+    end.port2.postMessage(0);
     extra = Infinity;
     watch = window.requestAnimationFrame(() => { extra = frameTime(); });
   }
   function nextUpdate() {
     if (watch !== null) window.cancelAnimationFrame(watch);
     ours = null;
+    over = false;
     seen = [];
   }
   function noteEntries(o, entries) {
     if (!setting.live) return;
+    // Times are of whole milliseconds, so between windows up to two may be lacking; another update is a sixtieth of a second away.
     const shift = o.doc.window.performance.timeOrigin - window.performance.timeOrigin;
-    if (entries.some(e => e.time + shift > extra - 1)) api.disturbed = true;
+    if (entries.some(e => e.time + shift > extra - 7)) api.disturbed = true;
   }
 
   // Waits until no task is left.

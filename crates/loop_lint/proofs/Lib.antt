@@ -6,3 +6,4 @@ mod Waiting
 mod Steady
 mod Quiet
 mod Searching
+mod Promised

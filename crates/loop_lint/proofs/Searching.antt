@@ -125,5 +125,8 @@ turned false None says = absurd (true≢false (sym says))
 turned true (Some line) says = absurd (true≢false says)
 turned false (Some line) says = refl
 
+pub none-of : (answer : Bool) (found : Option ℕ) → is_some found ≡ not answer → IsTrue answer → IsNone found
+none-of answer found says is = says ∙ ap not is
+
 pub kept-so : (answer : Bool) (found : Option ℕ) (lines : List ℕ) → is_some found ≡ not answer → found ≡ slice_get lines 0 → answer ≡ is_empty lines
 kept-so answer found lines says is = turned answer found says ∙ ap is_none is ∙ sym (empty-first lines)

@@ -7,6 +7,8 @@ use Rattle.script_model.specs.Scripts.{handlers_in}
 use Rattle.script_model.specs.Reading.{reading}
 use Rattle.page_model.specs.Outcome.{outcome}
 use Rattle.loop_laws.specs.RunLoops.{loops_of_run}
+use Rattle.loop_lint.specs.declared.kinds.Law.{Law}
+use Rattle.loop_lint.specs.declared.kinds.Law.TheVariants as law
 use Rattle.loop_lint.specs.LoopHandlers.{HasHandlersOf}
 use Rattle.loop_lint.specs.RunLoops.{IsSteadyLoop, is_error_line}
 
@@ -20,3 +22,8 @@ abbrev pub RunsQuietly : List Item → Type 0
 RunsQuietly items =
     (text : List ℕ) (other : Script) → reading text ≡ Ok other → HasHandlersOf items (other.items) →
     AllByRecursion (λ line. is_error_line line ≡ false) (outcome text).lines
+
+-- what a script's handlers promise where they keep a law
+abbrev pub Promises : Law → List Item → Type 0
+Promises law.Steady items = RunsSteadily items
+Promises law.Quiet items = RunsQuietly items

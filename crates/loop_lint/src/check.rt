@@ -5,7 +5,7 @@ ghost use Rattle.script_syntax.specs.Seen.{item_of};
 ghost use Rattle.loop_lint.specs.LoopHandlers.{is_empty, is_unnamed, block_lines, loop_handler_lines};
 ghost use Rattle.loop_lint.specs.Searches.{lines_at};
 ghost use Rattle.loop_lint.specs.Verdicts.{is_steady, is_quiet};
-ghost use Rattle.loop_lint.specs.Promises.{RunsSteadily, RunsQuietly};
+ghost use Rattle.loop_lint.specs.Promises.{Promises, RunsSteadily, RunsQuietly};
 ghost use Rattle.loop_lint.specs.Seen.{forbidden_by};
 
 use crate::kinds::{Law, Verdict};
@@ -47,10 +47,12 @@ fn blame_at(items: &[Item], item: &Item, law: Law) -> Option<u32>
 }
 
 /// The line, from 1, of the first command in the text that stands in a loop handler, at any nesting, and that a law forbids. A loop
-/// handler is one that an `ro` command anywhere in the script names. None exactly where the script keeps the law. No memory is taken.
+/// handler is one that an `ro` command anywhere in the script names. None exactly where the script keeps the law, which then promises what
+/// `lint` says of it. No memory is taken.
 pub fn blame(script: &Script, law: Law) -> Option<u32>
     ensures line { result ≡ slice_get (loop_handler_lines (forbidden_by law) script.now.items) 0 }
     ensures none { IsNone result ↔ IsTrue (is_empty (loop_handler_lines (forbidden_by law) script.now.items)) }
+    ensures promise { IsNone result → Promises law script.now.items }
 {
     let items = script.items();
     for item in items {

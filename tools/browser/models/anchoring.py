@@ -22,6 +22,8 @@ class Anchors:
         """The box is looked for anew as something is scrolled."""
         self.kept.pop(thing, None)
         self.keep(thing)
+        if thing.scroll[1]:
+            self.remember(thing)
 
     def removed(self, node):
         """A box goes, or is made anew: it is no anchor any more, and has no place before the next layout."""
@@ -68,10 +70,15 @@ class Anchors:
         """Remembers where the boxes are, as a layout has ended."""
         for thing in self.scrolled_in(document):
             self.keep(thing)
-            if self.model.has(ANCHORS_BEFORE_LAYOUT):
-                boxes = [node for node in self.model.world.layout._boxes_of(document) if self.holds(thing, node)]
-                self.laid[thing] = {node: (self.bounds(node), self.place(thing, node)) for node in boxes}
+            self.remember(thing)
         self.quiet = {node for node in self.quiet if node.document is not document}
+
+    def remember(self, thing):
+        """Where the boxes in it are, as it was laid out just now."""
+        if self.model.has(ANCHORS_BEFORE_LAYOUT):
+            document = thing if isinstance(thing, Document) else thing.document
+            boxes = [node for node in self.model.world.layout._boxes_of(document) if self.holds(thing, node)]
+            self.laid[thing] = {node: (self.bounds(node), self.place(thing, node)) for node in boxes}
 
     def keep(self, thing):
         if not thing.scroll[1]:

@@ -7,12 +7,12 @@ from reference import grammar
 from reference.page import Page
 
 from .model import Model
-from .traits import (ANCHORS_BEFORE_LAYOUT, CALLBACKS_OF_THE_STEP, CROSSED_IS_TURNED, DEAD_READS_THROW, EMPTY_PAGES_LAY_OUT,
-                     EMPTY_ROOTS_COUNT_NOTHING, EVENTS_GO_WITH_BOXES, EVERY_ROOT, FIRST_USE_COUNTS, FRAMES_BEGIN_AS_THEY_COME,
-                     FRAMES_IN_TIME, FRAMES_WAIT, HIDDEN_READS_NOTHING, IMPLICIT_ROOT, LATE_SCROLLS, LENGTHS_ARE_CUT,
-                     LENGTHS_ARE_FLOORED, NOTHING_FOR_DETACHED, ONE_PIXEL_AT_LEAST, PERCENTAGES_ARE_CUT, PLACED_AS_ROUNDS_BEGIN,
-                     QUERIES_IN_UPDATE, QUEUES_WAIT, ROOT_MARGINS_COUNT, SCROLLING_ROOT_UNTOLD, SCROLLS_ARE_CUT, SIZES_OF_GATHERING,
-                     WINDOWS_READ_AT_ONCE)
+from .traits import (ANCHORS_BEFORE_LAYOUT, CALLBACKS_OF_THE_STEP, CROSSED_IS_TURNED, DEAD_READS_THROW, DEAD_ROOTS_OF_A_LIST,
+                     EMPTY_PAGES_LAY_OUT, EMPTY_ROOTS_COUNT_NOTHING, EVENTS_GO_WITH_BOXES, EVERY_ROOT, FIRST_USE_COUNTS,
+                     FRAMES_BEGIN_AS_THEY_COME, FRAMES_IN_TIME, FRAMES_WAIT, HIDDEN_READS_NOTHING, IMPLICIT_ROOT, LATE_SCROLLS,
+                     LENGTHS_ARE_CUT, LENGTHS_ARE_FLOORED, NOTHING_FOR_DETACHED, ONE_PIXEL_AT_LEAST, PERCENTAGES_ARE_CUT,
+                     PLACED_AS_ROUNDS_BEGIN, QUERIES_IN_UPDATE, QUEUES_WAIT, ROOT_MARGINS_COUNT, SCROLLING_ROOT_UNTOLD,
+                     SCROLLS_ARE_CUT, SIZES_OF_GATHERING, WINDOWS_READ_AT_ONCE)
 
 ALL_THREE = frozenset('''border-widths read-of-dead-frame hidden-frame-keeps-size frame-of-part-pixels reach-of-empty-boxes
     reach-with-margins reach-with-padding scroll-of-part-pixels observe-again first-size offset-of-moved-box frame-order stored-offset
@@ -31,11 +31,11 @@ FIREFOX = ALL_THREE | {CALLBACKS_OF_THE_STEP, DEAD_READS_THROW, EMPTY_ROOTS_COUN
     ratio-resize-event device-pixels-by-place queue-after-unobserve listener-of-adopted-element frame-callback-late told-of-dead-root
     told-by-own-document resize-observers-by-use intersection-observers-by-use lengths-at-a-ratio depth-with-document
     frame-made-anew'''.split())
-WEBKIT = ALL_THREE | {EMPTY_ROOTS_COUNT_NOTHING, FIRST_USE_COUNTS, SCROLLS_ARE_CUT, FRAMES_IN_TIME, CROSSED_IS_TURNED, LENGTHS_ARE_CUT,
-                      EVERY_ROOT, QUERIES_IN_UPDATE, SIZES_OF_GATHERING} | set('''depth-at-gathering
-    crossed-root entries-before-tasks told-in-the-update margin-of-part-pixels scroll-margin-below-a-root queries-of-empty-page
-    resize-observers-by-use intersection-observers-by-use boxes-in-a-hidden-frame disconnected-as-root-ends
-    clips-of-border-boxes callback-out-of-view static-place-read'''.split())
+WEBKIT = ALL_THREE | {CROSSED_IS_TURNED, DEAD_ROOTS_OF_A_LIST, EMPTY_ROOTS_COUNT_NOTHING, EVERY_ROOT, FIRST_USE_COUNTS, FRAMES_IN_TIME,
+                      LENGTHS_ARE_CUT, QUERIES_IN_UPDATE, SCROLLS_ARE_CUT, SIZES_OF_GATHERING} | set('''
+    depth-at-gathering crossed-root entries-before-tasks told-in-the-update margin-of-part-pixels scroll-margin-below-a-root
+    queries-of-empty-page resize-observers-by-use intersection-observers-by-use boxes-in-a-hidden-frame disconnected-as-root-ends
+    told-of-dead-root clips-of-border-boxes callback-out-of-view static-place-read'''.split())
 CLASSES = {'chromium': CHROMIUM, 'firefox': FIREFOX, 'webkit': WEBKIT}
 NUMBER = re.compile(r'-?\d+(?:\.\d+)?(?:/\d+)?')
 # Pixels, by which sums of sixtieths, percentages of margins, and lengths of a script that sets a ratio may differ.
@@ -55,6 +55,35 @@ def run(text, classes, told=(), order=None):
     model = Model(script_of(text), classes, told, order)
     model.run()
     return model
+
+
+class Another(Exception):
+    """A line that isn't the browser's."""
+
+
+class Compared(list):
+    """The lines of a run that is left at the first one that isn't the browser's."""
+
+    def __init__(self, told, engine, text):
+        super().__init__()
+        self.told, self.engine, self.may_be_near = told, engine, engine != 'chromium' or RATIO.search(text)
+
+    def append(self, line):
+        place = len(self)
+        if place == len(self.told) or line != self.told[place] and not (self.may_be_near and near(line, self.told[place], self.engine)):
+            raise Another
+        super().append(line)
+
+
+def gives(text, classes, told, engine, order):
+    """Whether the model gives the browser's trace."""
+    model = Model(script_of(text), classes, told, order)
+    model.lines = Compared(told, engine, text)
+    try:
+        model.run()
+    except Another:
+        return False
+    return len(model.lines) == len(told)
 
 
 def by_rules(text):
@@ -109,12 +138,16 @@ def classes_of(text, engine, told):
         return None
     needed = set(first.noticed)
     for name in sorted(first.met):
-        without = run(text, CLASSES[engine] - {name}, told, order)
-        if not alike(without.lines, told, engine, text):
+        if not gives(text, CLASSES[engine] - {name}, told, engine, order):
             needed.add(name)
     if first.lines != told:
         needed.add(PARTS[engine])
-    return needed or one_of(text, engine, told, order, first.met) or {'round-lines'}
+    return needed or one_of(text, engine, told, order, first.met) or named(one_of(text, engine, told, order, CLASSES[engine])) or {'round-lines'}
+
+
+def named(classes):
+    """Those that aren't ways of an engine to have another one."""
+    return {name for name in classes if ' ' not in name}
 
 
 def one_of(text, engine, told, order, names):

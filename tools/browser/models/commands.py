@@ -7,10 +7,13 @@ from reference.world import ACTIVE, Document, Element, preorder, tree_document
 
 from .layout import FIRST_FRAME, ONE, PIXEL, whole
 from .rounds import NEVER
-from .traits import (DEAD_READS_THROW, FIRST_USE_COUNTS, FRAMES_BEGIN_AS_THEY_COME, FRAMES_IN_TIME, HIDDEN_READS_NOTHING, NOTHING_FOR_DETACHED, QUEUES_WAIT,
-                     SCROLLS_ARE_CUT, WINDOWS_READ_AT_ONCE)
+from .traits import (DEAD_READS_THROW, FIRST_USE_COUNTS, FRAMES_BEGIN_AS_THEY_COME, FRAMES_IN_TIME, HIDDEN_READS_NOTHING,
+                     NOTHING_FOR_DETACHED, QUEUES_WAIT, SCROLLS_ARE_CUT, WINDOWS_READ_AT_ONCE)
 
 SCROLLING = ('hidden', 'scroll', 'auto')
+# By which property the tool sets each field as it makes an element: what is set by another one is a change, whatever its value.
+GIVEN = dict([(name, name) for name in ('display', 'box-sizing', 'min-width', 'min-height')] + [
+    (edge + side, edge) for edge in ('margin', 'padding') for side in ('-top', '-right', '-bottom', '-left')])
 
 
 class Commands:
@@ -106,15 +109,21 @@ class Commands:
         # A window that is scrolled to its begin isn't laid out for it.
         if left or top or not isinstance(thing, Document):
             self.lay_out_for_scrolling(thing)
-        EFFECTS['scroll'](self, command, thing, *self._whole_position(left, top))
-        self.anchor_anew(thing)
-        self.view_changes()
+        self.scroll_anew('scroll', command, thing, left, top)
 
     def do_scroll_by(self, command, thing, left, top):
         self.lay_out_for_scrolling(thing)
-        EFFECTS['scroll-by'](self, command, thing, *self._whole_position(left, top))
-        self.anchor_anew(thing)
-        self.view_changes()
+        self.scroll_anew('scroll-by', command, thing, left, top)
+
+    def scroll_anew(self, name, command, thing, left, top):
+        scrolled = thing.root_of if isinstance(thing, Element) and thing.root_of is not None else thing
+        before = scrolled.scroll
+        EFFECTS[name](self, command, thing, *self._whole_position(left, top))
+        if scrolled.scroll != before:
+            # The event of this place is the only one.
+            self.late_scrolls = [late for late in self.late_scrolls if late[0] is not scrolled]
+            self.view_changes()
+        self.anchor_anew(scrolled)
 
     def lay_out_for_scrolling(self, thing):
         if isinstance(thing, Document):
@@ -123,8 +132,6 @@ class Commands:
             self.lay_out(thing.document)
 
     def anchor_anew(self, thing):
-        if isinstance(thing, Element) and thing.root_of is not None:
-            thing = thing.root_of
         where = thing if isinstance(thing, Document) else tree_document(thing)
         if where is not None and where.state is ACTIVE:
             self.anchors.scrolls(thing)
@@ -134,14 +141,19 @@ class Commands:
         EFFECTS['set'](self, command, node, property_, declaration)
         self.anchors.changes(node, property_)
         self.changed_in(node.document)
-        if node.style != style:
+        given = self.given.setdefault(node, dict(GIVEN))
+        if node.style != style or any(given.get(field) != property_ for field in declaration[0]):
             self.changed_documents.add(tree_document(node))
+        given.update({field: property_ for field in declaration[0]})
+        if node.style != style:
             self.touched.add(node)
         if 'absolute' in (style['position'], node.style['position']) and style['position'] != node.style['position']:
             # What becomes absolute, or ceases to be, has all laid out.
             self.touched.add(None)
         if property_ == 'overflow' and (style['overflow'] in SCROLLING) != (node.style['overflow'] in SCROLLING):
             self.made_anew(node)
+            if node.style['overflow'] in SCROLLING:
+                self.new_scrollers.add(node)
 
     def made_anew(self, node):
         """An element becomes a scroll container or ceases to be one: its box and those in it are made anew."""

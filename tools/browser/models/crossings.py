@@ -4,8 +4,8 @@ from reference.lengths import percentage
 from reference.world import ACTIVE, Document, Element, tree_document
 
 from .layout import PIXEL, whole
-from .traits import (CROSSED_IS_TURNED, EVERY_ROOT, IMPLICIT_ROOT, LENGTHS_ARE_CUT, LENGTHS_ARE_FLOORED, PERCENTAGES_ARE_CUT,
-                     QUEUES_WAIT, SCROLLING_ROOT_UNTOLD)
+from .traits import (CROSSED_IS_TURNED, DEAD_ROOTS_OF_A_LIST, EVERY_ROOT, IMPLICIT_ROOT, LENGTHS_ARE_CUT, LENGTHS_ARE_FLOORED,
+                     PERCENTAGES_ARE_CUT, QUEUES_WAIT, SCROLLING_ROOT_UNTOLD)
 
 
 class Margins:
@@ -128,12 +128,13 @@ class Crossings:
         out, is left for the next update; one around which something has changed stands as it was laid out."""
         found = {document: self.found_in(document) for document in documents}
         self.changed_documents.clear()
+        self.broken.clear()
         for document in documents:
             if document.state is not ACTIVE or document in self.changed_documents:
                 continue
             around = self.is_changed_around(document)
             self.intersections(document, found[document] if around else ())
-            self.tell_all([observer for observer in self.observers_of(document) if observer.queue])
+            self.tell_all([observer for observer in self.observers_of(document) if observer.queue], self.has(DEAD_ROOTS_OF_A_LIST))
 
     def is_changed_around(self, document):
         while document.frame is not None:
@@ -270,14 +271,14 @@ class Crossings:
         """Whether an observer is in no document's list, as it has no target any more; its entries stay."""
         return not observer.registrations and self.has(QUEUES_WAIT) and self.differs('queue-after-unobserve')
 
-    def tell_all(self, waiting):
+    def tell_all(self, waiting, also_of_dead_roots=False):
         begun = set()
         while waiting:
             # A document's observers are told together, also as it ends meanwhile.
             chosen = next((observer for observer in waiting if observer.document in begun and observer.document.state is not ACTIVE), None)
             chosen = chosen or self.next_of(waiting)
             waiting.remove(chosen)
-            if self.is_told(chosen):
+            if self.is_told(chosen, also_of_dead_roots):
                 entries, chosen.queue = chosen.queue, []
                 stands = chosen.document.state is ACTIVE
                 self.tell_entries(chosen, entries, begun)
@@ -312,7 +313,7 @@ class Crossings:
             entry.time = self.world.clock
         return entries
 
-    def is_told(self, observer):
+    def is_told(self, observer, also_of_dead_roots):
         """Whether an observer with entries is told them, though its root may have gone meanwhile."""
         if self.has('told-by-own-document'):
             return True
@@ -320,7 +321,7 @@ class Crossings:
         document = root if isinstance(root, Document) else self.world.top if root is None else tree_document(root)
         if document is None:
             return self.differs('root-removed')
-        return document.state is ACTIVE or self.differs('told-of-dead-root')
+        return document.state is ACTIVE or (also_of_dead_roots or not self.has(DEAD_ROOTS_OF_A_LIST)) and self.differs('told-of-dead-root')
 
     def _as_told(self, entries, after):
         """Entries in the order of the browser's trace."""

@@ -3,7 +3,7 @@ import collections
 
 from reference.layout import BORDER, CONTENT, DEVICE, FRAME_WIDTH, Layout
 from reference.lengths import AUTO
-from reference.world import ACTIVE, Element, World, tree_document
+from reference.world import ACTIVE, Element, World, preorder, tree_document
 
 from .traits import EMPTY_ROOTS_COUNT_NOTHING, ONE_PIXEL_AT_LEAST, ROOT_MARGINS_COUNT
 
@@ -256,7 +256,8 @@ class EngineWorld(World):
                   if isinstance(observer.root, Element) and observer.registrations]
         super().insert(parent, node, sibling)
         self.page.inserted(node)
-        for observer, document in rooted:
+        moved = {inner: place for place, inner in enumerate(preorder(node))}
+        for observer, document in sorted(rooted, key=lambda known: moved.get(known[0].root, 0)):
             if observer.root.document is not document and not self.page.has('told-by-own-document'):
                 self.page.comes_last(observer)
 
@@ -264,6 +265,7 @@ class EngineWorld(World):
         stood, where, rooted = node.parent is not None or node.root_of is not None, tree_document(node), node.root_of
         if where is not None and self.page.has('told-in-the-update') and self.layout.has_box(node):
             self.page.changed_documents.add(where)
+            self.page.broken.add(where)
         super().remove(node)
         if stood:
             self.page.removed(node, where)

@@ -10,7 +10,7 @@ from .commands import Commands
 from .crossings import Crossings
 from .layout import EngineWorld
 from .rounds import Rounds
-from .traits import FRAMES_IN_TIME
+from .traits import EMPTY_PAGES_LAY_OUT, FRAMES_IN_TIME
 from .viewports import Viewports
 
 
@@ -42,9 +42,12 @@ class Model(Commands, Viewports, Rounds, Crossings, Page):
         self.touched = set()              # elements that have changed since the last layout; None where all is to be laid out
         self.laid_places = {}             # boxes out of flow and those in them -> where they were then
         self.asked = set()                # documents that have asked for a frame callback
+        self.new_scrollers = set()        # elements that became scroll containers since the last layout
         self.slowed = set()               # those of them that were out of view as something around them was laid out
         self.ended = set()                # documents that stand no longer
         self.changed_documents = set()    # that aren't laid out since a change
+        self.broken = set()               # those of them that a box is gone from
+        self.given = {}                   # element -> its fields -> the property by which each was set
         self.failed = set()               # documents with an error in this update: it comes once
         self.all_resize_observers = []
         self.tool_saw = {}                # resize observer -> target -> the size that the tool saw reported last, or None
@@ -112,16 +115,22 @@ class Model(Commands, Viewports, Rounds, Crossings, Page):
         update._run_timers(self)
         self.update_the_rendering()
         self.run_tasks()
+        if self.has(EMPTY_PAGES_LAY_OUT):
+            self.lay_out_pages()
         self.end_round()
+
+    def lay_out_pages(self):
+        """New pages in frames lay themselves out, each in a task of its own."""
+        for document in self.new_documents + [tree_document(frame) for frame in self.refilled if tree_document(frame) is not None]:
+            self.lay_out(document)
+        self.new_documents, self.refilled = [], []
 
     def update_the_rendering(self):
         if self.has(FRAMES_IN_TIME):
             self.lay_out_all()
             for document in self.insertions:
                 self.known.setdefault(document, (0, 0))
-        for document in self.new_documents + [tree_document(frame) for frame in self.refilled if tree_document(frame) is not None]:
-            self.lay_out(document)
-        self.new_documents, self.refilled = [], []
+        self.lay_out_pages()
         documents = self.documents_in_order()
         awake = {document for document in documents if self.has_work(document)}
         for part in (self.resize_steps, self.scroll_steps, self.media_steps):

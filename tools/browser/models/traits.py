@@ -19,8 +19,10 @@ LENGTHS_ARE_FLOORED, LENGTHS_ARE_CUT, PERCENTAGES_ARE_CUT = 'lengths are floored
 SCROLLING_ROOT_UNTOLD, IMPLICIT_ROOT, EVERY_ROOT = 'a root that scrolls, untold', 'the implicit root', 'every root'
 # Of scroll anchoring: where the box is gone another one is chosen by the places of the last layout.
 ANCHORS_BEFORE_LAYOUT = 'anchors before layout'
-# Of frames that are put in again: the empty page in one lays out what is around it before the update.
+# Of frames that are put in again: the empty page in one lays out what is around it, as any new page does, before the next commands run.
 EMPTY_PAGES_LAY_OUT = 'empty pages lay out'
+# Of entries of an observer whose root's document has ended: they are told where it ended as observers of this document were told.
+DEAD_ROOTS_OF_A_LIST = 'dead roots of a list'
 # Of moved boxes: events that wait go with them, and a document without its root element is at its begin.
 EVENTS_GO_WITH_BOXES = 'events go with boxes'
 # Of query lists: in a frame that wasn't laid out yet they are made by its natural size.

@@ -145,10 +145,12 @@ class Viewports:
         """`told` are the documents that are told the size of their frames, where it isn't all."""
         layout = self.world.layout
         if document in self.changed_documents and self.has(FRAMES_IN_TIME):
-            self.changed_documents -= self.inside(document)
+            self.changed_documents -= self.laid_inside(document)
             self.view_changes()
+            self.new_scrollers = {node for node in self.new_scrollers if node.document is not document}
         self.places_in(document)
         self.changed_documents.discard(document)
+        self.broken.discard(document)
         for inner in self.to_be_made.pop(document, ()):
             if inner.state is ACTIVE and inner in self.known and layout.has_box(inner.frame) and self.differs('frame-made-anew'):
                 self.resized.add(inner)
@@ -180,10 +182,15 @@ class Viewports:
             holder, outer = self.world.layout.holder(holder), holder
         return outer if outer.root_of is None else None
 
-    def inside(self, document):
-        """The documents of frames in a document, and those in them: laid out with it where they wait for that."""
-        found = {inner for inner in self.insertions if inner.state is ACTIVE and inner.frame.document is document}
-        return found.union(*[self.inside(inner) for inner in found])
+    def laid_inside(self, document):
+        """The documents that are laid out with the one that they stand in: their frames have another size, or a box is gone from them. Where
+        something was set or put in alone, styles are to be found first, which waits."""
+        found, layout = set(), self.world.layout
+        for inner in self.insertions:
+            if inner.state is ACTIVE and inner.frame.document is document:
+                if inner in self.broken or layout.has_box(inner.frame) and self.known.get(inner) != layout.frame_size(inner):
+                    found |= {inner} | self.laid_inside(inner)
+        return found
 
     def see_frame(self, document, is_told):
         """A document is told the size of its frame, if that has a box as the page around it is laid out."""
@@ -292,8 +299,12 @@ class Viewports:
         layout = self.world.layout
         if document.frame is None or 0 in layout.viewport(document) or not layout.has_box(document.frame):
             return False
-        sees_all = intersection.RootRectangle(self.world, WINDOW)
-        return 0 in intersection_size(intersection.find(self.world, WINDOW, sees_all, document.frame).cut)
+        seen = intersection.find(self.world, WINDOW, intersection.RootRectangle(self.world, WINDOW), document.frame)
+        # What became a scroll container since the last layout doesn't clip yet.
+        seen.clips = [clip for clip in seen.clips if clip.thing not in self.new_scrollers]
+        seen.cut = intersection.NOTHING
+        intersection.measure(layout, seen)
+        return 0 in intersection_size(seen.cut)
 
     def resize_steps(self, document):
         fires = document in self.resized

@@ -6,6 +6,7 @@ use Rattle.loop_lint.specs.LoopHandlers.{loop_handler_lines}
 use Rattle.loop_lint.specs.Seen.{forbidden_by}
 use Rattle.loop_lint.specs.Searches.{lines_at}
 use Rattle.loop_lint.proofs.Searching.{searched-on, searched-found, searched-all, not-found, whole-lines, none-means}
+use Rattle.loop_lint.proofs.Promised.{promised}
 use Rattle.loop_lint.proofs.check.blame.Goals as goal
 
 pub returns-then-is_some-clause-line : goal.returns-then-is_some-clause-line
@@ -20,6 +21,9 @@ returns-then-is_some-clause-line c =
 
 pub returns-then-is_some-clause-none : goal.returns-then-is_some-clause-none
 returns-then-is_some-clause-none c = none-means c.blame_at-found.result _ (returns-then-is_some-clause-line c)
+
+pub returns-then-is_some-clause-promise : goal.returns-then-is_some-clause-promise
+returns-then-is_some-clause-promise c = promised c.args.law c.args.script.now.items c.blame_at-found.result (returns-then-is_some-clause-line c)
 
 pub loop-item-preserved : goal.loop-item-preserved
 loop-item-preserved c =
@@ -37,3 +41,6 @@ returns-clause-line c =
 
 pub returns-clause-none : goal.returns-clause-none
 returns-clause-none c = none-means _ _ (returns-clause-line c)
+
+pub returns-clause-promise : goal.returns-clause-promise
+returns-clause-promise c = promised c.args.law c.args.script.now.items _ (returns-clause-line c)
