@@ -164,7 +164,7 @@ pub fn number(word: &[u8]) -> Option<i64>
 
 /// Whether the word is `0`, or digits without a leading zero.
 #[tactic(auto, using(crate::proofs::Forms::is_whole_is))]
-fn is_whole(word: &[u8]) -> bool
+pub fn is_whole(word: &[u8]) -> bool
     ensures { result ≡ is_whole word.now }
 {
     if word.is_empty() || (begins_with(word, b'0') && word.len() > 1) {
