@@ -8,4 +8,5 @@ mod Spaces
 mod Impossible
 mod ReadLater
 mod ReadLaw
+pub mod LimitsMet
 pub mod Named

@@ -7,6 +7,7 @@ pub mod LastWords
 pub mod Lookups
 pub mod Opened
 pub mod Queries
+pub mod Refusals
 pub mod Reversed
 pub mod Walked
 pub mod WholeTexts

@@ -1,6 +1,6 @@
 ghost use Rattle.std.specs.Prelude.{◌≡◌};
 ghost use Rattle.text_io.specs.Kinds.{version_word, limit_word, throw_word, event_word};
-ghost use Rattle.text_io.specs.Limits.{by_version, limit_number, common_limit};
+ghost use Rattle.text_io.specs.Limits.{by_version, limit_number, common_limit, IsCommon};
 
 /// A version of the script language. A script names it in its first line.
 #[derive(Clone, Copy, Debug, PartialEq, Eq, Hash)]
@@ -133,8 +133,9 @@ impl LimitKind {
         }
     }
 
-    /// The same where no version is known: for the limits that are the same in each.
+    /// The number of a limit that is the same in each version, as those are that are met before the version is known.
     pub fn common(&self) -> u64
+        requires { IsCommon self.now }
         ensures { result ≡ common_limit self.now }
     {
         self.number(Version::First)
