@@ -157,9 +157,9 @@ pub enum Declaration {
 #[derive(Clone, Copy, Debug, PartialEq, Eq, Error)]
 pub enum StyleFault {
     /// There is no property of this name.
-    #[error("UnknownProperty")]
+    #[error("there is no property of this name")]
     UnknownProperty,
     /// The property has no such value.
-    #[error("BadValue")]
+    #[error("the property has no such value")]
     BadValue,
 }

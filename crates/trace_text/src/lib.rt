@@ -86,6 +86,6 @@ pub enum TraceLine {
 #[derive(Clone, Copy, Debug, PartialEq, Eq, Error)]
 pub enum TraceFault {
     /// No line has this text.
-    #[error("NotALine")]
+    #[error("not the text of a trace line")]
     NotALine,
 }
