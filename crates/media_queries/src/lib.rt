@@ -19,6 +19,7 @@ use crate::queries::{MediaQuery, ReadFault};
 use px_units::Size;
 use std::alloc::{AllocError, Global};
 use std::marker::Model;
+pub use texts::push_length;
 use thiserror::Error;
 
 /// A media query list.

@@ -14,7 +14,7 @@ use px_units::{Point, Rect, Size};
 pub use read::read_line;
 use text_io::{LimitKind, Name, ThrowKind};
 use thiserror::Error;
-pub use write::write_line;
+pub use write::{push_field, push_number, push_rect, write_line};
 
 /// An event that is fired.
 #[derive(Clone, Copy, Debug, PartialEq, Eq)]
