@@ -10,3 +10,4 @@ mod ReadLater
 mod ReadLaw
 pub mod LimitsMet
 pub mod Named
+pub mod Keyed

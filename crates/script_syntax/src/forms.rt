@@ -208,12 +208,12 @@ impl Words<'_> {
     }
 
     /// `resize`, `scroll`, `error` or `change`
-    #[tactic(auto, unfolding(script_model::specs::Forms::part_as))]
+    #[tactic(auto, unfolding(script_model::specs::Forms::part_as), using(script_model::proofs::Keyed::event_named))]
     pub fn event(&mut self) -> Result<EventKind, LineFault>
         ensures { Gives (λ event. (event, self.new)) result (part_as EventForm self.old) }
     {
         let word = self.next()?;
-        match tables::event(word.text) {
+        match EventKind::named(word.text) {
             Some(event) => Ok(event),
             None => Err(LineFault::At {
                 column: word.column,

@@ -236,12 +236,12 @@ pub fn version(words: &mut Words<'_>) -> Result<Version, LineFault>
 }
 
 /// The word for a version.
-#[tactic(auto, unfolding(script_model::specs::Forms::word_as))]
+#[tactic(auto, unfolding(script_model::specs::Forms::word_as), using(script_model::proofs::Keyed::version_named))]
 fn version_word(words: &mut Words<'_>) -> Result<Version, LineFault>
     ensures { Gives (λ version. (version, words.new)) result (word_as (lookup versions) words.old) }
 {
     let word = words.next()?;
-    match tables::version(word.text) {
+    match Version::named(word.text) {
         Some(version) => Ok(version),
         None => Err(LineFault::At {
             column: word.column,

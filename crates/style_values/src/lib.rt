@@ -7,6 +7,7 @@ mod lengths;
 mod properties;
 mod styles;
 
+pub use keywords::lookup;
 pub use properties::first_version;
 use px_units::{Length, Px};
 use thiserror::Error;

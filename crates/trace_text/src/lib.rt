@@ -9,6 +9,7 @@ mod lengths;
 mod read;
 mod write;
 
+pub use kinds::LineKind;
 pub use laws::{line_ends_once, text_has_one_line, value_is_a_line};
 use px_units::{Point, Rect, Size};
 pub use read::read_line;
