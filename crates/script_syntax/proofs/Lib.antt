@@ -5,6 +5,7 @@ pub mod Handlers
 pub mod Joined
 pub mod LastWords
 pub mod Lookups
+pub mod NextWords
 pub mod Opened
 pub mod Queries
 pub mod Refusals
