@@ -71,7 +71,7 @@ pub fn skip(text: &[u8]) -> &[u8]
     &[]
 }
 
-/// What stands behind one or more.
+/// What stands behind one or more spaces and tabs.
 #[tactic(auto, unfolding(script_model::specs::Media::gap_at))]
 pub fn gap_at(text: &[u8]) -> Result<&[u8], Stopped>
     ensures { rest_of result ≡ gap_at text.now }

@@ -41,7 +41,7 @@ fn digit_at(most: u64, value: u64, text: &[u8]) -> Result<(u64, &[u8]), Stopped>
     }
 }
 
-/// The same with up to so many more digits.
+/// The number that this one gives with up to `places` more digits, and what stands behind them.
 #[tactic(auto, using(crate::proofs::Digits::digits_on, crate::proofs::Digits::digits_stop, crate::proofs::Digits::digits_end))]
 fn digits_at(places: usize, most: u64, first: u64, text: &[u8]) -> (u64, &[u8])
     requires largest { most ≤ 100000000 }

@@ -47,7 +47,7 @@ fn aim_named(text: &[u8]) -> Option<Aim>
     node_named(text).map(Aim::Plain)
 }
 
-/// Whether a version has what this is the first version of.
+/// Whether a version has what `first` is the first version to have, None for what none has.
 fn has(version: Version, first: Option<Version>) -> bool
     ensures { result ≡ reads version first }
 {

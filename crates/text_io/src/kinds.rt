@@ -12,7 +12,6 @@ pub enum Version {
 }
 
 impl Version {
-    /// All of them.
     pub const ALL: [Version; 2] = [Version::First, Version::Second];
 
     /// The word for it in a script's first line.
@@ -92,7 +91,6 @@ fn by_version(version: Version, first: u64, second: u64) -> u64
 }
 
 impl LimitKind {
-    /// All of them.
     pub const ALL: [LimitKind; 19] = [
         LimitKind::Script,
         LimitKind::Line,
@@ -208,7 +206,6 @@ pub enum ThrowKind {
 }
 
 impl ThrowKind {
-    /// All of them.
     pub const ALL: [ThrowKind; 6] = [
         ThrowKind::ReferenceError,
         ThrowKind::TypeError,
@@ -258,7 +255,6 @@ pub enum EventKind {
 }
 
 impl EventKind {
-    /// All of them.
     pub const ALL: [EventKind; 4] = [
         EventKind::Resize,
         EventKind::Scroll,

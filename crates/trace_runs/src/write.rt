@@ -43,7 +43,7 @@ pub fn write_one<K: Sink>(alloc: Global, line: &TraceLine, sink: &mut K) -> Resu
     write_text(sink, &text)
 }
 
-/// Writes that the command on a line threw, and answers `Thrown`. Refused as `write_one`.
+/// Writes that the command on a line threw, and answers `Thrown`. The faults are those of `write_one`.
 pub fn write_throw<K: Sink>(
     alloc: Global,
     line: u32,

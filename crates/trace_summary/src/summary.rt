@@ -95,7 +95,7 @@ impl Summary {
         Ok(summary)
     }
 
-    // The line with this text.
+    // Counts the line with this text.
     fn count(&mut self, text: &[u8]) -> Result<(), TraceFault>
         requires { HasRoom self.old }
         ensures ok { OnOk result ((line : LineModel) × IsLine line × (line_text line ≡ text.now) × (self.new ≡ with_line line self.old)) }
@@ -110,7 +110,7 @@ impl Summary {
         }
     }
 
-    // A line more.
+    // Counts a line.
     fn add(&mut self, line: &TraceLine)
         requires { HasRoom self.old }
         ensures { self.new ≡ with_line (seen_line line.now) self.old }

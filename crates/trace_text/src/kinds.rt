@@ -27,7 +27,7 @@ pub enum LineKind {
 }
 
 impl LineKind {
-    /// All of them, in their order.
+    /// In the order of a summary.
     pub const ALL: [LineKind; 14] = [
         LineKind::Tick,
         LineKind::Timer,
@@ -67,7 +67,7 @@ impl LineKind {
         }
     }
 
-    /// That of a line.
+    /// The kind of a line.
     pub fn of(line: &TraceLine) -> LineKind
         ensures { kind_word result ≡ kind_text (seen_line line.now) }
     {
