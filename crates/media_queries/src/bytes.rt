@@ -1,7 +1,6 @@
 //! Readers of single bytes and words.
 
 ghost use Rattle.std.specs.Prelude.{◌≡◌};
-ghost use Rattle.script_model.specs.Readers.{is_empty};
 ghost use Rattle.script_model.specs.Media.{byte_at, word_at, is_blank, skip, gap_at, colon_at};
 ghost use Rattle.media_queries.specs.Seen.{rest_of};
 
@@ -10,17 +9,6 @@ ghost use Rattle.media_queries.specs.Seen.{rest_of};
 pub struct Stopped {
     /// The number of bytes that are left there; 0 is the end of the text.
     pub left: usize,
-}
-
-/// Whether no byte is left.
-#[tactic(auto, unfolding(script_model::specs::Readers::is_empty))]
-pub fn is_end(text: &[u8]) -> bool
-    ensures { result ≡ is_empty text.now }
-{
-    match text {
-        [_, ..] => false,
-        [] => true,
-    }
 }
 
 /// What stands behind this byte.

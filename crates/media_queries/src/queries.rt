@@ -4,7 +4,7 @@ ghost use Rattle.std.specs.Prelude.{◌≡◌, map, IfOk};
 ghost use Rattle.script_model.specs.Media.{medium_at, query_ends, joined_at, others_at, typed_at, all_at, any_at, features_from, condition_at, not_feature_at, not_at, only_at, query_at, queries_at};
 ghost use Rattle.media_queries.specs.Seen.{medium_of, prefix_of, feature_of, query_of, next_of, read_of, Reads, ReadsAll};
 
-use crate::bytes::{Stopped, byte_at, gap_at, is_end, skip, word_at};
+use crate::bytes::{Stopped, byte_at, gap_at, skip, word_at};
 use crate::features::{Feature, feature_at};
 use std::alloc::{AllocError, AllocFailed, Global};
 use word_model::begins_with;
@@ -108,7 +108,7 @@ fn joined_at<'a>(joint: &[u8], text: &'a [u8]) -> Result<(Feature, &'a [u8]), St
 }
 
 /// The features that are so joined, up to the end of the query.
-#[tactic(auto, using(crate::proofs::Joined::more_first))]
+#[tactic(auto, using(crate::proofs::Joined::none_behind))]
 fn others_at<'a>(
     alloc: Global,
     joint: &[u8],
@@ -118,11 +118,7 @@ fn others_at<'a>(
 {
     let mut features = Vec::new(alloc);
     let mut rest = text;
-    // each turn reads a byte at least
-    for turn in 0..text.len() + 1 {
-        if query_ends(rest) {
-            return Ok((features, rest));
-        }
+    while !query_ends(rest) {
         let (feature, behind) = joined_at(joint, rest)?;
         features.push(feature)?;
         rest = behind;
@@ -242,11 +238,7 @@ pub fn queries_at(alloc: Global, text: &[u8]) -> Result<Vec<MediaQuery>, ReadFau
     let (first, mut rest) = query_at(alloc, text)?;
     let mut queries = Vec::new(alloc);
     queries.push(first)?;
-    // each turn reads a byte at least
-    for turn in 0..text.len() + 1 {
-        if is_end(rest) {
-            return Ok(queries);
-        }
+    while !rest.is_empty() {
         let (query, behind) = next_query(alloc, rest)?;
         queries.push(query)?;
         rest = behind;
