@@ -235,9 +235,10 @@ fn next_query(alloc: Global, text: &[u8]) -> Result<(MediaQuery, &[u8]), ReadFau
 pub fn queries_at(alloc: Global, text: &[u8]) -> Result<Vec<MediaQuery>, ReadFault>
     ensures { ReadsAll (λ queries. map query_of queries.items) result (queries_at text.now) }
 {
-    let (first, mut rest) = query_at(alloc, text)?;
+    let (first, others) = query_at(alloc, text)?;
     let mut queries = Vec::new(alloc);
     queries.push(first)?;
+    let mut rest = others;
     while !rest.is_empty() {
         let (query, behind) = next_query(alloc, rest)?;
         queries.push(query)?;
