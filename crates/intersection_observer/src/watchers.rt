@@ -27,10 +27,10 @@ use thresholds::{Margins, Thresholds};
 #[derive(Clone, Copy, Debug, PartialEq, Eq, Error)]
 pub enum WatchFault {
     /// As many as there may be are there.
-    #[error("Limit")]
+    #[error("as many as there may be are there")]
     Limit,
     /// There is no memory.
-    #[error("Memory")]
+    #[error("out of memory")]
     Memory,
 }
 

@@ -20,10 +20,10 @@ use thiserror::Error;
 #[derive(Clone, Copy, Debug, PartialEq, Eq, Error)]
 pub enum ObserveFault {
     /// As many as there may be are there.
-    #[error("Limit")]
+    #[error("as many as there may be are there")]
     Limit,
     /// There is no memory.
-    #[error("Memory")]
+    #[error("out of memory")]
     Memory,
 }
 

@@ -14,8 +14,8 @@ ghost use Rattle.word_model.specs.Numbers.{decimal};
 ghost use Rattle.media_queries.specs.LengthText.{length_text};
 
 use crate::declarations::push_declaration;
-use crate::numbers::{push_length, push_number, push_percent, push_signed};
-use media_queries::Query;
+use crate::numbers::{push_number, push_percent, push_signed};
+use media_queries::{Query, push_length};
 use px_units::{BoxKind, Percent};
 use script_syntax::{Aim, Axis, IoMaking, MarginText, NumberList, Operand};
 use std::alloc::AllocError;

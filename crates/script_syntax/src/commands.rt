@@ -162,7 +162,7 @@ pub enum Action {
     Read(Operand),
 }
 
-/// What a command of a block or handler is, and one that stands outside and isn't a `tick`.
+/// A command without a block, or a block with its commands. `tick` is neither.
 #[cycle(commands)]
 #[derive(Drop)]
 pub enum What {

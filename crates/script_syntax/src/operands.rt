@@ -60,7 +60,7 @@ pub enum Test {
     Seen,
 }
 
-/// A test, turned round behind `not`.
+/// A test, negated behind `not`.
 #[derive(Clone, Copy, Debug, PartialEq, Eq)]
 pub struct Condition {
     pub negated: bool,
