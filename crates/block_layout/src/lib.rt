@@ -15,7 +15,7 @@ pub use fresh::fresh_box;
 pub use held::{Boxes, FreshBoxes};
 use px_units::Size;
 pub use reach::overflow_reach;
-pub use trees::Styled;
+pub use trees::{Styled, first_inner, is_block, is_clipping, is_hidden, is_scroll_container};
 
 /// What a box takes from above: the width of the containing block, and its height where that is definite (CSS 2.2, 10.1
 /// and 10.5). Each is from 0 to 2,147,483,647 units.

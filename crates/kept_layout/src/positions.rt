@@ -16,8 +16,7 @@ ghost use Rattle.kept_layout.specs.Slots.{slot_in};
 
 use crate::Kept;
 use crate::slots::Slot;
-use crate::trees::is_scroller;
-use block_layout::{BoxOf, Styled};
+use block_layout::{BoxOf, Styled, is_scroll_container};
 use element_tree::{NodeId, Tree};
 use layout_model::capped;
 use positioned_layout::{Holder, flat_place, holder_of};
@@ -93,7 +92,7 @@ fn scroll_of<P: Styled, O: Offsets>(tree: &Tree<P>, offsets: &O, node: NodeId) -
     ensures across { result.across ≤ 2147483647 }
     ensures down { result.down ≤ 2147483647 }
 {
-    if is_scroller(tree, node) {
+    if is_scroll_container(tree, node) {
         unsigned(offsets.in_force(node))
     } else {
         Shift::NONE

@@ -2,7 +2,7 @@
 
 ghost use Rattle.std.specs.Prelude.{◌≡◌, ◌≢◌, ◌+◌, ◌<◌, ◌≤◌, ℕ, Bool, true, false, Option, Some, None, ◌||◌, length};
 ghost use Rattle.px_units.specs.Lengths.{cap};
-ghost use Rattle.layout_model.specs.Nodes.{is_in_path};
+ghost use Rattle.layout_model.specs.Nodes.{is_in_path, is_in_flow};
 ghost use Rattle.layout_model.specs.Boxes.{Inputs as InputsModel, box_in, inputs_in};
 ghost use Rattle.element_tree.specs.Forest.{IsForest, parent_of};
 ghost use Rattle.block_layout.specs.Seen.{seen_inputs};
@@ -16,10 +16,10 @@ ghost use Rattle.kept_layout.specs.Walks.{IsRefreshed, IsEntered, IsBroughtTo, I
 use crate::slots::{
     Found, Slot, has_outside, height_held, hold, inputs_held, is_due, set_above, set_mark,
 };
-use crate::trees::{first_inner, is_hidden, is_in_flow, position};
-use block_layout::{Inputs, Styled, child_inputs, compute_box};
+use block_layout::{Inputs, Styled, child_inputs, compute_box, first_inner, is_hidden};
 use element_tree::{NodeId, Tree};
 use layout_model::capped;
+use positioned_layout::position;
 use std::sync::ledger::Ledger;
 use step_count::Steps;
 use style_values::Position;
@@ -47,6 +47,17 @@ fn added(above: u64, height: u64) -> u64
     ensures bound { result ≤ 2147483647 }
 {
     capped(above + height)
+}
+
+// Whether a node's box is in flow.
+fn is_in_flow<P: Styled>(tree: &Tree<P>, node: NodeId) -> bool
+    requires { node.0 < length tree.now.nodes }
+    ensures { result ≡ is_in_flow (layout_tree P.style P.kind tree.now.nodes node.0) }
+{
+    match position(tree, node) {
+        Position::Static | Position::Relative => true,
+        Position::Absolute | Position::Fixed => false,
+    }
 }
 
 // Computes the boxes of a node with these inputs and in flow in it that are due, and holds them; it enters no box out of flow, but

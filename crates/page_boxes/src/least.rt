@@ -17,10 +17,9 @@ ghost use Rattle.block_layout.specs.Trees.{layout_tree};
 ghost use Rattle.page_boxes.specs.Fresh.{HoldsAll};
 ghost use Rattle.page_boxes.specs.Pages.{seen_pair};
 
-use crate::climb::is_hidden;
 use crate::documents::ShownRoot;
-use crate::ranges::{is_scroll_container, range_between};
-use block_layout::{BoxOf, Boxes, Styled};
+use crate::ranges::range_between;
+use block_layout::{BoxOf, Boxes, Styled, is_hidden, is_scroll_container};
 use element_tree::{NodeId, Tree};
 use kept_layout::{Kept, Shift};
 use layout_model::capped;

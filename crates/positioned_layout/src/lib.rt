@@ -10,7 +10,7 @@ mod reaches;
 
 use block_layout::Styled;
 use element_tree::NodeId;
-pub use holders::holder_of;
+pub use holders::{holder_of, position};
 pub use places::flat_place;
 use px_units::{Point, Size};
 pub use reaches::reach;
