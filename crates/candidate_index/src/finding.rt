@@ -36,8 +36,8 @@ const NO_RECT: Rect = Rect {
     bottom: 0,
 };
 
-// The implicit root is the viewport of the top document.
-pub(crate) fn spot_of_root(root: Root) -> Spot
+/// The spot of a root (Intersection Observer, 2.2): the implicit one is the viewport of the top document.
+pub fn spot_of_root(root: Root) -> Spot
     ensures { result ≡ spot_of_root (seen_root root) }
 {
     match root {

@@ -26,7 +26,7 @@ ghost use Rattle.kept_findings.specs.Registered.{AreHeld, AreRegistered};
 
 use crate::Looks;
 use crate::seen_scene::SeenScene;
-use candidate_index::{Index, Scene};
+use candidate_index::{Index, Scene, spot_of_root};
 use clip_chain::{Scrolls, Spot, Through};
 use element_tree::NodeId;
 use intersection_observer::{Finding, RegistrationId, Root, WatcherId, Watchers};
@@ -61,17 +61,6 @@ impl Model for KeptFindings {
     ghost coded = { Prim.hlevel (codes, pairs_code, index_code) };
 
     ghost view = { λ f. record { seen = f.seen; clips = f.clips; kept = f.index } };
-}
-
-// The implicit root is the viewport of the top document.
-pub(crate) fn spot_of_root(root: Root) -> Spot
-    ensures { result ≡ spot_of_root (seen_root root) }
-{
-    match root {
-        Root::Implicit => Spot::View(0),
-        Root::Document(document) => Spot::View(document),
-        Root::Node(node) => Spot::Node(node),
-    }
 }
 
 // The spot of an observer's root.
