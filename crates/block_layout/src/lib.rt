@@ -1,5 +1,5 @@
-//! Boxes of block layout (CSS 2.2, 8 to 11): their sizes, how far they reach, and places that hold them. All lengths are
-//! in units of 1/64 CSS pixel, and count by what they are without a sign.
+//! Boxes of block layout (CSS 2.2, 8 to 11): their sizes, how far they reach, and places that hold them. All lengths are in units of 1/64
+//! CSS pixel, by their absolute values.
 #![tactic(auto)]
 
 mod boxes;
@@ -22,7 +22,7 @@ pub use trees::{Styled, first_inner, is_block, is_clipping, is_hidden, is_scroll
 #[derive(Clone, Copy, Debug, PartialEq, Eq)]
 pub struct Inputs {
     pub width: i64,
-    /// None where it isn't known before the heights of the content.
+    /// None where it depends on the heights of the content.
     pub height: Option<i64>,
     /// Whether the box is in flow (CSS 2.2, 9.3), as each root element's is.
     pub flow: bool,

@@ -132,7 +132,7 @@ fn cut_to(bounds: Rect, limits: Rect, clip: Clip) -> Option<Rect>
     }
 }
 
-// What is found of a target of whose box so much is seen.
+// What is found of a target, by the part of its box that is seen.
 fn seen(thresholds: &Thresholds, bounds: Rect, cut: Option<Rect>, limits: Rect) -> Finding
     requires bounds { IsBounds bounds }
     requires inside { IfSome cut (LiesIn bounds) }

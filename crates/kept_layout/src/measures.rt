@@ -19,7 +19,7 @@ use layout_model::capped;
 use positioned_layout::{Measure, Measures};
 use px_units::BoxKind;
 
-/// The boxes that are kept for a tree, as placing measures them.
+/// The boxes that are kept for a tree, as `flat_place` and `reach` of `positioned_layout` measure them.
 #[derive(Drop)]
 pub struct KeptMeasures<'a, P: Styled> {
     tree: &'a Tree<P>,
@@ -27,9 +27,8 @@ pub struct KeptMeasures<'a, P: Styled> {
 }
 
 impl Kept {
-    /// What is measured of the boxes that are kept for a tree, for `flat_place` and `reach` of `positioned_layout`. Where each box in a
-    /// viewport is held as it is now, with the heights above it, each is measured so; and for the place of a node it is enough that its
-    /// own and those of its ancestors are. No memory.
+    /// What is measured of the boxes that are kept for a tree, for `flat_place` and `reach` of `positioned_layout`. Exact if each box in a
+    /// viewport is up to date (`refresh`); for the place of a node it is enough that its own box and those of its ancestors are. No memory.
     pub fn measures<'a, P: Styled>(&'a self, tree: &'a Tree<P>) -> KeptMeasures<'a, P>
         ensures tree { result.tree.now ≡ tree.now }
         ensures kept { result.kept.now ≡ self.now }

@@ -37,7 +37,7 @@ pub fn is_scroller(page: &PageTree, node: NodeId) -> bool
     has_box(page, node) && is_scroll_container(page.tree(), node)
 }
 
-// What is left of how far something reaches behind so much of it.
+// How much of a reach is beyond what is shown.
 fn behind(reach: i64, shown: i64) -> i64
     ensures value { result ≡ pos (cap (unsigned_abs reach - unsigned_abs shown)) }
     ensures range { IsLength result }
@@ -45,7 +45,7 @@ fn behind(reach: i64, shown: i64) -> i64
     capped(reach.unsigned_abs().saturating_sub(shown.unsigned_abs())) as i64
 }
 
-// The scrolling range of something that reaches so far and shows so much.
+// The scrolling range, by how far something reaches and how much of it is shown.
 pub(crate) fn range_between(reach: Size, shown: Size) -> Size
     ensures value { result ≡ as_size (capped (minus (seen_pair reach) (seen_pair shown))) }
     ensures range { IsRange result }
@@ -56,9 +56,9 @@ pub(crate) fn range_between(reach: Size, shown: Size) -> Size
     }
 }
 
-/// The scrolling range of a node that has a box (CSS Overflow 3, 2.2; CSSOM View: scrolling area): how far its content reaches
-/// beyond its padding box, 0 by 0 where it isn't a scroll container. It is so where the boxes in its view are held as they are now, and
-/// no length of that is above the largest one. No memory.
+/// The scrolling range of a node that has a box (CSS Overflow 3, 2.2; CSSOM View: scrolling area): how far its content reaches beyond its
+/// padding box, 0 by 0 where it isn't a scroll container. Exact as long as the boxes in its view are up to date (`refresh_in`) and no
+/// length of the view is above the largest one. No memory.
 ///
 /// It calls itself once a level of the tree below.
 pub fn boxed_range<P: Styled>(tree: &Tree<P>, boxes: &Kept, node: NodeId) -> Size
@@ -78,8 +78,8 @@ pub fn boxed_range<P: Styled>(tree: &Tree<P>, boxes: &Kept, node: NodeId) -> Siz
     range_between(reach, own.padding_size())
 }
 
-/// The scrolling range of the viewport in which a root element is shown (CSSOM View: scrolling area): how far the content reaches
-/// beyond the viewport. It is so where the boxes in its view are held as they are now. No memory.
+/// The scrolling range of the viewport in which a root element is shown (CSSOM View: scrolling area): how far the content reaches beyond
+/// the viewport. Exact as long as the boxes in its view are up to date (`refresh_in`). No memory.
 ///
 /// It calls itself once a level of the tree below.
 pub fn shown_range<P: Styled>(tree: &Tree<P>, boxes: &Kept, shown: ShownRoot) -> Size

@@ -24,7 +24,6 @@ pub fn position<P: Placed>(tree: &Tree<P>, node: NodeId) -> Position
     }
 }
 
-// Whether a node is positioned.
 pub(crate) fn is_positioned<P: Placed>(tree: &Tree<P>, node: NodeId) -> bool
     requires { node.0 < length tree.now.nodes }
     ensures value { (at : ℕ → Node) → AreNodesOf P.placed tree.now.nodes at → result ≡ is_positioned (at node.0) }

@@ -32,7 +32,7 @@ pub trait Placed {
         ensures range { IsStyle result.now };
 }
 
-// What is laid out as blocks is placed by the same style.
+// An element that is laid out by a style is placed by it too.
 impl<P: Styled> Placed for P {
     ghost placed = { P.style };
 
