@@ -18,7 +18,7 @@ pub(crate) const NO_RECT: Rect = Rect {
     bottom: 0,
 };
 
-// A rectangle in the viewport of a document that begins at `from`.
+// A rectangle in the viewport of a document that begins at `by`.
 fn moved_by(by: Point, rect: Rect) -> Rect
     requires by { IsOrigin 64 by }
     requires edges { AreEdges rect }
