@@ -3,8 +3,6 @@
 #![tactic(auto)]
 
 #[cfg(test)]
-mod anew;
-#[cfg(test)]
 mod block_layout_tests;
 #[cfg(test)]
 mod element_tree_tests;
