@@ -56,6 +56,9 @@ const ROUNDS: [(u64, i64, i64); 20] = [
     (4100, 2335180, 70715300),
 ];
 
+/// How many declarations there are to choose from.
+const CHOICES: u32 = 44;
+
 /// What an element may be told. What would leave few elements with a box, or all of them out of flow, is outweighed by its opposite.
 const DECLARATIONS: [(&str, &str); 44] = [
     ("width", "50%"),
@@ -194,7 +197,7 @@ fn restyle(
 )
     requires { node.0 < length tree.old.nodes }
 {
-    let (property, value) = DECLARATIONS[random.below(DECLARATIONS.len() as u32) as usize];
+    let (property, value) = DECLARATIONS[random.below(CHOICES) as usize];
     if node == ROOT && property == "display" {
         return;
     }
