@@ -62,7 +62,7 @@ impl Model for Index {
 }
 
 impl Index {
-    /// No registrations, which take no memory yet.
+    /// No registrations; it takes no memory yet.
     pub fn new(alloc: Global) -> Index
         ensures empty { result ≡ finite.empty }
         ensures found { (watchers : IntersectionObservers) → AreFound watchers result }
@@ -154,7 +154,7 @@ impl Index {
         Ok(stale)
     }
 
-    // Puts a registration last on a list if it is stale, for which there is room.
+    // Pushes a registration onto a list that has room for it, if it is stale.
     fn look<S: Scene, L: Ledger>(
         &self,
         scene: &S,

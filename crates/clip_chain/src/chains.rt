@@ -81,8 +81,9 @@ fn clipped_below<G: Geometry>(geometry: &G, target: Spot, root: Spot, first: Rec
     Some(common)
 }
 
-// The container of a spot, none where that is the root.
-fn container_below<G: Geometry>(geometry: &G, of: Spot, root: Spot) -> Option<Spot>
+/// The container of a spot, None where that is the root or there is none. So a chain is walked outwards from a spot up to its root. No
+/// memory.
+pub fn container_below<G: Geometry>(geometry: &G, of: Spot, root: Spot) -> Option<Spot>
     ensures next { IfSome result (λ next. ((G.scene geometry.now).container of ≡ Some next) × (¬ next ≡ root)) }
     ensures none { result ≡ None → ((G.scene geometry.now).container of ≡ None) ⊎ ((G.scene geometry.now).container of ≡ Some root) }
     ensures end { IfSome result (λ next. G.rank geometry.now next < G.rank geometry.now of) }

@@ -124,7 +124,6 @@ impl Sightings {
         }
     }
 
-    // Keeps what is seen of a spot.
     fn put(&mut self, of: Spot, sighting: Sighting)
         requires { HasRoom self.old of }
         ensures { self.new ≡ with_sighting of sighting self.old }

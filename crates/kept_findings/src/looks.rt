@@ -25,7 +25,6 @@ impl Model for Looks {
 }
 
 impl Looks {
-    // None was looked at.
     pub(crate) fn new(alloc: Global, sightings: &Sightings) -> Result<Looks, AllocError>
         ensures { IfOk result (λ looks. looks ≡ no_looks sightings.now) }
     {
@@ -46,7 +45,6 @@ impl Looks {
         }
     }
 
-    // Notes that a spot was looked at.
     pub(crate) fn note(&mut self, of: Spot)
         requires { HasPlace self.old of }
         ensures { self.new ≡ noted of self.old }

@@ -6,12 +6,11 @@ ghost use Rattle.clip_chain.specs.Worlds.{element_spot, spot_of_root};
 ghost use Rattle.clip_chain.specs.declared.spot.Spot.{Spot as SpotOf};
 ghost use Rattle.clip_chain.specs.Scenes.{Scene as SceneOf};
 ghost use Rattle.intersection_observer.specs.Places.{IsStanding};
-ghost use Rattle.intersection_observer.specs.Seen.{seen_root};
 ghost use Rattle.candidate_index.specs.Registrations.{observer_of, target_of, serials_at, IsReady};
 ghost use Rattle.observer_tests.specs.Sample.{sample, sample_standing, AreExact};
 
 use crate::common::{Page, Sides, change_clip, change_view, node, rect};
-use candidate_index::{Index, Standing};
+use candidate_index::{Index, Standing, spot_of_root};
 use clip_chain::{Spot, reaches};
 use element_tree::{DocumentId, NodeId};
 use intersection_observer::{Finding, RegistrationId, Root, WatcherId, Watchers};
@@ -163,16 +162,6 @@ fn make_two(alloc: Global, watchers: &mut Watchers) -> Result<(), Fail>
     watchers.observe(first, NodeId(4))?;
     watchers.observe(second, NodeId(6))?;
     Ok(())
-}
-
-fn spot_of_root(root: Root) -> Spot
-    ensures { result ≡ spot_of_root (seen_root root) }
-{
-    match root {
-        Root::Implicit => Spot::View(DocumentId(0)),
-        Root::Document(document) => Spot::View(document),
-        Root::Node(node) => Spot::Node(node),
-    }
 }
 
 // The spots of an observer's root and of a target.

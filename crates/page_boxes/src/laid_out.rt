@@ -1,4 +1,4 @@
-//! Which documents are laid out so far.
+//! Which documents have been laid out.
 
 ghost use Rattle.std.specs.Prelude.{◌≡◌, ◌<◌, false, true, replicate, slice_set};
 ghost use Rattle.page_boxes.specs.LaidOut.{is_marked};

@@ -35,7 +35,7 @@ fn root_inputs(viewport: Size) -> Inputs
     }
 }
 
-// Computes what is due of the boxes of an Active document, where those of the document around it are held as they are now.
+// Computes what is due of the boxes of an Active document, once those of the document around it are up to date.
 fn lay_out<L: Ledger>(
     boxes: &mut Kept,
     page: &PageTree,
@@ -96,8 +96,7 @@ fn lay_out_once<L: Ledger>(
     laid_out.mark(document);
 }
 
-// Lays out a document after the documents around it, each that isn't marked yet. So many frames are looked at, which lead up to
-// `top`.
+// Lays out a document after the documents around it, each that isn't marked yet, following `high` frames at most, which lead up to `top`.
 fn lay_out_up<L: Ledger>(
     boxes: &mut Kept,
     page: &PageTree,

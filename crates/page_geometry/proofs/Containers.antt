@@ -1,8 +1,7 @@
 -- The scene of a page, by what is read of it.
-use Rattle.std.proofs.Common.{◌≡◌, ◌≤◌, ◌<◌, ℕ, Bool, true, false, cond, nat_lt, length, Option, Some, None, option_map, refl, ap, sym, ◌∙◌}
+use Rattle.std.proofs.Common.{◌≡◌, ◌≤◌, ◌<◌, ℕ, true, false, cond, nat_lt, length, Option, Some, None, option_map, refl, ap, sym, ◌∙◌}
 use Rattle.std.specs.Prelude.{IfSome, ◌&&◌, not, is_some}
 use Rattle.layout_model.specs.Clips.{is_block, is_visible, is_clip, clips, is_scroll_container}
-use Rattle.layout_model.specs.Nodes.{Node as LayoutNode}
 use Rattle.page_model.specs.World.{Screen, Element, Tree, Scrolls}
 use Rattle.page_model.specs.Lookups.{document_at}
 use Rattle.page_model.specs.Documents.{InElement, nodes_of, element_depth}
@@ -23,13 +22,11 @@ missing_scrolls tree n past =
     ap (λ (it : Element).
     is_block it.item.kind && not (is_visible it.item.style.overflow) && is_some it.parent && not (is_clip it.item.style.overflow)) (missing_element tree n past)
 
--- a block that cuts its content
-pub clips_by : (node : LayoutNode) (result : Bool) → is_block node.item.kind ≡ true → not (is_visible node.item.style.overflow) ≡ true → result ≡ is_some node.parent
-    → result ≡ clips node
-clips_by node result block cuts is =
-    is
-    ∙ sym (ap (λ b. b && not (is_visible node.item.style.overflow) && is_some node.parent) block
-    ∙ ap (λ b. true && b && is_some node.parent) cuts)
+-- nor does its box clip
+pub missing_clips : (tree : Tree) (n : ℕ) → nat_lt n (length tree.elements) ≡ false → clips (nodes_of tree n) ≡ false
+missing_clips tree n past =
+    ap (λ (it : Element).
+    is_block it.item.kind && not (is_visible it.item.style.overflow) && is_some it.parent) (missing_element tree n past)
 
 module _ (tree : Tree) (screen : Screen) (scrolls : Scrolls) where
   abbrev scene : Scene

@@ -1,4 +1,4 @@
-//! What was found of the documents that were looked at.
+//! What was found of documents before a reading.
 
 ghost use Rattle.std.specs.Prelude.{◌≡◌, ◌<◌, Some, None, replicate, slice_set};
 ghost use Rattle.page_geometry.specs.Found.{found_at};

@@ -24,7 +24,7 @@ fn added(corner: Point, around: Point, frames: u32) -> Point
     }
 }
 
-// Where the viewport of a document begins, so many frames looked at.
+// Where the viewport of a document begins, following `high` frames at most.
 fn origin_up(shown: &Shown<'_>, document: DocumentId, high: u32) -> Point
     requires { high ≤ 64 }
     ensures value { result ≡ origin_up high shown.now document.0 }
@@ -44,9 +44,9 @@ fn origin_up(shown: &Shown<'_>, document: DocumentId, high: u32) -> Point
     added(corner, around, high - 1)
 }
 
-// Where the viewport of a document begins: at the zero point for `top`, and for a document whose frame has no box.
+// Where the viewport of a document begins: at the origin for `top`, and for a document whose frame has no box.
 //
-// It calls itself once for each frame around a document of which it wasn't found.
+// It calls itself once for each frame around the document, up to one whose origin was found before.
 pub(crate) fn origin(shown: &Shown<'_>, document: DocumentId) -> Point
     ensures value { result ≡ origin shown.now document.0 }
     ensures range { IsOrigin 64 result }

@@ -137,7 +137,6 @@ impl<'a> ShownDocument<'a> {
         )
     }
 
-    // What was found of the document.
     pub(crate) fn view(&self) -> DocumentView
         ensures root { option_map number result.root ≡ (view_of self.now.shown.tree self.now.shown.screen self.now.document).root }
         ensures size { result.size ≡ as_size (pair_of (viewport_of self.now.shown self.now.document)) }
@@ -194,7 +193,6 @@ impl<'a> ShownDocument<'a> {
         self.screen
     }
 
-    // Which document it is.
     pub(crate) fn document(&self) -> DocumentId
         ensures { result.0 ≡ self.now.document }
     {
@@ -251,7 +249,6 @@ impl<'a> ShownDocument<'a> {
         has_box_below(self.page(), self.root(), node)
     }
 
-    // The box of an element of this document, none where it has none.
     pub(crate) fn box_of(&self, node: NodeId) -> Option<BoxOf>
         requires { (element_at self.now.shown.tree node.0).document ≡ self.now.document }
         ensures { result ≡ box_of self.now.shown node.0 }

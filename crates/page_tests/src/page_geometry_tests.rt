@@ -10,7 +10,7 @@ ghost use Rattle.page_boxes.specs.Fresh.{IsFresh};
 ghost use Rattle.page_boxes.specs.Pages.{seen_screen, IsScreen};
 
 use crate::common::{SCREEN, all_boxes, make_elements, put, remove, set, watch};
-use candidate_index::{Index, Scene, Standing};
+use candidate_index::{Index, Scene, Standing, spot_of_root};
 use clip_chain::{Spot, Through, reaches};
 use element_tree::{DocumentId, NodeId};
 use intersection_observer::{Finding, RegistrationId, Root, WatcherId, Watchers};
@@ -467,16 +467,6 @@ fn scroll(
 
 fn edges_of(rect: Rect) -> Edges {
     (rect.left, rect.top, rect.right, rect.bottom)
-}
-
-fn spot_of_root(root: Root) -> Spot
-    ensures { result ≡ spot_of_root (seen_root root) }
-{
-    match root {
-        Root::Implicit => Spot::View(DocumentId(0)),
-        Root::Document(document) => Spot::View(document),
-        Root::Node(node) => Spot::Node(node),
-    }
 }
 
 // Makes sure that the chain leads from a target to a root wherever it is to.
