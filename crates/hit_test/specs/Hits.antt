@@ -8,7 +8,6 @@ use Rattle.page_model.specs.PageBoxes as boxes
 use Rattle.page_model.specs.Shown.{Shown, shown_of, has_box}
 use Rattle.page_model.specs.Chains.{border_rect, clips_between, viewport_rect}
 use Rattle.clip_chain.specs.declared.spot.Spot.{Spot}
-use Rattle.clip_chain.specs.declared.spot.Spot.TheVariants.{View}
 use Rattle.clip_chain.specs.Worlds.{view_spot}
 use Rattle.clip_chain.specs.Scenes.{Scene}
 use Rattle.hit_test.specs.Painting.{paint_order}

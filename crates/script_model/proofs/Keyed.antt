@@ -1,5 +1,5 @@
 -- A table of the words of some values: what a text stands for there is the value whose word it is.
-use Rattle.std.proofs.Common.{◌≡◌, ◌∙◌, refl, ap, ℕ, List, [], ◌∷◌, Option, Some, None}
+use Rattle.std.proofs.Common.{◌≡◌, ◌∙◌, refl, ap, ℕ, List, [], ◌∷◌, Some}
 use Rattle.std.specs.Prelude.{cond, map, bytes_eq}
 use Rattle.std.proofs.lemmas.Cmp.{nat_list_eq_equiv}
 use Rattle.text_io.specs.Kinds.{named, version_word, all_versions, version_of, event_word, event_kinds, event_of}

@@ -1,5 +1,5 @@
 -- The next word of a line.
-use Rattle.std.proofs.Common.{◌≡◌, ◌∙◌, refl, sym, ap, ℕ, Bool, true, false, cond, List, [], ◌∷◌}
+use Rattle.std.proofs.Common.{◌≡◌, ◌∙◌, refl, sym, ap, Bool, true, false, cond, List, [], ◌∷◌}
 use Rattle.std.specs.Prelude.{Some, None, Ok, Err, bytes_eq, codes}
 use Rattle.text_io.specs.declared.kinds.Version.TheVariants.{Second}
 use Rattle.script_model.specs.Lexing.{Word, Row}

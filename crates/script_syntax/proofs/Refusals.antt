@@ -1,5 +1,5 @@
 -- The limits at which a text is refused.
-use Rattle.std.proofs.Common.{◌≡◌, ℕ, List}
+use Rattle.std.proofs.Common.{ℕ, List}
 use Rattle.std.specs.Prelude.{Err}
 use Rattle.script_model.specs.Reading.{reading}
 use Rattle.script_model.proofs.LimitsMet.{met_is_common}

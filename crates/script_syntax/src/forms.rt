@@ -21,7 +21,7 @@ use px_units::{BoxKind, Percent, Px};
 use std::alloc::Global;
 use style_values::{Declaration, first_version};
 use text_io::{EventKind, Name, Version};
-use word_model::{length, number, percent, signed_length, whole};
+use word_model::{length, percent, signed_length, whole};
 
 /// The node that a word names.
 #[tactic(auto, unfolding(script_model::specs::Words::node_of))]
