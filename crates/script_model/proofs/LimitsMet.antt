@@ -63,7 +63,7 @@ lines_common [] (LongLine line) = refl
 lines_common (l ∷ ls) ending =
     bound _ _ (at_column _ l.number) (λ version. bound _ _ (steps_common ls _) (λ s. finished_common s.version s.frames s.items ending))
 
-lexed_common : (text : Lexed) → MeetsCommon (read_lexed text)
+pub lexed_common : (text : Lexed) → MeetsCommon (read_lexed text)
 unfolding read_lexed
 lexed_common text = lines_common text.lines text.ending
 

@@ -20,6 +20,9 @@ returns-in-Err-Syntax-clause-wrote g c =
     subst (λ (text : List ℕ). Wrote c.refuse_page.result (g.K.Sink.taken c.args.sink.now) (g.K.Sink.taken c.refuse_page.new.sink) (g.K.Sink.faults c.args.sink.now) (g.K.Sink.faults c.refuse_page.new.sink) text)
     (refused_one c.args.name (reading c.args.text) (SyntaxAt c.in-Err-Syntax.line c.in-Err-Syntax.column) read) c.refuse_page.ensures.wrote
 
+pub common-requires : goal.common-requires
+common-requires g c = rw c.in-Err-ScriptLimit.field-0-is at c.in-Err-ScriptLimit.ensures.limit
+
 pub returns-in-Err-ScriptLimit-clause-wrote : goal.returns-in-Err-ScriptLimit-clause-wrote
 returns-in-Err-ScriptLimit-clause-wrote g c =
     let read = rw c.in-Err-ScriptLimit.field-0-is at c.in-Err-ScriptLimit.ensures.value in
