@@ -3,7 +3,7 @@
 ghost use Rattle.std.specs.Prelude.{◌≡◌, ◌+◌, ◌<◌, ◌≤◌, ◌++◌, ◌∷◌, ◌||◌, [], ℕ, true, false, not, length, option_map, unsigned_abs, Some, None, IfOk, IfErr, OnOk, OnErr};
 ghost use Rattle.std.specs.Option.{ForSome};
 ghost use Rattle.style_values.specs.Ranges.{IsAllowed};
-ghost use Rattle.style_values.specs.Seen.{seen_declaration};
+ghost use Rattle.style_values.specs.Seen.{seen_axis, seen_declaration};
 ghost use Rattle.element_tree.specs.Links.{number};
 ghost use Rattle.page_model.specs.World.{Screen as WorldScreen};
 ghost use Rattle.page_model.specs.Outcome.{opening_world};
@@ -14,7 +14,7 @@ ghost use Rattle.page_model.specs.Commands.{placing, growing, loading};
 ghost use Rattle.block_layout.specs.Seen.{seen_kind};
 ghost use Rattle.page_tree.specs.Items.{IsKind, IsNatural};
 ghost use Rattle.page_tree.specs.Faults.{refusal, element_room, frame_room, IsMakeFault, IsFrameFault};
-ghost use Rattle.page_tree.specs.Steps.{seen_container, seen_axis, IsContainerIn};
+ghost use Rattle.page_tree.specs.Steps.{seen_container, IsContainerIn};
 ghost use Rattle.page_boxes.specs.Around.{rests_on, LeavesOthers};
 ghost use Rattle.page_boxes.specs.Fresh.{IsFresh, IsFreshIn, IsFreshAbove, IsFreshFor};
 ghost use Rattle.page_boxes.specs.Kept.{AreKept, FillsOnly, IsExact, is_due, due_count};
@@ -26,13 +26,13 @@ use block_layout::ItemKind;
 use element_tree::{DocumentId, NodeId};
 use kept_layout::Kept;
 use page_boxes::{Screen, refresh, refresh_for, refresh_in, undue_boxes_are_exact};
-use page_tree::{Axis, Container, MakeFault, PageTree, PlaceFault};
+use page_tree::{Container, MakeFault, PageTree, PlaceFault};
 use px_units::{Px, Size};
 use std::alloc::{AllocError, Global};
 use std::marker::Model;
 use std::sync::ledger::Ledger;
 use step_count::Steps;
-use style_values::Declaration;
+use style_values::{Axis, Declaration};
 use text_io::{LimitKind, Name, ThrowKind, Version};
 
 /// The elements and documents of a page with their boxes, which are kept. A contract sees them as a page's elements, and as what

@@ -10,13 +10,14 @@ use block_layout::ItemKind;
 use element_tree::{DocumentId, NodeId};
 use page_boxes::{Screen, size_of};
 use page_layout::LaidTree;
-use page_tree::{Axis, Container};
+use page_tree::Container;
 use px_units::{BoxKind, Percent, Px, Size};
 use std::marker::Brand;
 use std::process::Abort;
 use std::sync::ledger::{Blank, Ledger};
 use std::test::Fail;
 use step_count::Steps;
+use style_values::Axis;
 use text_io::Version;
 
 /// The image 2 is in the block 1, and the block 5 in the block 4, which is the root element of the document in the frame 3.

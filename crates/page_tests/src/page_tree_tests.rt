@@ -6,12 +6,12 @@ use crate::common::{Edit, Life, any_name, apply, framed_page, live_all, make_ele
 use block_layout::ItemKind;
 use element_tree::{DocumentId, NodeId};
 use page_documents::DocumentState;
-use page_tree::{Axis, Container, MakeFault, PageTree};
+use page_tree::{Container, MakeFault, PageTree};
 use px_units::{Length, Px, Size};
 use std::alloc::Global;
 use std::process::Abort;
 use std::test::Fail;
-use style_values::Declaration;
+use style_values::{Axis, Declaration};
 use text_io::{LimitKind, ThrowKind, Version};
 
 fn push_children(

@@ -7,7 +7,7 @@ use block_layout::ItemKind;
 use element_tree::DocumentId;
 use page_boxes::size_of;
 use page_layout::LaidTree;
-use page_tree::{Axis, Container, PageTree};
+use page_tree::{Container, PageTree};
 use px_units::{BoxKind, Px};
 use std::alloc::Global;
 use std::marker::Brand;
@@ -15,6 +15,7 @@ use std::process::Abort;
 use std::sync::ledger::{Blank, Ledger};
 use std::test::Fail;
 use step_count::Steps;
+use style_values::Axis;
 use text_io::{ThrowKind, Version};
 
 #[test]

@@ -6,7 +6,7 @@ ghost use Rattle.px_units.specs.Lengths.{Pixels};
 ghost use Rattle.text_io.specs.Limits.{limit_number};
 ghost use Rattle.text_io.specs.declared.kinds.LimitKind.TheVariants as limits;
 ghost use Rattle.style_values.specs.Ranges.{IsAllowed, IsUnits};
-ghost use Rattle.style_values.specs.Seen.{seen_declaration};
+ghost use Rattle.style_values.specs.Seen.{seen_axis, seen_declaration};
 ghost use Rattle.element_tree.specs.Links.{number};
 ghost use Rattle.element_tree.specs.Edits.{inserted, with_nodes};
 ghost use Rattle.page_model.specs.Lookups.{element_at};
@@ -20,7 +20,7 @@ ghost use Rattle.page_tree.specs.Items.{IsKind, IsNatural};
 ghost use Rattle.page_tree.specs.Faults.{refusal, element_room, frame_room, has_element_room, has_document_room, IsMakeFault, IsFrameFault};
 ghost use Rattle.page_tree.specs.Changes.{ChangesAtNext, ChangesAtParents, ChangesAtParent, ChangesAtElement};
 ghost use Rattle.page_tree.specs.Answers.{put_fault, mark_for, refusal_of, unmade_of, is_elsewhere};
-ghost use Rattle.page_tree.specs.Steps.{seen_container, seen_axis, IsContainerIn};
+ghost use Rattle.page_tree.specs.Steps.{seen_container, IsContainerIn};
 
 use crate::element::Element;
 use crate::faults::{MakeFault, PlaceFault};
@@ -31,7 +31,7 @@ use page_documents::{Documents, MOST_DOCUMENTS, Owned};
 use px_units::{Length, Px, Size};
 use std::alloc::{AllocError, Global};
 use std::marker::Model;
-use style_values::Declaration;
+use style_values::{Axis, Declaration};
 use text_io::{LimitKind, Name, ThrowKind, Version};
 
 /// As many elements as a path to a root may have.
@@ -47,15 +47,6 @@ pub enum Container {
     Element(NodeId),
     /// This document; `top` is number 0.
     Document(DocumentId),
-}
-
-/// Which of an element's two properties grows.
-#[derive(Clone, Copy, Debug, PartialEq, Eq)]
-pub enum Axis {
-    /// `width`
-    Width,
-    /// `height`
-    Height,
 }
 
 /// The elements and documents of a page, within the limits of a version of the script language. A contract sees them as the lists of

@@ -5,21 +5,21 @@ ghost use Rattle.script_model.specs.Forms.{part_as, declaration_as, margin_as, n
 ghost use Rattle.script_model.specs.Words.{node_of, aim_of as aim_read};
 ghost use Rattle.script_model.specs.Properties.{property_of};
 ghost use Rattle.style_values.specs.Ranges.{IsAllowed};
-ghost use Rattle.style_values.specs.Seen.{seen_declaration};
+ghost use Rattle.style_values.specs.Seen.{seen_axis, seen_declaration};
 ghost use Rattle.style_values.specs.Versions.{reads};
 ghost use Rattle.script_syntax.specs.Allowed.{IsUnits, IsSignedUnits, IsPercent, IsTime};
 ghost use Rattle.script_syntax.specs.Lines.{Gives};
-ghost use Rattle.script_syntax.specs.Seen.{operand_of, aim_of, dimension_of};
+ghost use Rattle.script_syntax.specs.Seen.{operand_of, aim_of};
 
 use crate::faults::LineFault;
-use crate::operands::{Aim, Axis, Operand};
+use crate::operands::{Aim, Operand};
 use crate::tables;
 use crate::texts::{MarginText, NumberList};
 use crate::words::{Word, Words};
 use media_queries::{Query, QueryFault};
 use px_units::{BoxKind, Percent, Px};
 use std::alloc::Global;
-use style_values::{Declaration, first_version};
+use style_values::{Axis, Declaration, first_version};
 use text_io::{EventKind, Name, Version};
 use word_model::{length, percent, signed_length, whole};
 
@@ -188,7 +188,7 @@ impl Words<'_> {
     /// `width` or `height`
     #[tactic(auto, unfolding(script_model::specs::Forms::part_as))]
     pub fn axis(&mut self) -> Result<Axis, LineFault>
-        ensures { Gives (λ axis. (dimension_of axis, self.new)) result (part_as DimensionForm self.old) }
+        ensures { Gives (λ axis. (seen_axis axis, self.new)) result (part_as DimensionForm self.old) }
     {
         let word = self.next()?;
         tables::axis(word.text).ok_or(word.fault())

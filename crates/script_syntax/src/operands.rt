@@ -22,13 +22,6 @@ pub enum Aim {
     Window(Name),
 }
 
-/// A dimension of a box.
-#[derive(Clone, Copy, Debug, PartialEq, Eq)]
-pub enum Axis {
-    Width,
-    Height,
-}
-
 /// The operands of `io`, which makes an intersection observer.
 #[derive(Drop)]
 pub struct IoMaking {

@@ -6,13 +6,12 @@ ghost use Rattle.text_io.specs.declared.kinds.Version.TheVariants.{Second};
 ghost use Rattle.script_model.specs.Keywords.{lookup};
 ghost use Rattle.script_model.specs.Words.{boxes, dimensions};
 ghost use Rattle.script_model.specs.Commands.{tests, heads, heads_in};
-ghost use Rattle.script_syntax.specs.Seen.{dimension_of};
+ghost use Rattle.style_values.specs.Seen.{seen_axis};
 ghost use Rattle.script_syntax.specs.Heads.{head_of, shape_of};
 
 use crate::heads::{Head, Shape, Verb};
-use crate::operands::Axis;
 use px_units::BoxKind;
-use style_values::lookup;
+use style_values::{Axis, lookup};
 use text_io::Version;
 
 // Those before the last one are the boxes of the first version.
@@ -84,7 +83,7 @@ pub fn box_kind(version: Version, word: &[u8]) -> Option<BoxKind>
 
 /// The dimension that this word names.
 pub fn axis(word: &[u8]) -> Option<Axis>
-    ensures { option_map dimension_of result ≡ lookup dimensions word.now }
+    ensures { option_map seen_axis result ≡ lookup dimensions word.now }
 {
     lookup(&AXES, word)
 }

@@ -45,6 +45,15 @@ pub enum Overflow {
     Auto,
 }
 
+/// A dimension of a box (CSS 2.2, 10.2 and 10.5).
+#[derive(Clone, Copy, Debug, PartialEq, Eq)]
+pub enum Axis {
+    /// `width`
+    Width,
+    /// `height`
+    Height,
+}
+
 /// How a box is positioned (CSS Positioned Layout 3, 2).
 #[derive(Clone, Copy, Debug, PartialEq, Eq)]
 pub enum Position {
