@@ -3,6 +3,7 @@
 ghost use Rattle.std.specs.Prelude.{◌≡◌, ◌<◌, ◌≤◌, ◌+◌, ℕ, [], true, false, length, unsigned_abs, IfOk, OnOk, OnErr};
 ghost use Rattle.text_io.specs.Limits.{limit_number};
 ghost use Rattle.script_model.specs.Scripts.{handlers_in};
+ghost use Rattle.style_values.specs.Ranges.{IsHundredths};
 ghost use Rattle.page_model.specs.Names.{document_text, resize_observer_text, intersection_observer_text, query_list_text};
 ghost use Rattle.page_model.specs.Callbacks.{handler_names};
 ghost use Rattle.page_model.specs.Commands.{begun_in, does};
@@ -327,7 +328,8 @@ impl Page {
 
     /// How many device pixels a CSS pixel of the screen is, in hundredths of a percent (CSSOM View, 4: `devicePixelRatio`). No memory.
     pub fn ratio(&self) -> Percent
-        ensures { unsigned_abs result.0 ≡ self.now.world.viewports.screen.ratio }
+        ensures value { unsigned_abs result.0 ≡ self.now.world.viewports.screen.ratio }
+        ensures range { IsHundredths result.0 }
     {
         self.screen.ratio
     }
